@@ -1,0 +1,55 @@
+-- The set functions of SQL-92, of a list of rows.
+use Rattle.std.specs.Prelude.{ℕ, ℤ, pos, ◌+ℤ◌, Bool, true, false, List, [], ◌∷◌, length, map, filter, unwrap_or}
+use Rattle.std.specs.Ordering.{eq_by_cmp}
+use Rattle.value.specs.declared.values.Value.{Value}
+use Rattle.value.specs.declared.values.Value.TheVariants.{Null, Int, Text}
+use Rattle.value.specs.ValueOrder.{value_cmp}
+use Rattle.value.specs.Ordered.{least}
+use Rattle.table.specs.Rows.{RowValues, value_in}
+
+-- COUNT(*), and COUNT, SUM, MIN and MAX of a column
+pub data Aggregate : Type 0 where
+  CountRows : Aggregate
+  Count : (column : ℕ) → Aggregate
+  Sum : (column : ℕ) → Aggregate
+  Min : (column : ℕ) → Aggregate
+  Max : (column : ℕ) → Aggregate
+
+-- whether a value is not NULL
+abbrev pub is_there : Value → Bool
+is_there Null = false
+is_there (Int n) = true
+is_there (Text t) = true
+
+-- the values of a column with the NULLs left out
+abbrev pub values_in : ℕ → List RowValues → List Value
+values_in column rows = filter is_there (map (value_in column) rows)
+
+-- the number that a value is; a text or NULL is none and adds nothing
+abbrev pub number_of : Value → ℤ
+number_of Null = pos 0
+number_of (Int n) = n
+number_of (Text t) = pos 0
+
+-- the sum of numbers
+abbrev pub sum_of : List Value → ℤ
+sum_of [] = pos 0
+sum_of (v ∷ vs) = number_of v +ℤ sum_of vs
+
+-- SUM of the values that are there: NULL of none
+abbrev pub sum_answer : List Value → Value
+sum_answer [] = Null
+sum_answer (v ∷ vs) = Int (sum_of (v ∷ vs))
+
+-- COUNT(*) is the number of rows; the others leave NULLs out, and of no value COUNT is 0 and the rest are NULL. A sum
+-- or a count has no bound here.
+abbrev pub aggregate : Aggregate → List RowValues → Value
+aggregate CountRows rows = Int (pos (length rows))
+aggregate (Count column) rows = Int (pos (length (values_in column rows)))
+aggregate (Sum column) rows = sum_answer (values_in column rows)
+aggregate (Min column) rows = unwrap_or (least value_cmp (values_in column rows)) Null
+aggregate (Max column) rows = unwrap_or (least (λ v w. value_cmp w v) (values_in column rows)) Null
+
+-- the rows of a group of GROUP BY; NULL is a group like another
+abbrev pub group_of : ℕ → Value → List RowValues → List RowValues
+group_of column v rows = filter (λ row. eq_by_cmp value_cmp v (value_in column row)) rows

@@ -1,0 +1,3 @@
+pub mod Aggregates
+pub mod Faults
+pub mod Rows

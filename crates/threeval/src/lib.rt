@@ -1,0 +1,128 @@
+//! Three-valued logic: the truth of a search condition of SQL-92.
+//!
+//! A condition is true, false or unknown (ISO/IEC 9075:1992, search condition). Unknown comes from NULL: a
+//! comparison with a missing value is neither true nor false. The standard gives AND, OR and NOT by truth
+//! tables, and `IS TRUE`, `IS FALSE` and `IS UNKNOWN`, which are never unknown:
+//!
+//! - AND is false if a side is false, else unknown if a side is unknown, else true;
+//! - OR is true if a side is true, else unknown if a side is unknown, else false;
+//! - NOT turns true and false round, and leaves unknown.
+//!
+//! What a truth is used for decides what unknown counts as. WHERE and HAVING keep a row or a group only where the
+//! condition is true; an assertion is satisfied wherever its condition is not false.
+//!
+//! What the layer above may rest on: each function is its truth table, in `specs/Truths`, where each table stands
+//! as the standard has it.
+#![tactic(auto)]
+
+ghost use Rattle.std.specs.Prelude.{◌≡◌};
+ghost use Rattle.threeval.specs.Truths.{and_of, or_of, not_of, is_of, known, name_of};
+
+/// The truth of a search condition.
+#[derive(Clone, Copy, Debug, PartialEq, Eq)]
+pub enum Truth {
+    True,
+    False,
+    Unknown,
+}
+
+impl Truth {
+    /// False if a side is false, else unknown if a side is unknown, else true.
+    pub fn and(self, other: Truth) -> Truth
+        ensures { result ≡ and_of self other }
+    {
+        match (self, other) {
+            (Truth::False, _) | (_, Truth::False) => Truth::False,
+            (Truth::Unknown, _) | (_, Truth::Unknown) => Truth::Unknown,
+            (Truth::True, Truth::True) => Truth::True,
+        }
+    }
+
+    /// True if a side is true, else unknown if a side is unknown, else false.
+    pub fn or(self, other: Truth) -> Truth
+        ensures { result ≡ or_of self other }
+    {
+        match (self, other) {
+            (Truth::True, _) | (_, Truth::True) => Truth::True,
+            (Truth::Unknown, _) | (_, Truth::Unknown) => Truth::Unknown,
+            (Truth::False, Truth::False) => Truth::False,
+        }
+    }
+
+    /// The other of true and false. Unknown stays unknown.
+    pub fn not(self) -> Truth
+        ensures { result ≡ not_of self }
+    {
+        match self {
+            Truth::True => Truth::False,
+            Truth::False => Truth::True,
+            Truth::Unknown => Truth::Unknown,
+        }
+    }
+
+    /// Whether this is that truth, as IS asks. It is never unknown.
+    pub fn is(self, other: Truth) -> bool
+        ensures { result ≡ is_of self other }
+    {
+        self == other
+    }
+
+    /// The word that SQL has for it.
+    pub fn name(self) -> &'static str
+        ensures { result.now ≡ name_of self }
+    {
+        match self {
+            Truth::True => "TRUE",
+            Truth::False => "FALSE",
+            Truth::Unknown => "UNKNOWN",
+        }
+    }
+}
+
+/// The truth of what is known to hold, or not to hold.
+impl From<bool> for Truth {
+    ghost from_gives = { λ holds truth. truth ≡ known holds };
+
+    fn from(holds: bool) -> Truth {
+        if holds { Truth::True } else { Truth::False }
+    }
+}
+
+#[cfg(test)]
+mod tests {
+    use super::*;
+
+    #[test]
+    fn truth_tables(rt: HostRuntime) {
+        let (yes, no, unknown) = (Truth::True, Truth::False, Truth::Unknown);
+        // Two truths, and their AND and OR, as the standard prints them.
+        let table = [
+            (yes, yes, yes, yes),
+            (yes, no, no, yes),
+            (yes, unknown, unknown, yes),
+            (no, no, no, no),
+            (no, unknown, no, unknown),
+            (unknown, unknown, unknown, unknown),
+        ];
+        for (a, b, and, or) in table {
+            assert_eq!(rt; a.and(b), and);
+            assert_eq!(rt; b.and(a), and);
+            assert_eq!(rt; a.or(b), or);
+            assert_eq!(rt; b.or(a), or);
+        }
+    }
+
+    #[test]
+    fn truths_one_by_one(rt: HostRuntime) {
+        let table = [
+            (Truth::True, Truth::False, "TRUE"),
+            (Truth::False, Truth::True, "FALSE"),
+            (Truth::Unknown, Truth::Unknown, "UNKNOWN"),
+        ];
+        for (truth, negation, name) in table {
+            assert_eq!(rt; truth.not(), negation);
+            assert_eq!(rt; truth.name(), name);
+            assert_eq!(rt; Truth::from(true).is(truth), name == "TRUE");
+        }
+    }
+}

@@ -1,0 +1,4 @@
+pub mod Comparisons
+pub mod Ordered
+pub mod Texts
+pub mod ValueOrder
