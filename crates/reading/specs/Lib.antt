@@ -1,0 +1,4 @@
+pub mod Language
+pub mod Reading
+pub mod Answer
+pub mod Lexemes

@@ -1,0 +1,156 @@
+//! Words, numbers and texts, at the front of a text.
+
+ghost use Rattle.std.specs.Prelude.{◌≡◌, ◌≤◌, ◌==◌, false, length, map, IfSome};
+ghost use Rattle.std.specs.Str.{bytes_eq};
+ghost use Rattle.std.specs.Char.{to_ascii_uppercase};
+ghost use Rattle.std.specs.List.{prefix_len, list_all, zip};
+ghost use Rattle.token.specs.Bytes as byte;
+ghost use Rattle.token.specs.Spellings as spelling;
+ghost use Rattle.token.specs.Lexer as spec;
+
+use crate::kinds::{Kind, RESERVED};
+
+/// SQL-92's limit of an identifier.
+const MOST_WORD_BYTES: usize = 128;
+
+/// This project's choice: far below what 64 bits hold.
+const LARGEST_NUMBER: u64 = 1_000_000_000_000_000;
+
+/// A kind, and a length in bytes.
+#[derive(Clone, Copy, Debug)]
+pub struct Front {
+    pub kind: Kind,
+    pub len: usize,
+}
+
+fn is_word_byte(b: u8) -> bool
+    ensures { result ≡ byte.is_word_byte b }
+{
+    b.is_ascii_alphanumeric() || b == b'_'
+}
+
+fn word_len(text: &[u8]) -> usize
+    ensures { result ≡ prefix_len byte.is_word_byte text.now }
+{
+    text.iter().take_while(|b| is_word_byte(**b)).count()
+}
+
+fn digits_len(text: &[u8]) -> usize
+    ensures { result ≡ prefix_len byte.is_digit text.now }
+{
+    text.iter().take_while(|b| b.is_ascii_digit()).count()
+}
+
+fn all_alike(word: &[u8], upper: &[u8]) -> bool
+    ensures { result ≡ list_all (λ p. to_ascii_uppercase p.0 == p.1) (zip word.now upper.now) }
+{
+    word.iter()
+        .zip(upper)
+        .all(|(a, b)| a.to_ascii_uppercase() == *b)
+}
+
+/// Whether the word in upper case is this one.
+fn is_spelled(word: &[u8], upper: &[u8]) -> bool
+    ensures { result ≡ bytes_eq (byte.name_of word.now) upper.now }
+{
+    word.len() == upper.len() && all_alike(word, upper)
+}
+
+fn find_word(words: &[(&[u8], Kind)], word: &[u8]) -> Kind
+    ensures { result ≡ spelling.find_word (map (λ w. (w.0.now, w.1)) words.now) (byte.name_of word.now) }
+{
+    for (upper, kind) in words {
+        if is_spelled(word, upper) {
+            return *kind;
+        }
+    }
+    Kind::Name
+}
+
+/// The kind of a word.
+#[tactic(auto, unfolding(crate::specs::Spellings::word_kind))]
+fn word_kind(word: &[u8]) -> Kind
+    ensures { result ≡ spelling.word_kind word.now }
+{
+    find_word(&RESERVED, word)
+}
+
+/// The word at the front, which begins with a letter.
+pub fn word(text: &[u8]) -> Option<Front>
+    ensures { result ≡ spec.word text.now }
+{
+    let len = word_len(text);
+    if len > MOST_WORD_BYTES {
+        return None;
+    }
+    Some(Front {
+        kind: word_kind(&text[..len]),
+        len,
+    })
+}
+
+/// The value of a run of digits, or `None` where it is above 10^15. A token of kind `Number` has
+/// a value.
+#[tactic(auto, unfolding(crate::specs::Lexer::number_value, crate::specs::Spellings::decimal))]
+pub fn number_value(digits: &[u8]) -> Option<u64>
+    ensures { result ≡ spec.number_value digits.now }
+{
+    let mut value = 0;
+    for digit in digits {
+        value = 10 * value + u64::from(digit.saturating_sub(b'0'));
+        if value > LARGEST_NUMBER {
+            return None;
+        }
+    }
+    Some(value)
+}
+
+/// The number at the front, which begins with a digit.
+pub fn number(text: &[u8]) -> Option<Front>
+    ensures { result ≡ spec.number text.now }
+{
+    let len = digits_len(text);
+    number_value(&text[..len])?;
+    Some(Front {
+        kind: Kind::Number,
+        len,
+    })
+}
+
+/// How many bytes there are up to and with the closing quote.
+#[tactic(auto, unfolding(crate::specs::Lexer::closing))]
+fn closing(text: &[u8]) -> Option<usize>
+    ensures value { result ≡ spec.closing false text.now }
+    ensures within { IfSome result (λ len. len ≤ length text.now) }
+{
+    // Whether the byte before is a quote that closes unless another follows.
+    let mut closed = false;
+    for (at, b) in text.iter().enumerate() {
+        if *b == b'\'' {
+            closed = !closed;
+        } else if closed {
+            return Some(at);
+        } else if !is_printable(*b) {
+            return None;
+        }
+    }
+    if closed { Some(text.len()) } else { None }
+}
+
+fn is_printable(b: u8) -> bool
+    ensures { result ≡ byte.is_printable b }
+{
+    b' ' <= b && b <= b'~'
+}
+
+/// The text in quotes at the front, which begins with a quote.
+pub fn quoted(text: &[u8]) -> Option<Front>
+    requires { 1 ≤ length text.now }
+    ensures { result ≡ spec.quoted text.now }
+{
+    let len = closing(&text[1..])?;
+    Some(Front {
+        kind: Kind::Text,
+        len: len + 1,
+    })
+}
