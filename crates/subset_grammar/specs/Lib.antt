@@ -1,0 +1,4 @@
+pub mod Lexemes
+pub mod Grammar
+pub mod Syntax
+pub mod Texts
