@@ -1,0 +1,158 @@
+//! The command line: `skewguard replay DEFS SCRIPT`.
+
+ghost use Rattle.std.specs.Prelude.{◌≤◌};
+
+use crate::replay::{ProgramFault, replay_into};
+use crate::report::Report;
+use clap::{Arg, ArgMatches, Command};
+use std::alloc::{AllocError, Global};
+use std::io::{ErrorKind, Write};
+use std::rt::{Env, Files};
+use std::{env, fs};
+use value::Refusal;
+
+/// The script was run whole, whatever it was answered.
+const RUN: u8 = 0;
+/// A text was refused.
+const REFUSED: u8 = 1;
+/// The words of the command line are none that the program takes.
+const USAGE: u8 = 2;
+/// A file can't be read, or the output can't be written.
+const OUTSIDE: u8 = 3;
+
+/// At most so many commits in one run.
+const MOST_COMMITS: u64 = 1_000_000;
+
+/// Does what the words of the command line ask for, and gives the status to end with.
+pub fn command_line<R, W, E>(rt: &R, out: &mut W, err: &mut E) -> u8
+where
+    R: Env + Files + Print + Eprint + AllocGlobal,
+    W: Write,
+    E: Write,
+    ensures { result ≤ 3 }
+{
+    let alloc = rt.alloc();
+    let words: Vec<String> = match env::args(rt) {
+        Ok(args) => match args.collect(alloc) {
+            Ok(words) => words,
+            Err(_) => return USAGE,
+        },
+        Err(_) => return USAGE,
+    };
+    let command = match command(alloc) {
+        Ok(command) => command,
+        Err(_) => return USAGE,
+    };
+    match command.try_get_matches_from(words.as_slice()) {
+        Ok(matches) => replay_matches(rt, &matches, out, err),
+        Err(error) => {
+            if error.print(rt).is_err() {
+                return OUTSIDE;
+            }
+            if error.use_stderr() { USAGE } else { RUN }
+        }
+    }
+}
+
+/// The words that the program takes.
+fn command<'a>(alloc: Global) -> Result<Command<'a>, AllocError> {
+    let defs = Arg::new(alloc, "DEFS").required(true).help(
+        "A file of definitions: a table, an assertion and the rows to begin with",
+    );
+    let script = Arg::new(alloc, "SCRIPT")
+        .required(true)
+        .help("A file of a session's events, one after the other");
+    let replay = Command::new(alloc, "replay")
+        .about("Replays a script on definitions and prints the reply to each event")
+        .arg(defs)?
+        .arg(script)?;
+    Command::new(alloc, "skewguard")
+        .about("Runs transactions on tables that SQL-92 assertions guard")
+        .subcommand_required(true)
+        .subcommand(replay)
+}
+
+/// Replays the two files that the words name.
+fn replay_matches<R, W, E>(rt: &R, matches: &ArgMatches<'_>, out: &mut W, err: &mut E) -> u8
+where
+    R: Files + AllocGlobal,
+    W: Write,
+    E: Write,
+    ensures { result ≤ 3 }
+{
+    let Some((_, replay)) = matches.subcommand() else {
+        return USAGE;
+    };
+    match (replay.get_str("DEFS"), replay.get_str("SCRIPT")) {
+        (Some(defs), Some(script)) => replay_files(rt, defs, script, out, err),
+        _ => USAGE,
+    }
+}
+
+/// Reads both files and replays them. What is refused or can't be read is said in one line on `err`.
+fn replay_files<R, W, E>(rt: &R, defs: &str, script: &str, out: &mut W, err: &mut E) -> u8
+where
+    R: Files + AllocGlobal,
+    W: Write,
+    E: Write,
+    ensures { result ≤ 3 }
+{
+    let alloc = rt.alloc();
+    let defs = match read(rt, defs) {
+        Ok(defs) => defs,
+        Err(fault) => return unread(alloc, "DEFS", fault, err),
+    };
+    let script = match read(rt, script) {
+        Ok(script) => script,
+        Err(fault) => return unread(alloc, "SCRIPT", fault, err),
+    };
+    match replay_into(alloc, defs.as_slice(), script.as_slice(), MOST_COMMITS, out) {
+        Ok(()) => RUN,
+        Err(ProgramFault::Defs(refusal)) => refused(alloc, "DEFS", &refusal, err),
+        Err(ProgramFault::Script(refusal)) => refused(alloc, "SCRIPT", &refusal, err),
+        Err(ProgramFault::Output) => OUTSIDE,
+    }
+}
+
+/// Why a file was not read.
+#[derive(Clone, Copy, Debug, PartialEq, Eq)]
+enum ReadFault {
+    Unreadable,
+    NoMemory,
+}
+
+fn read<R: Files + AllocGlobal>(rt: &R, path: &str) -> Result<Vec<u8>, ReadFault> {
+    match fs::read(rt, path) {
+        Ok(bytes) => Ok(bytes),
+        Err(error) if error.kind() == ErrorKind::OutOfMemory => Err(ReadFault::NoMemory),
+        Err(_) => Err(ReadFault::Unreadable),
+    }
+}
+
+/// Says that a file was not read, and gives the status to end with.
+fn unread<E: Write>(alloc: Global, name: &str, fault: ReadFault, err: &mut E) -> u8
+    ensures { result ≤ 3 }
+{
+    match fault {
+        ReadFault::NoMemory => refused(alloc, name, &Refusal::NoMemory, err),
+        ReadFault::Unreadable => {
+            let _ = err.write_all(name.as_bytes());
+            let _ = err.write_all(b": UNREADABLE\n");
+            OUTSIDE
+        }
+    }
+}
+
+/// Says why a text was refused, and gives the status to end with.
+fn refused<E: Write>(alloc: Global, name: &str, refusal: &Refusal, err: &mut E) -> u8
+    ensures { result ≤ 3 }
+{
+    let mut line = Report::new(alloc);
+    if line.refusal(name, refusal).is_ok() {
+        let _ = err.write_all(line.as_bytes());
+    } else {
+        let _ = err.write_all(name.as_bytes());
+        let _ = err.write_all(b": REFUSED 1 - NO MEMORY\n");
+    }
+    REFUSED
+}
