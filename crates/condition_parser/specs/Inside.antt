@@ -1,0 +1,10 @@
+-- The reader of what stands in parentheses, where so many may be opened.
+use Rattle.std.specs.Prelude.{ℕ, zero, suc}
+use Rattle.syntax.specs.declared.wants.Found.{Found}
+use Rattle.syntax.specs.declared.wants.Want.{Want}
+use Rattle.reading.specs.Reading.{Reader, refuse}
+use Rattle.syntax.specs.Readers.{read}
+
+unfoldable pub inside : ℕ → Want → Reader Found
+inside zero = λ _. refuse
+inside (suc n) = read n

@@ -1,0 +1,208 @@
+//! What makes a condition of an expression, and what follows a condition.
+
+ghost use Rattle.std.specs.Prelude.{◌≡◌, IfOk};
+ghost use Rattle.token.specs.declared.kinds.Kind.TheVariants as kinds;
+ghost use Rattle.reading.specs.Reading as rd;
+ghost use Rattle.syntax.specs.Readers as reader;
+ghost use Rattle.condition_parser.specs.Inside.{inside};
+ghost use Rattle.condition_parser.specs.Nests.{Nests};
+ghost use Rattle.leaf_parser.specs.Reads.{Reads};
+
+use crate::levels::Level;
+use leaf_parser::{Cursor, Stop, comparison_sign, truth};
+use sqlite_items::Boxed;
+use std::alloc::{AllocError, Global};
+use syntax::{Condition, Expression, Found, Query, Want};
+use threeval::Truth;
+use token::Kind;
+
+/// What makes a condition of an expression begins so.
+pub fn begins_comparison(kind: Kind) -> bool
+    ensures { result ≡ reader.begins_comparison kind }
+{
+    match kind {
+        Kind::Equal
+        | Kind::NotEqual
+        | Kind::Less
+        | Kind::AtMost
+        | Kind::Greater
+        | Kind::AtLeast
+        | Kind::Is
+        | Kind::Not
+        | Kind::Between
+        | Kind::In => true,
+        _ => false,
+    }
+}
+
+pub fn negation(alloc: Global, inner: Condition) -> Result<Condition, AllocError>
+    ensures { IfOk result (λ x. x ≡ Condition.Not inner) }
+{
+    Ok(Condition::Not(Boxed::new(alloc, inner)?))
+}
+
+fn existence(alloc: Global, query: Query) -> Result<Condition, AllocError>
+    ensures { IfOk result (λ x. x ≡ Condition.Exists query) }
+{
+    Ok(Condition::Exists(Boxed::new(alloc, query)?))
+}
+
+fn is_truth(alloc: Global, left: Condition, value: Truth) -> Result<Condition, AllocError>
+    ensures { IfOk result (λ x. x ≡ Condition.Is left value) }
+{
+    Ok(Condition::Is(Boxed::new(alloc, left)?, value))
+}
+
+fn is_not_truth(alloc: Global, left: Condition, value: Truth) -> Result<Condition, AllocError>
+    ensures { IfOk result (λ x. x ≡ Condition.Not (Condition.Is left value)) }
+{
+    negation(alloc, is_truth(alloc, left, value)?)
+}
+
+fn plain_truth(alloc: Global, cursor: &mut Cursor<'_>, left: Condition) -> Result<Condition, Stop>
+    ensures { Reads (rd.◌<$>◌ (Condition.Is left) reader.truth cursor.old) result cursor.new }
+{
+    let value = truth(cursor)?;
+    Ok(is_truth(alloc, left, value)?)
+}
+
+fn not_truth(alloc: Global, cursor: &mut Cursor<'_>, left: Condition) -> Result<Condition, Stop>
+    ensures { Reads (rd.◌>>◌ (rd.expect kinds.Not) (rd.◌<$>◌ (λ y. Condition.Not (Condition.Is left y)) reader.truth) cursor.old) result cursor.new }
+{
+    cursor.expect(Kind::Not)?;
+    let value = truth(cursor)?;
+    Ok(is_not_truth(alloc, left, value)?)
+}
+
+impl<F: Fn(Global, &mut Cursor<'_>, usize, Want) -> Result<Found, Stop>> Level<F> {
+    /// `BETWEEN expr AND expr`. The AND is its own.
+    #[tactic(auto, unfolding(syntax::specs::Readers::between))]
+    pub fn between(&self, cursor: &mut Cursor<'_>, left: Expression) -> Result<Condition, Stop>
+        requires { Nests self.now.depth (F.pre self.now.inner) (F.post self.now.inner) }
+        ensures { Reads (reader.between self.now.depth (inside self.now.depth) left cursor.old) result cursor.new }
+    {
+        cursor.expect(Kind::Between)?;
+        let low = self.expr(cursor)?;
+        cursor.expect(Kind::And)?;
+        let high = self.expr(cursor)?;
+        Ok(Condition::Between(left, low, high))
+    }
+
+    /// `IN "(" expr { "," expr } ")"`
+    #[tactic(auto, unfolding(syntax::specs::Readers::listed))]
+    pub fn listed(&self, cursor: &mut Cursor<'_>, left: Expression) -> Result<Condition, Stop>
+        requires { Nests self.now.depth (F.pre self.now.inner) (F.post self.now.inner) }
+        ensures { Reads (reader.listed self.now.depth (inside self.now.depth) left cursor.old) result cursor.new }
+    {
+        cursor.expect(Kind::In)?;
+        let items = self.parens_items(cursor)?;
+        Ok(Condition::In(left, items))
+    }
+
+    /// `BETWEEN .. | IN ..`
+    #[tactic(auto, unfolding(syntax::specs::Readers::range_or_list))]
+    pub fn range_or_list(
+        &self,
+        cursor: &mut Cursor<'_>,
+        left: Expression,
+    ) -> Result<Condition, Stop>
+        requires { Nests self.now.depth (F.pre self.now.inner) (F.post self.now.inner) }
+        ensures { Reads (reader.range_or_list self.now.depth (inside self.now.depth) left cursor.old) result cursor.new }
+    {
+        match cursor.peek() {
+            Kind::Between => self.between(cursor, left),
+            Kind::In => self.listed(cursor, left),
+            _ => Err(Stop::Syntax),
+        }
+    }
+
+    /// `[NOT] NULL`, behind IS.
+    #[tactic(auto, unfolding(syntax::specs::Readers::null))]
+    pub fn null(&self, cursor: &mut Cursor<'_>, left: Expression) -> Result<Condition, Stop>
+        requires { Nests self.now.depth (F.pre self.now.inner) (F.post self.now.inner) }
+        ensures { Reads (reader.null self.now.depth (inside self.now.depth) left cursor.old) result cursor.new }
+    {
+        match cursor.peek() {
+            Kind::Null => {
+                cursor.expect(Kind::Null)?;
+                Ok(Condition::IsNull(left))
+            }
+            Kind::Not => {
+                cursor.expect(Kind::Not)?;
+                cursor.expect(Kind::Null)?;
+                Ok(negation(self.alloc, Condition::IsNull(left))?)
+            }
+            _ => Err(Stop::Syntax),
+        }
+    }
+
+    /// `cmp expr`
+    #[tactic(auto, unfolding(syntax::specs::Readers::compared))]
+    pub fn compared(&self, cursor: &mut Cursor<'_>, left: Expression) -> Result<Condition, Stop>
+        requires { Nests self.now.depth (F.pre self.now.inner) (F.post self.now.inner) }
+        ensures { Reads (reader.compared self.now.depth (inside self.now.depth) left cursor.old) result cursor.new }
+    {
+        let sign = comparison_sign(cursor)?;
+        let right = self.expr(cursor)?;
+        Ok(Condition::Compare(left, sign, right))
+    }
+
+    /// What makes a condition of an expression.
+    #[tactic(auto, unfolding(syntax::specs::Readers::comparison))]
+    pub fn comparison(&self, cursor: &mut Cursor<'_>, left: Expression) -> Result<Condition, Stop>
+        requires { Nests self.now.depth (F.pre self.now.inner) (F.post self.now.inner) }
+        ensures { Reads (reader.comparison self.now.depth (inside self.now.depth) left cursor.old) result cursor.new }
+    {
+        match cursor.peek() {
+            Kind::Is => {
+                cursor.expect(Kind::Is)?;
+                self.null(cursor, left)
+            }
+            Kind::Not => {
+                cursor.expect(Kind::Not)?;
+                let inner = self.range_or_list(cursor, left)?;
+                Ok(negation(self.alloc, inner)?)
+            }
+            Kind::Between | Kind::In => self.range_or_list(cursor, left),
+            _ => self.compared(cursor, left),
+        }
+    }
+
+    /// `[NOT] (TRUE | FALSE | UNKNOWN)`, behind IS.
+    #[tactic(auto, unfolding(syntax::specs::Readers::truth_after))]
+    pub fn truth_after(&self, cursor: &mut Cursor<'_>, left: Condition) -> Result<Condition, Stop>
+        requires { Nests self.now.depth (F.pre self.now.inner) (F.post self.now.inner) }
+        ensures { Reads (reader.truth_after self.now.depth (inside self.now.depth) left cursor.old) result cursor.new }
+    {
+        match cursor.peek() {
+            Kind::Not => not_truth(self.alloc, cursor, left),
+            _ => plain_truth(self.alloc, cursor, left),
+        }
+    }
+
+    /// `[ IS [NOT] (TRUE | FALSE | UNKNOWN) ]`
+    #[tactic(auto, unfolding(syntax::specs::Readers::is_after))]
+    pub fn is_after(&self, cursor: &mut Cursor<'_>, left: Condition) -> Result<Condition, Stop>
+        requires { Nests self.now.depth (F.pre self.now.inner) (F.post self.now.inner) }
+        ensures { Reads (reader.is_after self.now.depth (inside self.now.depth) left cursor.old) result cursor.new }
+    {
+        match cursor.peek() {
+            Kind::Is => {
+                cursor.expect(Kind::Is)?;
+                self.truth_after(cursor, left)
+            }
+            _ => Ok(left),
+        }
+    }
+
+    /// `EXISTS "(" query ")"`
+    #[tactic(auto, unfolding(syntax::specs::Readers::exists))]
+    pub fn exists(&self, cursor: &mut Cursor<'_>) -> Result<Condition, Stop>
+        requires { Nests self.now.depth (F.pre self.now.inner) (F.post self.now.inner) }
+        ensures { Reads (reader.exists self.now.depth (inside self.now.depth) cursor.old) result cursor.new }
+    {
+        cursor.expect(Kind::Exists)?;
+        let query = self.parens_query(cursor)?;
+        Ok(existence(self.alloc, query)?)
+    }
+}

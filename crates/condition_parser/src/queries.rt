@@ -1,0 +1,158 @@
+//! Queries, and what is wanted.
+
+ghost use Rattle.reading.specs.Reading as rd;
+ghost use Rattle.syntax.specs.Readers as reader;
+ghost use Rattle.condition_parser.specs.Inside.{inside};
+ghost use Rattle.condition_parser.specs.Nests.{Nests};
+ghost use Rattle.leaf_parser.specs.Reads.{Reads};
+
+use crate::levels::{Level, unwanted};
+use leaf_parser::{Cursor, Stop, alias, group_by, name};
+use std::alloc::Global;
+use syntax::{ColumnName, Condition, Found, Listed, Query, Want};
+use token::Kind;
+use value::Text;
+
+impl<F: Fn(Global, &mut Cursor<'_>, usize, Want) -> Result<Found, Stop>> Level<F> {
+    /// `"*" | expr`
+    #[tactic(auto, unfolding(syntax::specs::Readers::selected))]
+    pub fn selected(&self, cursor: &mut Cursor<'_>) -> Result<Listed, Stop>
+        requires { Nests self.now.depth (F.pre self.now.inner) (F.post self.now.inner) }
+        ensures { Reads (reader.selected self.now.depth (inside self.now.depth) cursor.old) result cursor.new }
+    {
+        match cursor.peek() {
+            Kind::Star => {
+                cursor.expect(Kind::Star)?;
+                Ok(Listed::Star)
+            }
+            _ => Ok(Listed::One(self.expr(cursor)?)),
+        }
+    }
+
+    /// `[WHERE cond]`
+    #[tactic(auto, unfolding(syntax::specs::Readers::where_))]
+    pub fn where_(&self, cursor: &mut Cursor<'_>) -> Result<Option<Condition>, Stop>
+        requires { Nests self.now.depth (F.pre self.now.inner) (F.post self.now.inner) }
+        ensures { Reads (reader.where_ self.now.depth (inside self.now.depth) cursor.old) result cursor.new }
+    {
+        if !cursor.is(Kind::Where) {
+            return Ok(None);
+        }
+        cursor.expect(Kind::Where)?;
+        Ok(Some(self.condition(cursor)?))
+    }
+
+    /// `[HAVING cond]`
+    #[tactic(auto, unfolding(syntax::specs::Readers::having))]
+    pub fn having(&self, cursor: &mut Cursor<'_>) -> Result<Option<Condition>, Stop>
+        requires { Nests self.now.depth (F.pre self.now.inner) (F.post self.now.inner) }
+        ensures { Reads (reader.having self.now.depth (inside self.now.depth) cursor.old) result cursor.new }
+    {
+        if !cursor.is(Kind::Having) {
+            return Ok(None);
+        }
+        cursor.expect(Kind::Having)?;
+        Ok(Some(self.condition(cursor)?))
+    }
+
+    /// What follows the table of a query and its alias.
+    #[tactic(auto, unfolding(syntax::specs::Readers::query_rest))]
+    pub fn query_rest(
+        &self,
+        cursor: &mut Cursor<'_>,
+        listed: Listed,
+        table: Text,
+        alias: Option<Text>,
+    ) -> Result<Query, Stop>
+        requires { Nests self.now.depth (F.pre self.now.inner) (F.post self.now.inner) }
+        ensures { Reads (reader.query_rest self.now.depth (inside self.now.depth) listed table alias cursor.old) result cursor.new }
+    {
+        let keeps = self.where_(cursor)?;
+        let group = group_by(self.alloc, cursor)?;
+        let having = self.having(cursor)?;
+        Ok(Query {
+            listed,
+            table,
+            alias,
+            keeps,
+            group,
+            having,
+        })
+    }
+
+    /// What follows FROM.
+    #[tactic(auto, unfolding(syntax::specs::Readers::query_from))]
+    pub fn query_from(&self, cursor: &mut Cursor<'_>, listed: Listed) -> Result<Query, Stop>
+        requires { Nests self.now.depth (F.pre self.now.inner) (F.post self.now.inner) }
+        ensures { Reads (reader.query_from self.now.depth (inside self.now.depth) listed cursor.old) result cursor.new }
+    {
+        let table = name(self.alloc, cursor)?;
+        let alias = alias(self.alloc, cursor)?;
+        self.query_rest(cursor, listed, table, alias)
+    }
+
+    /// `SELECT ("*" | expr) FROM name [ [AS] name ] [WHERE cond] [GROUP BY colref] [HAVING cond]`
+    #[tactic(auto, unfolding(syntax::specs::Readers::query))]
+    pub fn query(&self, cursor: &mut Cursor<'_>) -> Result<Query, Stop>
+        requires { Nests self.now.depth (F.pre self.now.inner) (F.post self.now.inner) }
+        ensures { Reads (reader.query self.now.depth (inside self.now.depth) cursor.old) result cursor.new }
+    {
+        cursor.expect(Kind::Select)?;
+        let listed = self.selected(cursor)?;
+        cursor.expect(Kind::From)?;
+        self.query_from(cursor, listed)
+    }
+
+    /// A condition or an expression that begins with no NOT and no SELECT.
+    pub fn first_from(&self, cursor: &mut Cursor<'_>) -> Result<Found, Stop>
+        requires { Nests self.now.depth (F.pre self.now.inner) (F.post self.now.inner) }
+        ensures { Reads (rd.◌>>=◌ (reader.first self.now.depth (inside self.now.depth)) (reader.any_from self.now.depth (inside self.now.depth)) cursor.old) result cursor.new }
+    {
+        match self.first(cursor)? {
+            Found::Condition(x) => self.rest_of_condition(cursor, x),
+            Found::Expression(x) => {
+                let left = self.expr_after(cursor, x)?;
+                self.any_after(cursor, left)
+            }
+            Found::Query(x) => Err(unwanted(x)),
+        }
+    }
+
+    /// A condition, an expression or a query.
+    #[tactic(auto, unfolding(syntax::specs::Readers::any))]
+    pub fn any(&self, cursor: &mut Cursor<'_>) -> Result<Found, Stop>
+        requires { Nests self.now.depth (F.pre self.now.inner) (F.post self.now.inner) }
+        ensures { Reads (reader.any self.now.depth (inside self.now.depth) cursor.old) result cursor.new }
+    {
+        match cursor.peek() {
+            Kind::Not => Ok(Found::Condition(self.condition(cursor)?)),
+            Kind::Select => Ok(Found::Query(self.query(cursor)?)),
+            _ => self.first_from(cursor),
+        }
+    }
+
+    /// An expression or a query.
+    #[tactic(auto, unfolding(syntax::specs::Readers::operand))]
+    pub fn operand(&self, cursor: &mut Cursor<'_>) -> Result<Found, Stop>
+        requires { Nests self.now.depth (F.pre self.now.inner) (F.post self.now.inner) }
+        ensures { Reads (reader.operand self.now.depth (inside self.now.depth) cursor.old) result cursor.new }
+    {
+        match cursor.peek() {
+            Kind::Select => Ok(Found::Query(self.query(cursor)?)),
+            _ => Ok(Found::Expression(self.expr(cursor)?)),
+        }
+    }
+
+    pub fn level(&self, cursor: &mut Cursor<'_>, wanted: Want) -> Result<Found, Stop>
+        requires { Nests self.now.depth (F.pre self.now.inner) (F.post self.now.inner) }
+        ensures { Reads (reader.level self.now.depth (inside self.now.depth) wanted cursor.old) result cursor.new }
+    {
+        match wanted {
+            Want::Condition => Ok(Found::Condition(self.condition(cursor)?)),
+            Want::Expression => Ok(Found::Expression(self.expr(cursor)?)),
+            Want::Query => Ok(Found::Query(self.query(cursor)?)),
+            Want::Operand => self.operand(cursor),
+            Want::Any => self.any(cursor),
+        }
+    }
+}

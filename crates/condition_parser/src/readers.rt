@@ -1,0 +1,50 @@
+//! Conditions and expressions, where so many parentheses may be opened.
+
+ghost use Rattle.syntax.specs.Readers as reader;
+ghost use Rattle.leaf_parser.specs.Reads.{Reads};
+
+use crate::levels::{Level, unwanted};
+use leaf_parser::{Cursor, Stop};
+use std::alloc::Global;
+use syntax::{Condition, Expression, Found, Want};
+
+/// What is wanted, where so many parentheses may be opened.
+pub fn read(
+    alloc: Global,
+    cursor: &mut Cursor<'_>,
+    depth: usize,
+    wanted: Want,
+) -> Result<Found, Stop>
+    ensures { Reads (reader.read depth wanted cursor.old) result cursor.new }
+{
+    Level {
+        alloc,
+        depth,
+        inner: read,
+    }
+    .level(cursor, wanted)
+}
+
+/// A condition, where so many parentheses may be opened.
+#[tactic(auto, unfolding(syntax::specs::Readers::cond_at))]
+pub fn cond_at(alloc: Global, cursor: &mut Cursor<'_>, depth: usize) -> Result<Condition, Stop>
+    ensures { Reads (reader.cond_at depth cursor.old) result cursor.new }
+{
+    match read(alloc, cursor, depth, Want::Condition)? {
+        Found::Condition(x) => Ok(x),
+        Found::Expression(x) => Err(unwanted(x)),
+        Found::Query(x) => Err(unwanted(x)),
+    }
+}
+
+/// An expression, where so many parentheses may be opened.
+#[tactic(auto, unfolding(syntax::specs::Readers::expr_at))]
+pub fn expr_at(alloc: Global, cursor: &mut Cursor<'_>, depth: usize) -> Result<Expression, Stop>
+    ensures { Reads (reader.expr_at depth cursor.old) result cursor.new }
+{
+    match read(alloc, cursor, depth, Want::Expression)? {
+        Found::Expression(x) => Ok(x),
+        Found::Condition(x) => Err(unwanted(x)),
+        Found::Query(x) => Err(unwanted(x)),
+    }
+}

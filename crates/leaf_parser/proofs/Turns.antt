@@ -1,0 +1,37 @@
+-- Turns of a loop, and what stands in parentheses, as the readers say it.
+use Rattle.std.proofs.Common.{◌≡◌, ℕ, zero, suc, ◌-◌, ◌<◌, Bool, true, false, List, [], ◌∷◌, ◌++◌, refl, sym, ap, subst, ◌∙◌, arith, cond}
+use Rattle.token.specs.declared.kinds.Kind.{Kind}
+use Rattle.token.specs.declared.kinds.Kind.TheVariants as k
+use Rattle.leaf_parser.specs.declared.stops.Stop.TheVariants as stop
+use Rattle.reading.specs.Language.{Lexemes, kind_at}
+use Rattle.reading.specs.Reading.{Reader, Done, Fail, Deep, ◌>>=◌, ◌>>◌, pure, same_kind, expect, parens, many}
+use Rattle.leaf_parser.specs.Reads.{Stops, full_stop}
+
+pub many_stops : {A : Type 0} (goes_on : Kind → Bool) (item : Reader A) (n : ℕ) (found : List A) (ts : Lexemes) → goes_on (kind_at ts) ≡ false → many goes_on item n found ts ≡ (Done found, ts)
+unfolding many
+many_stops goes_on item zero found ts e = refl
+many_stops goes_on item (suc n) found ts e = ap (λ b. cond b (item >>= (λ x. many goes_on item n (found ++ x ∷ []))) (pure found) ts) e
+
+pub many_goes : {A : Type 0} (goes_on : Kind → Bool) (item : Reader A) (n : ℕ) (found : List A) (ts : Lexemes) → goes_on (kind_at ts) ≡ true → 0 < n → many goes_on item n found ts ≡ (item >>= (λ x. many goes_on item (n - 1) (found ++ x ∷ []))) ts
+unfolding many
+many_goes goes_on item zero found ts e some = absurd (omega arith)
+many_goes goes_on item (suc n) found ts e some =
+    let less : n ≡ suc n - 1 = omega arith in
+    ap (λ b. cond b (item >>= (λ x. many goes_on item n (found ++ x ∷ []))) (pure found) ts) e ∙ ap (λ m. (item >>= (λ x. many goes_on item m (found ++ x ∷ []))) ts) less
+
+pub many_over : {A : Type 0} (goes_on : Kind → Bool) (item : Reader A) (n : ℕ) (found : List A) (ts : Lexemes) → n ≡ 0 → many goes_on item n found ts ≡ (Done found, ts)
+unfolding many
+many_over goes_on item n found ts e = ap (λ m. many goes_on item m found ts) e
+
+full_stops : (A : Type 0) (b : Bool) (ts : Lexemes) → Stops {A = A} (cond b (Deep, ts) (Fail, ts)) (cond b stop.Depth stop.Syntax) ts
+full_stops A true ts = refl
+full_stops A false ts = refl
+
+pub parens_none : {A : Type 0} (n : ℕ) (p : Reader A) (ts : Lexemes) → n ≡ 0 → Stops (parens n p ts) (full_stop (kind_at ts)) ts
+unfolding parens
+parens_none {A} n p ts e = subst (λ m. Stops (parens m p ts) (full_stop (kind_at ts)) ts) (sym e) (full_stops A (same_kind (kind_at ts) k.Open) ts)
+
+pub parens_some : {A : Type 0} (n : ℕ) (p : Reader A) → 0 < n → parens n p ≡ (expect k.Open >> (p >>= (λ x. expect k.Close >> pure x)))
+unfolding parens
+parens_some zero p some = absurd (omega arith)
+parens_some (suc n) p some = refl

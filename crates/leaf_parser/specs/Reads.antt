@@ -1,0 +1,23 @@
+-- What a function of the parser ensures: the reader's outcome, unless memory runs out.
+use Rattle.std.specs.Prelude.{◌≡◌, if◌then◌else◌, Result, Ok, Err}
+use Rattle.token.specs.declared.kinds.Kind.{Kind}
+use Rattle.token.specs.declared.kinds.Kind.TheVariants as k
+use Rattle.leaf_parser.specs.declared.stops.Stop.{Stop}
+use Rattle.leaf_parser.specs.declared.stops.Stop.TheVariants as stop
+use Rattle.reading.specs.Language.{Lexemes}
+use Rattle.reading.specs.Reading.{same_kind, Outcome, Done, Fail, Deep}
+
+-- why the reader stopped, and where
+abbrev pub Stops : {A : Type 0} → Outcome A → Stop → Lexemes → Type 0
+Stops outcome stop.Memory new = Unit {0}
+Stops outcome stop.Syntax new = outcome ≡ (Fail, new)
+Stops outcome stop.Depth new = outcome ≡ (Deep, new)
+
+-- what was read, and what is left; or why the reader stopped, and where
+abbrev pub Reads : {A : Type 0} → Outcome A → Result A Stop → Lexemes → Type 0
+Reads outcome (Ok a) new = outcome ≡ (Done a, new)
+Reads outcome (Err e) new = Stops outcome e new
+
+-- why no parenthesis may be opened
+abbrev pub full_stop : Kind → Stop
+full_stop kind = if same_kind kind k.Open then stop.Depth else stop.Syntax

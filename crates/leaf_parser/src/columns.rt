@@ -1,0 +1,85 @@
+//! The names of columns, and what is written with them.
+
+ghost use Rattle.syntax.specs.Readers as reader;
+ghost use Rattle.leaf_parser.specs.Reads.{Reads};
+
+use crate::cursors::{Cursor, Piece};
+use crate::names::{name, name_of};
+use crate::stops::Stop;
+use std::alloc::Global;
+use syntax::{Aggregate, ColumnName, Expression};
+use token::Kind;
+use value::Text;
+
+#[tactic(auto, unfolding(syntax::specs::Readers::column_after))]
+fn column_after(
+    alloc: Global,
+    cursor: &mut Cursor<'_>,
+    first: &Piece<'_>,
+) -> Result<ColumnName, Stop>
+    ensures { Reads (reader.column_after first.now cursor.old) result cursor.new }
+{
+    let name = name_of(alloc, first)?;
+    match cursor.peek() {
+        Kind::Dot => {
+            cursor.expect(Kind::Dot)?;
+            let second = cursor.expect(Kind::Name)?;
+            Ok(ColumnName {
+                qualifier: Some(name),
+                name: name_of(alloc, &second)?,
+            })
+        }
+        _ => Ok(ColumnName {
+            qualifier: None,
+            name,
+        }),
+    }
+}
+
+#[tactic(auto, unfolding(syntax::specs::Readers::column))]
+pub fn column(alloc: Global, cursor: &mut Cursor<'_>) -> Result<ColumnName, Stop>
+    ensures { Reads (reader.column cursor.old) result cursor.new }
+{
+    let first = cursor.expect(Kind::Name)?;
+    column_after(alloc, cursor, &first)
+}
+
+#[tactic(auto, unfolding(syntax::specs::Readers::alias))]
+pub fn alias(alloc: Global, cursor: &mut Cursor<'_>) -> Result<Option<Text>, Stop>
+    ensures { Reads (reader.alias cursor.old) result cursor.new }
+{
+    match cursor.peek() {
+        Kind::As => {
+            cursor.expect(Kind::As)?;
+            Ok(Some(name(alloc, cursor)?))
+        }
+        Kind::Name => Ok(Some(name(alloc, cursor)?)),
+        _ => Ok(None),
+    }
+}
+
+#[tactic(auto, unfolding(syntax::specs::Readers::group_by))]
+pub fn group_by(alloc: Global, cursor: &mut Cursor<'_>) -> Result<Option<ColumnName>, Stop>
+    ensures { Reads (reader.group_by cursor.old) result cursor.new }
+{
+    if !cursor.is(Kind::Group) {
+        return Ok(None);
+    }
+    cursor.expect(Kind::Group)?;
+    cursor.expect(Kind::By)?;
+    Ok(Some(column(alloc, cursor)?))
+}
+
+/// What stands in the parentheses of COUNT.
+#[tactic(auto, unfolding(syntax::specs::Readers::counted_inside))]
+pub fn counted_inside(alloc: Global, cursor: &mut Cursor<'_>) -> Result<Expression, Stop>
+    ensures { Reads (reader.counted_inside cursor.old) result cursor.new }
+{
+    match cursor.peek() {
+        Kind::Star => {
+            cursor.expect(Kind::Star)?;
+            Ok(Expression::CountRows)
+        }
+        _ => Ok(Expression::Aggregate(Aggregate::Count, column(alloc, cursor)?)),
+    }
+}

@@ -1,0 +1,111 @@
+//! Names, numbers and texts.
+
+ghost use Rattle.std.specs.Prelude.{◌≡◌, ◌≤◌, [], ◌∷◌, IfOk, IsOkUnless};
+ghost use Rattle.reading.specs.Reading as rd;
+ghost use Rattle.token.specs.declared.kinds.Kind.TheVariants as k;
+ghost use Rattle.token.specs.Spellings.{largest_number};
+ghost use Rattle.syntax.specs.Grammar as spec;
+ghost use Rattle.syntax.specs.Readers as reader;
+ghost use Rattle.leaf_parser.specs.declared.stops.Stop.TheVariants.{Memory};
+ghost use Rattle.leaf_parser.specs.Reads.{Reads};
+
+use crate::cursors::{Cursor, Piece};
+use crate::stops::Stop;
+use sqlite_items::Items;
+use std::alloc::{AllocError, Global};
+use syntax::Expression;
+use token::{Kind, name_bytes, number_value, text_bytes};
+use value::Text;
+
+/// A list of one item.
+pub fn one<T: Drop>(alloc: Global, item: T) -> Result<Items<T>, AllocError>
+    ensures { IfOk result (λ all. all ≡ item ∷ []) }
+{
+    let mut all = Items::new(alloc);
+    all.push(item)?;
+    Ok(all)
+}
+
+/// Whether a list goes on.
+pub fn is_comma(kind: Kind) -> bool
+    ensures { result ≡ rd.is_comma kind }
+{
+    match kind {
+        Kind::Comma => true,
+        _ => false,
+    }
+}
+
+/// The value of a number's digits. A token that is no number may be taken for 0.
+#[tactic(auto, unfolding(syntax::specs::Grammar::digits_value), using(crate::proofs::Small::digits_value_small))]
+pub fn value_of(piece: &Piece<'_>) -> u64
+    ensures value { result ≡ spec.digits_value piece.now }
+    ensures small { result ≤ largest_number }
+{
+    number_value(piece.spelling()).unwrap_or(0)
+}
+
+fn signed(is_negative: bool, magnitude: u64) -> i64
+    requires { magnitude ≤ largest_number }
+    ensures { result ≡ spec.signed is_negative magnitude }
+{
+    let number = magnitude as i64;
+    if is_negative { -number } else { number }
+}
+
+/// A number, whose sign is read.
+pub fn signed_number(cursor: &mut Cursor<'_>, is_negative: bool) -> Result<i64, Stop>
+    ensures { Reads (rd.◌<$>◌ (λ x. spec.signed is_negative (spec.digits_value x)) (rd.expect k.Number) cursor.old) result cursor.new }
+{
+    let piece = cursor.expect(Kind::Number)?;
+    Ok(signed(is_negative, value_of(&piece)))
+}
+
+/// A number as an expression, whose sign is read.
+#[tactic(auto, unfolding(syntax::specs::Readers::number))]
+pub fn number(cursor: &mut Cursor<'_>, is_negative: bool) -> Result<Expression, Stop>
+    ensures { Reads (reader.number is_negative cursor.old) result cursor.new }
+{
+    let piece = cursor.expect(Kind::Number)?;
+    Ok(Expression::Number(signed(is_negative, value_of(&piece))))
+}
+
+/// The name that a word spells.
+#[tactic(auto, unfolding(syntax::specs::Grammar::name_of))]
+pub fn name_of(alloc: Global, piece: &Piece<'_>) -> Result<Text, Stop>
+    ensures only_memory { IsOkUnless result Memory }
+    ensures upper { IfOk result (λ name. name ≡ spec.name_of piece.now) }
+{
+    match name_bytes(alloc, piece.spelling()) {
+        Ok(bytes) => Ok(Text::new(bytes)),
+        Err(_) => Err(Stop::Memory),
+    }
+}
+
+/// A name.
+#[tactic(auto, unfolding(syntax::specs::Readers::name))]
+pub fn name(alloc: Global, cursor: &mut Cursor<'_>) -> Result<Text, Stop>
+    ensures { Reads (reader.name cursor.old) result cursor.new }
+{
+    let piece = cursor.expect(Kind::Name)?;
+    name_of(alloc, &piece)
+}
+
+#[tactic(auto, unfolding(syntax::specs::Grammar::quoted))]
+fn quoted(alloc: Global, piece: &Piece<'_>) -> Result<Text, Stop>
+    ensures only_memory { IsOkUnless result Memory }
+    ensures inside { IfOk result (λ text. text ≡ spec.quoted piece.now) }
+{
+    match text_bytes(alloc, piece.spelling()) {
+        Ok(bytes) => Ok(Text::new(bytes)),
+        Err(_) => Err(Stop::Memory),
+    }
+}
+
+/// A text in quotes.
+pub fn text(alloc: Global, cursor: &mut Cursor<'_>) -> Result<Text, Stop>
+    ensures { Reads (rd.◌<$>◌ spec.quoted (rd.expect k.Text) cursor.old) result cursor.new }
+{
+    let piece = cursor.expect(Kind::Text)?;
+    quoted(alloc, &piece)
+}

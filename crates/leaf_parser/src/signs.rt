@@ -1,0 +1,66 @@
+//! The signs of comparisons, and the truths of IS.
+
+ghost use Rattle.syntax.specs.Readers as reader;
+ghost use Rattle.leaf_parser.specs.Reads.{Reads};
+
+use crate::cursors::Cursor;
+use crate::stops::Stop;
+use threeval::Truth;
+use token::Kind;
+use value::Comparison;
+
+/// `=`, `<>`, `<`, `<=`, `>` or `>=`.
+#[tactic(auto, unfolding(syntax::specs::Readers::comparison_sign))]
+pub fn comparison_sign(cursor: &mut Cursor<'_>) -> Result<Comparison, Stop>
+    ensures { Reads (reader.comparison_sign cursor.old) result cursor.new }
+{
+    match cursor.peek() {
+        Kind::Equal => {
+            cursor.expect(Kind::Equal)?;
+            Ok(Comparison::Equal)
+        }
+        Kind::NotEqual => {
+            cursor.expect(Kind::NotEqual)?;
+            Ok(Comparison::NotEqual)
+        }
+        Kind::Less => {
+            cursor.expect(Kind::Less)?;
+            Ok(Comparison::Less)
+        }
+        Kind::AtMost => {
+            cursor.expect(Kind::AtMost)?;
+            Ok(Comparison::AtMost)
+        }
+        Kind::Greater => {
+            cursor.expect(Kind::Greater)?;
+            Ok(Comparison::Greater)
+        }
+        Kind::AtLeast => {
+            cursor.expect(Kind::AtLeast)?;
+            Ok(Comparison::AtLeast)
+        }
+        _ => Err(Stop::Syntax),
+    }
+}
+
+/// TRUE, FALSE or UNKNOWN.
+#[tactic(auto, unfolding(syntax::specs::Readers::truth))]
+pub fn truth(cursor: &mut Cursor<'_>) -> Result<Truth, Stop>
+    ensures { Reads (reader.truth cursor.old) result cursor.new }
+{
+    match cursor.peek() {
+        Kind::True => {
+            cursor.expect(Kind::True)?;
+            Ok(Truth::True)
+        }
+        Kind::False => {
+            cursor.expect(Kind::False)?;
+            Ok(Truth::False)
+        }
+        Kind::Unknown => {
+            cursor.expect(Kind::Unknown)?;
+            Ok(Truth::Unknown)
+        }
+        _ => Err(Stop::Syntax),
+    }
+}

@@ -1,0 +1,16 @@
+use Rattle.std.proofs.Common.{◌∙◌}
+use Rattle.reading.specs.Reading.{whole}
+use Rattle.statement_syntax.specs.Grammar as g
+use Rattle.statement_syntax.specs.Readers as r
+use Rattle.statement_syntax.proofs.Finders.{exact_events}
+use Rattle.parse.proofs.Telling.{told_at, told_found, told_only, told_refused}
+use Rattle.parse.proofs.calls.parse_statement.Goals as goal
+
+pub returns-clause-found : goal.returns-clause-found
+returns-clause-found c = told_found g.events r.event_ exact_events 64 _ _ _ (told_at (whole (r.event_ 64)) c.args.text.now _ _ _ _ (c.deref.ensures.value ∙ c.in_ok-tokens.ensures.all) c.event_of.ensures)
+
+pub returns-clause-only : goal.returns-clause-only
+returns-clause-only c = told_only g.events r.event_ exact_events 64 _ _ _ (told_at (whole (r.event_ 64)) c.args.text.now _ _ _ _ (c.deref.ensures.value ∙ c.in_ok-tokens.ensures.all) c.event_of.ensures)
+
+pub returns-clause-refused : goal.returns-clause-refused
+returns-clause-refused c = told_refused g.events r.event_ exact_events 64 _ _ _ (told_at (whole (r.event_ 64)) c.args.text.now _ _ _ _ (c.deref.ensures.value ∙ c.in_ok-tokens.ensures.all) c.event_of.ensures)

@@ -1,0 +1,41 @@
+-- What an answer says of the tokens of a text.
+use Rattle.std.specs.Prelude.{◌≡◌, ℕ, Result, Ok, Err}
+use Rattle.value.specs.declared.refusals.Refusal.{Refusal}
+use Rattle.value.specs.declared.refusals.Refusal.TheVariants as refusal
+use Rattle.leaf_parser.specs.declared.stops.Stop.{Stop}
+use Rattle.leaf_parser.specs.declared.stops.Stop.TheVariants as stop
+use Rattle.reading.specs.Language.{Lexemes, Language}
+use Rattle.reading.specs.Reading.{Outcome, Done, Fail, Deep}
+use Rattle.reading.specs.Answer.{IsWrong, IsTooDeep}
+use Rattle.reading.specs.Lexemes.{place}
+
+-- how many parentheses may be open
+abbrev pub most_open : ℕ
+most_open = 64
+
+-- A refusal names the first token that no text of the language has after the tokens before it, or the first parenthesis too many.
+abbrev pub Refused : {A : Type 0} → Language A → ℕ → Lexemes → ℕ → Refusal → Type 0
+Refused L most ts end refusal.NoMemory = Unit {0}
+Refused L most ts end (refusal.Syntax at) = (rest : Lexemes) × IsWrong L most ts rest × (at ≡ place end rest)
+Refused L most ts end (refusal.TooDeep at) = (rest : Lexemes) × IsTooDeep L most ts rest × (at ≡ place end rest)
+Refused L most ts end _ = ⊥
+
+-- this tree, unless memory ran out
+abbrev pub Gave : {A : Type 0} → A → Result A Refusal → Type 0
+Gave a (Ok x) = x ≡ a
+Gave a (Err refusal.NoMemory) = Unit {0}
+Gave a (Err _) = ⊥
+
+-- the refusal of a text at which the parser stopped
+abbrev pub refusal_of : ℕ → Stop → Refusal
+refusal_of at stop.Memory = refusal.NoMemory
+refusal_of at stop.Syntax = refusal.Syntax at
+refusal_of at stop.Depth = refusal.TooDeep at
+
+-- the outcome of a reader, told as an answer
+abbrev pub Told : {A : Type 0} → Outcome A → ℕ → Result A Refusal → Type 0
+Told outcome end (Ok a) = (rest : Lexemes) × (outcome ≡ (Done a, rest))
+Told outcome end (Err refusal.NoMemory) = Unit {0}
+Told outcome end (Err (refusal.Syntax at)) = (rest : Lexemes) × (outcome ≡ (Fail, rest)) × (at ≡ place end rest)
+Told outcome end (Err (refusal.TooDeep at)) = (rest : Lexemes) × (outcome ≡ (Deep, rest)) × (at ≡ place end rest)
+Told outcome end (Err _) = ⊥

@@ -1,0 +1,67 @@
+//! The trees of texts.
+
+ghost use Rattle.std.specs.Prelude.{List, length, IfOk, IfErr};
+ghost use Rattle.statement_syntax.specs.declared.statements.Event.{Event};
+ghost use Rattle.statement_syntax.specs.declared.statements.Step.{Step};
+ghost use Rattle.statement_syntax.specs.declared.definitions.Definition.{Definition};
+ghost use Rattle.statement_syntax.specs.Grammar.{IsEvent};
+ghost use Rattle.statement_syntax.specs.SchemaGrammar.{IsSchema, IsScript};
+ghost use Rattle.reading.specs.Answer.{Fits};
+ghost use Rattle.reading.specs.Lexemes.{lexemes};
+ghost use Rattle.parse.specs.Told.{most_open, Refused, Gave};
+
+use crate::wholes::{event_of, schema_of, script_of};
+use sqlite_items::Items;
+use statement_syntax::{Definition, Event, Step};
+use std::alloc::Global;
+use token::tokens;
+use value::Refusal;
+
+const MOST_OPEN: usize = 64;
+
+/// The definitions of a text: `{ def ";" }`. The empty text has none.
+///
+/// `Syntax` names the offset of the first token that no schema has after the tokens before it, or
+/// the text's length; `TooDeep` that of the first parenthesis that opens while 64 are open;
+/// `NoMemory` comes where memory runs out.
+pub fn parse_schema(alloc: Global, text: &[u8]) -> Result<Items<Definition>, Refusal>
+    // A list is given only where the grammar relates it to the text, and no parenthesis opens while 64 are open.
+    ensures found { IfOk result (λ d. IsSchema (lexemes text.now) d × Fits most_open (lexemes text.now)) }
+    // There it is given, unless memory runs out.
+    ensures only { (d : List Definition) → IsSchema (lexemes text.now) d → Fits most_open (lexemes text.now) → Gave d result }
+    // A refusal names the first wrong token, or the first parenthesis too many.
+    ensures refused { IfErr result (Refused IsSchema most_open (lexemes text.now) (length text.now)) }
+{
+    let tokens = tokens(alloc, text)?;
+    schema_of(alloc, text, &tokens, MOST_OPEN)
+}
+
+/// The event of a text, with no semicolon behind it.
+///
+/// The refusals are those of [`parse_schema`], with events for schemas.
+pub fn parse_statement(alloc: Global, text: &[u8]) -> Result<Event, Refusal>
+    // A tree is given only where the grammar relates it to the text, and no parenthesis opens while 64 are open.
+    ensures found { IfOk result (λ e. IsEvent (lexemes text.now) e × Fits most_open (lexemes text.now)) }
+    // There it is given, unless memory runs out.
+    ensures only { (e : Event) → IsEvent (lexemes text.now) e → Fits most_open (lexemes text.now) → Gave e result }
+    // A refusal names the first wrong token, or the first parenthesis too many.
+    ensures refused { IfErr result (Refused IsEvent most_open (lexemes text.now) (length text.now)) }
+{
+    let tokens = tokens(alloc, text)?;
+    event_of(alloc, text, &tokens, MOST_OPEN)
+}
+
+/// The steps of a text: `{ name ":" event ";" }`. The empty text has none.
+///
+/// The refusals are those of [`parse_schema`], with scripts for schemas.
+pub fn parse_script(alloc: Global, text: &[u8]) -> Result<Items<Step>, Refusal>
+    // A list is given only where the grammar relates it to the text, and no parenthesis opens while 64 are open.
+    ensures found { IfOk result (λ s. IsScript (lexemes text.now) s × Fits most_open (lexemes text.now)) }
+    // There it is given, unless memory runs out.
+    ensures only { (s : List Step) → IsScript (lexemes text.now) s → Fits most_open (lexemes text.now) → Gave s result }
+    // A refusal names the first wrong token, or the first parenthesis too many.
+    ensures refused { IfErr result (Refused IsScript most_open (lexemes text.now) (length text.now)) }
+{
+    let tokens = tokens(alloc, text)?;
+    script_of(alloc, text, &tokens, MOST_OPEN)
+}

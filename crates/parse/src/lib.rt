@@ -1,0 +1,31 @@
+//! Texts and their trees: the three calls by which statements, schemas and scripts come in.
+//!
+//! Each call takes the bytes of a text and answers with its tree, or with why there is none:
+//!
+//! - `Syntax` names the offset of the first token that no text of the grammar has behind the tokens
+//!   before it, or the text's length where it ends too early. A bad token, as a text without its
+//!   end, is a token that no text has.
+//! - `TooDeep` names the first parenthesis that opens while 64 are open, where the text up to and
+//!   with it is the beginning of some text. (SQL-92 sets no limit; 64 is this project's choice, and
+//!   bounds the stack.) Where both could be said, the earlier place is; at one place, `Syntax`.
+//! - `NoMemory` comes where memory runs out, and says nothing of the text.
+//!
+//! That is what the contracts promise, in three clauses of the same form for events
+//! ([`parse_statement`]), lists of definitions ([`parse_schema`]) and scripts ([`parse_script`]).
+//! `found`: a tree that is given is one that the written grammar relates to the tokens of the text.
+//! `only`: where the grammar has a tree, and no parenthesis opens while 64 are open, that tree is
+//! given, unless memory runs out. `refused`: a refusal says of the text what it says above
+//! (`specs/Told.antt`, over `IsWrong` and `IsTooDeep` of the crate `reading`). With the laws of the
+//! crate `statement_syntax`, that no text has two trees, the answer to each text is settled.
+//!
+//! Tokens are cut by `token`, and the grammar speaks of all tokens of a text (`lexemes`). The
+//! parsers of the crates below answer as the grammar's readers do; here a reader is run on a whole
+//! text, and the laws of `reading` turn its outcome into the three clauses (`proofs/Telling.antt`).
+#![tactic(auto)]
+
+mod calls;
+#[cfg(test)]
+mod tests;
+mod wholes;
+
+pub use calls::{parse_schema, parse_script, parse_statement};

@@ -1,0 +1,117 @@
+//! Whole texts: a reader, and nothing behind it.
+
+ghost use Rattle.std.specs.Prelude.{◌≡◌, map, length};
+ghost use Rattle.statement_syntax.specs.Readers as event;
+ghost use Rattle.statement_syntax.specs.SchemaReaders as schema;
+ghost use Rattle.reading.specs.Reading as rd;
+ghost use Rattle.reading.specs.Lexemes.{lexeme, place};
+ghost use Rattle.leaf_parser.specs.Reads.{Reads};
+ghost use Rattle.parse.specs.Told.{Told};
+ghost use Rattle.parse.specs.Told as spec;
+
+use leaf_parser::{Cursor, Stop};
+use sqlite_items::Items;
+use statement_parser::{definitions, event_, script};
+use statement_syntax::{Definition, Event, Step};
+use std::alloc::Global;
+use token::Token;
+use value::Refusal;
+
+/// The refusal of a text at which the parser stopped, at the next token or the end.
+fn refusal_of(stop: Stop, cursor: &Cursor<'_>, end: usize) -> Refusal
+    ensures { result ≡ spec.refusal_of (place end cursor.now) stop }
+{
+    let at = cursor.place(end);
+    match stop {
+        Stop::Memory => Refusal::NoMemory,
+        Stop::Syntax => Refusal::Syntax { at },
+        Stop::Depth => Refusal::TooDeep { at },
+    }
+}
+
+/// What was found, if nothing is left.
+fn ended<T: Drop>(cursor: &mut Cursor<'_>, found: T) -> Result<T, Stop>
+    ensures { Reads (rd.ended found cursor.old) result cursor.new }
+{
+    if cursor.is_empty() {
+        Ok(found)
+    } else {
+        Err(Stop::Syntax)
+    }
+}
+
+fn whole_event(alloc: Global, cursor: &mut Cursor<'_>, depth: usize) -> Result<Event, Stop>
+    ensures { Reads (rd.whole (event.event_ depth) cursor.old) result cursor.new }
+{
+    let found = event_(alloc, cursor, depth)?;
+    ended(cursor, found)
+}
+
+fn whole_schema(
+    alloc: Global,
+    cursor: &mut Cursor<'_>,
+    depth: usize,
+) -> Result<Items<Definition>, Stop>
+    ensures { Reads (rd.whole (schema.defs depth) cursor.old) result cursor.new }
+{
+    let found = definitions(alloc, cursor, depth)?;
+    ended(cursor, found)
+}
+
+fn whole_script(alloc: Global, cursor: &mut Cursor<'_>, depth: usize) -> Result<Items<Step>, Stop>
+    ensures { Reads (rd.whole (schema.script depth) cursor.old) result cursor.new }
+{
+    let found = script(alloc, cursor, depth)?;
+    ended(cursor, found)
+}
+
+/// The event of these tokens, where so many parentheses may be open.
+#[tactic(auto, using(crate::proofs::Telling::stops_told))]
+pub fn event_of(
+    alloc: Global,
+    text: &[u8],
+    tokens: &[Token],
+    depth: usize,
+) -> Result<Event, Refusal>
+    ensures { Told (rd.whole (event.event_ depth) (map (lexeme text.now) tokens.now)) (length text.now) result }
+{
+    let mut cursor = Cursor::new(text, tokens);
+    match whole_event(alloc, &mut cursor, depth) {
+        Ok(found) => Ok(found),
+        Err(stop) => Err(refusal_of(stop, &cursor, text.len())),
+    }
+}
+
+/// The definitions of these tokens, where so many parentheses may be open.
+#[tactic(auto, using(crate::proofs::Telling::stops_told))]
+pub fn schema_of(
+    alloc: Global,
+    text: &[u8],
+    tokens: &[Token],
+    depth: usize,
+) -> Result<Items<Definition>, Refusal>
+    ensures { Told (rd.whole (schema.defs depth) (map (lexeme text.now) tokens.now)) (length text.now) result }
+{
+    let mut cursor = Cursor::new(text, tokens);
+    match whole_schema(alloc, &mut cursor, depth) {
+        Ok(found) => Ok(found),
+        Err(stop) => Err(refusal_of(stop, &cursor, text.len())),
+    }
+}
+
+/// The steps of these tokens, where so many parentheses may be open.
+#[tactic(auto, using(crate::proofs::Telling::stops_told))]
+pub fn script_of(
+    alloc: Global,
+    text: &[u8],
+    tokens: &[Token],
+    depth: usize,
+) -> Result<Items<Step>, Refusal>
+    ensures { Told (rd.whole (schema.script depth) (map (lexeme text.now) tokens.now)) (length text.now) result }
+{
+    let mut cursor = Cursor::new(text, tokens);
+    match whole_script(alloc, &mut cursor, depth) {
+        Ok(found) => Ok(found),
+        Err(stop) => Err(refusal_of(stop, &cursor, text.len())),
+    }
+}

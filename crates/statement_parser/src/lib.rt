@@ -1,0 +1,31 @@
+//! The parser of statements, events, definitions and scripts.
+//!
+//! A function for each rule of the grammar (crate `statement_syntax`), and its contract is that
+//! rule's reader: what it answers is what the reader answers on the tokens in front of it, unless
+//! memory runs out (`Reads`, in crate `leaf_parser`). Each goes by the next token alone. Conditions
+//! and expressions are read by the crate `condition_parser`.
+//!
+//! A function that may meet a parenthesis takes how many may be opened where it begins. Each `(`
+//! counts: those round lists of names, constants and columns, of VARCHAR and of CHECK too. Where none
+//! may be opened, a `(` stops the parser by `Stop::Depth`, and any other token by `Stop::Syntax`.
+//!
+//! Lists are read by loops, of as many turns as there are tokens at most: an item takes at least one.
+//! A loop goes on by the kind of the next token, a comma, or the first word of a definition, or a
+//! name for a step of a script.
+//!
+//! [`definitions`], [`event_`] and [`script`] are for the layer that reads whole texts: none of them
+//! asks whether anything stands behind what it has read.
+#![tactic(auto)]
+
+mod attributes;
+mod columns;
+mod events;
+mod inserts;
+mod lists;
+mod schemas;
+mod scripts;
+mod statements;
+
+pub use events::event_;
+pub use schemas::definitions;
+pub use scripts::script;

@@ -1,0 +1,4 @@
+pub mod Sounds
+pub mod Finders
+pub mod SchemaSounds
+pub mod SchemaFinders

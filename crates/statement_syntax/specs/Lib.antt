@@ -1,0 +1,4 @@
+pub mod Grammar
+pub mod Readers
+pub mod SchemaGrammar
+pub mod SchemaReaders

@@ -1,0 +1,112 @@
+-- Readers of statements and events, by the next token alone.
+use Rattle.std.specs.Prelude.{ℕ, true, false, List, Option}
+use Rattle.token.specs.declared.kinds.Kind.{Kind}
+use Rattle.token.specs.declared.kinds.Kind.TheVariants as k
+use Rattle.syntax.specs.declared.trees.Condition.{Condition}
+use Rattle.value.specs.declared.values.Value.{Value}
+use Rattle.value.specs.declared.values.Value.TheVariants as c
+use Rattle.statement_syntax.specs.declared.statements.Insert.{Insert}
+use Rattle.statement_syntax.specs.declared.statements.Assigned.{Assigned}
+use Rattle.statement_syntax.specs.declared.statements.Assigned.TheVariants as to
+use Rattle.statement_syntax.specs.declared.statements.Assignment.{Assignment}
+use Rattle.statement_syntax.specs.declared.statements.Which.{Which}
+use Rattle.statement_syntax.specs.declared.statements.Which.TheVariants as which
+use Rattle.statement_syntax.specs.declared.statements.Mode.{Mode}
+use Rattle.statement_syntax.specs.declared.statements.Mode.TheVariants as mode
+use Rattle.statement_syntax.specs.declared.statements.Statement.{Statement}
+use Rattle.statement_syntax.specs.declared.statements.Statement.TheVariants as s
+use Rattle.statement_syntax.specs.declared.statements.Event.{Event}
+use Rattle.statement_syntax.specs.declared.statements.Event.TheVariants as event
+use Rattle.syntax.specs.Readers.{name, cond_at, expr_at}
+use Rattle.statement_syntax.specs.Grammar.{number_of, text_of, insert_of, assignment_of}
+use Rattle.reading.specs.Reading.{Reader, ◌>>=◌, ◌>>◌, ◌<$>◌, pure, refuse, by_kind, expect, optional, list, parens}
+
+abbrev pub constant_by : Kind → Reader Value
+constant_by k.Null = expect k.Null >> pure c.Null
+constant_by k.Text = text_of <$> expect k.Text
+constant_by k.Number = number_of false <$> expect k.Number
+constant_by k.Plus = expect k.Plus >> (number_of false <$> expect k.Number)
+constant_by k.Minus = expect k.Minus >> (number_of true <$> expect k.Number)
+constant_by _ = refuse
+
+unfoldable pub constant : Reader Value
+constant = by_kind constant_by
+
+abbrev pub when_by : Kind → Reader Mode
+when_by k.Deferred = expect k.Deferred >> pure mode.Deferred
+when_by k.Immediate = expect k.Immediate >> pure mode.Immediate
+when_by _ = refuse
+
+unfoldable pub when_ : Reader Mode
+when_ = by_kind when_by
+
+abbrev pub constraints_by : Kind → Reader Which
+constraints_by k.All = expect k.All >> pure which.All
+constraints_by _ = which.Names <$> list name
+
+unfoldable pub constraints : Reader Which
+constraints = by_kind constraints_by
+
+abbrev pub selected_by : Kind → Reader Which
+selected_by k.Star = expect k.Star >> pure which.All
+selected_by _ = which.Names <$> list name
+
+unfoldable pub selected : Reader Which
+selected = by_kind selected_by
+
+unfoldable pub set_constraints : Reader Statement
+set_constraints = expect k.Set >> (expect k.Constraints >> (constraints >>= (λ which. s.SetConstraints which <$> when_)))
+
+unfoldable pub verdict : Reader Statement
+verdict = expect k.Verdict >> (s.Verdict <$> name)
+
+-- how many parentheses may be opened
+module _ (n : ℕ) where
+  unfoldable pub columns : Reader (Option (List (List ℕ)))
+  columns = optional k.Open (parens n (list name))
+
+  unfoldable pub insert : Reader Insert
+  insert = expect k.Insert >> (expect k.Into >> (name >>= (λ table. columns >>= (λ columns. expect k.Values >> (insert_of table columns <$> parens n (list constant))))))
+
+  unfoldable pub where_ : Reader (Option Condition)
+  where_ = optional k.Where (expect k.Where >> cond_at n)
+
+  abbrev pub assigned_by : Kind → Reader Assigned
+  assigned_by k.Null = expect k.Null >> pure to.Null
+  assigned_by _ = to.To <$> expr_at n
+
+  unfoldable pub assigned : Reader Assigned
+  assigned = by_kind assigned_by
+
+  unfoldable pub assignment : Reader Assignment
+  assignment = name >>= (λ column. expect k.Equal >> (assignment_of column <$> assigned))
+
+  unfoldable pub update : Reader Statement
+  update = expect k.Update >> (name >>= (λ table. expect k.Set >> (list assignment >>= (λ sets. s.Update table sets <$> where_))))
+
+  unfoldable pub delete : Reader Statement
+  delete = expect k.Delete >> (expect k.From >> (name >>= (λ table. s.Delete table <$> where_)))
+
+  unfoldable pub select : Reader Statement
+  select = expect k.Select >> (selected >>= (λ which. expect k.From >> (name >>= (λ table. s.Select which table <$> where_))))
+
+  abbrev pub stmt_by : Kind → Reader Statement
+  stmt_by k.Insert = s.Insert <$> insert
+  stmt_by k.Update = update
+  stmt_by k.Delete = delete
+  stmt_by k.Select = select
+  stmt_by k.Set = set_constraints
+  stmt_by k.Verdict = verdict
+  stmt_by _ = refuse
+
+  unfoldable pub stmt : Reader Statement
+  stmt = by_kind stmt_by
+
+  abbrev pub event_by : Kind → Reader Event
+  event_by k.Begin = expect k.Begin >> pure event.Begin
+  event_by k.Commit = expect k.Commit >> ((λ _. event.Commit) <$> optional k.Work (expect k.Work))
+  event_by k.Rollback = expect k.Rollback >> ((λ _. event.Rollback) <$> optional k.Work (expect k.Work))
+  event_by _ = event.Run <$> stmt
+
+  unfoldable pub event_ : Reader Event
+  event_ = by_kind event_by

@@ -1,0 +1,395 @@
+-- Readers of conditions, expressions and queries, by the next token alone.
+use Rattle.std.specs.Prelude.{ℕ, zero, suc, Bool, true, false, List, [], ◌∷◌, Option, Some, None}
+use Rattle.token.specs.declared.kinds.Kind.{Kind}
+use Rattle.token.specs.declared.kinds.Kind.TheVariants as k
+use Rattle.value.specs.declared.comparisons.Comparison.{Comparison}
+use Rattle.value.specs.declared.comparisons.Comparison.TheVariants as c
+use Rattle.threeval.specs.declared.Truth.{Truth}
+use Rattle.threeval.specs.declared.Truth.TheVariants as t
+use Rattle.syntax.specs.declared.trees.Aggregate.{Aggregate}
+use Rattle.syntax.specs.declared.trees.Aggregate.TheVariants as a
+use Rattle.syntax.specs.declared.trees.ColumnName.{ColumnName}
+use Rattle.syntax.specs.declared.trees.Listed.{Listed}
+use Rattle.syntax.specs.declared.trees.Listed.TheVariants as which
+use Rattle.syntax.specs.declared.trees.Query.{Query}
+use Rattle.syntax.specs.declared.trees.Expression.{Expression}
+use Rattle.syntax.specs.declared.trees.Expression.TheVariants as e
+use Rattle.syntax.specs.declared.trees.Condition.{Condition}
+use Rattle.syntax.specs.declared.trees.Condition.TheVariants as b
+use Rattle.syntax.specs.declared.wants.Found.{Found}
+use Rattle.syntax.specs.declared.wants.Found.TheVariants as part
+use Rattle.syntax.specs.declared.wants.Want.{Want}
+use Rattle.syntax.specs.declared.wants.Want.TheVariants as want
+use Rattle.reading.specs.Language.{Lexeme}
+use Rattle.reading.specs.Reading.{Reader, ◌>>=◌, ◌>>◌, ◌<$>◌, pure, refuse, by_kind, expect, optional, parens, list, all}
+use Rattle.syntax.specs.Grammar.{product_of, sum_of, and_of, or_of, quoted, name_of, number_of, query_of}
+
+abbrev pub sign_by : Kind → Reader Comparison
+sign_by k.Equal = expect k.Equal >> pure c.Equal
+sign_by k.NotEqual = expect k.NotEqual >> pure c.NotEqual
+sign_by k.Less = expect k.Less >> pure c.Less
+sign_by k.AtMost = expect k.AtMost >> pure c.AtMost
+sign_by k.Greater = expect k.Greater >> pure c.Greater
+sign_by k.AtLeast = expect k.AtLeast >> pure c.AtLeast
+sign_by _ = refuse
+
+unfoldable pub comparison_sign : Reader Comparison
+comparison_sign = by_kind sign_by
+
+abbrev pub truth_by : Kind → Reader Truth
+truth_by k.True = expect k.True >> pure t.True
+truth_by k.False = expect k.False >> pure t.False
+truth_by k.Unknown = expect k.Unknown >> pure t.Unknown
+truth_by _ = refuse
+
+unfoldable pub truth : Reader Truth
+truth = by_kind truth_by
+
+unfoldable pub number : Bool → Reader Expression
+number is_negative = number_of is_negative <$> expect k.Number
+
+unfoldable pub text : Reader Expression
+text = (λ x. e.Text (quoted x)) <$> expect k.Text
+
+abbrev pub column_by : Lexeme → Kind → Reader ColumnName
+column_by x k.Dot = expect k.Dot >> ((λ y. record { qualifier = Some (name_of x); name = name_of y }) <$> expect k.Name)
+column_by x _ = pure (record { qualifier = None; name = name_of x })
+
+unfoldable pub column_after : Lexeme → Reader ColumnName
+column_after x = by_kind (column_by x)
+
+unfoldable pub column : Reader ColumnName
+column = expect k.Name >>= column_after
+
+unfoldable pub name : Reader (List ℕ)
+name = name_of <$> expect k.Name
+
+abbrev pub counted_by : Kind → Reader Expression
+counted_by k.Star = expect k.Star >> pure e.CountRows
+counted_by _ = e.Aggregate a.Count <$> column
+
+-- "*" or a column
+unfoldable pub counted_inside : Reader Expression
+counted_inside = by_kind counted_by
+
+abbrev pub alias_by : Kind → Reader (Option (List ℕ))
+alias_by k.As = expect k.As >> (Some <$> name)
+alias_by k.Name = Some <$> name
+alias_by _ = pure None
+
+unfoldable pub alias : Reader (Option (List ℕ))
+alias = by_kind alias_by
+
+unfoldable pub group_by : Reader (Option ColumnName)
+group_by = optional k.Group (expect k.Group >> (expect k.By >> column))
+
+abbrev pub as_expr : Found → Reader Expression
+as_expr (part.Expression x) = pure x
+as_expr _ = refuse
+
+abbrev pub as_cond : Found → Reader Condition
+as_cond (part.Condition x) = pure x
+as_cond _ = refuse
+
+abbrev pub as_query : Found → Reader Query
+as_query (part.Query x) = pure x
+as_query _ = refuse
+
+-- a query stands for its value
+abbrev pub as_operand : Found → Reader Expression
+as_operand (part.Expression x) = pure x
+as_operand (part.Query x) = pure (e.Subquery x)
+as_operand _ = refuse
+
+abbrev pub as_test : Found → Reader Found
+as_test (part.Query x) = pure (part.Expression (e.Subquery x))
+as_test x = pure x
+
+abbrev pub is_star : Kind → Bool
+is_star k.Star = true
+is_star _ = false
+
+abbrev pub is_sign : Kind → Bool
+is_sign k.Plus = true
+is_sign k.Minus = true
+is_sign _ = false
+
+abbrev pub is_and : Kind → Bool
+is_and k.And = true
+is_and _ = false
+
+abbrev pub is_or : Kind → Bool
+is_or k.Or = true
+is_or _ = false
+
+abbrev pub is_not : Kind → Bool
+is_not k.Not = true
+is_not _ = false
+
+-- what makes a condition of an expression begins so
+abbrev pub begins_comparison : Kind → Bool
+begins_comparison k.Equal = true
+begins_comparison k.NotEqual = true
+begins_comparison k.Less = true
+begins_comparison k.AtMost = true
+begins_comparison k.Greater = true
+begins_comparison k.AtLeast = true
+begins_comparison k.Is = true
+begins_comparison k.Not = true
+begins_comparison k.Between = true
+begins_comparison k.In = true
+begins_comparison _ = false
+
+-- How many parentheses may be opened, and the reader of what stands in them.
+module _ (depth : ℕ) (inner : Want → Reader Found) where
+  unfoldable pub inner_expr : Reader Expression
+  inner_expr = inner want.Expression >>= as_expr
+
+  unfoldable pub inner_query : Reader Query
+  inner_query = inner want.Query >>= as_query
+
+  unfoldable pub inner_operand : Reader Expression
+  inner_operand = inner want.Operand >>= as_operand
+
+  unfoldable pub inner_test : Reader Found
+  inner_test = inner want.Any >>= as_test
+
+  -- "(" column ")"
+  unfoldable pub aggregate_of : Aggregate → Reader Expression
+  aggregate_of f = e.Aggregate f <$> parens depth column
+
+  -- what follows COUNT
+  unfoldable pub counted : Reader Expression
+  counted = parens depth counted_inside
+
+  abbrev pub other_by : Kind → Reader Expression
+  other_by k.Text = text
+  other_by k.Name = e.Column <$> column
+  other_by k.Count = expect k.Count >> counted
+  other_by k.Sum = expect k.Sum >> aggregate_of a.Sum
+  other_by k.Min = expect k.Min >> aggregate_of a.Min
+  other_by k.Max = expect k.Max >> aggregate_of a.Max
+  other_by k.Open = parens depth inner_operand
+  other_by _ = refuse
+
+  unfoldable pub other_prim : Reader Expression
+  other_prim = by_kind other_by
+
+  abbrev pub prim_by : Kind → Reader Expression
+  prim_by k.Number = number false
+  prim_by _ = other_prim
+
+  unfoldable pub prim : Reader Expression
+  prim = by_kind prim_by
+
+  abbrev pub negated_by : Kind → Reader Expression
+  negated_by k.Number = number true
+  negated_by _ = e.Negation <$> other_prim
+
+  unfoldable pub negated : Reader Expression
+  negated = by_kind negated_by
+
+  abbrev pub factor_by : Kind → Reader Expression
+  factor_by k.Plus = expect k.Plus >> prim
+  factor_by k.Minus = expect k.Minus >> negated
+  factor_by _ = prim
+
+  unfoldable pub factor : Reader Expression
+  factor = by_kind factor_by
+
+  unfoldable pub product_item : Reader Expression
+  product_item = expect k.Star >> factor
+
+  unfoldable pub product_after : Expression → Reader Expression
+  product_after first = product_of <$> all is_star product_item (first ∷ [])
+
+  unfoldable pub term : Reader Expression
+  term = factor >>= product_after
+
+  abbrev pub sum_by : Kind → Reader Expression
+  sum_by k.Plus = expect k.Plus >> term
+  sum_by _ = expect k.Minus >> (e.Negation <$> term)
+
+  unfoldable pub sum_item : Reader Expression
+  sum_item = by_kind sum_by
+
+  unfoldable pub sum_after : Expression → Reader Expression
+  sum_after first = sum_of <$> all is_sign sum_item (first ∷ [])
+
+  -- what follows the first factor of an expression
+  unfoldable pub expr_after : Expression → Reader Expression
+  expr_after first = product_after first >>= sum_after
+
+  unfoldable pub expr : Reader Expression
+  expr = factor >>= expr_after
+
+  unfoldable pub between : Expression → Reader Condition
+  between left = expect k.Between >> (expr >>= (λ low. expect k.And >> (b.Between left low <$> expr)))
+
+  unfoldable pub listed : Expression → Reader Condition
+  listed left = expect k.In >> (b.In left <$> parens depth (list inner_expr))
+
+  abbrev pub range_by : Expression → Kind → Reader Condition
+  range_by left k.Between = between left
+  range_by left k.In = listed left
+  range_by left _ = refuse
+
+  unfoldable pub range_or_list : Expression → Reader Condition
+  range_or_list left = by_kind (range_by left)
+
+  abbrev pub null_by : Expression → Kind → Reader Condition
+  null_by left k.Null = expect k.Null >> pure (b.IsNull left)
+  null_by left k.Not = expect k.Not >> (expect k.Null >> pure (b.Not (b.IsNull left)))
+  null_by left _ = refuse
+
+  unfoldable pub null : Expression → Reader Condition
+  null left = by_kind (null_by left)
+
+  unfoldable pub compared : Expression → Reader Condition
+  compared left = comparison_sign >>= (λ sign. b.Compare left sign <$> expr)
+
+  abbrev pub comparison_by : Expression → Kind → Reader Condition
+  comparison_by left k.Is = expect k.Is >> null left
+  comparison_by left k.Not = expect k.Not >> (b.Not <$> range_or_list left)
+  comparison_by left k.Between = range_or_list left
+  comparison_by left k.In = range_or_list left
+  comparison_by left _ = compared left
+
+  unfoldable pub comparison : Expression → Reader Condition
+  comparison left = by_kind (comparison_by left)
+
+  abbrev pub truth_after_by : Condition → Kind → Reader Condition
+  truth_after_by x k.Not = expect k.Not >> ((λ y. b.Not (b.Is x y)) <$> truth)
+  truth_after_by x _ = b.Is x <$> truth
+
+  unfoldable pub truth_after : Condition → Reader Condition
+  truth_after x = by_kind (truth_after_by x)
+
+  abbrev pub is_by : Condition → Kind → Reader Condition
+  is_by x k.Is = expect k.Is >> truth_after x
+  is_by x _ = pure x
+
+  unfoldable pub is_after : Condition → Reader Condition
+  is_after x = by_kind (is_by x)
+
+  unfoldable pub exists : Reader Condition
+  exists = expect k.Exists >> (b.Exists <$> parens depth inner_query)
+
+  -- a condition in parentheses, EXISTS, or the first factor of an expression
+  abbrev pub first_by : Kind → Reader Found
+  first_by k.Open = parens depth inner_test
+  first_by k.Exists = part.Condition <$> exists
+  first_by _ = part.Expression <$> factor
+
+  unfoldable pub first : Reader Found
+  first = by_kind first_by
+
+  abbrev pub test_from : Found → Reader Condition
+  test_from (part.Condition x) = is_after x
+  test_from (part.Expression x) = expr_after x >>= (λ left. comparison left >>= is_after)
+  test_from (part.Query x) = refuse
+
+  unfoldable pub btest : Reader Condition
+  btest = first >>= test_from
+
+  abbrev pub bfact_by : Kind → Reader Condition
+  bfact_by k.Not = expect k.Not >> (b.Not <$> btest)
+  bfact_by _ = btest
+
+  unfoldable pub bfact : Reader Condition
+  bfact = by_kind bfact_by
+
+  unfoldable pub and_item : Reader Condition
+  and_item = expect k.And >> bfact
+
+  unfoldable pub and_after : Condition → Reader Condition
+  and_after x = and_of <$> all is_and and_item (x ∷ [])
+
+  unfoldable pub bterm : Reader Condition
+  bterm = bfact >>= and_after
+
+  unfoldable pub or_item : Reader Condition
+  or_item = expect k.Or >> bterm
+
+  unfoldable pub or_after : Condition → Reader Condition
+  or_after x = or_of <$> all is_or or_item (x ∷ [])
+
+  -- what follows the first test of a condition
+  unfoldable pub cond_after : Condition → Reader Condition
+  cond_after x = and_after x >>= or_after
+
+  unfoldable pub condition : Reader Condition
+  condition = bfact >>= cond_after
+
+  abbrev pub any_by : Expression → Bool → Reader Found
+  any_by left true = part.Condition <$> (comparison left >>= (λ x. is_after x >>= cond_after))
+  any_by left false = pure (part.Expression left)
+
+  -- an expression, or the condition that it begins
+  unfoldable pub any_after : Expression → Reader Found
+  any_after left = by_kind (λ kind. any_by left (begins_comparison kind))
+
+  abbrev pub any_from : Found → Reader Found
+  any_from (part.Condition x) = part.Condition <$> (is_after x >>= cond_after)
+  any_from (part.Expression x) = expr_after x >>= any_after
+  any_from (part.Query x) = refuse
+
+  -- ---- queries
+
+  abbrev pub selected_by : Kind → Reader Listed
+  selected_by k.Star = expect k.Star >> pure which.Star
+  selected_by _ = which.One <$> expr
+
+  unfoldable pub selected : Reader Listed
+  selected = by_kind selected_by
+
+  unfoldable pub where_ : Reader (Option Condition)
+  where_ = optional k.Where (expect k.Where >> condition)
+
+  unfoldable pub having : Reader (Option Condition)
+  having = optional k.Having (expect k.Having >> condition)
+
+  unfoldable pub query_rest : Listed → List ℕ → Option (List ℕ) → Reader Query
+  query_rest list table other = where_ >>= (λ keeps. group_by >>= (λ group. query_of list table other keeps group <$> having))
+
+  unfoldable pub query_from : Listed → Reader Query
+  query_from list = name >>= (λ table. alias >>= query_rest list table)
+
+  unfoldable pub query : Reader Query
+  query = expect k.Select >> (selected >>= (λ list. expect k.From >> query_from list))
+
+  -- ---- what is asked for
+
+  abbrev pub any_of : Kind → Reader Found
+  any_of k.Not = part.Condition <$> condition
+  any_of k.Select = part.Query <$> query
+  any_of _ = first >>= any_from
+
+  unfoldable pub any : Reader Found
+  any = by_kind any_of
+
+  abbrev pub operand_by : Kind → Reader Found
+  operand_by k.Select = part.Query <$> query
+  operand_by _ = part.Expression <$> expr
+
+  unfoldable pub operand : Reader Found
+  operand = by_kind operand_by
+
+  abbrev pub level : Want → Reader Found
+  level want.Condition = part.Condition <$> condition
+  level want.Expression = part.Expression <$> expr
+  level want.Query = part.Query <$> query
+  level want.Operand = operand
+  level want.Any = any
+
+-- what is wanted, with so many parentheses still to be opened
+unfoldable pub read : ℕ → Want → Reader Found
+read zero wanted = level zero (λ _. refuse) wanted
+read (suc n) wanted = level (suc n) (read n) wanted
+
+-- a condition, with so many parentheses still to be opened; an expression
+unfoldable pub cond_at : ℕ → Reader Condition
+cond_at n = read n want.Condition >>= as_cond
+
+unfoldable pub expr_at : ℕ → Reader Expression
+expr_at n = read n want.Expression >>= as_expr

@@ -1,0 +1,79 @@
+//! The trees of conditions, expressions and queries.
+
+use sqlite_items::{Boxed, Items};
+use threeval::Truth;
+use value::{Comparison, Text};
+
+/// A set function of SQL-92.
+#[derive(Clone, Copy, Debug, PartialEq, Eq)]
+pub enum Aggregate {
+    Count,
+    Sum,
+    Min,
+    Max,
+}
+
+/// The name of a column, with its qualifier where one is written.
+#[derive(Drop)]
+pub struct ColumnName {
+    pub qualifier: Option<Text>,
+    pub name: Text,
+}
+
+/// An expression. A sum and a product have two parts or more, and no part of a product is a
+/// product; a sum among the parts of a sum stands under a negation.
+#[derive(Drop)]
+#[cycle(tree)]
+pub enum Expression {
+    /// A number, with the minus that may stand before it.
+    Number(i64),
+    Text(Text),
+    Column(ColumnName),
+    /// `COUNT(*)`.
+    CountRows,
+    Aggregate(Aggregate, ColumnName),
+    /// A query that stands for its one value.
+    Subquery(Boxed<Query>),
+    Negation(Boxed<Expression>),
+    Sum(Items<Expression>),
+    Product(Items<Expression>),
+}
+
+/// A condition. An OR and an AND have two parts or more, and none of the same kind.
+#[derive(Drop)]
+#[cycle(tree)]
+pub enum Condition {
+    Or(Items<Condition>),
+    And(Items<Condition>),
+    Not(Boxed<Condition>),
+    /// `.. IS TRUE`, `IS FALSE` or `IS UNKNOWN`.
+    Is(Boxed<Condition>, Truth),
+    Exists(Boxed<Query>),
+    Compare(Expression, Comparison, Expression),
+    IsNull(Expression),
+    /// The value, and its least and its greatest.
+    Between(Expression, Expression, Expression),
+    In(Expression, Items<Expression>),
+}
+
+/// What a query lists.
+#[derive(Drop)]
+#[cycle(tree)]
+pub enum Listed {
+    Star,
+    One(Expression),
+}
+
+/// A query in parentheses.
+#[derive(Drop)]
+#[cycle(tree)]
+pub struct Query {
+    pub listed: Listed,
+    pub table: Text,
+    pub alias: Option<Text>,
+    /// The condition of WHERE.
+    pub keeps: Option<Condition>,
+    /// The column of GROUP BY.
+    pub group: Option<ColumnName>,
+    pub having: Option<Condition>,
+}

@@ -1,0 +1,21 @@
+//! What may stand in parentheses, and what is asked for there.
+
+use crate::trees::{Condition, Expression, Query};
+
+/// What a reader is asked for. An operand is an expression, or a query that stands for its value.
+#[derive(Clone, Copy, Debug, PartialEq, Eq)]
+pub enum Want {
+    Condition,
+    Expression,
+    Query,
+    Operand,
+    Any,
+}
+
+/// What stands in parentheses is a condition, an expression or a query.
+#[derive(Drop)]
+pub enum Found {
+    Condition(Condition),
+    Expression(Expression),
+    Query(Query),
+}

@@ -1,0 +1,201 @@
+#!/usr/bin/env python3
+"""A plain recogniser of the whole language, to hold the parser's places against.
+
+It knows the written grammar as data and tries every way on at once (Earley 1970): a text of tokens begins some text of the
+language exactly while the chart is not empty. It shares no code and no idea with the parser in crates/parse.
+
+    recogniser.py texts > crates/parse_text/data/texts       short texts, made from the grammar and then spoilt
+    recogniser.py answers < crates/parse_text/data/texts     what the parser has to say of each
+
+A line of the texts is a letter (S a script, D definitions, E an event), a space and the text.
+"""
+import random
+import re
+import sys
+
+RESERVED = set("""ALL AND AS ASSERTION BEGIN BETWEEN BY CHECK COMMIT CONSTRAINTS COUNT CREATE DEFERRABLE DEFERRED DELETE EXISTS FALSE FROM
+GROUP HAVING IMMEDIATE IN INITIALLY INSERT INT INTEGER INTO IS KEY MAX MIN NOT NULL ONLY OR PRIMARY READ ROLLBACK SELECT SET SUM
+TABLE TRUE UNKNOWN UPDATE VALUES VARCHAR VERDICT WHERE WORK""".split())
+
+# Quoted: a token; `name`, `number`, `width` (a number from 1 to 255), `text`: a kind of token; else a rule. `|` parts the ways.
+RULES = """
+defs = | def ';' defs
+script = | name ':' event ';' script
+def = 'CREATE' 'TABLE' name '(' col cols ')' | 'CREATE' 'ASSERTION' name 'CHECK' '(' cond ')' attrs | insert
+cols = | ',' col cols
+col = name type marks
+marks = | 'NOT' 'NULL' | 'NOT' 'NULL' 'PRIMARY' 'KEY' | 'PRIMARY' 'KEY' | 'PRIMARY' 'KEY' 'NOT' 'NULL'
+type = 'INTEGER' | 'INT' | 'VARCHAR' '(' width ')'
+attrs = | when | when defer | defer | defer when
+when = 'INITIALLY' mode
+mode = 'DEFERRED' | 'IMMEDIATE'
+defer = 'DEFERRABLE' | 'NOT' 'DEFERRABLE'
+event = 'BEGIN' | 'COMMIT' work | 'ROLLBACK' work | stmt
+work = | 'WORK'
+stmt = insert | 'UPDATE' name 'SET' set sets where | 'DELETE' 'FROM' name where | 'SELECT' selected 'FROM' name where
+stmt = 'SET' 'CONSTRAINTS' 'ALL' mode | 'SET' 'CONSTRAINTS' names mode | 'VERDICT' name
+selected = '*' | names
+names = name | name ',' names
+insert = 'INSERT' 'INTO' name columns 'VALUES' '(' consts ')'
+columns = | '(' names ')'
+consts = const | const ',' consts
+const = 'NULL' | text | number | sign number
+sets = | ',' set sets
+set = name '=' 'NULL' | name '=' expr
+where = | 'WHERE' cond
+cond = bterm | bterm 'OR' cond
+bterm = bfact | bfact 'AND' bterm
+bfact = btest | 'NOT' btest
+btest = bprim | bprim 'IS' truth | bprim 'IS' 'NOT' truth
+truth = 'TRUE' | 'FALSE' | 'UNKNOWN'
+bprim = '(' cond ')' | 'EXISTS' '(' query ')' | expr cmp expr | expr 'IS' 'NULL' | expr 'IS' 'NOT' 'NULL'
+bprim = expr not 'BETWEEN' expr 'AND' expr | expr not 'IN' '(' exprs ')'
+not = | 'NOT'
+exprs = expr | expr ',' exprs
+cmp = '=' | '<>' | '<' | '<=' | '>' | '>='
+expr = term | term sign expr
+term = factor | factor '*' term
+factor = prim | sign prim
+sign = '+' | '-'
+prim = number | text | colref | agg | '(' expr ')' | '(' query ')'
+colref = name | name '.' name
+agg = 'COUNT' '(' '*' ')' | function '(' colref ')'
+function = 'COUNT' | 'SUM' | 'MIN' | 'MAX'
+query = 'SELECT' listed 'FROM' name alias where group having
+listed = '*' | expr
+alias = | name | 'AS' name
+group = | 'GROUP' 'BY' colref
+having = | 'HAVING' cond
+"""
+
+GRAMMAR = {}
+for rule in RULES.strip().splitlines():
+    head, ways = rule.split(' = ', 1) if ' = ' in rule else (rule.split(' =')[0], rule.split(' =', 1)[1])
+    for way in re.split(r"\s\|\s|^\|\s", ways if ways.startswith(' ') else ' ' + ways):
+        GRAMMAR.setdefault(head, []).append(tuple(way.split()))
+KINDS = {'name', 'number', 'width', 'text'}
+START = {'S': 'script', 'D': 'defs', 'E': 'event'}
+
+TOKEN = re.compile(r"(?P<word>[A-Za-z][A-Za-z0-9_]*)|(?P<number>[0-9]+)|(?P<text>'(?:[ -&(-~]|'')*')|(?P<mark><>|<=|>=|[(),;:.*+\-=<>])")
+
+
+def tokens(text):
+    """(place, what it can stand for); a bad token stands for nothing and is the last."""
+    at, found = 0, []
+    while True:
+        at += len(re.match(r'(?:[ \t\r\n]|--[^\n]*)*', text[at:]).group())
+        if at == len(text):
+            return found
+        m = TOKEN.match(text, at)
+        if m is None or len(m.group('word') or '') > 128 or (m.group('number') and int(m.group('number')) > 10 ** 15):
+            return found + [(at, set())]
+        if m.group('text') and m.end() < len(text) and text[m.end()] == "'":
+            return found + [(at, set())]
+        word, number = (m.group('word') or '').upper(), m.group('number')
+        if word:
+            can = {repr(word)} if word in RESERVED else {'name'}
+        elif number:
+            can = {'number'} | ({'width'} if 1 <= int(number) <= 255 else set())
+        else:
+            can = {'text'} if m.group('text') else {repr(m.group('mark'))}
+        found.append((at, can))
+        at = m.end()
+
+
+def closed(chart, i):
+    """All items of column i that its first ones lead to. An item is a rule's head, way, dot and origin."""
+    work = list(chart[i])
+    while work:
+        head, way, dot, origin = work.pop()
+        if dot < len(way) and way[dot] in GRAMMAR:
+            new = [(way[dot], w, 0, i) for w in GRAMMAR[way[dot]]]
+            new += [(head, way, dot + 1, origin) for done in chart[i] if done[0] == way[dot] and done[2] == len(done[1]) and done[3] == i]
+        elif dot == len(way):
+            new = [(h, w, d + 1, o) for h, w, d, o in chart[origin] if d < len(w) and w[d] == head]
+        else:
+            new = []
+        for item in new:
+            if item not in chart[i]:
+                chart[i].add(item)
+                work.append(item)
+
+
+def place(start, text):
+    """None where the text is one of the language; else the offset of the first token that no text has there, or the length."""
+    chart = [{('whole', (start,), 0, 0)}]
+    closed(chart, 0)
+    for i, (at, can) in enumerate(tokens(text)):
+        chart.append({(h, w, d + 1, o) for h, w, d, o in chart[i] if d < len(w) and w[d] in can})
+        if not chart[-1]:
+            return at
+        closed(chart, i + 1)
+    return None if ('whole', (start,), 1, 0) in chart[-1] else len(text)
+
+
+def heights():
+    """How deep the shortest derivation of each rule is."""
+    height = {}
+    while len(height) < len(GRAMMAR):
+        for head, ways in GRAMMAR.items():
+            known = [1 + max((height.get(s, 0) for s in way), default=0) for way in ways if all(s not in GRAMMAR or s in height for s in way)]
+            if head not in height and known:
+                height[head] = min(known)
+    return height
+
+
+HEIGHT = heights()
+
+
+def lowest(ways):
+    return min(ways, key=lambda way: max((HEIGHT.get(s, 0) for s in way), default=0))
+
+
+def made(rng, symbol, depth=0):
+    """A random text of the symbol, as a list of spellings."""
+    if symbol.startswith("'"):
+        return [symbol[1:-1]]
+    if symbol in KINDS:
+        return [rng.choice({'name': ['A', 'Bc', 'T_1'], 'number': ['0', '7', '1000000000000000'], 'width': ['1', '255'], 'text': ["''", "'x'", "'it''s'"]}[symbol])]
+    ways = GRAMMAR[symbol]
+    way = rng.choice(ways if depth < 9 else [lowest(ways)])
+    return [spelling for part in way for spelling in made(rng, part, depth + 1)]
+
+
+def spoilt(rng, spellings):
+    spellings = list(spellings)
+    for _ in range(rng.choice([0, 1, 1, 2])):
+        i, other = rng.randrange(len(spellings) + 1), rng.choice(sorted(RESERVED) + ['(', ')', ',', ';', '*', '-', '=', 'A', '5', '300', "'x", '?', '1000000000000001'])
+        how = rng.randrange(4)
+        if how == 0:
+            spellings[i:i + 1] = []
+        elif how == 1:
+            spellings[i:i] = [other]
+        elif how == 2:
+            spellings[i:i + 1] = [other]
+        else:
+            spellings = spellings[:i]
+    return spellings
+
+
+def texts(count):
+    rng, seen = random.Random(1992), set()
+    while len(seen) < count:
+        letter = rng.choice('SSDDE')
+        text = ' '.join(spoilt(rng, made(rng, START[letter])))
+        if len(text) < 160 and (letter, text) not in seen:
+            seen.add((letter, text))
+            print(f'{letter} {text}')
+
+
+def main():
+    if sys.argv[1:] == ['texts']:
+        texts(400)
+    elif sys.argv[1:] == ['answers']:
+        for line in sys.stdin.read().split('\n')[:-1]:
+            at = place(START[line[0]], line[2:])
+            print('READ' if at is None else f'SYNTAX {at}')
+    else:
+        sys.exit(__doc__)
+
+
+main()
