@@ -1,0 +1,4 @@
+pub mod SlotLemmas
+pub mod EvalLemmas
+pub mod ExprLemmas
+pub mod SmallRows

@@ -1,0 +1,5 @@
+pub mod Slots
+pub mod Bounds
+pub mod Eval
+pub mod Shown
+pub mod Conditions
