@@ -13,7 +13,8 @@ use Rattle.threeval.specs.declared.Truth.{Truth}
 use Rattle.threeval.specs.declared.Truth.TheVariants.{True, False, Unknown}
 use Rattle.threeval.specs.Truths.{is_of, known}
 use Rattle.table.specs.Rows.{RowValues, value_in}
-use Rattle.table.specs.Aggregates.{CountRows, aggregate, group_of}
+use Rattle.table.specs.declared.aggregates.Aggregate.TheVariants.{CountRows}
+use Rattle.table.specs.Aggregates.{aggregate, group_of}
 use Rattle.delta.specs.declared.assertions.Assertion.{Assertion}
 
 -- a comparison's truth, by what is known of its sides: unknown where nothing is

@@ -5,15 +5,9 @@ use Rattle.value.specs.declared.values.Value.{Value}
 use Rattle.value.specs.declared.values.Value.TheVariants.{Null, Int, Text}
 use Rattle.value.specs.ValueOrder.{value_cmp}
 use Rattle.value.specs.Ordered.{least}
+use Rattle.table.specs.declared.aggregates.Aggregate.{Aggregate}
+use Rattle.table.specs.declared.aggregates.Aggregate.TheVariants.{CountRows, Count, Sum, Min, Max}
 use Rattle.table.specs.Rows.{RowValues, value_in}
-
--- COUNT(*), and COUNT, SUM, MIN and MAX of a column
-pub data Aggregate : Type 0 where
-  CountRows : Aggregate
-  Count : (column : ℕ) → Aggregate
-  Sum : (column : ℕ) → Aggregate
-  Min : (column : ℕ) → Aggregate
-  Max : (column : ℕ) → Aggregate
 
 -- whether a value is not NULL
 abbrev pub is_there : Value → Bool

@@ -20,10 +20,12 @@
 //! (what is wrong with a row) and `Aggregates` (the set functions of SQL-92, which a layer above computes).
 #![tactic(auto)]
 
+mod aggregates;
 mod catalogs;
 mod rows;
 mod schemas;
 
+pub use aggregates::Aggregate;
 pub use catalogs::Catalog;
 pub use rows::{Change, Row};
 pub use schemas::{Column, LARGEST, Schema};
