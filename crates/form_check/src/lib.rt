@@ -1,0 +1,6 @@
+//! Forms.
+#![tactic(auto)]
+
+mod leaves;
+
+pub use leaves::{Columns, Leaf};

@@ -1,0 +1,3 @@
+pub mod Scopes
+pub mod Shown
+pub mod Names

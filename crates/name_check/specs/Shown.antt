@@ -1,0 +1,10 @@
+-- Scopes that are lent, as what they show.
+use Rattle.std.specs.Prelude.{List, map}
+use Rattle.name_check.specs.Scopes.{Scope, Scopes}
+use Rattle.name_check.specs.declared.scopes.Scope.{Scope as Lent}
+
+abbrev pub shown : Lent → Scope
+shown scope = record { label = scope.label.now; columns = scope.schema.now.columns }
+
+abbrev pub all_shown : List Lent → Scopes
+all_shown scopes = map shown scopes

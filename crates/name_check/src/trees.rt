@@ -1,0 +1,138 @@
+//! The names of conditions, expressions and queries are looked up from the left.
+
+ghost use Rattle.std.specs.Prelude.{◌≡◌, ◌≢◌, map, IfOk, IfErr, Some, None, unwrap_or};
+ghost use Rattle.value.specs.declared.refusals.Refusal.TheVariants.{NoMemory};
+ghost use Rattle.name_check.specs.Names.{condition_fault, expression_fault, listed_fault, query_fault, part_fault, parts_fault, group_fault, clauses_fault};
+ghost use Rattle.name_check.specs.Shown.{all_shown};
+
+use crate::scopes::{Scope, known_column, within};
+use std::alloc::Global;
+use syntax::{ColumnName, Condition, Expression, Listed, Query};
+use table::Catalog;
+use value::{Refusal, Text};
+
+/// Looks up the names of a condition, seen from these scopes, the innermost first.
+///
+/// # Errors
+///
+/// [`Refusal::UnknownName`] with the first name that stands for nothing, from the left; of a query its table comes first,
+/// then its list, WHERE, GROUP BY and HAVING. Or [`Refusal::NoMemory`].
+#[cycle(names)]
+pub fn known_condition(
+    alloc: Global,
+    catalog: &Catalog,
+    scopes: &[Scope],
+    condition: &Condition,
+) -> Result<(), Refusal>
+    ensures known { IfOk result (λ _. condition_fault catalog.now condition.now (all_shown scopes.now) ≡ None) }
+    ensures refused { IfErr result (λ refusal. refusal ≢ NoMemory → condition_fault catalog.now condition.now (all_shown scopes.now) ≡ Some refusal) }
+{
+    match condition {
+        Condition::Or(parts) | Condition::And(parts) => {
+            for part in parts.as_slice() {
+                known_condition(alloc, catalog, scopes, part)?;
+            }
+            Ok(())
+        }
+        Condition::Not(part) | Condition::Is(part, _) => {
+            known_condition(alloc, catalog, scopes, part.get())
+        }
+        Condition::Exists(query) => known_query(alloc, catalog, scopes, query.get()),
+        Condition::Compare(left, _, right) => {
+            known_expression(alloc, catalog, scopes, left)?;
+            known_expression(alloc, catalog, scopes, right)
+        }
+        Condition::IsNull(part) => known_expression(alloc, catalog, scopes, part),
+        Condition::Between(subject, low, high) => {
+            known_expression(alloc, catalog, scopes, subject)?;
+            known_expression(alloc, catalog, scopes, low)?;
+            known_expression(alloc, catalog, scopes, high)
+        }
+        Condition::In(subject, values) => {
+            known_expression(alloc, catalog, scopes, subject)?;
+            for value in values.as_slice() {
+                known_expression(alloc, catalog, scopes, value)?;
+            }
+            Ok(())
+        }
+    }
+}
+
+/// Looks up the names of an expression, as of a condition.
+#[cycle(names)]
+pub fn known_expression(
+    alloc: Global,
+    catalog: &Catalog,
+    scopes: &[Scope],
+    expression: &Expression,
+) -> Result<(), Refusal>
+    ensures known { IfOk result (λ _. expression_fault catalog.now expression.now (all_shown scopes.now) ≡ None) }
+    ensures refused { IfErr result (λ refusal. refusal ≢ NoMemory → expression_fault catalog.now expression.now (all_shown scopes.now) ≡ Some refusal) }
+{
+    match expression {
+        Expression::Number(_) | Expression::Text(_) | Expression::CountRows => Ok(()),
+        Expression::Column(column) | Expression::Aggregate(_, column) => {
+            known_column(scopes, column)
+        }
+        Expression::Subquery(query) => known_query(alloc, catalog, scopes, query.get()),
+        Expression::Negation(part) => known_expression(alloc, catalog, scopes, part.get()),
+        Expression::Sum(parts) | Expression::Product(parts) => {
+            for part in parts.as_slice() {
+                known_expression(alloc, catalog, scopes, part)?;
+            }
+            Ok(())
+        }
+    }
+}
+
+/// Looks up the names of a query: its table, and then those of its clauses, for which the table is the innermost.
+#[cycle(names)]
+fn known_query(
+    alloc: Global,
+    catalog: &Catalog,
+    scopes: &[Scope],
+    query: &Query,
+) -> Result<(), Refusal>
+    ensures known { IfOk result (λ _. query_fault catalog.now query.now (all_shown scopes.now) ≡ None) }
+    ensures refused { IfErr result (λ refusal. refusal ≢ NoMemory → query_fault catalog.now query.now (all_shown scopes.now) ≡ Some refusal) }
+{
+    let Some(schema) = catalog.get(&query.table) else {
+        return Err(Refusal::UnknownName {
+            name: query.table.copy()?,
+        });
+    };
+    let label = label_of(&query.alias, &query.table);
+    let scopes = within(alloc, Scope { label, schema }, scopes)?;
+    if let Listed::One(listed) = &query.listed {
+        known_expression(alloc, catalog, &scopes, listed)?;
+    }
+    if let Some(keeps) = &query.keeps {
+        known_condition(alloc, catalog, &scopes, keeps)?;
+    }
+    known_group(&scopes, &query.group)?;
+    match &query.having {
+        Some(having) => known_condition(alloc, catalog, &scopes, having),
+        None => Ok(()),
+    }
+}
+
+/// Looks up the column of GROUP BY, if there is one.
+fn known_group(scopes: &[Scope], group: &Option<ColumnName>) -> Result<(), Refusal>
+    ensures known { IfOk result (λ _. group_fault group.now (all_shown scopes.now) ≡ None) }
+    ensures refused { IfErr result (λ refusal. refusal ≢ NoMemory → group_fault group.now (all_shown scopes.now) ≡ Some refusal) }
+{
+    match group {
+        Some(column) => known_column(scopes, column),
+        None => Ok(()),
+    }
+}
+
+/// The name that a query's table goes by in it: its alias, if it has one.
+fn label_of<'a>(alias: &'a Option<Text>, table: &'a Text) -> &'a Text
+    ensures { result.now ≡ unwrap_or alias.now table.now }
+{
+    match alias {
+        Some(alias) => alias,
+        None => table,
+    }
+}
