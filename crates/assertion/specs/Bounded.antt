@@ -1,0 +1,36 @@
+-- Which forms are evaluated without overflow: those whose conditions have only bounded expressions.
+use Rattle.std.specs.Prelude.{List, [], map, All, IsTrue}
+use Rattle.table.specs.declared.aggregates.Aggregate.{Aggregate}
+use Rattle.table.specs.declared.aggregates.Aggregate.TheVariants as aggregate
+use Rattle.cond.specs.declared.slots.SlotKind.{SlotKind}
+use Rattle.cond.specs.declared.slots.SlotKind.TheVariants.{Count, Sum, Extreme}
+use Rattle.cond.specs.declared.conds.Cond.{Cond}
+use Rattle.cond.specs.Bounds.{is_bounded}
+use Rattle.assertion.specs.declared.linked_queries.Linked.{Linked}
+use Rattle.assertion.specs.declared.plain_queries.Plain.{Plain}
+use Rattle.assertion.specs.declared.forms.Form.{Form}
+use Rattle.assertion.specs.declared.forms.Form.TheVariants.{ByRow, ByGroup, Single}
+
+-- the kind of slot that holds what a set function gives
+abbrev pub kind_of_aggregate : Aggregate → SlotKind
+kind_of_aggregate aggregate.CountRows = Count
+kind_of_aggregate (aggregate.Count column) = Count
+kind_of_aggregate (aggregate.Sum column) = Sum
+kind_of_aggregate (aggregate.Min column) = Extreme
+kind_of_aggregate (aggregate.Max column) = Extreme
+
+-- each expression of a condition has a bound, over slots of these kinds
+abbrev pub IsBoundedOver : List SlotKind → Cond → Type 0
+IsBoundedOver kinds condition = IsTrue (is_bounded kinds condition)
+
+abbrev pub linked_kinds : List Linked → List SlotKind
+linked_kinds queries = map (λ q. kind_of_aggregate q.aggregate) queries
+
+abbrev pub plain_kinds : List Plain → List SlotKind
+plain_kinds queries = map (λ q. kind_of_aggregate q.aggregate) queries
+
+-- each condition of a form has only bounded expressions; a WHERE has no slots
+abbrev pub IsBounded : Form → Type 0
+IsBounded (ByRow table condition queries) = IsBoundedOver (linked_kinds queries) condition × All (λ q. IsBoundedOver [] q.kept) queries
+IsBounded (ByGroup table kept group having aggregates) = IsBoundedOver [] kept × IsBoundedOver (map kind_of_aggregate aggregates) having
+IsBounded (Single condition queries) = IsBoundedOver (plain_kinds queries) condition × All (λ q. IsBoundedOver [] q.kept) queries

@@ -1,0 +1,5 @@
+pub mod Bounded
+pub mod Candidates
+pub mod Laws
+pub mod Meaning
+pub mod Roots

@@ -1,0 +1,88 @@
+-- What an assertion means on a state, from scratch.
+use Rattle.std.specs.Prelude.{ℕ, Bool, ◌&&◌, List, [], ◌∷◌, map, filter, Option, slice_index_or, if◌then◌else◌}
+use Rattle.value.specs.declared.values.Value.{Value}
+use Rattle.value.specs.declared.values.Root.{Root}
+use Rattle.value.specs.declared.values.Root.TheVariants.{All, Of}
+use Rattle.value.specs.declared.comparisons.Comparison.TheVariants.{Equal}
+use Rattle.value.specs.ValueOrder.{root_cmp}
+use Rattle.value.specs.Ordered.{least}
+use Rattle.threeval.specs.declared.Truth.{Truth}
+use Rattle.threeval.specs.declared.Truth.TheVariants.{True, False}
+use Rattle.threeval.specs.Truths.{is_of}
+use Rattle.table.specs.declared.aggregates.Aggregate.{Aggregate}
+use Rattle.table.specs.Rows.{RowValues, Layout, value_in}
+use Rattle.table.specs.Aggregates.{aggregate, group_of}
+use Rattle.cond.specs.declared.conds.Cond.{Cond}
+use Rattle.cond.specs.Eval.{truth, keeps, compared}
+use Rattle.assertion.specs.declared.linked_queries.Linked.{Linked}
+use Rattle.assertion.specs.declared.plain_queries.Plain.{Plain}
+use Rattle.assertion.specs.declared.forms.Form.{Form}
+use Rattle.assertion.specs.declared.forms.Form.TheVariants.{ByRow, ByGroup, Single}
+
+-- for each table, by its place in the order of creation, its rows in key order
+abbrev pub State : Type 0
+State = List (List RowValues)
+
+abbrev pub rows_of : ℕ → State → List RowValues
+rows_of table state = slice_index_or state table []
+
+-- the place of a table's key column
+abbrev pub key_of : ℕ → List Layout → ℕ
+key_of table layouts = (slice_index_or layouts table (record { columns = []; key = 0 })).key
+
+-- the link of a subquery, key = link: whether it is true of a row
+abbrev pub links : ℕ → Value → RowValues → Bool
+links link key row = is_of (compared Equal key (value_in link row)) True
+
+-- what a subquery gives for the row of a key: SELECT aggregate FROM d WHERE key = link AND kept
+abbrev pub linked_answer : State → Value → Linked → Value
+linked_answer state key q = aggregate q.aggregate (filter (λ row. links q.link key row && keeps row [] q.kept) (rows_of q.table state))
+
+-- what a subquery of its own gives: SELECT aggregate FROM t WHERE kept
+abbrev pub plain_answer : State → Plain → Value
+plain_answer state q = aggregate q.aggregate (filter (λ row. keeps row [] q.kept) (rows_of q.table state))
+
+-- whether the row of a key is listed: its condition is true, with its subqueries in the slots
+abbrev pub lists_row : State → Cond → List Linked → Value → RowValues → Bool
+lists_row state condition queries key row = keeps row (map (linked_answer state key) queries) condition
+
+-- the keys of the listed rows of a table
+abbrev pub row_roots : State → ℕ → ℕ → Cond → List Linked → List Root
+row_roots state table key condition queries = map (λ row. Of (value_in key row)) (filter (λ row. lists_row state condition queries (value_in key row) row) (rows_of table state))
+
+-- the rows that a WHERE keeps
+abbrev pub kept_rows : Cond → List RowValues → List RowValues
+kept_rows kept rows = filter (λ row. keeps row [] kept) rows
+
+-- whether a group of rows is listed: HAVING is true of its value, with the aggregates of its rows in the slots
+abbrev pub lists_group : List RowValues → ℕ → Cond → List Aggregate → Value → Bool
+lists_group rows group having aggregates v = keeps (v ∷ []) (map (λ a. aggregate a (group_of group v rows)) aggregates) having
+
+-- the values of the listed groups of rows, each as often as it has rows
+abbrev pub group_roots : List RowValues → ℕ → Cond → List Aggregate → List Root
+group_roots rows group having aggregates = map Of (filter (lists_group rows group having aggregates) (map (value_in group) rows))
+
+-- the truth of a condition that sees no row, with its subqueries in the slots
+abbrev pub single_truth : State → Cond → List Plain → Truth
+single_truth state condition queries = truth [] (map (plain_answer state) queries) condition
+
+-- the roots at which an assertion is false
+abbrev pub bad_roots : List Layout → Form → State → List Root
+bad_roots layouts (ByRow table condition queries) state = row_roots state table (key_of table layouts) condition queries
+bad_roots layouts (ByGroup table kept group having aggregates) state = group_roots (kept_rows kept (rows_of table state)) group having aggregates
+bad_roots layouts (Single condition queries) state = if is_of (single_truth state condition queries) False then All ∷ [] else []
+
+-- NOT EXISTS of the listed roots
+abbrev pub truth_of_roots : List Root → Truth
+truth_of_roots [] = True
+truth_of_roots (r ∷ rs) = False
+
+-- the truth of an assertion
+abbrev pub verdict_of : List Layout → Form → State → Truth
+verdict_of layouts (ByRow table condition queries) state = truth_of_roots (bad_roots layouts (ByRow table condition queries) state)
+verdict_of layouts (ByGroup table kept group having aggregates) state = truth_of_roots (bad_roots layouts (ByGroup table kept group having aggregates) state)
+verdict_of layouts (Single condition queries) state = single_truth state condition queries
+
+-- the least root at which an assertion is false
+abbrev pub least_bad_of : List Layout → Form → State → Option Root
+least_bad_of layouts form state = least root_cmp (bad_roots layouts form state)

@@ -1,0 +1,74 @@
+//! The three forms of assertions.
+
+ghost use Rattle.std.specs.Prelude.{◌≡◌, IfOk, IsOkUnless};
+ghost use Rattle.value.specs.declared.refusals.Refusal.TheVariants.{NoMemory};
+
+use crate::linked_queries::{Linked, copy_linked};
+use crate::plain_queries::{Plain, copy_plain};
+use cond::Cond;
+use sqlite_items::Items;
+use std::alloc::Global;
+use table::Aggregate;
+use value::Refusal;
+
+/// What an assertion forbids or demands. The slots of its condition are its queries or aggregates, in order.
+#[derive(Debug, Drop)]
+pub enum Form {
+    /// `NOT EXISTS (SELECT * FROM table WHERE condition)`: no row for which the condition is true.
+    ByRow {
+        table: usize,
+        condition: Cond,
+        queries: Items<Linked>,
+    },
+    /// `NOT EXISTS (SELECT group FROM table WHERE kept GROUP BY group HAVING having)`: no group for which the condition
+    /// is true. The row that `having` sees is the group's value alone.
+    ByGroup {
+        table: usize,
+        kept: Cond,
+        group: usize,
+        having: Cond,
+        aggregates: Items<Aggregate>,
+    },
+    /// A condition that is not to be false. It sees no row.
+    Single {
+        condition: Cond,
+        queries: Items<Plain>,
+    },
+}
+
+impl Form {
+    /// A form equal to this one.
+    pub fn copy(&self, alloc: Global) -> Result<Form, Refusal>
+        ensures only_memory { IsOkUnless result NoMemory }
+        ensures equal { IfOk result (λ copy. copy ≡ self.now) }
+    {
+        match self {
+            Form::ByRow {
+                table,
+                condition,
+                queries,
+            } => Ok(Form::ByRow {
+                table: *table,
+                condition: condition.copy(alloc)?,
+                queries: copy_linked(alloc, queries.as_slice())?,
+            }),
+            Form::ByGroup {
+                table,
+                kept,
+                group,
+                having,
+                aggregates,
+            } => Ok(Form::ByGroup {
+                table: *table,
+                kept: kept.copy(alloc)?,
+                group: *group,
+                having: having.copy(alloc)?,
+                aggregates: Items::from_slice(alloc, aggregates.as_slice())?,
+            }),
+            Form::Single { condition, queries } => Ok(Form::Single {
+                condition: condition.copy(alloc)?,
+                queries: copy_plain(alloc, queries.as_slice())?,
+            }),
+        }
+    }
+}

@@ -1,0 +1,18 @@
+//! The kinds of slots that set functions fill.
+
+ghost use Rattle.std.specs.Prelude.{◌≡◌};
+ghost use Rattle.assertion.specs.Bounded.{kind_of_aggregate};
+
+use cond::SlotKind;
+use table::Aggregate;
+
+/// The kind of slot that holds what a set function gives, which says how large its number can be.
+pub fn kind(aggregate: Aggregate) -> SlotKind
+    ensures { result ≡ kind_of_aggregate aggregate }
+{
+    match aggregate {
+        Aggregate::CountRows | Aggregate::Count(_) => SlotKind::Count,
+        Aggregate::Sum(_) => SlotKind::Sum,
+        Aggregate::Min(_) | Aggregate::Max(_) => SlotKind::Extreme,
+    }
+}
