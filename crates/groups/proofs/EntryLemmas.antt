@@ -76,9 +76,6 @@ AreTotalsOf-less m fewer more es h k w =
     (IsTotalOf-less m.value (fewer m.group) (more m.group) (figures_at m.group es) h.here (figures-right (more m.group) (total_at m.group es) (k.right m.group)) (w m.group))
     (λ v e. sym (h.elsewhere v e)) k
 
-pub AreTotalsOf-none : AreTotalsOf (λ v. []) []
-AreTotalsOf-none = record { in_order = tt; right = λ v. refl }
-
 -- the entries after one row goes and one comes
 abbrev pub entries_without : Option Member → Entries → Entries
 entries_without None es = es

@@ -95,6 +95,7 @@ impl Counts {
         })
     }
 
+    /// The least of the values, if there is one.
     pub fn least(&self) -> Option<&Value>
         ensures { option_copied result ≡ first_value self.now }
     {
@@ -104,6 +105,7 @@ impl Counts {
         }
     }
 
+    /// The greatest of the values, if there is one.
     pub fn greatest(&self) -> Option<&Value>
         ensures { option_copied result ≡ last_value self.now }
     {

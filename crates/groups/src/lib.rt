@@ -22,7 +22,8 @@
 //! 10^15. There no number passes its width (a sum stays within 2^113), and what is answered fits a slot of a condition.
 //!
 //! That the groups of a table's rows have such a change wherever the table has a changed row, and are within bounds where
-//! its rows are, is the law [`members_follow_rows`].
+//! its rows are, is the law [`members_follow_rows`]; and that a column makes the groups of GROUP BY is
+//! [`column_makes_groups`].
 //!
 //! The definitions are in `specs/`: `Totals` (totals of a list of values and of groups, and the groups before and after
 //! a change), `Figures` (what contracts see of a total), `Members` (a table's rows by groups), `Answers` (the value that a
@@ -40,7 +41,7 @@ mod ordered;
 mod totals;
 
 pub use entries::Totals;
-pub use laws::members_follow_rows;
+pub use laws::{column_makes_groups, members_follow_rows};
 pub use members::Member;
 pub use totals::Total;
 

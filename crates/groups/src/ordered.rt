@@ -1,4 +1,4 @@
-//! Lists in the order of their items' keys.
+//! Lists in the order of their items' keys, each key once.
 
 ghost use Rattle.std.specs.Prelude.{◌≡◌, ◌++◌, option_to_list, IfOk, OnOk, IsOkUnless};
 ghost use Rattle.std.specs.Option.{option_copied};
@@ -15,6 +15,7 @@ use value::{Refusal, Value, order};
 pub trait Keyed: Sized + Drop {
     ghost key_of: { Self → values };
 
+    /// What the item stands under.
     fn key(&self) -> &Value
         ensures { result.now ≡ key_of self.now };
 

@@ -1,5 +1,5 @@
 use Rattle.std.proofs.Common.{refl}
-use Rattle.groups.proofs.AnswerLemmas.{last-value}
+use Rattle.groups.proofs.ExtremeLemmas.{last-value}
 use Rattle.groups.proofs.counts.Counts.greatest.Goals as goal
 
 pub returns-in-Some : goal.returns-in-Some
