@@ -1,0 +1,94 @@
+-- The first and the last of a total's multiset are the least and the greatest of the values.
+use Rattle.std.proofs.Common.{◌≡◌, ℕ, ◌+◌, ◌-◌, ◌<◌, suc, true, false, cond, List, [], ◌∷◌, Option, Some, None, map, length, refl, sym, ◌∙◌, ap, arith}
+use Rattle.std.specs.Prelude.{◌&&◌, ◌||◌, nat_lt, filter, count_by, is_some, slice_get}
+use Rattle.std.proofs.lemmas.Bool.Decides.{nat_tests}
+use Rattle.std.proofs.lemmas.List.Sums.{sum_by-cons}
+use Rattle.std.specs.Option.{option_map}
+use Rattle.std.specs.Ordering.{eq_by_cmp}
+use Rattle.std.specs.declared.cmp.Ordering.TheVariants.{Less, Equal, Greater}
+use Rattle.value.specs.declared.values.Value.{Value}
+use Rattle.value.specs.ValueOrder.{value_cmp}
+use Rattle.value.specs.Ordered.{by_order, AreAbove, IsAscending, at, HoldsOf, least}
+use Rattle.value.proofs.ValueOrders.{value_cmp_total, value_exact}
+use Rattle.value.proofs.OrderedLists.{has, first, least-first, All-at}
+use Rattle.table.specs.Aggregates.{is_there}
+use Rattle.groups.specs.declared.counts.Count.{Count as Counted}
+use Rattle.groups.specs.Counts.{value_of, count_in, first_value, last_value}
+use Rattle.groups.specs.Figures.{Figures}
+use Rattle.groups.specs.Totals.{IsTotalOf}
+use Rattle.groups.proofs.Greatest.{last, least-last}
+
+-- what stands at a key, by the keys alone
+at-keys : (v : Value) (cs : List Counted) → is_some (at value_cmp (λ k. k) v (map value_of cs)) ≡ is_some (at value_cmp value_of v cs)
+at-keys v [] = refl
+at-keys v (c ∷ cs) = elim (value_cmp v c.value) as (λ o. is_some (by_order o None (Some c.value) (at value_cmp (λ k. k) v (map value_of cs))) ≡ is_some (by_order o None (Some c) (at value_cmp value_of v cs))) [
+  | Less ↦ refl
+  | Equal ↦ refl
+  | Greater ↦ at-keys v cs
+]
+
+above-keys : (v : Value) (cs : List Counted) → AreAbove value_cmp value_of v cs → AreAbove value_cmp (λ k. k) v (map value_of cs)
+above-keys v [] a = tt
+above-keys v (c ∷ cs) a = (a.0, above-keys v cs a.1)
+
+ascending-keys : (cs : List Counted) → IsAscending value_cmp value_of cs → IsAscending value_cmp (λ k. k) (map value_of cs)
+ascending-keys [] s = tt
+ascending-keys (c ∷ cs) s = (above-keys c.value cs s.0, ascending-keys cs s.1)
+
+-- a value stands where its count isn't 0
+counted : (o : Option Counted) → HoldsOf (λ (c : Counted). 0 < c.count) o → is_some o ≡ nat_lt 0 (count_in o)
+counted None h = refl
+counted (Some c) h = above c.count h
+  where
+    above : (n : ℕ) → 0 < n → true ≡ nat_lt 0 n
+    above n h = grind (arith, nat_tests)
+
+-- a value is among those that are there where it is counted
+among : (v : Value) (vs : List Value) → has value_cmp v (filter is_there vs) ≡ nat_lt 0 (count_by (λ w. is_there w && eq_by_cmp value_cmp v w) vs)
+among v [] = refl
+among v (w ∷ ws) =
+    rw (sum_by-cons (λ (w : Value). cond (is_there w && eq_by_cmp value_cmp v w) 1 0) w ws)
+    (elim (is_there w) as (λ b. has value_cmp v (cond b (w ∷ filter is_there ws) (filter is_there ws)) ≡ nat_lt 0 (cond (b && eq_by_cmp value_cmp v w) 1 0 + count_by (λ w. is_there w && eq_by_cmp value_cmp v w) ws)) [
+      | true ↦ elim (eq_by_cmp value_cmp v w) as (λ b. b || has value_cmp v (filter is_there ws) ≡ nat_lt 0 (cond b 1 0 + count_by (λ w. is_there w && eq_by_cmp value_cmp v w) ws)) [
+        | true ↦ one_more (count_by (λ w. is_there w && eq_by_cmp value_cmp v w) ws)
+        | false ↦ among v ws ∙ none_more (count_by (λ w. is_there w && eq_by_cmp value_cmp v w) ws)
+      ]
+      | false ↦ among v ws ∙ none_more (count_by (λ w. is_there w && eq_by_cmp value_cmp v w) ws)
+    ])
+  where
+    one_more : (n : ℕ) → true ≡ nat_lt 0 (1 + n)
+    one_more n = grind (arith, nat_tests)
+
+    none_more : (n : ℕ) → nat_lt 0 n ≡ nat_lt 0 (0 + n)
+    none_more n = ap (nat_lt 0) (omega arith)
+
+-- the counted values are those that are there
+same_members : (vs : List Value) (t : Figures) → IsTotalOf vs t → (v : Value) → is_some (at value_cmp (λ k. k) v (map value_of t.values)) ≡ has value_cmp v (filter is_there vs)
+same_members vs t k v =
+    at-keys v t.values ∙ counted (at value_cmp value_of v t.values) (All-at value_cmp value_of (λ (c : Counted). 0 < c.count) v t.values k.positive)
+    ∙ ap (nat_lt 0) (k.counts v) ∙ sym (among v vs)
+
+first-keys : (cs : List Counted) → first (map value_of cs) ≡ first_value cs
+first-keys [] = refl
+first-keys (c ∷ cs) = refl
+
+last-keys : (cs : List Counted) → last (map value_of cs) ≡ last_value cs
+last-keys [] = refl
+last-keys (c ∷ []) = refl
+last-keys (c ∷ d ∷ cs) = last-keys (d ∷ cs)
+
+pub least-right : (vs : List Value) (t : Figures) → IsTotalOf vs t → first_value t.values ≡ least value_cmp (filter is_there vs)
+least-right vs t k = sym (least-first value_cmp_total value_exact (map value_of t.values) (filter is_there vs) (same_members vs t k) ∙ first-keys t.values)
+
+pub greatest-right : (vs : List Value) (t : Figures) → IsTotalOf vs t → last_value t.values ≡ least (λ v w. value_cmp w v) (filter is_there vs)
+greatest-right vs t k = sym (least-last value_cmp_total value_exact (map value_of t.values) (filter is_there vs) (ascending-keys t.values k.in_order) (same_members vs t k) ∙ last-keys t.values)
+
+-- the last of a list, as `last` gives it
+pub last-value : (cs : List Counted) (c : Counted) → Some c ≡ slice_get cs (length cs - 1) → last_value cs ≡ Some c.value
+last-value [] c e = cc
+last-value (d ∷ []) c e = ap (λ o. option_map value_of o) (sym e)
+last-value (d ∷ f ∷ cs) c e =
+    let n : length (d ∷ f ∷ cs) - 1 ≡ suc (length cs) = omega arith in
+    let m : length (f ∷ cs) - 1 ≡ length cs = omega arith in
+    let here : slice_get (d ∷ f ∷ cs) (suc (length cs)) ≡ slice_get (f ∷ cs) (length cs) = refl in
+    last-value (f ∷ cs) c (e ∙ ap (slice_get (d ∷ f ∷ cs)) n ∙ here ∙ sym (ap (slice_get (f ∷ cs)) m))
