@@ -1,3 +1,5 @@
 pub mod Results
+pub mod Columns
 pub mod Leaves
 pub mod Shown
+pub mod Queries

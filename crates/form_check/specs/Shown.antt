@@ -1,7 +1,10 @@
 -- What is lent, as what it shows.
-use Rattle.std.specs.Prelude.{ℕ, ◌==◌, Bool, List, map, Option, Some, None, if◌then◌else◌}
+use Rattle.std.specs.Prelude.{ℕ, List, map, Option}
 use Rattle.syntax.specs.declared.trees.ColumnName.{ColumnName}
-use Rattle.name_check.specs.Scopes.{Scope, own_column}
+use Rattle.name_check.specs.Scopes.{own_column}
+use Rattle.form_check.specs.declared.queries.Source.{Source as LentSource}
+use Rattle.form_check.specs.Queries.{Source}
+use Rattle.form_check.specs.Columns.{no_column, grouping_column}
 use Rattle.name_check.specs.Shown.{shown}
 use Rattle.form_check.specs.declared.leaves.Leaf.{Leaf as Lent}
 use Rattle.form_check.specs.declared.leaves.Leaf.TheVariants as lent
@@ -18,13 +21,11 @@ shown_leaf (lent.Value query) = Value query.now
 abbrev pub shown_leaves : List Lent → Leaves
 shown_leaves leaves = map shown_leaf leaves
 
--- the grouping column, which stands in column 0 of a group's row
-abbrev pub is_grouping : ℕ → Option ℕ → Option ℕ
-is_grouping group None = None
-is_grouping group (Some column) = if column == group then Some 0 else None
-
 -- the column that a name means, of those that may stand there
 abbrev pub place : Columns → ColumnName → Option ℕ
-place columns.None column = None
-place (columns.Own scope) column = own_column (shown scope) column
-place (columns.Grouping scope group) column = is_grouping group (own_column (shown scope) column)
+place columns.None = no_column
+place (columns.Own scope) = own_column (shown scope)
+place (columns.Grouping scope group) = grouping_column (shown scope) group
+
+abbrev pub shown_source : LentSource → Source
+shown_source source = record { table = source.table; scope = shown source.scope }

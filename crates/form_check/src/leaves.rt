@@ -37,7 +37,7 @@ pub enum Columns<'a> {
 
 impl<'a> Columns<'a> {
     /// The place of the column that a name means, if it may stand there.
-    fn place(&self, column: &ColumnName) -> Option<usize>
+    pub(crate) fn place(&self, column: &ColumnName) -> Option<usize>
         ensures { result ≡ place self.now column.now }
     {
         match self {

@@ -2,5 +2,6 @@
 #![tactic(auto)]
 
 mod leaves;
+mod queries;
 
 pub use leaves::{Columns, Leaf};

@@ -3,21 +3,20 @@ use Rattle.std.specs.Prelude.{ℕ, Bool, true, List, [], ◌∷◌, Option, Some
 use Rattle.std.specs.Str.{bytes_eq}
 use Rattle.value.specs.declared.refusals.Refusal.{Refusal}
 use Rattle.value.specs.declared.refusals.Refusal.TheVariants.{UnknownName}
-use Rattle.table.specs.declared.schemas.Column.{Column}
-use Rattle.table.specs.Rows.{column_of}
+use Rattle.table.specs.Rows.{Layout, column_of}
 use Rattle.syntax.specs.declared.trees.ColumnName.{ColumnName}
 
--- a table whose columns names can mean: its columns, and the name that it goes by there
+-- a table whose columns names can mean, and the name that it goes by there
 pub record Scope : Type 0 where
   pub label : List ℕ
-  pub columns : List Column
+  pub layout : Layout
 
 -- the tables around a name, the innermost first
 abbrev pub Scopes : Type 0
 Scopes = List Scope
 
 abbrev pub has_column : List ℕ → Scope → Bool
-has_column name scope = is_some (column_of name scope.columns)
+has_column name scope = is_some (column_of name scope.layout.columns)
 
 -- a name without a qualifier means a column of the innermost table that has it
 abbrev pub bare_fault : List ℕ → Scopes → Option Refusal
@@ -50,4 +49,4 @@ is_named_by (Some qualifier) scope = bytes_eq scope.label qualifier
 
 -- the column of the innermost table that a name means, if it means one of it
 abbrev pub own_column : Scope → ColumnName → Option ℕ
-own_column scope column = if is_named_by column.qualifier scope then column_of column.name scope.columns else None
+own_column scope column = if is_named_by column.qualifier scope then column_of column.name scope.layout.columns else None

@@ -4,7 +4,7 @@ use Rattle.name_check.specs.Scopes.{Scope, Scopes}
 use Rattle.name_check.specs.declared.scopes.Scope.{Scope as Lent}
 
 abbrev pub shown : Lent → Scope
-shown scope = record { label = scope.label.now; columns = scope.schema.now.columns }
+shown scope = record { label = scope.label.now; layout = scope.schema.now }
 
 abbrev pub all_shown : List Lent → Scopes
 all_shown scopes = map shown scopes

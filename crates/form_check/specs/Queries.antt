@@ -1,0 +1,83 @@
+-- The rows that a query stands over, what it lists, and conditions over those rows alone.
+use Rattle.std.specs.Prelude.{ℕ, ◌==◌, Bool, true, false, List, [], ◌∷◌, Option, Some, None, is_some, unwrap_or, Result, Ok, Err, if◌then◌else◌}
+use Rattle.std.specs.Option.{option_map}
+use Rattle.value.specs.declared.refusals.Refusal.{Refusal}
+use Rattle.value.specs.declared.refusals.Refusal.TheVariants.{OutsideClass}
+use Rattle.table.specs.Rows.{Layout, Tables, layout_of, position_of}
+use Rattle.table.specs.declared.aggregates.Aggregate.{Aggregate}
+use Rattle.table.specs.declared.aggregates.Aggregate.TheVariants.{CountRows, Count, Sum, Min, Max}
+use Rattle.syntax.specs.declared.trees.Aggregate.{Aggregate as Function}
+use Rattle.syntax.specs.declared.trees.Aggregate.TheVariants as function
+use Rattle.syntax.specs.declared.trees.ColumnName.{ColumnName}
+use Rattle.syntax.specs.declared.trees.Condition.{Condition}
+use Rattle.syntax.specs.declared.trees.Condition.TheOpen.{Expression-F, Listed-F}
+use Rattle.syntax.specs.declared.trees.Expression.{Expression, out-Expression}
+use Rattle.syntax.specs.declared.trees.Listed.{Listed, out-Listed}
+use Rattle.syntax.specs.declared.trees.Query.{Query}
+use Rattle.cond.specs.declared.conds.Cond.{Cond}
+use Rattle.cond.specs.declared.conds.Cond.TheViews as cond_of
+use Rattle.name_check.specs.Scopes.{Scope, own_column}
+use Rattle.form_check.specs.Results.{and_then}
+use Rattle.form_check.specs.Leaves.{Leaves, numbered}
+
+-- the table of a query by its place, and as names in the query see it
+pub record Source : Type 0 where
+  pub table : ℕ
+  pub scope : Scope
+
+abbrev pub sourced : List ℕ → Option ℕ → Option Layout → Option Source
+sourced label None layout = None
+sourced label (Some table) None = None
+sourced label (Some table) (Some layout) = Some (record { table = table; scope = record { label = label; layout = layout } })
+
+abbrev pub source_of : Tables → List ℕ → Option (List ℕ) → Option Source
+source_of tables table alias = sourced (unwrap_or alias table) (position_of table tables) (layout_of table tables)
+
+-- nothing but the row's own columns stood there
+abbrev pub alone : {A : Type 0} → A → Leaves → Result A Refusal
+alone made [] = Ok made
+alone made (leaf ∷ rest) = Err OutsideClass
+
+-- a condition over the rows of one table: no set function, no query and no column of another table
+abbrev pub row_condition : Scope → Condition → Result Cond Refusal
+row_condition scope condition = and_then (numbered (own_column scope) condition []) (λ made. alone made.0 made.1)
+
+-- a condition that may be missing, and then keeps every row
+abbrev pub row_filter : Scope → Option Condition → Result Cond Refusal
+row_filter scope None = Ok (cond_of.And [])
+row_filter scope (Some condition) = row_condition scope condition
+
+-- a set function of a column
+abbrev pub of_column : Function → ℕ → Aggregate
+of_column function.Count column = Count column
+of_column function.Sum column = Sum column
+of_column function.Min column = Min column
+of_column function.Max column = Max column
+
+-- what an expression lists, where it is one set function
+abbrev pub aggregate_in : Scope → Expression-F Condition Expression Listed Query → Option Aggregate
+aggregate_in scope Expression-F.CountRows = Some CountRows
+aggregate_in scope (Expression-F.Aggregate function column) = option_map (of_column function) (own_column scope column)
+aggregate_in scope other = None
+
+abbrev pub aggregate_listed : Scope → Listed-F Condition Expression Listed Query → Option Aggregate
+aggregate_listed scope Listed-F.Star = None
+aggregate_listed scope (Listed-F.One expression) = aggregate_in scope (out-Expression expression)
+
+-- the one set function that a query lists
+abbrev pub listed_aggregate : Scope → Listed → Option Aggregate
+listed_aggregate scope listed = aggregate_listed scope (out-Listed listed)
+
+-- under EXISTS a query lists *, a literal or a column that may stand there
+abbrev pub expression_may_stand : (ColumnName → Option ℕ) → Expression-F Condition Expression Listed Query → Bool
+expression_may_stand place (Expression-F.Number n) = true
+expression_may_stand place (Expression-F.Text t) = true
+expression_may_stand place (Expression-F.Column column) = is_some (place column)
+expression_may_stand place other = false
+
+abbrev pub listed_may_stand : (ColumnName → Option ℕ) → Listed-F Condition Expression Listed Query → Bool
+listed_may_stand place Listed-F.Star = true
+listed_may_stand place (Listed-F.One expression) = expression_may_stand place (out-Expression expression)
+
+abbrev pub may_be_listed : (ColumnName → Option ℕ) → Listed → Bool
+may_be_listed place listed = listed_may_stand place (out-Listed listed)

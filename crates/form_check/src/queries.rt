@@ -1,0 +1,116 @@
+//! The rows that a query stands over, what it lists, and conditions over those rows alone.
+
+ghost use Rattle.std.specs.Prelude.{◌≡◌, ◌≢◌, IfOk, IfErr, Ok, Err};
+ghost use Rattle.std.specs.Option.{option_map};
+ghost use Rattle.value.specs.declared.refusals.Refusal.TheVariants.{NoMemory};
+ghost use Rattle.name_check.specs.Shown.{shown};
+ghost use Rattle.form_check.specs.Queries.{source_of, row_condition, row_filter, of_column, listed_aggregate, may_be_listed};
+ghost use Rattle.form_check.specs.Shown.{shown_source, place};
+
+use crate::leaves::{Columns, numbered};
+use cond::Cond;
+use name_check::Scope;
+use sqlite_items::Items;
+use std::alloc::Global;
+use syntax::{Condition, Expression, Listed};
+use table::{Aggregate, Catalog};
+use value::{Refusal, Text};
+
+/// The table of a query: by its place in the catalog, and as names in the query see it.
+#[derive(Clone, Copy)]
+pub struct Source<'a> {
+    pub table: usize,
+    pub scope: Scope<'a>,
+}
+
+impl<'a> Source<'a> {
+    /// The rows of a query over this table, which may have an alias.
+    pub fn of(catalog: &'a Catalog, table: &'a Text, alias: &'a Option<Text>) -> Option<Source<'a>>
+        ensures { option_map shown_source result ≡ source_of catalog.now table.now alias.now }
+    {
+        let place = catalog.position(table)?;
+        let schema = catalog.get(table)?;
+        let label = match alias {
+            Some(alias) => alias,
+            None => table,
+        };
+        Some(Source {
+            table: place,
+            scope: Scope { label, schema },
+        })
+    }
+}
+
+/// A condition over the rows of one table.
+///
+/// # Errors
+///
+/// [`Refusal::OutsideClass`] where it holds a set function, a query or a column of another table; or
+/// [`Refusal::NoMemory`].
+pub fn row_condition(
+    alloc: Global,
+    scope: Scope,
+    condition: &Condition,
+) -> Result<Cond, Refusal>
+    ensures made { IfOk result (λ made. row_condition (shown scope.entry) condition.now ≡ Ok made) }
+    ensures refused { IfErr result (λ refusal. refusal ≢ NoMemory → row_condition (shown scope.entry) condition.now ≡ Err refusal) }
+{
+    let mut leaves = Vec::new(alloc);
+    let made = numbered(alloc, &Columns::Own(scope), condition, &mut leaves)?;
+    if leaves.is_empty() {
+        Ok(made)
+    } else {
+        Err(Refusal::OutsideClass)
+    }
+}
+
+/// A condition over the rows of one table; a missing one keeps every row.
+pub fn row_filter(
+    alloc: Global,
+    scope: Scope,
+    condition: &Option<Condition>,
+) -> Result<Cond, Refusal>
+    ensures made { IfOk result (λ made. row_filter (shown scope.entry) condition.now ≡ Ok made) }
+    ensures refused { IfErr result (λ refusal. refusal ≢ NoMemory → row_filter (shown scope.entry) condition.now ≡ Err refusal) }
+{
+    match condition {
+        Some(condition) => row_condition(alloc, scope, condition),
+        None => Ok(Cond::And(Items::new(alloc))),
+    }
+}
+
+/// The one set function that a query lists, over a column of its own table.
+pub fn listed_aggregate(scope: Scope, listed: &Listed) -> Option<Aggregate>
+    ensures { result ≡ listed_aggregate (shown scope.entry) listed.now }
+{
+    match listed {
+        Listed::One(Expression::CountRows) => Some(Aggregate::CountRows),
+        Listed::One(Expression::Aggregate(function, column)) => {
+            Some(of_column(*function, scope.own(column)?))
+        }
+        Listed::One(_) | Listed::Star => None,
+    }
+}
+
+/// A set function of a column.
+pub fn of_column(function: syntax::Aggregate, column: usize) -> Aggregate
+    ensures { result ≡ of_column function column }
+{
+    match function {
+        syntax::Aggregate::Count => Aggregate::Count(column),
+        syntax::Aggregate::Sum => Aggregate::Sum(column),
+        syntax::Aggregate::Min => Aggregate::Min(column),
+        syntax::Aggregate::Max => Aggregate::Max(column),
+    }
+}
+
+/// Whether a query under EXISTS may list this: `*`, a literal, or one of these columns.
+pub fn may_be_listed(columns: &Columns, listed: &Listed) -> bool
+    ensures { result ≡ may_be_listed (place columns.now) listed.now }
+{
+    match listed {
+        Listed::Star | Listed::One(Expression::Number(_) | Expression::Text(_)) => true,
+        Listed::One(Expression::Column(column)) => columns.place(column).is_some(),
+        Listed::One(_) => false,
+    }
+}
