@@ -3,3 +3,5 @@ pub mod Columns
 pub mod Leaves
 pub mod Shown
 pub mod Queries
+pub mod Links
+pub mod Forms

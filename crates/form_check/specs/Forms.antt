@@ -1,0 +1,139 @@
+-- The form of an assertion's condition.
+use Rattle.std.specs.Prelude.{ℕ, List, [], ◌∷◌, Option, Some, None, Result, Ok, Err}
+use Rattle.value.specs.declared.refusals.Refusal.{Refusal}
+use Rattle.value.specs.declared.refusals.Refusal.TheVariants.{OutsideClass}
+use Rattle.table.specs.Rows.{Tables}
+use Rattle.table.specs.declared.aggregates.Aggregate.{Aggregate}
+use Rattle.table.specs.declared.aggregates.Aggregate.TheVariants.{CountRows}
+use Rattle.cond.specs.declared.conds.Cond.{Cond}
+use Rattle.cond.specs.declared.conds.Cond.TheViews as cond_of
+use Rattle.syntax.specs.declared.trees.ColumnName.{ColumnName}
+use Rattle.syntax.specs.declared.trees.Condition.{Condition, out-Condition}
+use Rattle.syntax.specs.declared.trees.Condition.TheOpen.{Condition-F, Query-F}
+use Rattle.syntax.specs.declared.trees.Expression.{Expression}
+use Rattle.syntax.specs.declared.trees.Listed.{Listed}
+use Rattle.syntax.specs.declared.trees.Query.{Query, out-Query}
+use Rattle.assertion.specs.declared.linked_queries.Linked.{Linked}
+use Rattle.assertion.specs.declared.plain_queries.Plain.{Plain}
+use Rattle.assertion.specs.declared.forms.Form.{Form}
+use Rattle.assertion.specs.declared.forms.Form.TheVariants.{ByRow, ByGroup, Single}
+use Rattle.name_check.specs.Scopes.{Scope, own_column}
+use Rattle.form_check.specs.Results.{and_then, in_class, only_if}
+use Rattle.form_check.specs.Columns.{no_column, grouping_column}
+use Rattle.form_check.specs.Leaves.{Leaf, Leaves, Rows, Of, Exists, Value, numbered}
+use Rattle.form_check.specs.Queries.{Source, source_of, row_filter, of_column, listed_aggregate, may_be_listed}
+use Rattle.form_check.specs.Links.{top_parts, links_in, only_one, kept_parts, each}
+
+-- a query's clauses, with its conditions and its list as trees
+abbrev pub Clauses : Type 0
+Clauses = Query-F Condition Expression Listed Query
+
+-- ---- queries of a row
+
+abbrev pub linked_by : Source → Scope → Aggregate → Condition → Result Linked Refusal
+linked_by child root aggregate condition =
+    in_class (only_one (links_in child.scope root (top_parts condition))) (λ link.
+    and_then (kept_parts child.scope root (top_parts condition)) (λ kept.
+    Ok (record { table = child.table; kept = cond_of.And kept; link = link; aggregate = aggregate })))
+
+-- a query of a row has WHERE, and neither GROUP BY nor HAVING
+abbrev pub linked_where : Source → Scope → Aggregate → Option Condition → Option ColumnName → Option Condition → Result Linked Refusal
+linked_where child root aggregate (Some condition) None None = linked_by child root aggregate condition
+linked_where child root aggregate None group having = Err OutsideClass
+linked_where child root aggregate (Some condition) (Some group) having = Err OutsideClass
+linked_where child root aggregate (Some condition) None (Some having) = Err OutsideClass
+
+abbrev pub linked_exists : Tables → Scope → Clauses → Result Linked Refusal
+linked_exists tables root query =
+    in_class (source_of tables query.table query.alias) (λ child.
+    only_if (may_be_listed (own_column child.scope) query.listed) (linked_where child root CountRows query.keeps query.group query.having))
+
+abbrev pub linked_value : Tables → Scope → Clauses → Result Linked Refusal
+linked_value tables root query =
+    in_class (source_of tables query.table query.alias) (λ child.
+    in_class (listed_aggregate child.scope query.listed) (λ aggregate. linked_where child root aggregate query.keeps query.group query.having))
+
+-- what stands in a slot of a condition over a row
+abbrev pub linked : Tables → Scope → Leaf → Result Linked Refusal
+linked tables root Rows = Err OutsideClass
+linked tables root (Of function column) = Err OutsideClass
+linked tables root (Exists query) = linked_exists tables root (out-Query query)
+linked tables root (Value query) = linked_value tables root (out-Query query)
+
+-- ---- queries of their own
+
+abbrev pub plain_by : Source → Option Aggregate → Option Condition → Option ColumnName → Option Condition → Result Plain Refusal
+plain_by source aggregate keeps None None =
+    in_class aggregate (λ a. and_then (row_filter source.scope keeps) (λ kept. Ok (record { table = source.table; kept = kept; aggregate = a })))
+plain_by source aggregate keeps (Some group) having = Err OutsideClass
+plain_by source aggregate keeps None (Some having) = Err OutsideClass
+
+abbrev pub plain_value : Tables → Clauses → Result Plain Refusal
+plain_value tables query =
+    in_class (source_of tables query.table query.alias) (λ source. plain_by source (listed_aggregate source.scope query.listed) query.keeps query.group query.having)
+
+-- what stands in a slot of a single condition
+abbrev pub plain : Tables → Leaf → Result Plain Refusal
+plain tables Rows = Err OutsideClass
+plain tables (Of function column) = Err OutsideClass
+plain tables (Exists query) = Err OutsideClass
+plain tables (Value query) = plain_value tables (out-Query query)
+
+-- what stands in a slot of a condition over groups: a set function of the table's rows
+abbrev pub aggregate_of : Scope → Leaf → Result Aggregate Refusal
+aggregate_of scope Rows = Ok CountRows
+aggregate_of scope (Of function column) = in_class (own_column scope column) (λ c. Ok (of_column function c))
+aggregate_of scope (Exists query) = Err OutsideClass
+aggregate_of scope (Value query) = Err OutsideClass
+
+-- ---- forms
+
+-- a condition over the rows of one table with its slots; a missing one keeps every row
+abbrev pub row_where : Scope → Option Condition → Result (Cond × Leaves) Refusal
+row_where scope None = Ok (cond_of.And [], [])
+row_where scope (Some condition) = numbered (own_column scope) condition []
+
+abbrev pub by_row : Tables → Source → Clauses → Result Form Refusal
+by_row tables source query =
+    only_if (may_be_listed (own_column source.scope) query.listed) (
+    and_then (row_where source.scope query.keeps) (λ made.
+    and_then (each (linked tables source.scope) made.1) (λ queries. Ok (ByRow source.table made.0 queries))))
+
+abbrev pub having_over : Source → ℕ → Cond → Condition → Result Form Refusal
+having_over source group kept having =
+    and_then (numbered (grouping_column source.scope group) having []) (λ made.
+    and_then (each (aggregate_of source.scope) made.1) (λ aggregates. Ok (ByGroup source.table kept group made.0 aggregates)))
+
+abbrev pub by_group : Source → Clauses → ColumnName → Condition → Result Form Refusal
+by_group source query column having =
+    in_class (own_column source.scope column) (λ group.
+    only_if (may_be_listed (grouping_column source.scope group) query.listed) (
+    and_then (row_filter source.scope query.keeps) (λ kept. having_over source group kept having)))
+
+-- without GROUP BY and HAVING by rows, with both by groups
+abbrev pub by_clauses : Tables → Source → Clauses → Option ColumnName → Option Condition → Result Form Refusal
+by_clauses tables source query None None = by_row tables source query
+by_clauses tables source query (Some column) (Some having) = by_group source query column having
+by_clauses tables source query None (Some having) = Err OutsideClass
+by_clauses tables source query (Some column) None = Err OutsideClass
+
+abbrev pub not_exists : Tables → Clauses → Result Form Refusal
+not_exists tables query = in_class (source_of tables query.table query.alias) (λ source. by_clauses tables source query query.group query.having)
+
+abbrev pub single : Tables → Condition → Result Form Refusal
+single tables condition =
+    and_then (numbered no_column condition []) (λ made.
+    and_then (each (plain tables) made.1) (λ queries. Ok (Single made.0 queries)))
+
+-- the condition under a NOT
+abbrev pub denied : Tables → Condition → Condition-F Condition Expression Listed Query → Result Form Refusal
+denied tables whole (Condition-F.Exists query) = not_exists tables (out-Query query)
+denied tables whole other = single tables whole
+
+abbrev pub form_in : Tables → Condition → Condition-F Condition Expression Listed Query → Result Form Refusal
+form_in tables whole (Condition-F.Not part) = denied tables whole (out-Condition part)
+form_in tables whole other = single tables whole
+
+-- NOT EXISTS of a query is by rows or by groups, and all else is a single condition
+abbrev pub form_of : Tables → Condition → Result Form Refusal
+form_of tables condition = form_in tables condition (out-Condition condition)

@@ -1,0 +1,84 @@
+-- Queries that are linked to the row around them: one of the parts that AND joins in WHERE is an equality of a column of
+-- the query's table and the key of the row, and the others are over the query's table alone.
+use Rattle.std.specs.Prelude.{ℕ, ◌==◌, Bool, false, List, [], ◌∷◌, ◌++◌, filter, Option, Some, None, is_none, option_to_list, Result, Ok, Err, if◌then◌else◌}
+use Rattle.value.specs.declared.refusals.Refusal.{Refusal}
+use Rattle.value.specs.declared.comparisons.Comparison.TheVariants.{Equal}
+use Rattle.cond.specs.declared.conds.Cond.{Cond}
+use Rattle.syntax.specs.declared.trees.ColumnName.{ColumnName}
+use Rattle.syntax.specs.declared.trees.Condition.{Condition, out-Condition}
+use Rattle.syntax.specs.declared.trees.Condition.TheOpen.{Condition-F, Expression-F}
+use Rattle.syntax.specs.declared.trees.Expression.{Expression, out-Expression}
+use Rattle.syntax.specs.declared.trees.Listed.{Listed}
+use Rattle.syntax.specs.declared.trees.Query.{Query}
+use Rattle.name_check.specs.Scopes.{Scope, own_column}
+use Rattle.form_check.specs.Results.{and_then}
+use Rattle.form_check.specs.Queries.{row_condition}
+
+-- the parts that AND joins at the top of a condition
+abbrev pub parts_in : Condition → Condition-F Condition Expression Listed Query → List Condition
+parts_in whole (Condition-F.And parts) = parts
+parts_in whole other = whole ∷ []
+
+abbrev pub top_parts : Condition → List Condition
+top_parts condition = parts_in condition (out-Condition condition)
+
+-- the column that an expression is, where it is one
+abbrev pub name_in : Expression-F Condition Expression Listed Query → Option ColumnName
+name_in (Expression-F.Column column) = Some column
+name_in other = None
+
+-- whether a column is the key
+abbrev pub is_key : Scope → Option ℕ → Bool
+is_key root None = false
+is_key root (Some column) = column == root.layout.key
+
+-- a column of the child, where the other name isn't one and is the key of the row around
+abbrev pub linked_column : Scope → Scope → ColumnName → ColumnName → Option ℕ
+linked_column child root inner outer = if is_none (own_column child outer) then (if is_key root (own_column root outer) then own_column child inner else None) else None
+
+-- the first that is there
+abbrev pub either : Option ℕ → Option ℕ → Option ℕ
+either None other = other
+either (Some column) other = Some column
+
+abbrev pub link_between : Scope → Scope → Option ColumnName → Option ColumnName → Option ℕ
+link_between child root None right = None
+link_between child root (Some left) None = None
+link_between child root (Some left) (Some right) = either (linked_column child root left right) (linked_column child root right left)
+
+abbrev pub link_in : Scope → Scope → Condition-F Condition Expression Listed Query → Option ℕ
+link_in child root (Condition-F.Compare left Equal right) = link_between child root (name_in (out-Expression left)) (name_in (out-Expression right))
+link_in child root other = None
+
+-- the column of the child that a part links to the key of the row around, if it is a link
+abbrev pub link_of : Scope → Scope → Condition → Option ℕ
+link_of child root part = link_in child root (out-Condition part)
+
+-- the columns of all links
+abbrev pub links_in : Scope → Scope → List Condition → List ℕ
+links_in child root [] = []
+links_in child root (part ∷ rest) = option_to_list (link_of child root part) ++ links_in child root rest
+
+-- the one of a list that has one
+abbrev pub only_one : List ℕ → Option ℕ
+only_one [] = None
+only_one (column ∷ []) = Some column
+only_one (column ∷ other ∷ rest) = None
+
+-- the parts that are no links
+abbrev pub own_parts : Scope → Scope → List Condition → List Condition
+own_parts child root parts = filter (λ part. is_none (link_of child root part)) parts
+
+-- what each of several parts becomes, from the left
+abbrev pub each : {X A : Type 0} → (X → Result A Refusal) → List X → Result (List A) Refusal
+each make [] = Ok []
+each make (x ∷ rest) = and_then (make x) (λ first. and_then (each make rest) (λ others. Ok (first ∷ others)))
+
+-- what was made so far, and then the others
+abbrev pub behind : {A : Type 0} → List A → Result (List A) Refusal → Result (List A) Refusal
+behind made (Ok others) = Ok (made ++ others)
+behind made (Err refusal) = Err refusal
+
+-- the parts that are no links, as conditions over the child's rows
+abbrev pub kept_parts : Scope → Scope → List Condition → Result (List Cond) Refusal
+kept_parts child root parts = each (row_condition child) (own_parts child root parts)

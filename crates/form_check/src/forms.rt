@@ -1,0 +1,188 @@
+//! The form of an assertion's condition.
+
+ghost use Rattle.std.specs.Prelude.{◌≡◌, ◌≢◌, IfOk, IfErr, Ok, Err};
+ghost use Rattle.syntax.specs.declared.trees.Query.{out-Query};
+ghost use Rattle.value.specs.declared.refusals.Refusal.TheVariants.{NoMemory};
+ghost use Rattle.name_check.specs.Shown.{shown};
+ghost use Rattle.form_check.specs.Links.{each};
+ghost use Rattle.form_check.specs.Forms.{aggregate_of, by_clauses, by_group, by_row, form_of, having_over, not_exists, row_where, single};
+ghost use Rattle.form_check.specs.Shown.{shown_leaf, shown_leaves, shown_source};
+
+use crate::leaves::{Columns, Leaf, numbered};
+use crate::plain_queries::all_plain;
+use crate::linked_queries::all_linked;
+use crate::queries::{Source, may_be_listed, of_column, row_filter};
+use assertion::Form;
+use cond::Cond;
+use name_check::Scope;
+use sqlite_items::Items;
+use std::alloc::Global;
+use syntax::{ColumnName, Condition, Query};
+use table::{Aggregate, Catalog};
+use value::Refusal;
+
+/// The form of an assertion's condition, whose names are known.
+///
+/// # Errors
+///
+/// [`Refusal::OutsideClass`] where it is of none of the three forms, or [`Refusal::NoMemory`].
+pub fn form(alloc: Global, catalog: &Catalog, condition: &Condition) -> Result<Form, Refusal>
+    ensures made { IfOk result (λ made. form_of catalog.now condition.now ≡ Ok made) }
+    ensures refused { IfErr result (λ refusal. refusal ≢ NoMemory → form_of catalog.now condition.now ≡ Err refusal) }
+{
+    match condition {
+        Condition::Not(part) => match part.get() {
+            Condition::Exists(query) => not_exists(alloc, catalog, query.get()),
+            _ => single(alloc, catalog, condition),
+        },
+        _ => single(alloc, catalog, condition),
+    }
+}
+
+/// NOT EXISTS of a query: by rows without GROUP BY and HAVING, by groups with both.
+fn not_exists(alloc: Global, catalog: &Catalog, query: &Query) -> Result<Form, Refusal>
+    ensures made { IfOk result (λ made. not_exists catalog.now (out-Query query.now) ≡ Ok made) }
+    ensures refused { IfErr result (λ refusal. refusal ≢ NoMemory → not_exists catalog.now (out-Query query.now) ≡ Err refusal) }
+{
+    let Some(source) = Source::of(catalog, &query.table, &query.alias) else {
+        return Err(Refusal::OutsideClass);
+    };
+    match (&query.group, &query.having) {
+        (None, None) => by_row(alloc, catalog, source, query),
+        (Some(column), Some(having)) => by_group(alloc, source, query, column, having),
+        (None, Some(_)) | (Some(_), None) => Err(Refusal::OutsideClass),
+    }
+}
+
+/// No row for which WHERE is true.
+fn by_row(
+    alloc: Global,
+    catalog: &Catalog,
+    source: Source,
+    query: &Query,
+) -> Result<Form, Refusal>
+    ensures made { IfOk result (λ made. by_row catalog.now (shown_source source.entry) (out-Query query.now) ≡ Ok made) }
+    ensures refused { IfErr result (λ refusal. refusal ≢ NoMemory → by_row catalog.now (shown_source source.entry) (out-Query query.now) ≡ Err refusal) }
+{
+    if !may_be_listed(&Columns::Own(source.scope), &query.listed) {
+        return Err(Refusal::OutsideClass);
+    }
+    let (condition, leaves) = row_where(alloc, source.scope, &query.keeps)?;
+    let queries = all_linked(alloc, catalog, source.scope, leaves.as_slice())?;
+    Ok(Form::ByRow {
+        table: source.table,
+        condition,
+        queries: Items::from_vec(queries),
+    })
+}
+
+/// The condition of WHERE, and what stands in its slots; a missing one keeps every row.
+fn row_where<'a>(
+    alloc: Global,
+    scope: Scope,
+    keeps: &'a Option<Condition>,
+) -> Result<(Cond, Vec<Leaf<'a>>), Refusal>
+    ensures made { IfOk result (λ made. row_where (shown scope.entry) keeps.now ≡ Ok (made.0, shown_leaves made.1.items)) }
+    ensures refused { IfErr result (λ refusal. refusal ≢ NoMemory → row_where (shown scope.entry) keeps.now ≡ Err refusal) }
+{
+    let mut leaves = Vec::new(alloc);
+    let condition = match keeps {
+        Some(condition) => numbered(alloc, &Columns::Own(scope), condition, &mut leaves)?,
+        None => Cond::And(Items::new(alloc)),
+    };
+    Ok((condition, leaves))
+}
+
+/// No group for which HAVING is true.
+fn by_group(
+    alloc: Global,
+    source: Source,
+    query: &Query,
+    column: &ColumnName,
+    having: &Condition,
+) -> Result<Form, Refusal>
+    ensures made { IfOk result (λ made. by_group (shown_source source.entry) (out-Query query.now) column.now having.now ≡ Ok made) }
+    ensures refused { IfErr result (λ refusal. refusal ≢ NoMemory → by_group (shown_source source.entry) (out-Query query.now) column.now having.now ≡ Err refusal) }
+{
+    let Some(group) = source.scope.own(column) else {
+        return Err(Refusal::OutsideClass);
+    };
+    if !may_be_listed(&Columns::Grouping(source.scope, group), &query.listed) {
+        return Err(Refusal::OutsideClass);
+    }
+    let kept = row_filter(alloc, source.scope, &query.keeps)?;
+    having_over(alloc, source, group, kept, having)
+}
+
+/// The form by groups of rows that are kept, with the condition of HAVING.
+fn having_over(
+    alloc: Global,
+    source: Source,
+    group: usize,
+    kept: Cond,
+    having: &Condition,
+) -> Result<Form, Refusal>
+    ensures made { IfOk result (λ made. having_over (shown_source source.entry) group kept having.now ≡ Ok made) }
+    ensures refused { IfErr result (λ refusal. refusal ≢ NoMemory → having_over (shown_source source.entry) group kept having.now ≡ Err refusal) }
+{
+    let mut leaves = Vec::new(alloc);
+    let having = numbered(
+        alloc,
+        &Columns::Grouping(source.scope, group),
+        having,
+        &mut leaves,
+    )?;
+    let aggregates = all_aggregates(alloc, source.scope, leaves.as_slice())?;
+    Ok(Form::ByGroup {
+        table: source.table,
+        kept,
+        group,
+        having,
+        aggregates: Items::from_vec(aggregates),
+    })
+}
+
+/// The set functions of a condition over groups.
+#[tactic(auto, using(crate::proofs::Numberings::behind_next, crate::proofs::Numberings::behind_none))]
+fn all_aggregates(
+    alloc: Global,
+    scope: Scope,
+    leaves: &[Leaf],
+) -> Result<Vec<Aggregate>, Refusal>
+    ensures made { IfOk result (λ made. each (aggregate_of (shown scope.entry)) (shown_leaves leaves.now) ≡ Ok made.items) }
+    ensures refused { IfErr result (λ refusal. refusal ≢ NoMemory → each (aggregate_of (shown scope.entry)) (shown_leaves leaves.now) ≡ Err refusal) }
+{
+    let mut made = Vec::new(alloc);
+    for leaf in leaves {
+        made.push(aggregate(scope, leaf)?)?;
+    }
+    Ok(made)
+}
+
+/// The set function in a slot of a condition over groups.
+fn aggregate(scope: Scope, leaf: &Leaf) -> Result<Aggregate, Refusal>
+    ensures { result ≡ aggregate_of (shown scope.entry) (shown_leaf leaf.now) }
+{
+    match leaf {
+        Leaf::Rows => Ok(Aggregate::CountRows),
+        Leaf::Of(function, column) => match scope.own(column) {
+            Some(column) => Ok(of_column(*function, column)),
+            None => Err(Refusal::OutsideClass),
+        },
+        Leaf::Exists(_) | Leaf::Value(_) => Err(Refusal::OutsideClass),
+    }
+}
+
+/// A condition of its own, over no row.
+fn single(alloc: Global, catalog: &Catalog, condition: &Condition) -> Result<Form, Refusal>
+    ensures made { IfOk result (λ made. single catalog.now condition.now ≡ Ok made) }
+    ensures refused { IfErr result (λ refusal. refusal ≢ NoMemory → single catalog.now condition.now ≡ Err refusal) }
+{
+    let mut leaves = Vec::new(alloc);
+    let condition = numbered(alloc, &Columns::None, condition, &mut leaves)?;
+    let queries = all_plain(alloc, catalog, leaves.as_slice())?;
+    Ok(Form::Single {
+        condition,
+        queries: Items::from_vec(queries),
+    })
+}
