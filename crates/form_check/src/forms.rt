@@ -9,8 +9,8 @@ ghost use Rattle.form_check.specs.Forms.{aggregate_of, by_clauses, by_group, by_
 ghost use Rattle.form_check.specs.Shown.{shown_leaf, shown_leaves, shown_source};
 
 use crate::leaves::{Columns, Leaf, numbered};
-use crate::plain_queries::all_plain;
 use crate::linked_queries::all_linked;
+use crate::plain_queries::all_plain;
 use crate::queries::{Source, may_be_listed, of_column, row_filter};
 use assertion::Form;
 use cond::Cond;
@@ -55,12 +55,7 @@ fn not_exists(alloc: Global, catalog: &Catalog, query: &Query) -> Result<Form, R
 }
 
 /// No row for which WHERE is true.
-fn by_row(
-    alloc: Global,
-    catalog: &Catalog,
-    source: Source,
-    query: &Query,
-) -> Result<Form, Refusal>
+fn by_row(alloc: Global, catalog: &Catalog, source: Source, query: &Query) -> Result<Form, Refusal>
     ensures made { IfOk result (λ made. by_row catalog.now (shown_source source.entry) (out-Query query.now) ≡ Ok made) }
     ensures refused { IfErr result (λ refusal. refusal ≢ NoMemory → by_row catalog.now (shown_source source.entry) (out-Query query.now) ≡ Err refusal) }
 {
@@ -144,11 +139,7 @@ fn having_over(
 
 /// The set functions of a condition over groups.
 #[tactic(auto, using(crate::proofs::Numberings::behind_next, crate::proofs::Numberings::behind_none))]
-fn all_aggregates(
-    alloc: Global,
-    scope: Scope,
-    leaves: &[Leaf],
-) -> Result<Vec<Aggregate>, Refusal>
+fn all_aggregates(alloc: Global, scope: Scope, leaves: &[Leaf]) -> Result<Vec<Aggregate>, Refusal>
     ensures made { IfOk result (λ made. each (aggregate_of (shown scope.entry)) (shown_leaves leaves.now) ≡ Ok made.items) }
     ensures refused { IfErr result (λ refusal. refusal ≢ NoMemory → each (aggregate_of (shown scope.entry)) (shown_leaves leaves.now) ≡ Err refusal) }
 {

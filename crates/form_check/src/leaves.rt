@@ -86,9 +86,7 @@ pub fn numbered<'a>(
             let part = numbered(alloc, columns, part.get(), leaves)?;
             Ok(Cond::Is(Boxed::new(alloc, part)?, *wanted))
         }
-        Condition::Exists(query) => {
-            Ok(Cond::Exists(put(leaves, Leaf::Exists(query.get()))?))
-        }
+        Condition::Exists(query) => { Ok(Cond::Exists(put(leaves, Leaf::Exists(query.get()))?)) }
         Condition::Compare(left, comparison, right) => {
             let left = numbered_expression(alloc, columns, left, leaves)?;
             let right = numbered_expression(alloc, columns, right, leaves)?;

@@ -17,11 +17,7 @@ use value::Refusal;
 
 /// What stands in the slots of a condition of its own.
 #[tactic(auto, using(crate::proofs::Numberings::behind_next, crate::proofs::Numberings::behind_none))]
-pub fn all_plain(
-    alloc: Global,
-    catalog: &Catalog,
-    leaves: &[Leaf],
-) -> Result<Vec<Plain>, Refusal>
+pub fn all_plain(alloc: Global, catalog: &Catalog, leaves: &[Leaf]) -> Result<Vec<Plain>, Refusal>
     ensures made { IfOk result (λ made. each (plain catalog.now) (shown_leaves leaves.now) ≡ Ok made.items) }
     ensures refused { IfErr result (λ refusal. refusal ≢ NoMemory → each (plain catalog.now) (shown_leaves leaves.now) ≡ Err refusal) }
 {

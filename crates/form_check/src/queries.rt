@@ -47,11 +47,7 @@ impl<'a> Source<'a> {
 ///
 /// [`Refusal::OutsideClass`] where it holds a set function, a query or a column of another table; or
 /// [`Refusal::NoMemory`].
-pub fn row_condition(
-    alloc: Global,
-    scope: Scope,
-    condition: &Condition,
-) -> Result<Cond, Refusal>
+pub fn row_condition(alloc: Global, scope: Scope, condition: &Condition) -> Result<Cond, Refusal>
     ensures made { IfOk result (λ made. row_condition (shown scope.entry) condition.now ≡ Ok made) }
     ensures refused { IfErr result (λ refusal. refusal ≢ NoMemory → row_condition (shown scope.entry) condition.now ≡ Err refusal) }
 {

@@ -143,6 +143,14 @@ impl Schema {
         self.columns.iter().position(|column| *name == column.name)
     }
 
+    /// Whether there is a value for each column, each of its type. NULL is of every type, and a text with a byte outside
+    /// 0x20 to 0x7E of none.
+    pub fn is_typed(&self, row: &Row) -> bool
+        ensures { result ≡ are_typed self.now.columns row.now }
+    {
+        are_typed(self.columns(), row.values())
+    }
+
     /// Tests the values of an INSERT in their order. TypeMismatch where the number of values differs or one is not of
     /// its column's type (nor is a text with a byte outside 0x20 to 0x7E); then by columns NullNotAllowed and
     /// OutOfRange. NoMemory only where the name of the column in fault was not to be copied.

@@ -1,0 +1,29 @@
+-- Conditions and expressions of statements: over the rows of one table, without set functions and queries.
+use Rattle.std.specs.Prelude.{ℕ, Bool, List, [], ◌∷◌, Option, Some, None, Result, Ok, Err, is_some}
+use Rattle.value.specs.declared.refusals.Refusal.{Refusal}
+use Rattle.value.specs.declared.refusals.Refusal.TheVariants.{TypeMismatch, TooWide}
+use Rattle.table.specs.Rows.{Layout, Tables, layout_of, position_of}
+use Rattle.syntax.specs.declared.trees.Condition.{Condition}
+use Rattle.cond.specs.declared.conds.Cond.{Cond}
+use Rattle.cond.specs.declared.conds.Cond.TheViews as cond_of
+use Rattle.cond.specs.Bounds.{is_bounded}
+use Rattle.name_check.specs.Scopes.{Scope}
+use Rattle.name_check.specs.Names.{condition_fault}
+use Rattle.form_check.specs.Results.{and_then}
+use Rattle.form_check.specs.Queries.{Source, source_of, row_condition}
+use Rattle.type_check.specs.Types.{is_typed}
+use Rattle.assertcheck.specs.Steps.{found, provided, unless}
+
+-- the table of a statement; no alias is written there
+abbrev pub target_of : Tables → List ℕ → Result Source Refusal
+target_of tables name = found name (source_of tables name None)
+
+-- a condition of rows, if it is typed and its expressions are bounded
+abbrev pub sound_condition : Scope → Cond → Result Cond Refusal
+sound_condition scope made = provided (is_typed scope.layout.columns [] made) TypeMismatch (provided (is_bounded [] made) TooWide (Ok made))
+
+-- WHERE of a statement: names, the shape, types and widths; a missing one keeps every row
+abbrev pub where_of : Tables → Scope → Option Condition → Result Cond Refusal
+where_of tables scope None = Ok (cond_of.And [])
+where_of tables scope (Some condition) =
+    unless (condition_fault tables condition (scope ∷ [])) (and_then (row_condition scope condition) (sound_condition scope))

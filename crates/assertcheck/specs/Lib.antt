@@ -1,0 +1,4 @@
+pub mod Steps
+pub mod Assertions
+pub mod Conditions
+pub mod Statements

@@ -1,0 +1,64 @@
+//! The table and the condition of a statement.
+
+ghost use Rattle.std.specs.Prelude.{◌≡◌, ◌≢◌, ◌∷◌, [], IfOk, IfErr, Ok, Err};
+ghost use Rattle.value.specs.declared.refusals.Refusal.TheVariants.{NoMemory};
+ghost use Rattle.name_check.specs.Shown.{shown};
+ghost use Rattle.form_check.specs.Shown.{shown_source};
+ghost use Rattle.assertcheck.specs.Conditions.{sound_condition, target_of, where_of};
+
+use cond::{Cond, is_bounded};
+use form_check::{Source, row_condition};
+use name_check::{Scope, known_condition};
+use sqlite_items::Items;
+use std::alloc::Global;
+use syntax::Condition;
+use table::Catalog;
+use type_check::is_typed;
+use value::{Refusal, Text};
+
+/// The table that a statement names.
+pub fn target<'a>(catalog: &'a Catalog, name: &'a Text) -> Result<Source<'a>, Refusal>
+    ensures found { IfOk result (λ source. target_of catalog.now name.now ≡ Ok (shown_source source)) }
+    ensures refused { IfErr result (λ refusal. refusal ≢ NoMemory → target_of catalog.now name.now ≡ Err refusal) }
+{
+    match Source::of(catalog, name, &None) {
+        Some(source) => Ok(source),
+        None => Err(Refusal::UnknownName { name: name.copy()? }),
+    }
+}
+
+/// The condition of WHERE over the rows of a table; a missing one keeps every row.
+///
+/// # Errors
+///
+/// The first fault: [`Refusal::UnknownName`], [`Refusal::OutsideClass`] for a set function or a query,
+/// [`Refusal::TypeMismatch`] and [`Refusal::TooWide`]. Or [`Refusal::NoMemory`].
+pub fn where_condition(
+    alloc: Global,
+    catalog: &Catalog,
+    scope: Scope,
+    condition: &Option<Condition>,
+) -> Result<Cond, Refusal>
+    ensures made { IfOk result (λ made. where_of catalog.now (shown scope.entry) condition.now ≡ Ok made) }
+    ensures refused { IfErr result (λ refusal. refusal ≢ NoMemory → where_of catalog.now (shown scope.entry) condition.now ≡ Err refusal) }
+{
+    let Some(condition) = condition else {
+        return Ok(Cond::And(Items::new(alloc)));
+    };
+    known_condition(alloc, catalog, &[scope], condition)?;
+    let made = row_condition(alloc, scope, condition)?;
+    sound(scope, made)
+}
+
+/// The condition, if it is typed and its expressions are bounded.
+fn sound(scope: Scope, made: Cond) -> Result<Cond, Refusal>
+    ensures { result ≡ sound_condition (shown scope.entry) made }
+{
+    if !is_typed(&made, scope.schema.columns(), &[]) {
+        return Err(Refusal::TypeMismatch);
+    }
+    if !is_bounded(&made, &[]) {
+        return Err(Refusal::TooWide);
+    }
+    Ok(made)
+}

@@ -1,0 +1,43 @@
+//! DELETE.
+
+ghost use Rattle.std.specs.Prelude.{◌≡◌, ◌≢◌, IfOk, IfErr, Ok, Err};
+ghost use Rattle.value.specs.declared.refusals.Refusal.TheVariants.{NoMemory};
+ghost use Rattle.assertcheck.specs.Statements.{delete_of};
+
+use crate::conditions::{target, where_condition};
+use cond::Cond;
+use std::alloc::Global;
+use syntax::Condition;
+use table::Catalog;
+use value::{Refusal, Text};
+
+/// A DELETE with its names found: the rows of a table that a condition keeps go.
+#[derive(Debug, Drop)]
+pub struct Delete {
+    /// The table's place in the catalog.
+    pub table: usize,
+    pub kept: Cond,
+}
+
+/// `DELETE FROM table WHERE condition`.
+///
+/// # Errors
+///
+/// The first fault: [`Refusal::UnknownName`] of the table and then of the condition's names; then
+/// [`Refusal::OutsideClass`], [`Refusal::TypeMismatch`] and [`Refusal::TooWide`] of the condition. Or [`Refusal::NoMemory`].
+pub fn check_delete(
+    alloc: Global,
+    catalog: &Catalog,
+    table: &Text,
+    condition: &Option<Condition>,
+) -> Result<Delete, Refusal>
+    ensures made { IfOk result (λ delete. delete_of catalog.now table.now condition.now ≡ Ok delete) }
+    ensures refused { IfErr result (λ refusal. refusal ≢ NoMemory → delete_of catalog.now table.now condition.now ≡ Err refusal) }
+{
+    let target = target(catalog, table)?;
+    let kept = where_condition(alloc, catalog, target.scope, condition)?;
+    Ok(Delete {
+        table: target.table,
+        kept,
+    })
+}
