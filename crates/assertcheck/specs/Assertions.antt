@@ -2,7 +2,7 @@
 use Rattle.std.specs.Prelude.{ℕ, Bool, true, false, not, ◌&&◌, ◌||◌, List, [], Option, Some, None, Result, Ok, Err, map}
 use Rattle.value.specs.declared.refusals.Refusal.{Refusal}
 use Rattle.value.specs.declared.refusals.Refusal.TheVariants.{AttributeClash, TypeMismatch, TooWide}
-use Rattle.table.specs.Rows.{Tables}
+use Rattle.table.specs.Rows.{Tables, layouts_of}
 use Rattle.syntax.specs.declared.trees.Condition.{Condition}
 use Rattle.statement_syntax.specs.declared.statements.Mode.{Mode}
 use Rattle.statement_syntax.specs.declared.statements.Mode.TheVariants.{Deferred, Immediate}
@@ -13,7 +13,7 @@ use Rattle.assertion.specs.declared.forms.Form.{Form}
 use Rattle.name_check.specs.Names.{condition_fault}
 use Rattle.form_check.specs.Results.{and_then}
 use Rattle.form_check.specs.Forms.{form_of}
-use Rattle.type_check.specs.Forms.{is_typed_form, layouts_of}
+use Rattle.type_check.specs.Forms.{is_typed_form}
 use Rattle.type_check.specs.Widths.{is_bounded_form}
 use Rattle.assertcheck.specs.Steps.{provided, unless}
 

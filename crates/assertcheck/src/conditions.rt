@@ -21,9 +21,15 @@ pub fn target<'a>(catalog: &'a Catalog, name: &'a Text) -> Result<Source<'a>, Re
     ensures found { IfOk result (λ source. target_of catalog.now name.now ≡ Ok (shown_source source)) }
     ensures refused { IfErr result (λ refusal. refusal ≢ NoMemory → target_of catalog.now name.now ≡ Err refusal) }
 {
-    match Source::of(catalog, name, &None) {
-        Some(source) => Ok(source),
-        None => Err(Refusal::UnknownName { name: name.copy()? }),
+    match (catalog.position(name), catalog.get(name)) {
+        (Some(table), Some(schema)) => Ok(Source {
+            table,
+            scope: Scope {
+                label: name,
+                schema,
+            },
+        }),
+        (None, _) | (_, None) => Err(Refusal::UnknownName { name: name.copy()? }),
     }
 }
 

@@ -1,6 +1,7 @@
 //! INSERT.
 
-ghost use Rattle.std.specs.Prelude.{◌≡◌, ◌≢◌, [], IfOk, IfErr, IsOkUnless, Ok, Err};
+ghost use Rattle.std.specs.Prelude.{◌≡◌, ◌≢◌, ◌==◌, [], IfOk, IfErr, IsOkUnless, Ok, Err, position};
+ghost use Rattle.std.specs.List.{list_any};
 ghost use Rattle.table.specs.Rows.{column_of};
 ghost use Rattle.value.specs.declared.refusals.Refusal.TheVariants.{NoMemory};
 ghost use Rattle.form_check.specs.Shown.{shown_source};
@@ -48,7 +49,8 @@ fn all_places(alloc: Global, columns: &[Column]) -> Result<Vec<usize>, Refusal>
     ensures all { IfOk result (λ places. places.items ≡ places_from 0 columns.now) }
 {
     let mut places = Vec::new(alloc);
-    for place in 0..columns.len() {
+    for _column in columns {
+        let place = places.len();
         places.push(place)?;
     }
     Ok(places)
@@ -75,7 +77,7 @@ fn new_place(columns: &[Column], before: &[usize], name: &Text) -> Result<usize,
     let Some(column) = column_place(columns, name) else {
         return Err(Refusal::UnknownName { name: name.copy()? });
     };
-    if before.iter().any(|place| *place == column) {
+    if is_listed(before, column) {
         return Err(Refusal::NameTaken { name: name.copy()? });
     }
     Ok(column)
@@ -121,18 +123,36 @@ fn row_of(
     ensures whole { IfOk result (λ row. row ≡ row_of columns.now places.now values.now) }
 {
     let mut row = Vec::new(alloc);
-    for column in 0..columns.len() {
-        row.push(given_to(places, values, column).copy()?)?;
+    for _column in columns {
+        let value = given_to(places, values, row.len())?;
+        row.push(value)?;
     }
     Ok(Row::new(row))
 }
 
 /// What is given to a column: NULL where it isn't listed.
-fn given_to<'a>(places: &[usize], values: &'a [Value], column: usize) -> &'a Value
-    ensures { result.now ≡ given_to places.now values.now column }
+fn given_to(places: &[usize], values: &[Value], column: usize) -> Result<Value, Refusal>
+    ensures only_memory { IsOkUnless result NoMemory }
+    ensures given { IfOk result (λ value. value ≡ given_to places.now values.now column) }
 {
-    match places.iter().position(|place| *place == column) {
-        Some(place) => values.get(place).unwrap_or(&Value::Null),
-        None => &Value::Null,
+    match listed_at(places, column) {
+        Some(place) => match values.get(place) {
+            Some(value) => Ok(value.copy()?),
+            None => Ok(Value::Null),
+        },
+        None => Ok(Value::Null),
     }
+}
+
+/// Where a column stands among those that are listed.
+fn listed_at(places: &[usize], column: usize) -> Option<usize>
+    ensures { result ≡ position (λ place. place == column) places.now }
+{
+    places.iter().position(|place| *place == column)
+}
+
+fn is_listed(places: &[usize], column: usize) -> bool
+    ensures { result ≡ list_any (λ place. place == column) places.now }
+{
+    places.iter().any(|place| *place == column)
 }

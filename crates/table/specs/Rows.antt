@@ -67,6 +67,10 @@ layout_of name tables = lookup (pointwise nat_eq name) tables
 abbrev pub names_of : Tables → List (List ℕ)
 names_of tables = map (λ table. table.0) tables
 
+-- the columns of the tables
+abbrev pub layouts_of : Tables → List Layout
+layouts_of tables = map (λ table. table.1) tables
+
 -- the place of the table of a name
 abbrev pub position_of : List ℕ → Tables → Option ℕ
 position_of name tables = position (pointwise nat_eq name) (names_of tables)

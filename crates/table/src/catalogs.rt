@@ -1,10 +1,10 @@
 //! The tables of a database by their names.
 
-ghost use Rattle.std.specs.Prelude.{◌≡◌, ◌++◌, ◌∷◌, [], length, OnOk, OnErr, nat_eq, IsSome, IsNone, IsOkUnless, Err};
+ghost use Rattle.std.specs.Prelude.{◌≡◌, ◌++◌, ◌∷◌, [], length, slice_get, OnOk, OnErr, nat_eq, IsSome, IsNone, IsOkUnless, Err};
 ghost use Rattle.std.specs.Option.{option_copied};
 ghost use Rattle.std.specs.Cmp.Lexicographic.{pointwise};
 ghost use Rattle.std.specs.List.{IsDistinct};
-ghost use Rattle.table.specs.Rows.{layout_of, names_of, position_of};
+ghost use Rattle.table.specs.Rows.{layout_of, layouts_of, names_of, position_of};
 ghost use Rattle.value.specs.declared.refusals.Refusal.TheVariants.{NameTaken, NoMemory};
 
 use crate::schemas::Schema;
@@ -57,6 +57,16 @@ impl Catalog {
         ensures { result ≡ position_of name.now self.now }
     {
         self.tables.get_index_of(name)
+    }
+
+    /// The columns of the table at this place in the order of creation.
+    pub fn at(&self, table: usize) -> Option<&Schema>
+        ensures { option_copied result ≡ slice_get (layouts_of self.now) table }
+    {
+        match self.tables.get_index(table) {
+            Some((_, schema)) => Some(schema),
+            None => None,
+        }
     }
 
     /// Puts a table behind the others. NameTaken where the name is there already, and the catalog is then, as after

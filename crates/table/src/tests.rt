@@ -85,6 +85,7 @@ fn tables_are_found_by_name(rt: HostRuntime) -> Result<(), Fail> {
     let name = Text::from_str(alloc, "A")?;
     assert_eq!(rt; catalog.position(&name), Some(1));
     assert!(rt; catalog.get(&name).is_some());
+    assert_eq!(rt; catalog.at(1).map(|schema| schema.key()), Some(1));
     assert!(rt; catalog.add(name, Schema::new(columns(alloc)?, 0)).is_err());
     assert_eq!(rt; catalog.len(), 2);
     Ok(())
