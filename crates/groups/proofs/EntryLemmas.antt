@@ -1,0 +1,102 @@
+-- The totals of groups stay right as a row comes or goes.
+use Rattle.std.proofs.Common.{◌≡◌, ℕ, ◌<◌, suc, Bool, true, false, cond, List, [], ◌∷◌, Option, Some, None, length, refl, sym, subst, arith}
+use Rattle.std.specs.Prelude.{◌==◌, if◌then◌else◌, unwrap_or}
+use Rattle.std.specs.Option.{option_map}
+use Rattle.std.proofs.lemmas.Bool.Decides.{nat_tests}
+use Rattle.std.specs.Ordering.{eq_by_cmp}
+use Rattle.value.specs.declared.values.Value.{Value}
+use Rattle.value.specs.ValueOrder.{value_cmp}
+use Rattle.value.specs.Ordered.{HasKey}
+use Rattle.value.proofs.ValueOrders.{value_cmp_total, value_exact}
+use Rattle.value.proofs.OrderedLists.{at-put, IsAscending-put, equal_from}
+use Rattle.groups.specs.declared.entries.Entry.{Entry}
+use Rattle.groups.specs.declared.members.Member.{Member}
+use Rattle.groups.specs.Figures.{Figures}
+use Rattle.groups.specs.Steps.{nothing, one_more, one_less, put_entry, kept_total, figures_at, entries_more, entries_less}
+use Rattle.groups.specs.Totals.{Entries, Members, group_in, entry_at, total_at, IsTotalOf, IsEntryOf, AreTotalsOf, HaveOneMore, AreWithin, IsChange}
+use Rattle.groups.proofs.MemberLemmas.{within_fewer}
+use Rattle.groups.proofs.TotalLemmas.{IsTotalOf-more, IsTotalOf-less, IsTotalOf-none}
+
+abbrev total_in : Option Entry → Option Figures
+total_in o = option_map (λ (entry : Entry). entry.total) o
+
+nothing_of : (vs : List Value) (n : ℕ) → n ≡ length vs → (n == 0) ≡ true → vs ≡ []
+nothing_of [] n e z = refl
+nothing_of (v ∷ vs) n e z = absurd (longer n (length vs) e z)
+  where
+    longer : (n k : ℕ) → n ≡ suc k → (n == 0) ≡ true → ⊥
+    longer n k e z = grind (arith, nat_tests)
+
+something_of : (n k : ℕ) → n ≡ k → (n == 0) ≡ false → 0 < k
+something_of n k e z = grind (arith, nat_tests)
+
+kept-right : (vs : List Value) (g : Value) (t : Figures) → IsTotalOf vs t → IsEntryOf vs (total_in (kept_total g t))
+kept-right vs g t k =
+    let case : (b : Bool) → (t.rows == 0) ≡ b → IsEntryOf vs (total_in (if b then None else Some (record { group = g; total = t }))) = λ b. elim b as (λ b. (t.rows == 0) ≡ b → IsEntryOf vs (total_in (if b then None else Some (record { group = g; total = t })))) [
+      | true ↦ λ e. nothing_of vs t.rows k.rows e
+      | false ↦ λ e. (k, something_of t.rows (length vs) k.rows e)
+    ]
+    in case (t.rows == 0) refl
+
+kept-key : (g : Value) (t : Figures) → HasKey value_cmp group_in g (kept_total g t)
+kept-key g t = elim (t.rows == 0) as (λ b. HasKey value_cmp group_in g (if b then None else Some (record { group = g; total = t }))) [ true ↦ tt | false ↦ refl ]
+
+-- what stands for a group, or where nothing stands the total of no rows, is the total of its rows
+pub figures-right : (vs : List Value) (o : Option Figures) → IsEntryOf vs o → IsTotalOf vs (unwrap_or o nothing)
+figures-right vs None e = subst (λ us. IsTotalOf us nothing) (sym e) IsTotalOf-none
+figures-right vs (Some t) k = k.0
+
+-- the totals after one is set
+AreTotalsOf-put : (g : Value) (t : Figures) (old new : Members) (es : Entries) → IsTotalOf (new g) t → ((v : Value) → eq_by_cmp value_cmp v g ≡ false → new v ≡ old v) → AreTotalsOf old es → AreTotalsOf new (put_entry g (kept_total g t) es)
+AreTotalsOf-put g t old new es here elsewhere k = record {
+  in_order = IsAscending-put value_cmp_total group_in g (kept_total g t) es (kept-key g t) k.in_order;
+  right = λ v.
+      let case : (b : Bool) → eq_by_cmp value_cmp v g ≡ b → IsEntryOf (new v) (total_in (cond b (kept_total g t) (entry_at v es))) = λ b. elim b as (λ b. eq_by_cmp value_cmp v g ≡ b → IsEntryOf (new v) (total_in (cond b (kept_total g t) (entry_at v es)))) [
+        | true ↦ λ e. subst (λ u. IsEntryOf (new u) (total_in (kept_total g t))) (sym (value_exact v g (equal_from (value_cmp v g) e))) (kept-right (new g) g t here)
+        | false ↦ λ e. subst (λ us. IsEntryOf us (total_at v es)) (sym (elsewhere v e)) (k.right v)
+      ]
+      in subst (λ o. IsEntryOf (new v) (total_in o)) (sym (at-put value_cmp_total group_in g (kept_total g t) es (kept-key g t) k.in_order v)) (case (eq_by_cmp value_cmp v g) refl);
+}
+
+-- the totals of the same lists
+pub AreTotalsOf-along : (old new : Members) (es : Entries) → ((v : Value) → new v ≡ old v) → AreTotalsOf old es → AreTotalsOf new es
+AreTotalsOf-along old new es e k = record { in_order = k.in_order; right = λ v. subst (λ vs. IsEntryOf vs (total_at v es)) (sym (e v)) (k.right v) }
+
+-- the totals with one row more, if there is one
+pub AreTotalsOf-more : (m : Member) (fewer more : Members) (es : Entries) → HaveOneMore (Some m) fewer more → AreTotalsOf fewer es → AreWithin more → AreTotalsOf more (entries_more m es)
+AreTotalsOf-more m fewer more es h k w =
+    AreTotalsOf-put m.group (one_more m.value (figures_at m.group es)) fewer more es
+    (IsTotalOf-more m.value (fewer m.group) (more m.group) (figures_at m.group es) h.here (figures-right (fewer m.group) (total_at m.group es) (k.right m.group)) (w m.group))
+    h.elsewhere k
+
+-- the totals with one row less
+pub AreTotalsOf-less : (m : Member) (fewer more : Members) (es : Entries) → HaveOneMore (Some m) fewer more → AreTotalsOf more es → AreWithin fewer → AreTotalsOf fewer (entries_less m es)
+AreTotalsOf-less m fewer more es h k w =
+    AreTotalsOf-put m.group (one_less m.value (figures_at m.group es)) more fewer es
+    (IsTotalOf-less m.value (fewer m.group) (more m.group) (figures_at m.group es) h.here (figures-right (more m.group) (total_at m.group es) (k.right m.group)) (w m.group))
+    (λ v e. sym (h.elsewhere v e)) k
+
+pub AreTotalsOf-none : AreTotalsOf (λ v. []) []
+AreTotalsOf-none = record { in_order = tt; right = λ v. refl }
+
+-- the entries after one row goes and one comes
+abbrev pub entries_without : Option Member → Entries → Entries
+entries_without None es = es
+entries_without (Some m) es = entries_less m es
+
+abbrev pub entries_with : Option Member → Entries → Entries
+entries_with None es = es
+entries_with (Some m) es = entries_more m es
+
+gone-right : (o : Option Member) (between before : Members) (es : Entries) → HaveOneMore o between before → AreTotalsOf before es → AreWithin between → AreTotalsOf between (entries_without o es)
+gone-right None between before es h k w = AreTotalsOf-along before between es (λ v. sym (h v)) k
+gone-right (Some m) between before es h k w = AreTotalsOf-less m between before es h k w
+
+come-right : (o : Option Member) (between after : Members) (es : Entries) → HaveOneMore o between after → AreTotalsOf between es → AreWithin after → AreTotalsOf after (entries_with o es)
+come-right None between after es h k w = AreTotalsOf-along between after es h k
+come-right (Some m) between after es h k w = AreTotalsOf-more m between after es h k w
+
+-- totals of groups become those of the groups with one row gone and one come
+pub AreTotalsOf-change : (add remove : Option Member) (before after : Members) (es : Entries) → IsChange add remove before after → AreTotalsOf before es → AreWithin after → AreTotalsOf after (entries_with add (entries_without remove es))
+AreTotalsOf-change add remove before after es c k w =
+    come-right add c.between after (entries_without remove es) c.come (gone-right remove c.between before es c.gone k (within_fewer add c.between after c.come w)) w

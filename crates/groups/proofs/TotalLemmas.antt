@@ -1,0 +1,78 @@
+-- A total stays that of its rows as one comes or goes.
+use Rattle.std.proofs.Common.{◌≡◌, ℕ, ◌+◌, ◌-◌, ◌<◌, ◌≤◌, ◌^◌, Bool, true, false, cond, List, [], refl, ◌∙◌, ap, arith}
+use Rattle.std.specs.Prelude.{◌&&◌, ℤ, pos, negsuc, ◌+ℤ◌, ◌-ℤ◌, unsigned_abs, count_by, if◌then◌else◌}
+use Rattle.std.specs.Int.{w128, saturate_signed}
+use Rattle.std.proofs.Math.Nat.{min-eq_left}
+use Rattle.std.proofs.lemmas.Int.{ints}
+use Rattle.std.proofs.lemmas.List.Elements.{All-nil}
+use Rattle.std.proofs.lemmas.List.Sums.{count_by-le-length}
+use Rattle.std.specs.Ordering.{eq_by_cmp}
+use Rattle.value.specs.declared.values.Value.{Value}
+use Rattle.value.specs.declared.values.Value.TheVariants.{Null, Int, Text}
+use Rattle.value.specs.ValueOrder.{value_cmp}
+use Rattle.table.specs.Aggregates.{is_there, number_of, sum_of}
+use Rattle.groups.specs.declared.counts.Count.{Count}
+use Rattle.groups.specs.Counts.{count_at, one_up}
+use Rattle.groups.specs.Figures.{Figures}
+use Rattle.groups.specs.Steps.{nothing, there_of, one_more, one_less}
+use Rattle.groups.specs.Totals.{IsTotalOf, IsOneMore, IsWithin}
+use Rattle.groups.proofs.CountLemmas.{one_up-small, counts_more-at, counts_less-at, counts_more-ordered, counts_less-ordered, counts_more-positive, counts_less-positive}
+use Rattle.groups.proofs.MemberLemmas.{longer, counted, summed, sum_within}
+
+-- a number of few bits is the nearest to itself
+saturated : (z : ℤ) → unsigned_abs z ≤ 2 ^ 113 → saturate_signed w128 z ≡ z
+saturated (pos n) h = ap pos (min-eq_left (omega (arith, h)))
+saturated (negsuc n) h = ap negsuc (min-eq_left (omega (arith, h)))
+
+there_is : (x : Value) → there_of x ≡ if is_there x then 1 else 0
+there_is Null = refl
+there_is (Int n) = refl
+there_is (Text t) = refl
+
+-- the count of a value, by whether it is the one that comes or goes
+up : (b : Bool) (n m k : ℕ) → n ≡ m → k ≡ m + (if b then 1 else 0) → k < 2 ^ 63 → cond b (one_up n) n ≡ k
+up true n m k e f h = one_up-small n (omega (arith, e, f, h)) ∙ omega (arith, e, f)
+up false n m k e f h = omega (arith, e, f)
+
+down : (b : Bool) (n m k : ℕ) → n ≡ k → k ≡ m + (if b then 1 else 0) → cond b (n - 1) n ≡ m
+down true n m k e f = omega (arith, e, f)
+down false n m k e f = omega (arith, e, f)
+
+abbrev alike : Value → Value → Bool
+alike v w = is_there w && eq_by_cmp value_cmp v w
+
+-- a total with one row more
+pub IsTotalOf-more : (x : Value) (vs ws : List Value) (t : Figures) → IsOneMore x vs ws → IsTotalOf vs t → IsWithin ws → IsTotalOf ws (one_more x t)
+IsTotalOf-more x vs ws t m k w = record {
+  rows = one_up-small t.rows (omega (arith, w.short, longer x vs ws m, k.rows)) ∙ omega (arith, longer x vs ws m, k.rows);
+  there = min-eq_left (omega (arith, w.short, counted is_there x vs ws m, count_by-le-length is_there ws, k.there, there_is x)) ∙ omega (arith, counted is_there x vs ws m, k.there, there_is x);
+  sum = ap (saturate_signed w128) (added t.sum (number_of x) (sum_of vs) (sum_of ws) k.sum (summed x vs ws m)) ∙ saturated (sum_of ws) (sum_within ws w);
+  in_order = counts_more-ordered x t.values k.in_order;
+  positive = counts_more-positive x t.values k.positive;
+  counts = λ v.
+      counts_more-at x t.values k.in_order v
+      ∙ up (alike v x) (count_at v t.values) (count_by (alike v) vs) (count_by (alike v) ws) (k.counts v) (counted (alike v) x vs ws m) (omega (arith, w.short, count_by-le-length (alike v) ws));
+}
+  where
+    added : (s n a b : ℤ) → s ≡ a → b ≡ n +ℤ a → s +ℤ n ≡ b
+    added s n a b e f = omega (arith, ints, e, f)
+
+-- a total with one row less
+pub IsTotalOf-less : (x : Value) (vs ws : List Value) (t : Figures) → IsOneMore x vs ws → IsTotalOf ws t → IsWithin vs → IsTotalOf vs (one_less x t)
+IsTotalOf-less x vs ws t m k w = record {
+  rows = omega (arith, longer x vs ws m, k.rows);
+  there = omega (arith, counted is_there x vs ws m, k.there, there_is x);
+  sum = ap (saturate_signed w128) (taken t.sum (number_of x) (sum_of vs) (sum_of ws) k.sum (summed x vs ws m)) ∙ saturated (sum_of vs) (sum_within vs w);
+  in_order = counts_less-ordered x t.values k.in_order;
+  positive = counts_less-positive x t.values k.positive;
+  counts = λ v.
+      counts_less-at x t.values k.in_order v
+      ∙ down (alike v x) (count_at v t.values) (count_by (alike v) vs) (count_by (alike v) ws) (k.counts v) (counted (alike v) x vs ws m);
+}
+  where
+    taken : (s n a b : ℤ) → s ≡ b → b ≡ n +ℤ a → s -ℤ n ≡ a
+    taken s n a b e f = omega (arith, ints, e, f)
+
+-- the total of no rows
+pub IsTotalOf-none : IsTotalOf [] nothing
+IsTotalOf-none = record { rows = refl; there = refl; sum = refl; in_order = tt; positive = All-nil (λ (c : Count). 0 < c.count); counts = λ v. refl }

@@ -1,0 +1,37 @@
+-- What set functions give, by the total of the rows.
+use Rattle.std.specs.Prelude.{◌==◌, Some, None, if◌then◌else◌, unwrap_or}
+use Rattle.value.specs.declared.values.Value.{Value}
+use Rattle.value.specs.declared.values.Value.TheVariants as value
+use Rattle.table.specs.declared.aggregates.Aggregate.{Aggregate}
+use Rattle.table.specs.declared.aggregates.Aggregate.TheVariants.{CountRows, Count, Sum, Min, Max}
+use Rattle.table.specs.Rows.{RowValues, value_in}
+use Rattle.cond.specs.declared.slots.SlotKind.{SlotKind}
+use Rattle.cond.specs.declared.slots.SlotKind.TheVariants as kind
+use Rattle.cond.specs.declared.slots.SlotValue.{SlotValue}
+use Rattle.cond.specs.declared.slots.SlotValue.TheVariants as slot
+use Rattle.groups.specs.Counts.{first_value, last_value}
+use Rattle.groups.specs.Figures.{Figures}
+
+-- the value of a row that a set function looks at; COUNT(*) looks at none
+abbrev pub value_for : Aggregate → RowValues → Value
+value_for CountRows row = value.Null
+value_for (Count column) row = value_in column row
+value_for (Sum column) row = value_in column row
+value_for (Min column) row = value_in column row
+value_for (Max column) row = value_in column row
+
+-- the kind of slot that holds what a set function gives
+abbrev pub kind_for : Aggregate → SlotKind
+kind_for CountRows = kind.Count
+kind_for (Count column) = kind.Count
+kind_for (Sum column) = kind.Sum
+kind_for (Min column) = kind.Extreme
+kind_for (Max column) = kind.Extreme
+
+-- what a set function gives, by a total
+abbrev pub answer_from : Aggregate → Figures → SlotValue
+answer_from CountRows t = slot.Count t.rows
+answer_from (Count column) t = slot.Count t.there
+answer_from (Sum column) t = slot.Sum (if t.there == 0 then None else Some t.sum)
+answer_from (Min column) t = slot.Extreme (unwrap_or (first_value t.values) value.Null)
+answer_from (Max column) t = slot.Extreme (unwrap_or (last_value t.values) value.Null)

@@ -1,0 +1,50 @@
+-- Values with how often each stands, in order.
+use Rattle.std.specs.Prelude.{ℕ, ◌==◌, ◌+◌, ◌-◌, ◌^◌, min, List, [], ◌∷◌, Option, Some, None, if◌then◌else◌}
+use Rattle.value.specs.declared.values.Value.{Value}
+use Rattle.value.specs.declared.values.Value.TheVariants.{Null, Int, Text}
+use Rattle.value.specs.ValueOrder.{value_cmp}
+use Rattle.value.specs.Ordered as ordered
+use Rattle.groups.specs.declared.counts.Count.{Count}
+
+abbrev pub value_of : Count → Value
+value_of count = count.value
+
+abbrev pub count_in : Option Count → ℕ
+count_in None = 0
+count_in (Some count) = count.count
+
+-- how often a value stands
+abbrev pub count_at : Value → List Count → ℕ
+count_at v counts = count_in (ordered.at value_cmp value_of v counts)
+
+-- a value with how often it stands; none where it doesn't
+abbrev pub kept_count : Value → ℕ → Option Count
+kept_count v count = if count == 0 then None else Some (record { value = v; count = count })
+
+-- the counts with this one for a value
+abbrev pub put_count : Value → ℕ → List Count → List Count
+put_count v count = ordered.put value_cmp value_of v (kept_count v count)
+
+-- one more, up to the largest number of 64 bits
+abbrev pub one_up : ℕ → ℕ
+one_up n = min (n + 1) (2 ^ 64 - 1)
+
+-- the counts with a value once more, or once less; NULL isn't counted
+abbrev pub counts_more : Value → List Count → List Count
+counts_more Null counts = counts
+counts_more (Int n) counts = put_count (Int n) (one_up (count_at (Int n) counts)) counts
+counts_more (Text t) counts = put_count (Text t) (one_up (count_at (Text t) counts)) counts
+
+abbrev pub counts_less : Value → List Count → List Count
+counts_less Null counts = counts
+counts_less (Int n) counts = put_count (Int n) (count_at (Int n) counts - 1) counts
+counts_less (Text t) counts = put_count (Text t) (count_at (Text t) counts - 1) counts
+
+abbrev pub first_value : List Count → Option Value
+first_value [] = None
+first_value (c ∷ cs) = Some c.value
+
+abbrev pub last_value : List Count → Option Value
+last_value [] = None
+last_value (c ∷ []) = Some c.value
+last_value (c ∷ d ∷ cs) = last_value (d ∷ cs)

@@ -1,0 +1,86 @@
+-- Totals: of the values of one group's rows, and of all groups; and the groups before and after a row goes or comes.
+use Rattle.std.specs.Prelude.{◌≡◌, ◌≤◌, ◌<◌, ◌^◌, false, ◌&&◌, List, [], ◌∷◌, ◌++◌, length, count_by, All, Option, Some, None}
+use Rattle.std.specs.Option.{option_map}
+use Rattle.std.specs.Ordering.{eq_by_cmp}
+use Rattle.value.specs.declared.values.Value.{Value}
+use Rattle.value.specs.ValueOrder.{value_cmp}
+use Rattle.value.specs.Ordered as ordered
+use Rattle.table.specs.Aggregates.{is_there, sum_of}
+use Rattle.cond.specs.Slots.{magnitude}
+use Rattle.groups.specs.declared.counts.Count.{Count}
+use Rattle.groups.specs.declared.entries.Entry.{Entry}
+use Rattle.groups.specs.declared.members.Member.{Member}
+use Rattle.groups.specs.Counts.{value_of, count_at}
+use Rattle.groups.specs.Figures.{Figures}
+
+-- the total of a list of values, one for each row: how many rows, how many values are not NULL, their sum, and how often each stands
+pub record IsTotalOf (vs : List Value) (t : Figures) : Type 0 where
+  pub rows : t.rows ≡ length vs
+  pub there : t.there ≡ count_by is_there vs
+  pub sum : t.sum ≡ sum_of vs
+  pub in_order : ordered.IsAscending value_cmp value_of t.values
+  pub positive : All (λ (c : Count). 0 < c.count) t.values
+  pub counts : (v : Value) → count_at v t.values ≡ count_by (λ w. is_there w && eq_by_cmp value_cmp v w) vs
+
+-- the totals of groups, in the order of the groups
+abbrev pub Entries : Type 0
+Entries = List Entry
+
+abbrev pub group_in : Entry → Value
+group_in entry = entry.group
+
+abbrev pub entry_at : Value → Entries → Option Entry
+entry_at = ordered.at value_cmp group_in
+
+-- the total that stands for a group
+abbrev pub total_at : Value → Entries → Option Figures
+total_at group entries = option_map (λ (entry : Entry). entry.total) (entry_at group entries)
+
+-- each group by its value, with a value for each of its rows
+abbrev pub Members : Type 0
+Members = Value → List Value
+
+-- what stands for a group is the total of its rows, and nothing stands for a group without rows
+abbrev pub IsEntryOf : List Value → Option Figures → Type 0
+IsEntryOf vs None = vs ≡ []
+IsEntryOf vs (Some t) = IsTotalOf vs t × (0 < length vs)
+
+-- the entries are the totals of these groups
+pub record AreTotalsOf (members : Members) (entries : Entries) : Type 0 where
+  pub in_order : ordered.IsAscending value_cmp group_in entries
+  pub right : (v : Value) → IsEntryOf (members v) (total_at v entries)
+
+-- a list has an item once more than another, somewhere
+pub record IsOneMore {X : Type 0} (x : X) (fewer more : List X) : Type 0 where
+  pub front : List X
+  pub back : List X
+  pub without : fewer ≡ front ++ back
+  pub with_it : more ≡ front ++ x ∷ back
+
+-- a group has one row more, with this value, and the others are as they are
+pub record IsOneMoreAt (group x : Value) (fewer more : Members) : Type 0 where
+  pub here : IsOneMore x (fewer group) (more group)
+  pub elsewhere : (v : Value) → eq_by_cmp value_cmp v group ≡ false → more v ≡ fewer v
+
+-- the groups have one row more, if there is one, and are else the same
+abbrev pub HaveOneMore : Option Member → Members → Members → Type 0
+HaveOneMore None fewer more = (v : Value) → more v ≡ fewer v
+HaveOneMore (Some m) fewer more = IsOneMoreAt m.group m.value fewer more
+
+-- the groups before and after one row goes and then one comes
+pub record IsChange (add remove : Option Member) (before after : Members) : Type 0 where
+  pub between : Members
+  pub gone : HaveOneMore remove between before
+  pub come : HaveOneMore add between after
+
+-- no number of the list is larger than a column's
+abbrev pub AreSmall : List Value → Type 0
+AreSmall vs = All (λ (v : Value). magnitude v ≤ 10 ^ 15) vs
+
+-- the rows of a group are no more than a table can have, and their numbers no larger than a column's
+pub record IsWithin (vs : List Value) : Type 0 where
+  pub short : length vs < 2 ^ 63
+  pub small : AreSmall vs
+
+abbrev pub AreWithin : Members → Type 0
+AreWithin members = (v : Value) → IsWithin (members v)

@@ -1,0 +1,175 @@
+//! The total of each group.
+
+ghost use Rattle.std.specs.Prelude.{◌≡◌, [], List, map, IfOk, IsOkUnless};
+ghost use Rattle.std.specs.Option.{option_copied};
+ghost use Rattle.value.specs.declared.refusals.Refusal.TheVariants.{NoMemory};
+ghost use Rattle.value.specs.declared.values.Value.{Value as values};
+ghost use Rattle.table.specs.Aggregates.{aggregate as aggregate_of};
+ghost use Rattle.table.specs.Rows.{RowValues};
+ghost use Rattle.cond.specs.Slots.{IsWithinKind, kind_of, value_of};
+ghost use Rattle.groups.specs.Answers.{answer_from, kind_for, value_for};
+ghost use Rattle.groups.specs.Steps.{put_entry, kept_total, figures_at, entries_more, entries_less};
+ghost use Rattle.groups.specs.Totals.{Members, total_at, IsEntryOf, AreTotalsOf, AreWithin, IsWithin, IsChange};
+
+use crate::members::Member;
+use crate::ordered::{Keyed, copies, find, with_item};
+use crate::totals::Total;
+use cond::SlotValue;
+use std::alloc::Global;
+use std::marker::Model;
+use table::Aggregate;
+use value::{Refusal, Value};
+
+/// A group's value and its total.
+#[derive(Debug, Drop)]
+pub struct Entry {
+    pub group: Value,
+    pub total: Total,
+}
+
+impl Keyed for Entry {
+    ghost key_of = { λ entry. entry.group };
+
+    fn key(&self) -> &Value {
+        &self.group
+    }
+
+    fn copy(&self) -> Result<Entry, Refusal> {
+        Ok(Entry {
+            group: self.group.copy()?,
+            total: self.total.copy()?,
+        })
+    }
+}
+
+/// The total of each group that has a row, in the order of the groups.
+#[derive(Debug, Drop)]
+pub struct Totals {
+    entries: Vec<Entry>,
+}
+
+impl Model for Totals {
+    ghost use Rattle.groups.specs.Totals.{Entries};
+
+    ghost Value = { Entries };
+
+    ghost view = { λ t. t.entries.items };
+}
+
+impl Totals {
+    /// The totals of groups without rows. It takes no memory.
+    pub fn new(alloc: Global) -> Totals
+        ensures value { result ≡ [] }
+        ensures totals { AreTotalsOf (λ group. []) result }
+    {
+        Totals {
+            entries: Vec::new(alloc),
+        }
+    }
+
+    /// The total of a group, if it has a row. It takes no memory.
+    pub fn get(&self, group: &Value) -> Option<&Total>
+        ensures value { option_copied result ≡ total_at group.now self.now }
+        // It is that of the group's rows, and a group without rows has none.
+        ensures entry { (members : Members) → AreTotalsOf members self.now → IsEntryOf (members group.now) (option_copied result) }
+    {
+        match find(&self.entries, group) {
+            Some(entry) => Some(&entry.total),
+            None => None,
+        }
+    }
+
+    /// What a set function gives of a group's rows, also where it has none. MIN or MAX of texts copies one, and nothing
+    /// else takes memory.
+    pub fn answer(&self, group: &Value, aggregate: Aggregate) -> Result<SlotValue, Refusal>
+        ensures only_memory { IsOkUnless result NoMemory }
+        ensures kind { IfOk result (λ answer. kind_of answer ≡ kind_for aggregate) }
+        // It is what the set function gives of the group's rows from scratch.
+        ensures answer { IfOk result (λ answer. (rows : values → List RowValues)
+            → AreTotalsOf (λ v. map (value_for aggregate) (rows v)) self.now
+            → value_of answer ≡ aggregate_of aggregate (rows group.now)) }
+        ensures within { IfOk result (λ answer. (members : Members)
+            → AreTotalsOf members self.now → IsWithin (members group.now) → IsWithinKind answer) }
+    {
+        match self.get(group) {
+            Some(total) => total.answer(aggregate),
+            None => Total::new(*self.entries.allocator()).answer(aggregate),
+        }
+    }
+
+    /// The totals after one row goes and then one comes, either of which may be none. These stay as they are, also
+    /// where the answer is NoMemory.
+    pub fn with(&self, add: &Option<Member>, remove: &Option<Member>) -> Result<Totals, Refusal>
+        ensures only_memory { IsOkUnless result NoMemory }
+        // Totals of some groups become those of the groups with that change.
+        ensures totals { IfOk result (λ totals. (before after : Members) → IsChange add.now remove.now before after
+            → AreTotalsOf before self.now → AreWithin after → AreTotalsOf after totals) }
+    {
+        match (remove, add) {
+            (None, None) => self.copy(),
+            (None, Some(new)) => self.more(new),
+            (Some(old), None) => self.less(old),
+            (Some(old), Some(new)) => self.less(old)?.more(new),
+        }
+    }
+
+    /// The totals with one row more.
+    fn more(&self, member: &Member) -> Result<Totals, Refusal>
+        ensures only_memory { IsOkUnless result NoMemory }
+        ensures more { IfOk result (λ totals. totals ≡ entries_more member.now self.now) }
+    {
+        let total = match self.get(&member.group) {
+            Some(total) => total.more(&member.value)?,
+            None => Total::new(*self.entries.allocator()).more(&member.value)?,
+        };
+        self.put(&member.group, total)
+    }
+
+    /// The totals with one row less.
+    fn less(&self, member: &Member) -> Result<Totals, Refusal>
+        ensures only_memory { IsOkUnless result NoMemory }
+        ensures less { IfOk result (λ totals. totals ≡ entries_less member.now self.now) }
+    {
+        let total = match self.get(&member.group) {
+            Some(total) => total.less(&member.value)?,
+            None => Total::new(*self.entries.allocator()).less(&member.value)?,
+        };
+        self.put(&member.group, total)
+    }
+
+    /// The totals with this one for a group, or none where it is of no rows.
+    fn put(&self, group: &Value, total: Total) -> Result<Totals, Refusal>
+        ensures only_memory { IsOkUnless result NoMemory }
+        ensures put { IfOk result (λ totals. totals ≡ put_entry group.now (kept_total group.now total) self.now) }
+    {
+        let alloc = *self.entries.allocator();
+        let new = kept_entry(group, total)?;
+        Ok(Totals {
+            entries: with_item(alloc, &self.entries, group, &new)?,
+        })
+    }
+
+    /// Totals equal to these.
+    pub fn copy(&self) -> Result<Totals, Refusal>
+        ensures only_memory { IsOkUnless result NoMemory }
+        ensures equal { IfOk result (λ copy. copy ≡ self.now) }
+    {
+        Ok(Totals {
+            entries: copies(*self.entries.allocator(), &self.entries)?,
+        })
+    }
+}
+
+/// A group's entry; none where its total is of no rows.
+fn kept_entry(group: &Value, total: Total) -> Result<Option<Entry>, Refusal>
+    ensures only_memory { IsOkUnless result NoMemory }
+    ensures kept { IfOk result (λ new. new ≡ kept_total group.now total) }
+{
+    if total.is_empty() {
+        return Ok(None);
+    }
+    Ok(Some(Entry {
+        group: group.copy()?,
+        total,
+    }))
+}

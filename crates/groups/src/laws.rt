@@ -1,0 +1,21 @@
+//! What holds of groups alone.
+
+ghost use Rattle.std.specs.Prelude.{ℕ, ◌<◌, ◌^◌, All, List, length, Option};
+ghost use Rattle.value.specs.declared.values.Value.{Value};
+ghost use Rattle.table.specs.declared.aggregates.Aggregate.{Aggregate};
+ghost use Rattle.table.specs.Rows.{RowValues, row_at, put_row};
+ghost use Rattle.cond.specs.Bounds.{IsSmallRow};
+ghost use Rattle.groups.specs.Answers.{value_for};
+ghost use Rattle.groups.specs.Members.{member_of, members_of};
+ghost use Rattle.groups.specs.Totals.{AreWithin, IsChange};
+
+/// However a table's rows go to groups (`place`), a change of the row under a key changes the groups by the row that
+/// stood there and the one that stands there now. And the groups are within bounds where the table is.
+pub fn members_follow_rows()
+    ensures change { (place : RowValues → Option Value) (value : RowValues → Value)
+        (column : ℕ) (key : Value) (new : Option RowValues) (rows : List RowValues)
+        → IsChange (member_of place value new) (member_of place value (row_at column key rows))
+        (members_of place value rows) (members_of place value (put_row column key new rows)) }
+    ensures within { (place : RowValues → Option Value) (aggregate : Aggregate) (rows : List RowValues)
+        → length rows < 2 ^ 63 → All IsSmallRow rows → AreWithin (members_of place (value_for aggregate) rows) }
+{}

@@ -1,0 +1,156 @@
+//! The total of one group.
+
+ghost use Rattle.std.specs.Prelude.{◌≡◌, ◌==◌, List, map, IfOk, IsOkUnless};
+ghost use Rattle.value.specs.declared.refusals.Refusal.TheVariants.{NoMemory};
+ghost use Rattle.value.specs.declared.values.Value.{Value as values};
+ghost use Rattle.table.specs.Aggregates.{number_of, aggregate as aggregate_of};
+ghost use Rattle.table.specs.Rows.{RowValues};
+ghost use Rattle.cond.specs.Slots.{IsWithinKind, kind_of, value_of};
+ghost use Rattle.groups.specs.Answers.{answer_from, kind_for, value_for};
+ghost use Rattle.groups.specs.Steps.{nothing, there_of, one_more, one_less};
+ghost use Rattle.groups.specs.Totals.{IsTotalOf, IsWithin};
+
+use crate::counts::Counts;
+use cond::SlotValue;
+use std::alloc::Global;
+use std::marker::Model;
+use table::Aggregate;
+use value::{Refusal, Value};
+
+/// What set functions need of a group's rows: how many there are, and of their values that are not NULL how many, their
+/// sum, and how often each stands.
+#[derive(Debug, Drop)]
+pub struct Total {
+    rows: u64,
+    there: u64,
+    sum: i128,
+    values: Counts,
+}
+
+impl Model for Total {
+    ghost use Rattle.groups.specs.Figures.{Figures};
+
+    ghost Value = { Figures };
+
+    ghost view = { λ t. record { rows = t.rows; there = t.there; sum = t.sum; values = t.values } };
+}
+
+impl Total {
+    /// The total of no rows. It takes no memory.
+    pub fn new(alloc: Global) -> Total
+        ensures { result ≡ nothing }
+    {
+        Total {
+            rows: 0,
+            there: 0,
+            sum: 0,
+            values: Counts::new(alloc),
+        }
+    }
+
+    /// The number of rows.
+    pub fn rows(&self) -> u64
+        ensures { result ≡ self.now.rows }
+    {
+        self.rows
+    }
+
+    /// Whether there are no rows.
+    pub fn is_empty(&self) -> bool
+        ensures { result ≡ (self.now.rows == 0) }
+    {
+        self.rows == 0
+    }
+
+    /// What a set function gives of the rows. MIN or MAX of texts copies one, and nothing else takes memory.
+    pub fn answer(&self, aggregate: Aggregate) -> Result<SlotValue, Refusal>
+        ensures only_memory { IsOkUnless result NoMemory }
+        ensures kind { IfOk result (λ answer. kind_of answer ≡ kind_for aggregate) }
+        // It is what the set function gives of the rows from scratch.
+        ensures answer { IfOk result (λ answer. (rows : List RowValues)
+            → IsTotalOf (map (value_for aggregate) rows) self.now → value_of answer ≡ aggregate_of aggregate rows) }
+        ensures within { IfOk result (λ answer. (vs : List values) → IsTotalOf vs self.now → IsWithin vs → IsWithinKind answer) }
+    {
+        self.figure(aggregate)
+    }
+
+    /// The figure that a set function asks for.
+    fn figure(&self, aggregate: Aggregate) -> Result<SlotValue, Refusal>
+        ensures only_memory { IsOkUnless result NoMemory }
+        ensures answer { IfOk result (λ answer. answer ≡ answer_from aggregate self.now) }
+    {
+        match aggregate {
+            Aggregate::CountRows => Ok(SlotValue::Count(self.rows)),
+            Aggregate::Count(_) => Ok(SlotValue::Count(self.there)),
+            Aggregate::Sum(_) if self.there == 0 => Ok(SlotValue::Sum(None)),
+            Aggregate::Sum(_) => Ok(SlotValue::Sum(Some(self.sum))),
+            Aggregate::Min(_) => match self.values.least() {
+                Some(value) => Ok(SlotValue::Extreme(value.copy()?)),
+                None => Ok(SlotValue::Extreme(Value::Null)),
+            },
+            Aggregate::Max(_) => match self.values.greatest() {
+                Some(value) => Ok(SlotValue::Extreme(value.copy()?)),
+                None => Ok(SlotValue::Extreme(Value::Null)),
+            },
+        }
+    }
+
+    /// The total with one row more, which has this value.
+    pub(crate) fn more(&self, value: &Value) -> Result<Total, Refusal>
+        ensures only_memory { IsOkUnless result NoMemory }
+        ensures more { IfOk result (λ total. total ≡ one_more value.now self.now) }
+    {
+        Ok(Total {
+            rows: self.rows.saturating_add(1),
+            there: self.there.saturating_add(there(value)),
+            sum: self.sum.saturating_add(number(value)),
+            values: self.values.more(value)?,
+        })
+    }
+
+    /// The total with one row less, which has this value.
+    pub(crate) fn less(&self, value: &Value) -> Result<Total, Refusal>
+        ensures only_memory { IsOkUnless result NoMemory }
+        ensures less { IfOk result (λ total. total ≡ one_less value.now self.now) }
+    {
+        Ok(Total {
+            rows: self.rows.saturating_sub(1),
+            there: self.there.saturating_sub(there(value)),
+            sum: self.sum.saturating_sub(number(value)),
+            values: self.values.less(value)?,
+        })
+    }
+
+    /// A total equal to this one.
+    pub fn copy(&self) -> Result<Total, Refusal>
+        ensures only_memory { IsOkUnless result NoMemory }
+        ensures equal { IfOk result (λ copy. copy ≡ self.now) }
+    {
+        Ok(Total {
+            rows: self.rows,
+            there: self.there,
+            sum: self.sum,
+            values: self.values.copy()?,
+        })
+    }
+}
+
+/// How many values that are not NULL a value is.
+fn there(value: &Value) -> u64
+    ensures { result ≡ there_of value.now }
+{
+    match value {
+        Value::Null => 0,
+        Value::Int(_) | Value::Text(_) => 1,
+    }
+}
+
+/// The number that a value is, 0 where it is none.
+fn number(value: &Value) -> i128
+    ensures { result ≡ number_of value.now }
+{
+    match value {
+        Value::Int(number) => i128::from(*number),
+        Value::Null | Value::Text(_) => 0,
+    }
+}
