@@ -26,9 +26,9 @@
 //!   its truth, which can be unknown and is then not bad.
 //!
 //! What the layer above may rest on: each of these is what `assertion`'s definitions say from scratch of the tables that
-//! the kept totals are of, and NoMemory is the only error. What it owes: the form's expressions are bounded; the rows of
-//! the tables and of a change are within the bounds of a column, and fewer than 2^63 in a table; the kept totals are
-//! those of some tables.
+//! the kept totals are of; NoMemory is the only error, and it changes nothing, since the calls only read what they are
+//! handed. What it owes: the form's expressions are bounded; the rows of the tables and of a change are within the bounds
+//! of a column, and fewer than 2^63 in a table; the kept totals are those of some tables.
 //!
 //! The definitions are in `specs/`: `Summaries` (of what totals are kept), `Kept` (kept totals of tables, and bounds),
 //! `Answers` (the queries of the slots, and from which totals each is answered), `Bad` (rows of roots, and lists of bad
@@ -36,7 +36,7 @@
 #![tactic(auto)]
 
 mod answers;
-mod bads;
+mod bad_roots;
 mod candidate_roots;
 mod columns;
 mod grouped;
@@ -44,7 +44,7 @@ mod kept;
 mod summaries;
 mod updates;
 
-pub use bads::{is_bad, truth_of};
+pub use bad_roots::{is_bad, truth_of};
 pub use candidate_roots::candidates;
 pub use kept::{totals_after, totals_at_start};
 pub use updates::{bad_after, bad_at_start};

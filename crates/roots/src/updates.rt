@@ -13,7 +13,7 @@ ghost use Rattle.assertion.specs.Roots.{AreBad, IsChangeOf, IsOrdered, state_aft
 ghost use Rattle.roots.specs.Bad.{AreUpdated, IsRowOf, put_root};
 ghost use Rattle.roots.specs.Kept.{AreKept, AreOfTables, IsEmptyState, IsSmallRoot, IsSmallState};
 
-use crate::bads::is_bad;
+use crate::bad_roots::is_bad;
 use crate::candidate_roots::push_candidates;
 use assertion::Form;
 use groups::Totals;

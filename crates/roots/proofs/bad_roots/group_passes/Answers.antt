@@ -6,7 +6,7 @@ use Rattle.roots.specs.Bad.{answers}
 use Rattle.roots.specs.Summaries.{members, summaries_of}
 use Rattle.roots.proofs.BadLemmas.{no-row, some-row}
 use Rattle.roots.proofs.KeptLemmas.{totals-at}
-use Rattle.roots.proofs.bads.group_passes.Goals as goal
+use Rattle.roots.proofs.bad_roots.group_passes.Goals as goal
 
 pub returns-then-count_of-eq0-clause-bad : goal.returns-then-count_of-eq0-clause-bad
 returns-then-count_of-eq0-clause-bad c = λ state summary kept.

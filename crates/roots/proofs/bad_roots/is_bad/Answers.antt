@@ -5,7 +5,7 @@ use Rattle.roots.proofs.BoundLemmas.{row-bounded, having-bounded, whole-bounded}
 use Rattle.roots.proofs.AnswerLemmas.{item_in}
 use Rattle.roots.specs.Summaries.{summaries_of}
 use Rattle.std.specs.Option.{option_copied}
-use Rattle.roots.proofs.bads.is_bad.Goals as goal
+use Rattle.roots.proofs.bad_roots.is_bad.Goals as goal
 
 pub row_passes-requires-clause-bounded : goal.row_passes-requires-clause-bounded
 row_passes-requires-clause-bounded c = row-bounded c.args.form.now _ _ _ c.in-ByRow-Of.is-0 c.requires.bounded

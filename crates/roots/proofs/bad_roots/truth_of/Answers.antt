@@ -5,7 +5,7 @@ use Rattle.assertion.specs.Laws.{IsByRoots}
 use Rattle.assertion.proofs.LawLemmas.{AnswersVerdict-law}
 use Rattle.roots.proofs.BadLemmas.{whole-verdict}
 use Rattle.roots.proofs.BoundLemmas.{whole-bounded}
-use Rattle.roots.proofs.bads.truth_of.Goals as goal
+use Rattle.roots.proofs.bad_roots.truth_of.Goals as goal
 
 pub truth_of_whole-requires-clause-bounded : goal.truth_of_whole-requires-clause-bounded
 truth_of_whole-requires-clause-bounded c = whole-bounded c.args.form.now _ _ c.in-Single.is c.requires.bounded
