@@ -1,0 +1,51 @@
+-- One row put into a table without rows.
+use Rattle.std.proofs.Common.{◌≡◌, ℕ, zero, suc, ◌<◌, ◌^◌, List, [], ◌∷◌, Option, Some, None, length, refl, sym, ◌∙◌, ap, subst, arith}
+use Rattle.std.specs.Prelude.{All, option_to_list}
+use Rattle.std.proofs.lemmas.List.Elements.{All-nil, All-cons}
+use Rattle.value.specs.Ordered.{HasKey, HoldsOf}
+use Rattle.value.specs.ValueOrder.{value_cmp}
+use Rattle.table.specs.declared.rows.Change.{Change}
+use Rattle.table.specs.Rows.{RowValues, value_in, row_at, put_row}
+use Rattle.cond.specs.Bounds.{IsSmallRow}
+use Rattle.assertion.specs.Meaning.{State, rows_of}
+use Rattle.assertion.specs.Roots.{IsChangeOf, state_after}
+use Rattle.roots.specs.Kept.{IsSmallState, IsEmptyState}
+
+-- one table without rows
+abbrev pub nothing : State
+nothing = [] ∷ []
+
+pub is-empty : IsEmptyState nothing
+is-empty zero = refl
+is-empty (suc n) = refl
+
+pub nothing-small : IsSmallState nothing
+nothing-small = record {
+  small = λ t. subst (λ (rows : List RowValues). All IsSmallRow rows) (sym (is-empty t)) (All-nil IsSmallRow);
+  short = λ t. subst (λ (rows : List RowValues). length rows < 2 ^ 63) (sym (is-empty t)) (omega arith);
+}
+
+one_small : (new : Option RowValues) → HoldsOf IsSmallRow new → IsSmallState (option_to_list new ∷ [])
+one_small None h = nothing-small
+one_small (Some row) h = record {
+  small = λ t. case_small t;
+  short = λ t. case_short t;
+}
+  where
+    case_small : (t : ℕ) → All IsSmallRow (rows_of t ((row ∷ []) ∷ []))
+    case_small zero = All-cons IsSmallRow row [] h (All-nil IsSmallRow)
+    case_small (suc n) = All-nil IsSmallRow
+
+    case_short : (t : ℕ) → length (rows_of t ((row ∷ []) ∷ [])) < 2 ^ 63
+    case_short zero = omega arith
+    case_short (suc n) = omega arith
+
+module _ (change : Change) (table : change.table ≡ 0) (old : change.old ≡ None) (keyed : HasKey value_cmp (value_in 0) change.key change.new) where
+  pub is-change : IsChangeOf [] change nothing
+  is-change = record { table_in = omega (arith, table); stands = ap (row_at 0 change.key) (is-empty change.table) ∙ sym old; keyed = keyed }
+
+  pub after-change : state_after [] change nothing ≡ put_row 0 change.key change.new [] ∷ []
+  after-change = rw table refl
+
+  pub after-small : HoldsOf IsSmallRow change.new → IsSmallState (state_after [] change nothing)
+  after-small h = subst IsSmallState (sym after-change) (one_small change.new h)

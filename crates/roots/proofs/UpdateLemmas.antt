@@ -1,0 +1,139 @@
+-- The kept bad roots follow a change.
+use Rattle.std.proofs.Common.{◌≡◌, ℕ, zero, suc, arith, ◌+◌, ◌<◌, Bool, true, false, cond, List, [], ◌∷◌, ◌++◌, Option, Some, None, length, take, get_or, refl, sym, ◌∙◌, ap}
+use Rattle.std.specs.Prelude.{◌==◌, ◌||◌, ◌≤◌, ◌^◌, All, is_some, option_to_list, if◌then◌else◌}
+use Rattle.std.proofs.lemmas.List.{take_more}
+use Rattle.std.proofs.lemmas.List.Elements.{All-nil, All-cons, All-head, All-tail}
+use Rattle.std.specs.Ordering.{eq_by_cmp}
+use Rattle.value.specs.declared.values.Value.{Value}
+use Rattle.value.specs.declared.values.Root.{Root}
+use Rattle.value.specs.declared.values.Root.TheVariants.{All as Whole, Of}
+use Rattle.value.specs.ValueOrder.{root_cmp}
+use Rattle.value.specs.Ordered.{IsAscending, at, HoldsOf}
+use Rattle.value.proofs.ValueOrders.{root_cmp_total, root_exact}
+use Rattle.value.proofs.OrderedLists.{has, at-put, IsAscending-put, equal_from}
+use Rattle.table.specs.declared.rows.Change.{Change}
+use Rattle.table.specs.Rows.{RowValues, Layout, value_in, row_at}
+use Rattle.cond.specs.Bounds.{IsSmallRow}
+use Rattle.cond.specs.Slots.{magnitude}
+use Rattle.assertion.specs.declared.forms.Form.{Form}
+use Rattle.assertion.specs.declared.forms.Form.TheVariants.{ByRow, ByGroup, Single}
+use Rattle.assertion.specs.Candidates.{candidates, group_candidates, touched}
+use Rattle.assertion.specs.Meaning.{State, key_of, kept_rows}
+use Rattle.assertion.specs.Roots.{is_bad_group, is_bad_row, is_bad_root, is_among, AreBad, IsOrdered, IsChangeOf, state_after}
+use Rattle.assertion.proofs.KeptTruth.{kept_truth}
+use Rattle.roots.specs.Bad.{IsRowOf, put_root, is_touched, AreUpdated}
+use Rattle.roots.specs.Kept.{IsSmallRoot, IsEmptyState}
+
+-- the roots after one is put in or taken out
+is_among-put : (q : Root) (b : Bool) (rs : List Root) → IsAscending root_cmp (λ k. k) rs → (r : Root) → is_among r (put_root q b rs) ≡ cond (eq_by_cmp root_cmp r q) b (is_among r rs)
+is_among-put q true rs s r =
+    ap is_some (at-put root_cmp_total (λ k. k) q (Some q) rs refl s r)
+    ∙ elim (eq_by_cmp root_cmp r q) as (λ c. is_some (cond c (Some q) (at root_cmp (λ k. k) r rs)) ≡ cond c true (is_among r rs)) [ true ↦ refl | false ↦ refl ]
+is_among-put q false rs s r =
+    let none : Option Root = None in
+    ap is_some (at-put root_cmp_total (λ k. k) q none rs tt s r)
+    ∙ elim (eq_by_cmp root_cmp r q) as (λ c. is_some (cond c none (at root_cmp (λ k. k) r rs)) ≡ cond c false (is_among r rs)) [ true ↦ refl | false ↦ refl ]
+
+put_root-ordered : (q : Root) (b : Bool) (rs : List Root) → IsAscending root_cmp (λ k. k) rs → IsAscending root_cmp (λ k. k) (put_root q b rs)
+put_root-ordered q true rs s = IsAscending-put root_cmp_total (λ k. k) q (Some q) rs refl s
+put_root-ordered q false rs s = IsAscending-put root_cmp_total (λ k. k) q None rs tt s
+
+is_touched-push : (r : Root) (qs : List Root) (q : Root) → is_touched r (qs ++ q ∷ []) ≡ (if eq_by_cmp root_cmp r q then true else is_touched r qs)
+is_touched-push r [] q = elim (eq_by_cmp root_cmp r q) as (λ b. b || false ≡ (if b then true else false)) [ true ↦ refl | false ↦ refl ]
+is_touched-push r (p ∷ qs) q =
+    ap (λ b. eq_by_cmp root_cmp r p || b) (is_touched-push r qs q)
+    ∙ elim (eq_by_cmp root_cmp r q) as (λ b. eq_by_cmp root_cmp r p || (if b then true else is_touched r qs) ≡ (if b then true else eq_by_cmp root_cmp r p || is_touched r qs)) [ true ↦ or_true (eq_by_cmp root_cmp r p) | false ↦ refl ]
+  where
+    or_true : (b : Bool) → b || true ≡ true
+    or_true true = refl
+    or_true false = refl
+
+is_touched-has : (r : Root) (qs : List Root) → is_touched r qs ≡ has root_cmp r qs
+is_touched-has r [] = refl
+is_touched-has r (q ∷ qs) = ap (λ b. eq_by_cmp root_cmp r q || b) (is_touched-has r qs)
+
+module _ (layouts : List Layout) (form : Form) (state : State) (bad : List Root) where
+  -- none of the touched roots so far
+  pub AreUpdated-none : (made : List Root) → made ≡ bad → IsAscending root_cmp (λ k. k) bad → AreUpdated layouts form state [] bad made
+  AreUpdated-none made e s = record { in_order = rw e s; right = λ r. ap (is_among r) e }
+
+  -- one more of them
+  pub AreUpdated-more : (ts : List Root) (i : ℕ) (q : Root) (b : Bool) (made more : List Root) → i < length ts → q ≡ get_or ts i q → b ≡ is_bad_root layouts form state q → more ≡ put_root q b made
+      → AreUpdated layouts form state (take i ts) bad made → AreUpdated layouts form state (take (i + 1) ts) bad more
+  AreUpdated-more ts i q b made more h at_i is e u = record {
+    in_order = rw e (put_root-ordered q b made u.in_order);
+    right = λ r.
+        ap (is_among r) e ∙ is_among-put q b made u.in_order r ∙ case r (eq_by_cmp root_cmp r q) refl
+        ∙ sym (ap (λ t. if t then is_bad_root layouts form state r else is_among r bad) (ap (is_touched r) (take_more ts i q h ∙ ap (λ x. take i ts ++ x ∷ []) (sym at_i)) ∙ is_touched-push r (take i ts) q));
+  }
+    where
+      case : (r : Root) (c : Bool) → eq_by_cmp root_cmp r q ≡ c → cond c b (is_among r made) ≡ (if (if c then true else is_touched r (take i ts)) then is_bad_root layouts form state r else is_among r bad)
+      case r true f = is ∙ ap (is_bad_root layouts form state) (sym (root_exact r q (equal_from (root_cmp r q) f)))
+      case r false f = u.right r
+
+-- the bad roots after a change, where all its candidates were looked at
+pub AreBad-after : (layouts : List Layout) (change : Change) (state after : State) (form : Form) (bad made : List Root) → IsChangeOf layouts change state → IsOrdered layouts state → after ≡ state_after layouts change state
+    → AreBad layouts form state bad → AreUpdated layouts form after (candidates change form) bad made → AreBad layouts form after made
+AreBad-after layouts change state after form bad made is asc now old u = record {
+  in_order = u.in_order;
+  exact = λ r. u.right r ∙ case r (is_touched r (candidates change form)) refl;
+}
+  where
+    case : (r : Root) (t : Bool) → is_touched r (candidates change form) ≡ t → (if t then is_bad_root layouts form after r else is_among r bad) ≡ is_bad_root layouts form after r
+    case r true e = refl
+    case r false e = old.exact r ∙ sym (ap (λ s. is_bad_root layouts form s r) now ∙ kept_truth layouts change state is asc form r (sym (is_touched-has r (candidates change form)) ∙ e))
+
+-- the candidates by groups are values of the rows
+column_small : (row : RowValues) (c : ℕ) → IsSmallRow row → magnitude (value_in c row) ≤ 10 ^ 15
+column_small [] c h = omega arith
+column_small (v ∷ vs) zero h = All-head (λ v. magnitude v ≤ 10 ^ 15) v vs h
+column_small (v ∷ vs) (suc c) h = column_small vs c (All-tail (λ v. magnitude v ≤ 10 ^ 15) v vs h)
+
+groups_small : (g : ℕ) (form : Form) (rows : List RowValues) → ((row : RowValues) → IsSmallRow row → IsSmallRoot form (Of (value_in g row))) → All IsSmallRow rows → All (IsSmallRoot form) (group_candidates g rows)
+groups_small g form [] f h = All-nil (IsSmallRoot form)
+groups_small g form (row ∷ rows) f h = All-cons (IsSmallRoot form) (Of (value_in g row)) (group_candidates g rows) (f row (All-head IsSmallRow row rows h)) (groups_small g form rows f (All-tail IsSmallRow row rows h))
+
+touched_small : (old new : Option RowValues) → HoldsOf IsSmallRow old → HoldsOf IsSmallRow new → All IsSmallRow (option_to_list old ++ option_to_list new)
+touched_small None None h k = All-nil IsSmallRow
+touched_small None (Some n) h k = All-cons IsSmallRow n [] k (All-nil IsSmallRow)
+touched_small (Some o) None h k = All-cons IsSmallRow o [] h (All-nil IsSmallRow)
+touched_small (Some o) (Some n) h k = All-cons IsSmallRow o (n ∷ []) h (All-cons IsSmallRow n [] k (All-nil IsSmallRow))
+
+pub candidates_small : (change : Change) (form : Form) → HoldsOf IsSmallRow change.old → HoldsOf IsSmallRow change.new → All (IsSmallRoot form) (candidates change form)
+candidates_small change (ByRow table c queries) old new = λ k d h. tt
+candidates_small change (Single c queries) old new = λ k d h. tt
+candidates_small change (ByGroup table kept group having aggregates) old new =
+    elim (table == change.table) as (λ b. All (IsSmallRoot (ByGroup table kept group having aggregates)) (if b then group_candidates group (touched change) else [])) [
+      | true ↦ groups_small group (ByGroup table kept group having aggregates) (touched change) (λ row h. column_small row group h) (touched_small change.old change.new old new)
+      | false ↦ All-nil (IsSmallRoot (ByGroup table kept group having aggregates))
+    ]
+
+-- no form asks for a row of the whole, or for a row of any root but its own
+pub no-row-of-all : (layouts : List Layout) (form : Form) (state : State) (row : Option RowValues) → IsRowOf layouts form state Whole row
+no-row-of-all layouts (ByRow table c queries) state row = tt
+no-row-of-all layouts (ByGroup table kept group having aggregates) state row = tt
+no-row-of-all layouts (Single c queries) state row = tt
+
+-- where no table has a row, the whole alone can be bad
+none_of : (layouts : List Layout) (form : Form) (state : State) (v : Value) → IsEmptyState state → is_bad_root layouts form state (Of v) ≡ false
+none_of layouts (ByRow table c queries) state v e = ap (λ rows. is_bad_row state c queries v (row_at (key_of table layouts) v rows)) (e table)
+none_of layouts (ByGroup table kept group having aggregates) state v e = ap (λ rows. is_bad_group (kept_rows kept rows) group having aggregates v) (e table)
+none_of layouts (Single c queries) state v e = refl
+
+pub AreBad-start : (layouts : List Layout) (form : Form) (state : State) (b : Bool) (made : List Root) → IsEmptyState state → b ≡ is_bad_root layouts form state Whole → made ≡ put_root Whole b [] → AreBad layouts form state made
+AreBad-start layouts form state true made e is m = record { in_order = rw m (tt, tt); exact = λ r. ap (is_among r) m ∙ case r }
+  where
+    case : (r : Root) → is_among r (Whole ∷ []) ≡ is_bad_root layouts form state r
+    case Whole = is
+    case (Of v) = sym (none_of layouts form state v e)
+AreBad-start layouts form state false made e is m = record { in_order = rw m tt; exact = λ r. ap (is_among r) m ∙ case r }
+  where
+    case : (r : Root) → false ≡ is_bad_root layouts form state r
+    case Whole = is
+    case (Of v) = sym (none_of layouts form state v e)
+
+-- the whole is no group
+pub all_small : (form : Form) → IsSmallRoot form Whole
+all_small (ByRow table c queries) = tt
+all_small (ByGroup table kept group having aggregates) = tt
+all_small (Single c queries) = tt

@@ -1,0 +1,20 @@
+use Rattle.std.proofs.Common.{◌∙◌, sym, ⊎_elim}
+use Rattle.std.proofs.lemmas.Result.{IfOk-weaker}
+use Rattle.threeval.specs.declared.Truth.{Truth}
+use Rattle.assertion.specs.Laws.{IsByRoots}
+use Rattle.assertion.proofs.LawLemmas.{AnswersVerdict-law}
+use Rattle.roots.proofs.BadLemmas.{whole-verdict}
+use Rattle.roots.proofs.BoundLemmas.{whole-bounded}
+use Rattle.roots.proofs.bad_roots.truth_of.Goals as goal
+
+pub truth_of_whole-requires-clause-bounded : goal.truth_of_whole-requires-clause-bounded
+truth_of_whole-requires-clause-bounded c = whole-bounded c.args.form.now _ _ c.in-Single.is c.requires.bounded
+
+pub returns-in-Single-clause-truth : goal.returns-in-Single-clause-truth
+returns-in-Single-clause-truth c =
+    IfOk-weaker c.truth_of_whole.result _ _ (λ (t : Truth) h. λ layouts state asc kept bad. h state kept ∙ whole-verdict layouts state c.args.form.now _ _ c.in-Single.is) c.truth_of_whole.ensures.truth
+
+pub returns-in-ByRow-clause-truth : goal.returns-in-ByRow-clause-truth
+returns-in-ByRow-clause-truth c =
+    let by_roots : IsByRoots c.args.form.now = ⊎_elim (λ e. rw e.3 tt) (λ e. rw e.5 tt) c.in-ByRow.is in
+    λ layouts state asc kept bad. c.truth_by_roots.ensures ∙ sym (AnswersVerdict-law layouts c.args.form.now state c.args.bad.now asc bad by_roots)

@@ -1,0 +1,57 @@
+-- Bad roots as they are kept.
+use Rattle.std.specs.Prelude.{◌≡◌, Bool, false, ◌&&◌, ◌||◌, nat_lt, length, map, List, [], ◌∷◌, Option, Some, None, if◌then◌else◌}
+use Rattle.std.specs.Ordering.{eq_by_cmp}
+use Rattle.value.specs.declared.values.Value.{Value}
+use Rattle.value.specs.declared.values.Value.TheVariants.{Null}
+use Rattle.value.specs.declared.values.Root.{Root}
+use Rattle.value.specs.declared.values.Root.TheVariants.{All, Of}
+use Rattle.value.specs.ValueOrder.{root_cmp}
+use Rattle.value.specs.Ordered as ordered
+use Rattle.threeval.specs.declared.Truth.{Truth}
+use Rattle.table.specs.Rows.{RowValues, Layout, row_at}
+use Rattle.cond.specs.declared.conds.Cond.{Cond}
+use Rattle.cond.specs.Eval.{truth, keeps}
+use Rattle.assertion.specs.declared.forms.Form.{Form}
+use Rattle.assertion.specs.declared.forms.Form.TheVariants.{ByRow, ByGroup, Single}
+use Rattle.assertion.specs.Meaning.{State, rows_of, key_of}
+use Rattle.assertion.specs.Roots.{is_bad_root, is_among}
+use Rattle.roots.specs.Summaries.{Summary, members}
+use Rattle.roots.specs.Answers.{SlotQuery, query_answer}
+
+-- this is the row of the root, where a form asks for one: the row under the key in the root table
+abbrev pub IsRowOf : List Layout → Form → State → Root → Option RowValues → Type 0
+IsRowOf layouts (ByRow table condition queries) state All row = Unit {0}
+IsRowOf layouts (ByRow table condition queries) state (Of key) row = row ≡ row_at (key_of table layouts) key (rows_of table state)
+IsRowOf layouts (ByGroup table kept group having aggregates) state root row = Unit {0}
+IsRowOf layouts (Single condition queries) state root row = Unit {0}
+
+-- what the queries give for a group
+abbrev pub answers : State → List SlotQuery → Value → List Value
+answers state queries v = map (query_answer state v) queries
+
+-- whether a condition is true of a row, if there is one, with what the queries give for its key
+abbrev pub row_passes : State → List SlotQuery → Cond → Value → Option RowValues → Bool
+row_passes state queries condition key None = false
+row_passes state queries condition key (Some row) = keeps row (answers state queries key) condition
+
+-- whether a group has a row, and HAVING is true of it
+abbrev pub group_passes : State → Summary → List SlotQuery → Cond → Value → Bool
+group_passes state summary queries having v = nat_lt 0 (length (members state summary v)) && keeps (v ∷ []) (answers state queries v) having
+
+-- the truth of a condition that sees no row
+abbrev pub whole_truth : State → List SlotQuery → Cond → Truth
+whole_truth state queries condition = truth [] (answers state queries Null) condition
+
+-- the roots with this one in or out
+abbrev pub put_root : Root → Bool → List Root → List Root
+put_root root is_in = ordered.put root_cmp (λ k. k) root (if is_in then Some root else None)
+
+-- whether a root is one of these
+abbrev pub is_touched : Root → List Root → Bool
+is_touched root [] = false
+is_touched root (r ∷ rs) = eq_by_cmp root_cmp root r || is_touched root rs
+
+-- the list is another with each of the touched roots in or out as it is bad
+pub record AreUpdated (layouts : List Layout) (form : Form) (state : State) (touched bad made : List Root) : Type 0 where
+  pub in_order : ordered.IsAscending root_cmp (λ k. k) made
+  pub right : (r : Root) → is_among r made ≡ (if is_touched r touched then is_bad_root layouts form state r else is_among r bad)

@@ -1,0 +1,5 @@
+pub mod Answers
+pub mod Bad
+pub mod Kept
+pub mod Shown
+pub mod Summaries
