@@ -1,4 +1,24 @@
-//! Checks.
+//! Checks of what is written: assertions, and the rows and conditions of statements, with their names found.
+//!
+//! A tree says nothing of what its names stand for. Here each becomes what the layers below evaluate, or is refused for its
+//! first fault, in this order (this project's choice):
+//!
+//! 1. of CREATE ASSERTION, attributes that are at odds: INITIALLY DEFERRED is never NOT DEFERRABLE (SQL-92, constraint
+//!    attributes);
+//! 2. *names*: of a statement its table, then its listed columns from the left, then the names of its condition
+//!    (`name_check`);
+//! 3. *shape*: an assertion is of one of three forms, and a statement's condition holds neither a set function nor a query
+//!    (`form_check`);
+//! 4. *types*: what is compared is of one type, arithmetic is on numbers, and a constant is of its column's type
+//!    (`type_check`);
+//! 5. *width*: each expression has a bound, so that no evaluation overflows (`cond`).
+//!
+//! [`check`] is for CREATE ASSERTION, [`check_delete`] and [`check_insert`] are for statements, the INSERTs of a schema
+//! among them. What they make is over places of tables and columns alone.
+//!
+//! What the layer above may rest on: each answers exactly what its definition in `specs/` says, or that memory ran out:
+//! an assertion only for a condition of the class, typed and bounded, and the stated first fault for every other. The
+//! definitions are in `specs/`: `Assertions`, `Conditions`, `Statements` and `Steps`.
 #![tactic(auto)]
 
 mod assertions;
@@ -9,3 +29,6 @@ mod inserts;
 pub use assertions::check;
 pub use deletes::{Delete, check_delete};
 pub use inserts::{NewRow, check_insert};
+
+#[cfg(test)]
+mod tests;

@@ -1,0 +1,26 @@
+//! What definitions define: tables, assertions over them, and the rows that the tables begin with.
+//!
+//! A schema is a list of definitions (SQL-92, ISO/IEC 9075:1992: table definition, assertion definition, insert statement),
+//! and they are taken in in their order; the first fault refuses the whole:
+//!
+//! - CREATE TABLE: the name is free among the tables, no column's name stands twice, and exactly one column is the
+//!   PRIMARY KEY (this project's choice: a table has one key, of one column). A key takes no NULL.
+//! - CREATE ASSERTION: the name is free among the assertions (tables and assertions have names of their own), and the
+//!   assertion is of the class, typed and bounded (`assertcheck`).
+//! - INSERT: a row of constants of the columns' types, NULL only where it may stand, each value in its range, under a
+//!   key that is free.
+//!
+//! No assertion is evaluated here. The rows of a schema are loaded one by one, and it is only when all are there that the
+//! assertions have to hold (this project's choice), which the layer above asks of a view of the loaded tables.
+//!
+//! What the layer above may rest on: [`Definitions::take`] answers what `specs/Taken` says of the list, or its first fault, or
+//! that memory ran out. `specs/Tables` has CREATE TABLE.
+#![tactic(auto)]
+
+mod tables;
+mod taken;
+
+pub use taken::Definitions;
+
+#[cfg(test)]
+mod tests;
