@@ -1,9 +1,9 @@
 //! Versions of the tables, with the verdicts of the assertions kept.
 
-ghost use Rattle.std.specs.Prelude.{◌≡◌, ◌<◌, ◌++◌, ◌∷◌, [], length, slice_index_or, slice_set, IfOk, IsOkUnless};
+ghost use Rattle.std.specs.Prelude.{◌≡◌, ◌<◌, ◌++◌, ◌∷◌, [], Some, None, length, slice_index_or, slice_set, IfOk, IsOkUnless};
 ghost use Rattle.std.specs.Option.{option_copied};
 ghost use Rattle.value.specs.declared.refusals.Refusal.TheVariants.{NoMemory};
-ghost use Rattle.table.specs.Rows.{IsTable, layouts_of};
+ghost use Rattle.table.specs.Rows.{FitsColumns, IsTable, layouts_of, value_in};
 ghost use Rattle.assertion.specs.declared.assertions.Assertion.{Assertion as AnyAssertion};
 ghost use Rattle.assertion.specs.Candidates.{candidates_of};
 ghost use Rattle.assertion.specs.Meaning.{least_bad_of, rows_of, verdict_of};
@@ -22,7 +22,7 @@ use roots::candidates;
 use std::alloc::Global;
 use std::marker::Model;
 use std::sync::Arc;
-use table::{Catalog, Change, Row};
+use table::{Catalog, Change, Row, Schema};
 use threeval::Truth;
 use value::{Refusal, Root};
 
@@ -94,13 +94,16 @@ impl View {
         ensures only_memory { IsOkUnless result NoMemory }
         ensures added { IfOk result (λ view. view ≡ record self.now { state = slice_set self.now.state table (rows_of table self.now.state ++ row.now ∷ []) }) }
     {
-        let schema = &self.declarations.schemas[table];
-        self.with(&Change {
-            table,
-            key: row.value(schema.key()).copy()?,
-            old: None,
-            new: Some(row.copy()?),
-        })
+        let change = insertion(table, self.schema(table), row)?;
+        self.with(&change)
+    }
+
+    /// The schema of a table.
+    fn schema(&self, table: usize) -> &Schema
+        requires { table < length self.now.state }
+        ensures { result.now ≡ layout_at table (layouts_of self.now.tables) }
+    {
+        &self.declarations.schemas[table]
     }
 
     /// The view of tables without rows.
@@ -224,4 +227,18 @@ impl View {
     {
         self.watches[assertion].bad.first()
     }
+}
+
+/// That this row is put into a table, under a key where none stands.
+fn insertion(table: usize, schema: &Schema, row: &Row) -> Result<Change, Refusal>
+    requires { FitsColumns schema.now.columns row.now }
+    ensures only_memory { IsOkUnless result NoMemory }
+    ensures change { IfOk result (λ change. change ≡ record { table = table; key = value_in schema.now.key row.now; old = None; new = Some row.now }) }
+{
+    Ok(Change {
+        table,
+        key: row.value(schema.key()).copy()?,
+        old: None,
+        new: Some(row.copy()?),
+    })
 }
