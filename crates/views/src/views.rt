@@ -1,9 +1,11 @@
 //! Versions of the tables, with the verdicts of the assertions kept.
 
-ghost use Rattle.std.specs.Prelude.{◌≡◌, ◌<◌, ◌++◌, ◌∷◌, [], Some, None, length, slice_index_or, slice_set, IfOk, IsOkUnless};
+ghost use Rattle.std.specs.Prelude.{◌≡◌, ◌<◌, ◌++◌, ◌∷◌, [], Some, None, length, position, slice_index_or, slice_set, IfOk, IfSome, IsOkUnless};
 ghost use Rattle.std.specs.Option.{option_copied};
 ghost use Rattle.value.specs.declared.refusals.Refusal.TheVariants.{NoMemory};
 ghost use Rattle.table.specs.Rows.{FitsColumns, IsTable, layouts_of, value_in};
+ghost use Rattle.threeval.specs.Truths.{is_of};
+ghost use Rattle.threeval.specs.declared.Truth.TheVariants.{False};
 ghost use Rattle.assertion.specs.declared.assertions.Assertion.{Assertion as AnyAssertion};
 ghost use Rattle.assertion.specs.Candidates.{candidates_of};
 ghost use Rattle.assertion.specs.Meaning.{least_bad_of, rows_of, verdict_of};
@@ -15,7 +17,7 @@ use crate::declarations::{Declarations, schemas_of};
 use crate::versions::{
     copy_tables, copy_watches, tables_after, tables_at_start, watches_after, watches_at_start,
 };
-use crate::watches::Watch;
+use crate::watches::{Watch, first_false};
 use assertion::Assertion;
 use mvrows::Rows;
 use roots::candidates;
@@ -217,6 +219,14 @@ impl View {
             → result ≡ verdict_of (layouts_of self.now.tables) (slice_index_or self.now.assertions assertion a).form self.now.state }
     {
         self.watches[assertion].truth
+    }
+
+    /// The first assertion that is false, in their order. What is unknown is not false.
+    pub fn first_false(&self) -> Option<usize>
+        ensures first { result ≡ position (λ a. is_of (verdict_of (layouts_of self.now.tables) a.form self.now.state) False) self.now.assertions }
+        ensures within { IfSome result (λ assertion. assertion < length self.now.assertions) }
+    {
+        first_false(&self.watches)
     }
 
     /// The least root at which an assertion is false, if it is false.

@@ -1,7 +1,9 @@
 //! What is kept for an assertion.
 
-ghost use Rattle.std.specs.Prelude.{◌≡◌, List, IfOk, IsOkUnless};
+ghost use Rattle.std.specs.Prelude.{◌≡◌, List, position, IfOk, IsOkUnless};
 ghost use Rattle.value.specs.declared.refusals.Refusal.TheVariants.{NoMemory};
+ghost use Rattle.threeval.specs.Truths.{is_of};
+ghost use Rattle.threeval.specs.declared.Truth.TheVariants.{False};
 ghost use Rattle.table.specs.Rows.{Layout};
 ghost use Rattle.assertion.specs.declared.forms.Form.{Form as AnyForm};
 ghost use Rattle.assertion.specs.Bounded.{IsBounded};
@@ -36,8 +38,11 @@ impl Watch {
     {
         let totals = totals_at_start(alloc, form)?;
         let bad = bad_at_start(alloc, form, &totals)?;
-        let truth = truth_of(alloc, form, &totals, &bad)?;
-        Ok(Watch { totals, bad, truth })
+        Ok(Watch {
+            truth: truth_of(alloc, form, &totals, &bad)?,
+            totals,
+            bad,
+        })
     }
 
     /// What is kept for the assertion after a change. `tables` are those after it.
@@ -96,4 +101,11 @@ fn copy_roots(alloc: Global, roots: &[Root]) -> Result<Vec<Root>, Refusal>
         made.push(root.copy()?)?;
     }
     Ok(made)
+}
+
+/// The first watch of a false assertion.
+pub fn first_false(watches: &[Watch]) -> Option<usize>
+    ensures { result ≡ position (λ watch. is_of watch.truth False) watches.now }
+{
+    watches.iter().position(|watch| watch.truth == Truth::False)
 }

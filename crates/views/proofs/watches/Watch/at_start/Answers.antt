@@ -15,5 +15,5 @@ returns-clause-watched c = λ layouts state empty.
     record {
       kept = kept;
       bad = bad;
-      truth = c.in_ok-truth.ensures.truth layouts state (IsOrdered-empty layouts state empty) (rw c.deref-2.ensures.value kept) (rw c.deref-3.ensures.value bad);
+      truth = c.in_ok-truth_of.ensures.truth layouts state (IsOrdered-empty layouts state empty) (rw c.deref-2.ensures.value kept) (rw c.deref-3.ensures.value bad);
     }
