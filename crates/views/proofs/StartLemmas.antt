@@ -1,6 +1,6 @@
 -- Tables without rows.
-use Rattle.std.proofs.Common.{◌≡◌, ℕ, ◌+◌, ◌<◌, zero, suc, List, [], ◌∷◌, ◌++◌, Option, Some, None, length, take, map, refl, sym, ◌∙◌, ap, subst, arith}
-use Rattle.std.specs.Prelude.{◌^◌, All, slice_get}
+use Rattle.std.proofs.Common.{◌≡◌, ℕ, ◌+◌, ◌<◌, zero, suc, List, [], ◌∷◌, ◌++◌, Some, None, length, take, refl, sym, ◌∙◌, ap, subst, arith}
+use Rattle.std.specs.Prelude.{◌^◌, slice_get}
 use Rattle.std.proofs.lemmas.List.{take_more}
 use Rattle.std.proofs.lemmas.List.Elements.{All-nil}
 use Rattle.std.proofs.lemmas.Option.{slice_get_within, get_or_from_slice_get}
@@ -10,7 +10,7 @@ use Rattle.table.specs.Rows.{RowValues, Layout, FitsColumns, IsTable, value_in}
 use Rattle.assertion.specs.Meaning.{State, rows_of}
 use Rattle.assertion.specs.Roots.{IsOrdered}
 use Rattle.roots.specs.Kept.{IsEmptyState}
-use Rattle.views.specs.Views.{AreTables, layout_at}
+use Rattle.views.specs.Views.{layout_at}
 use Rattle.views.specs.Kept.{IsGood}
 
 -- one more table without rows

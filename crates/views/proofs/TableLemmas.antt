@@ -1,5 +1,5 @@
 -- The tables stay tables through a change.
-use Rattle.std.proofs.Common.{◌≡◌, ℕ, ◌<◌, Bool, true, false, List, [], Option, Some, None, length, get_or, refl, sym, ◌∙◌, ap, subst, arith}
+use Rattle.std.proofs.Common.{◌≡◌, ℕ, ◌<◌, Bool, true, false, List, [], Option, Some, None, length, get_or, refl, sym, ◌∙◌, ap, subst}
 use Rattle.std.specs.Prelude.{◌==◌, ◌^◌, All, slice_set}
 use Rattle.std.proofs.lemmas.List.{get_or_default, length-set}
 use Rattle.std.proofs.lemmas.List.Elements.{All-weaker}
@@ -15,7 +15,7 @@ use Rattle.assertion.specs.Meaning.{State, rows_of, key_of}
 use Rattle.assertion.specs.Roots.{IsOrdered, IsChangeOf, state_after}
 use Rattle.assertion.proofs.KeptTruth.{rows-changed, rows-same, equal_of}
 use Rattle.roots.specs.Kept.{IsSmallState}
-use Rattle.views.specs.Views.{AreTables, IsFitting, layout_at}
+use Rattle.views.specs.Views.{IsFitting, layout_at}
 use Rattle.views.specs.Kept.{IsGood, IsStep}
 
 -- tables are in key order, with numbers within the bounds of a column

@@ -4,7 +4,6 @@ use Rattle.table.specs.declared.rows.Change.{Change}
 use Rattle.table.specs.Rows.{Layout, Tables, layouts_of}
 use Rattle.assertion.specs.declared.assertions.Assertion.{Assertion}
 use Rattle.assertion.specs.declared.forms.Form.{Form}
-use Rattle.assertion.specs.Bounded.{IsBounded}
 use Rattle.assertion.specs.Meaning.{State, rows_of, verdict_of}
 use Rattle.assertion.specs.Roots.{AreBad, IsChangeOf, state_after}
 use Rattle.roots.specs.Kept.{AreKept}

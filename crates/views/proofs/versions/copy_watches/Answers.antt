@@ -1,4 +1,4 @@
-use Rattle.std.proofs.Common.{arith, length, subst, sym}
+use Rattle.std.proofs.Common.{arith, subst}
 use Rattle.views.specs.Kept.{AreWatched}
 use Rattle.views.proofs.WatchLemmas.{AreWatched-more, watched_for}
 use Rattle.views.proofs.versions.copy_watches.Goals as goal

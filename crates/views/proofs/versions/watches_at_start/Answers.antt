@@ -1,4 +1,4 @@
-use Rattle.std.proofs.Common.{arith, length, subst}
+use Rattle.std.proofs.Common.{arith, subst}
 use Rattle.views.specs.Kept.{AreWatched}
 use Rattle.views.proofs.WatchLemmas.{AreWatched-more, watched_past}
 use Rattle.views.proofs.versions.watches_at_start.Goals as goal
