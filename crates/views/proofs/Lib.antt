@@ -1,0 +1,4 @@
+pub mod LoadLemmas
+pub mod StartLemmas
+pub mod TableLemmas
+pub mod WatchLemmas

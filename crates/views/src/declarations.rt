@@ -1,0 +1,33 @@
+//! What all versions of a view share.
+
+ghost use Rattle.std.specs.Prelude.{◌≡◌, IfOk, IsOkUnless};
+ghost use Rattle.value.specs.declared.refusals.Refusal.TheVariants.{NoMemory};
+ghost use Rattle.table.specs.Rows.{layouts_of};
+
+use assertion::Assertion;
+use std::alloc::Global;
+use table::{Catalog, Schema};
+use value::Refusal;
+
+/// The tables that there are, and the assertions on them.
+#[derive(Drop)]
+pub struct Declarations {
+    pub catalog: Catalog,
+    /// The schemas of the tables, in the order of creation.
+    pub schemas: Vec<Schema>,
+    pub assertions: Vec<Assertion>,
+}
+
+/// The schemas of the tables, in the order of creation.
+pub fn schemas_of(alloc: Global, catalog: &Catalog) -> Result<Vec<Schema>, Refusal>
+    ensures only_memory { IsOkUnless result NoMemory }
+    ensures schemas { IfOk result (λ schemas. schemas.items ≡ layouts_of catalog.now) }
+{
+    let mut schemas = Vec::new(alloc);
+    for table in 0..catalog.len() {
+        if let Some(schema) = catalog.at(table) {
+            schemas.push(schema.copy()?)?;
+        }
+    }
+    Ok(schemas)
+}
