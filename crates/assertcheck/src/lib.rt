@@ -29,6 +29,3 @@ mod inserts;
 pub use assertions::check;
 pub use deletes::{Delete, check_delete};
 pub use inserts::{NewRow, check_insert};
-
-#[cfg(test)]
-mod tests;
