@@ -1,8 +1,8 @@
 -- Conditions and expressions of statements: over the rows of one table, without set functions and queries.
-use Rattle.std.specs.Prelude.{ℕ, Bool, List, [], ◌∷◌, Option, Some, None, Result, Ok, Err, is_some}
+use Rattle.std.specs.Prelude.{ℕ, List, [], ◌∷◌, Option, Some, None, Result, Ok}
 use Rattle.value.specs.declared.refusals.Refusal.{Refusal}
 use Rattle.value.specs.declared.refusals.Refusal.TheVariants.{TypeMismatch, TooWide}
-use Rattle.table.specs.Rows.{Layout, Tables, layout_of, position_of}
+use Rattle.table.specs.Rows.{Tables}
 use Rattle.syntax.specs.declared.trees.Condition.{Condition}
 use Rattle.cond.specs.declared.conds.Cond.{Cond}
 use Rattle.cond.specs.declared.conds.Cond.TheViews as cond_of

@@ -2,3 +2,4 @@ pub mod Steps
 pub mod Assertions
 pub mod Conditions
 pub mod Statements
+pub mod Updates

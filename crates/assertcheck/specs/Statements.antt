@@ -1,5 +1,5 @@
 -- Statements with their names found, or their first fault.
-use Rattle.std.specs.Prelude.{ℕ, Bool, true, false, ◌==◌, List, [], ◌∷◌, ◌++◌, ◌+◌, length, position, Option, Some, None, Result, Ok, Err, slice_index_or, if◌then◌else◌}
+use Rattle.std.specs.Prelude.{ℕ, ◌==◌, List, [], ◌∷◌, ◌++◌, ◌+◌, length, position, Option, Some, None, Result, Ok, Err, slice_index_or, if◌then◌else◌}
 use Rattle.std.specs.List.{list_any}
 use Rattle.value.specs.declared.values.Value.{Value}
 use Rattle.value.specs.declared.values.Value.TheVariants.{Null}
@@ -12,10 +12,11 @@ use Rattle.syntax.specs.declared.trees.Condition.{Condition}
 use Rattle.statement_syntax.specs.declared.statements.Insert.{Insert}
 use Rattle.statement_syntax.specs.declared.statements.Which.{Which}
 use Rattle.statement_syntax.specs.declared.statements.Which.TheVariants.{All, Names}
-use Rattle.form_check.specs.Results.{and_then}
+use Rattle.form_check.specs.Results.{and_then, each}
 use Rattle.form_check.specs.Queries.{Source}
 use Rattle.assertcheck.specs.declared.deletes.Delete.{Delete}
 use Rattle.assertcheck.specs.declared.inserts.NewRow.{NewRow}
+use Rattle.assertcheck.specs.declared.selects.Select.{Select}
 use Rattle.assertcheck.specs.Steps.{found, provided}
 use Rattle.assertcheck.specs.Conditions.{target_of, where_of}
 
@@ -25,12 +26,16 @@ delete_of tables name condition =
     and_then (target_of tables name) (λ target.
     and_then (where_of tables target.scope condition) (λ kept. Ok (record { table = target.table; kept = kept })))
 
+-- the column of a name
+abbrev pub named_column : List Column → List ℕ → Result ℕ Refusal
+named_column columns name = found name (column_of name columns)
+
 -- the column of a name, if it isn't among those before it
 abbrev pub unlisted : List ℕ → List ℕ → ℕ → Result ℕ Refusal
 unlisted before name column = if list_any (λ place. place == column) before then Err (NameTaken name) else Ok column
 
 abbrev pub new_place : List Column → List ℕ → List ℕ → Result ℕ Refusal
-new_place columns before name = and_then (found name (column_of name columns)) (unlisted before name)
+new_place columns before name = and_then (named_column columns name) (unlisted before name)
 
 -- the columns of these names from the left, none of them twice
 abbrev pub places_of : List Column → List ℕ → List (List ℕ) → Result (List ℕ) Refusal
@@ -75,3 +80,15 @@ abbrev pub insert_of : Tables → Insert → Result NewRow Refusal
 insert_of tables insert =
     and_then (target_of tables insert.table) (λ target.
     and_then (listed_places target.scope.layout.columns insert.columns) (λ places. typed_row target places insert.values))
+
+-- the columns that a SELECT lists, from the left, each as often as it is listed; * is all of them in the table's order
+abbrev pub selected : List Column → Which → Result (List ℕ) Refusal
+selected columns All = Ok (places_from 0 columns)
+selected columns (Names names) = each (named_column columns) names
+
+-- SELECT: the table, the listed columns, and then WHERE as a whole
+abbrev pub select_of : Tables → Which → List ℕ → Option Condition → Result Select Refusal
+select_of tables columns name condition =
+    and_then (target_of tables name) (λ target.
+    and_then (selected target.scope.layout.columns columns) (λ places.
+    and_then (where_of tables target.scope condition) (λ kept. Ok (record { table = target.table; columns = places; kept = kept }))))

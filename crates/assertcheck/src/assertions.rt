@@ -2,6 +2,7 @@
 
 ghost use Rattle.std.specs.Prelude.{◌≡◌, ◌≢◌, IfOk, IfErr, Ok, Err};
 ghost use Rattle.value.specs.declared.refusals.Refusal.TheVariants.{NoMemory};
+ghost use Rattle.assertion.specs.Bounded.{IsBounded};
 ghost use Rattle.assertcheck.specs.Assertions.{are_at_odds, attributes_of, checked, of_form};
 
 use assertion::{Assertion, ConstraintAttributes, Form};
@@ -31,6 +32,7 @@ pub fn check(
 ) -> Result<Assertion, Refusal>
     ensures made { IfOk result (λ assertion. checked catalog.now name.now condition.now attributes ≡ Ok assertion) }
     ensures refused { IfErr result (λ refusal. refusal ≢ NoMemory → checked catalog.now name.now condition.now attributes ≡ Err refusal) }
+    ensures bounded { IfOk result (λ assertion. IsBounded assertion.form) }
 {
     if are_at_odds(attributes) {
         return Err(Refusal::AttributeClash {
@@ -58,6 +60,7 @@ fn of_form(
 ) -> Result<Assertion, Refusal>
     ensures made { IfOk result (λ assertion. of_form catalog.now name.now attributes form ≡ Ok assertion) }
     ensures refused { IfErr result (λ refusal. refusal ≢ NoMemory → of_form catalog.now name.now attributes form ≡ Err refusal) }
+    ensures bounded { IfOk result (λ assertion. IsBounded assertion.form) }
 {
     if !form_is_typed(alloc, catalog, &form)? {
         return Err(Refusal::TypeMismatch);

@@ -1,6 +1,7 @@
 //! The table and the condition of a statement.
 
-ghost use Rattle.std.specs.Prelude.{◌≡◌, ◌≢◌, ◌∷◌, [], IfOk, IfErr, Ok, Err};
+ghost use Rattle.std.specs.Prelude.{◌≡◌, ◌≢◌, ◌<◌, ◌∷◌, [], length, IsTrue, IfOk, IfErr, Ok, Err};
+ghost use Rattle.cond.specs.Bounds.{is_bounded};
 ghost use Rattle.value.specs.declared.refusals.Refusal.TheVariants.{NoMemory};
 ghost use Rattle.name_check.specs.Shown.{shown};
 ghost use Rattle.form_check.specs.Shown.{shown_source};
@@ -20,16 +21,11 @@ use value::{Refusal, Text};
 pub fn target<'a>(catalog: &'a Catalog, name: &'a Text) -> Result<Source<'a>, Refusal>
     ensures found { IfOk result (λ source. target_of catalog.now name.now ≡ Ok (shown_source source)) }
     ensures refused { IfErr result (λ refusal. refusal ≢ NoMemory → target_of catalog.now name.now ≡ Err refusal) }
+    ensures within { IfOk result (λ source. source.table < length catalog.now) }
 {
-    match (catalog.position(name), catalog.get(name)) {
-        (Some(table), Some(schema)) => Ok(Source {
-            table,
-            scope: Scope {
-                label: name,
-                schema,
-            },
-        }),
-        (None, _) | (_, None) => Err(Refusal::UnknownName { name: name.copy()? }),
+    match Source::unaliased(catalog, name) {
+        Some(source) => Ok(source),
+        None => Err(Refusal::UnknownName { name: name.copy()? }),
     }
 }
 
@@ -47,6 +43,7 @@ pub fn where_condition(
 ) -> Result<Cond, Refusal>
     ensures made { IfOk result (λ made. where_of catalog.now (shown scope.entry) condition.now ≡ Ok made) }
     ensures refused { IfErr result (λ refusal. refusal ≢ NoMemory → where_of catalog.now (shown scope.entry) condition.now ≡ Err refusal) }
+    ensures bounded { IfOk result (λ made. IsTrue (is_bounded [] made)) }
 {
     let Some(condition) = condition else {
         return Ok(Cond::And(Items::new(alloc)));
@@ -58,7 +55,8 @@ pub fn where_condition(
 
 /// The condition, if it is typed and its expressions are bounded.
 fn sound(scope: Scope, made: Cond) -> Result<Cond, Refusal>
-    ensures { result ≡ sound_condition (shown scope.entry) made }
+    ensures sound { result ≡ sound_condition (shown scope.entry) made }
+    ensures bounded { IfOk result (λ made. IsTrue (is_bounded [] made)) }
 {
     if !is_typed(&made, scope.schema.columns(), &[]) {
         return Err(Refusal::TypeMismatch);

@@ -1,6 +1,7 @@
 //! DELETE.
 
-ghost use Rattle.std.specs.Prelude.{◌≡◌, ◌≢◌, IfOk, IfErr, Ok, Err};
+ghost use Rattle.std.specs.Prelude.{◌≡◌, ◌≢◌, ◌<◌, [], length, IsTrue, IfOk, IfErr, Ok, Err};
+ghost use Rattle.cond.specs.Bounds.{is_bounded};
 ghost use Rattle.value.specs.declared.refusals.Refusal.TheVariants.{NoMemory};
 ghost use Rattle.assertcheck.specs.Statements.{delete_of};
 
@@ -33,6 +34,8 @@ pub fn check_delete(
 ) -> Result<Delete, Refusal>
     ensures made { IfOk result (λ delete. delete_of catalog.now table.now condition.now ≡ Ok delete) }
     ensures refused { IfErr result (λ refusal. refusal ≢ NoMemory → delete_of catalog.now table.now condition.now ≡ Err refusal) }
+    ensures within { IfOk result (λ delete. delete.table < length catalog.now) }
+    ensures bounded { IfOk result (λ delete. IsTrue (is_bounded [] delete.kept)) }
 {
     let target = target(catalog, table)?;
     let kept = where_condition(alloc, catalog, target.scope, condition)?;

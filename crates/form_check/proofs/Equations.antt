@@ -1,5 +1,5 @@
 -- What each kind of condition and expression becomes when it is numbered: the definitions read off at each variant.
-use Rattle.std.proofs.Common.{◌≡◌, ℕ, ℤ, Option, List, [], ◌∷◌, ◌++◌, length, Result, Ok, Err, refl, ap, sym, ◌∙◌, map}
+use Rattle.std.proofs.Common.{◌≡◌, ℕ, ℤ, Option, List, [], ◌∷◌, ◌++◌, length, Ok, refl, ap, sym, ◌∙◌, map}
 use Rattle.threeval.specs.declared.Truth.{Truth}
 use Rattle.value.specs.declared.values.Value.TheVariants as value
 use Rattle.value.specs.declared.comparisons.Comparison.{Comparison}

@@ -1,5 +1,5 @@
 -- The form of an assertion's condition.
-use Rattle.std.specs.Prelude.{ℕ, List, [], ◌∷◌, Option, Some, None, Result, Ok, Err}
+use Rattle.std.specs.Prelude.{ℕ, [], Option, Some, None, Result, Ok, Err}
 use Rattle.value.specs.declared.refusals.Refusal.{Refusal}
 use Rattle.value.specs.declared.refusals.Refusal.TheVariants.{OutsideClass}
 use Rattle.table.specs.Rows.{Tables}
@@ -18,11 +18,11 @@ use Rattle.assertion.specs.declared.plain_queries.Plain.{Plain}
 use Rattle.assertion.specs.declared.forms.Form.{Form}
 use Rattle.assertion.specs.declared.forms.Form.TheVariants.{ByRow, ByGroup, Single}
 use Rattle.name_check.specs.Scopes.{Scope, own_column}
-use Rattle.form_check.specs.Results.{and_then, in_class, only_if}
+use Rattle.form_check.specs.Results.{and_then, each, in_class, only_if}
 use Rattle.form_check.specs.Columns.{no_column, grouping_column}
 use Rattle.form_check.specs.Leaves.{Leaf, Leaves, Rows, Of, Exists, Value, numbered}
 use Rattle.form_check.specs.Queries.{Source, source_of, row_filter, of_column, listed_aggregate, may_be_listed}
-use Rattle.form_check.specs.Links.{top_parts, links_in, only_one, kept_parts, each}
+use Rattle.form_check.specs.Links.{top_parts, links_in, only_one, kept_parts}
 
 -- a query's clauses, with its conditions and its list as trees
 abbrev pub Clauses : Type 0

@@ -1,6 +1,6 @@
 -- Queries that are linked to the row around them: one of the parts that AND joins in WHERE is an equality of a column of
 -- the query's table and the key of the row, and the others are over the query's table alone.
-use Rattle.std.specs.Prelude.{ℕ, ◌==◌, Bool, false, List, [], ◌∷◌, ◌++◌, filter, Option, Some, None, is_none, option_to_list, Result, Ok, Err, if◌then◌else◌}
+use Rattle.std.specs.Prelude.{ℕ, ◌==◌, Bool, false, List, [], ◌∷◌, ◌++◌, filter, Option, Some, None, is_none, option_to_list, Result, if◌then◌else◌}
 use Rattle.value.specs.declared.refusals.Refusal.{Refusal}
 use Rattle.value.specs.declared.comparisons.Comparison.TheVariants.{Equal}
 use Rattle.cond.specs.declared.conds.Cond.{Cond}
@@ -11,7 +11,7 @@ use Rattle.syntax.specs.declared.trees.Expression.{Expression, out-Expression}
 use Rattle.syntax.specs.declared.trees.Listed.{Listed}
 use Rattle.syntax.specs.declared.trees.Query.{Query}
 use Rattle.name_check.specs.Scopes.{Scope, own_column}
-use Rattle.form_check.specs.Results.{and_then}
+use Rattle.form_check.specs.Results.{each}
 use Rattle.form_check.specs.Queries.{row_condition}
 
 -- the parts that AND joins at the top of a condition
@@ -68,16 +68,6 @@ only_one (column ∷ other ∷ rest) = None
 -- the parts that are no links
 abbrev pub own_parts : Scope → Scope → List Condition → List Condition
 own_parts child root parts = filter (λ part. is_none (link_of child root part)) parts
-
--- what each of several parts becomes, from the left
-abbrev pub each : {X A : Type 0} → (X → Result A Refusal) → List X → Result (List A) Refusal
-each make [] = Ok []
-each make (x ∷ rest) = and_then (make x) (λ first. and_then (each make rest) (λ others. Ok (first ∷ others)))
-
--- what was made so far, and then the others
-abbrev pub behind : {A : Type 0} → List A → Result (List A) Refusal → Result (List A) Refusal
-behind made (Ok others) = Ok (made ++ others)
-behind made (Err refusal) = Err refusal
 
 -- the parts that are no links, as conditions over the child's rows
 abbrev pub kept_parts : Scope → Scope → List Condition → Result (List Cond) Refusal

@@ -1,5 +1,5 @@
 -- The rows that a query stands over, what it lists, and conditions over those rows alone.
-use Rattle.std.specs.Prelude.{ℕ, ◌==◌, Bool, true, false, List, [], ◌∷◌, Option, Some, None, is_some, unwrap_or, Result, Ok, Err, if◌then◌else◌}
+use Rattle.std.specs.Prelude.{ℕ, Bool, true, false, List, [], ◌∷◌, Option, Some, None, is_some, unwrap_or, Result, Ok, Err}
 use Rattle.std.specs.Option.{option_map}
 use Rattle.value.specs.declared.refusals.Refusal.{Refusal}
 use Rattle.value.specs.declared.refusals.Refusal.TheVariants.{OutsideClass}
@@ -14,11 +14,12 @@ use Rattle.syntax.specs.declared.trees.Condition.TheOpen.{Expression-F, Listed-F
 use Rattle.syntax.specs.declared.trees.Expression.{Expression, out-Expression}
 use Rattle.syntax.specs.declared.trees.Listed.{Listed, out-Listed}
 use Rattle.syntax.specs.declared.trees.Query.{Query}
+use Rattle.cond.specs.declared.exprs.Expr.{Expr}
 use Rattle.cond.specs.declared.conds.Cond.{Cond}
 use Rattle.cond.specs.declared.conds.Cond.TheViews as cond_of
 use Rattle.name_check.specs.Scopes.{Scope, own_column}
 use Rattle.form_check.specs.Results.{and_then}
-use Rattle.form_check.specs.Leaves.{Leaves, numbered}
+use Rattle.form_check.specs.Leaves.{Leaves, numbered, numbered_expression}
 
 -- the table of a query by its place, and as names in the query see it
 pub record Source : Type 0 where
@@ -41,6 +42,10 @@ alone made (leaf ∷ rest) = Err OutsideClass
 -- a condition over the rows of one table: no set function, no query and no column of another table
 abbrev pub row_condition : Scope → Condition → Result Cond Refusal
 row_condition scope condition = and_then (numbered (own_column scope) condition []) (λ made. alone made.0 made.1)
+
+-- an expression over the rows of one table, likewise
+abbrev pub row_expression : Scope → Expression → Result Expr Refusal
+row_expression scope expression = and_then (numbered_expression (own_column scope) expression []) (λ made. alone made.0 made.1)
 
 -- a condition that may be missing, and then keeps every row
 abbrev pub row_filter : Scope → Option Condition → Result Cond Refusal

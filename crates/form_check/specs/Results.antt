@@ -1,5 +1,5 @@
 -- Steps that may be refused.
-use Rattle.std.specs.Prelude.{Bool, true, false, Option, Some, None, Result, Ok, Err}
+use Rattle.std.specs.Prelude.{Bool, true, false, List, [], ◌∷◌, ◌++◌, Option, Some, None, Result, Ok, Err}
 use Rattle.value.specs.declared.refusals.Refusal.{Refusal}
 use Rattle.value.specs.declared.refusals.Refusal.TheVariants.{OutsideClass}
 
@@ -17,3 +17,13 @@ in_class (Some a) next = next a
 abbrev pub only_if : {A : Type 0} → Bool → Result A Refusal → Result A Refusal
 only_if true next = next
 only_if false next = Err OutsideClass
+
+-- what each of several parts becomes, from the left
+abbrev pub each : {X A : Type 0} → (X → Result A Refusal) → List X → Result (List A) Refusal
+each make [] = Ok []
+each make (x ∷ rest) = and_then (make x) (λ first. and_then (each make rest) (λ others. Ok (first ∷ others)))
+
+-- what was made so far, and then the others
+abbrev pub behind : {A : Type 0} → List A → Result (List A) Refusal → Result (List A) Refusal
+behind made (Ok others) = Ok (made ++ others)
+behind made (Err refusal) = Err refusal

@@ -6,7 +6,7 @@
 //! called (`name_check`); types and widths are looked at afterwards (`type_check`).
 //!
 //! A *row condition* (WHERE of a statement, and of most queries) is over the columns of its own table alone: no set
-//! function, no query, no column of a table around it ([`row_condition`]).
+//! function, no query, no column of a table around it ([`row_condition`]). A *row expression* is so too ([`row_expression`]).
 //!
 //! An assertion's condition ([`form`]; SQL-92, ISO/IEC 9075:1992, assertion definition; which cut of it, is this project's
 //! choice) has one of three forms:
@@ -41,7 +41,7 @@ mod plain_queries;
 mod queries;
 
 pub use forms::form;
-pub use queries::{Source, row_condition};
+pub use queries::{Source, row_condition, row_expression, row_filter};
 
 #[cfg(test)]
 mod tests;

@@ -1,15 +1,16 @@
 //! The rows that a query stands over, what it lists, and conditions over those rows alone.
 
-ghost use Rattle.std.specs.Prelude.{◌≡◌, ◌≢◌, IfOk, IfErr, Ok, Err};
+ghost use Rattle.std.specs.Prelude.{◌≡◌, ◌≢◌, ◌<◌, length, IfOk, IfErr, IfSome, Ok, Err, None};
+ghost use Rattle.table.specs.Rows.{layout_of, position_of};
 ghost use Rattle.std.specs.Option.{option_map};
 ghost use Rattle.value.specs.declared.refusals.Refusal.TheVariants.{NoMemory};
 ghost use Rattle.name_check.specs.Shown.{shown};
-ghost use Rattle.form_check.specs.Queries.{source_of, row_condition, row_filter, of_column, listed_aggregate, may_be_listed};
-ghost use Rattle.form_check.specs.Shown.{shown_source, place};
+ghost use Rattle.form_check.specs.Queries.{alone, source_of, sourced, row_condition, row_expression, row_filter, of_column, listed_aggregate, may_be_listed};
+ghost use Rattle.form_check.specs.Shown.{shown_leaves, shown_source, place};
 
-use crate::leaves::{Columns, numbered};
-use cond::Cond;
-use name_check::Scope;
+use crate::leaves::{Columns, Leaf, numbered, numbered_expression};
+use cond::{Cond, Expr};
+use name_check::{Scope, label_of};
 use sqlite_items::Items;
 use std::alloc::Global;
 use syntax::{Condition, Expression, Listed};
@@ -28,12 +29,24 @@ impl<'a> Source<'a> {
     pub fn of(catalog: &'a Catalog, table: &'a Text, alias: &'a Option<Text>) -> Option<Source<'a>>
         ensures { option_map shown_source result ≡ source_of catalog.now table.now alias.now }
     {
+        Source::labelled(catalog, table, label_of(alias, table))
+    }
+
+    /// The rows of a statement's table, which goes by its own name.
+    pub fn unaliased(catalog: &'a Catalog, table: &'a Text) -> Option<Source<'a>>
+        ensures source { option_map shown_source result ≡ source_of catalog.now table.now None }
+        ensures within { IfSome result (λ source. source.table < length catalog.now) }
+    {
+        Source::labelled(catalog, table, table)
+    }
+
+    /// The rows of this table, which goes by a label.
+    fn labelled(catalog: &'a Catalog, table: &Text, label: &'a Text) -> Option<Source<'a>>
+        ensures source { option_map shown_source result ≡ sourced label.now (position_of table.now catalog.now) (layout_of table.now catalog.now) }
+        ensures within { IfSome result (λ source. source.table < length catalog.now) }
+    {
         let place = catalog.position(table)?;
         let schema = catalog.get(table)?;
-        let label = match alias {
-            Some(alias) => alias,
-            None => table,
-        };
         Some(Source {
             table: place,
             scope: Scope { label, schema },
@@ -53,6 +66,28 @@ pub fn row_condition(alloc: Global, scope: Scope, condition: &Condition) -> Resu
 {
     let mut leaves = Vec::new(alloc);
     let made = numbered(alloc, &Columns::Own(scope), condition, &mut leaves)?;
+    alone(made, &leaves)
+}
+
+/// An expression over the rows of one table.
+///
+/// # Errors
+///
+/// [`Refusal::OutsideClass`] where it holds a set function, a query or a column of another table; or
+/// [`Refusal::NoMemory`].
+pub fn row_expression(alloc: Global, scope: Scope, expression: &Expression) -> Result<Expr, Refusal>
+    ensures made { IfOk result (λ made. row_expression (shown scope.entry) expression.now ≡ Ok made) }
+    ensures refused { IfErr result (λ refusal. refusal ≢ NoMemory → row_expression (shown scope.entry) expression.now ≡ Err refusal) }
+{
+    let mut leaves = Vec::new(alloc);
+    let made = numbered_expression(alloc, &Columns::Own(scope), expression, &mut leaves)?;
+    alone(made, &leaves)
+}
+
+/// What was made, if nothing but the row's own columns stood there.
+fn alone<T: Drop>(made: T, leaves: &[Leaf]) -> Result<T, Refusal>
+    ensures { result ≡ alone made (shown_leaves leaves.now) }
+{
     if leaves.is_empty() {
         Ok(made)
     } else {

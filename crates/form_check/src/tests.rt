@@ -108,9 +108,15 @@ fn row_conditions(rt: HostRuntime) -> Result<(), Fail> {
     assert!(rt; row_condition(alloc, scope, &own).is_ok());
     let counted = at_most_two(Expression::CountRows);
     assert!(rt; row_condition(alloc, scope, &counted).is_err());
+    let shift = Expression::Column(column(alloc, "SHIFT")?);
+    assert!(rt; row_expression(alloc, scope, &shift).is_ok());
     let catalog = catalog(alloc)?;
     assert_eq!(rt;
         Source::of(&catalog, &label, &None).map(|source| source.table),
+        Some(0)
+    );
+    assert_eq!(rt;
+        Source::unaliased(&catalog, &label).map(|source| source.table),
         Some(0)
     );
     Ok(())

@@ -1,5 +1,5 @@
 -- The first name of a condition that stands for nothing, in the order in which names are looked up.
-use Rattle.std.specs.Prelude.{ℕ, List, [], ◌∷◌, Option, Some, None, unwrap_or}
+use Rattle.std.specs.Prelude.{List, [], ◌∷◌, Option, Some, None, unwrap_or}
 use Rattle.value.specs.declared.refusals.Refusal.{Refusal}
 use Rattle.value.specs.declared.refusals.Refusal.TheVariants.{UnknownName}
 use Rattle.table.specs.Rows.{Layout, Tables, layout_of}

@@ -1,6 +1,6 @@
 //! Where a column's name is looked up.
 
-ghost use Rattle.std.specs.Prelude.{◌≡◌, ◌≢◌, ◌++◌, ◌∷◌, [], map, IfOk, IfErr, IsOkUnless, Some, None};
+ghost use Rattle.std.specs.Prelude.{◌≡◌, ◌≢◌, ◌++◌, ◌∷◌, [], map, IfOk, IfErr, IsOkUnless, Some, None, unwrap_or};
 ghost use Rattle.value.specs.declared.refusals.Refusal.TheVariants.{NoMemory};
 ghost use Rattle.name_check.specs.Scopes.{bare_fault, qualified_fault, column_fault, has_column, one_fault, own_column};
 ghost use Rattle.name_check.specs.Shown.{shown, all_shown};
@@ -34,6 +34,16 @@ impl<'a> Scope<'a> {
             Some(qualifier) if *self.label != *qualifier => None,
             Some(_) | None => self.schema.column(&column.name),
         }
+    }
+}
+
+/// The name that a query's table goes by in it: its alias, if it has one.
+pub fn label_of<'a>(alias: &'a Option<Text>, table: &'a Text) -> &'a Text
+    ensures { result.now ≡ unwrap_or alias.now table.now }
+{
+    match alias {
+        Some(alias) => alias,
+        None => table,
     }
 }
 

@@ -1,15 +1,15 @@
 //! The names of conditions, expressions and queries are looked up from the left.
 
-ghost use Rattle.std.specs.Prelude.{◌≡◌, ◌≢◌, map, IfOk, IfErr, Some, None, unwrap_or};
+ghost use Rattle.std.specs.Prelude.{◌≡◌, ◌≢◌, map, IfOk, IfErr, Some, None};
 ghost use Rattle.value.specs.declared.refusals.Refusal.TheVariants.{NoMemory};
 ghost use Rattle.name_check.specs.Names.{condition_fault, expression_fault, listed_fault, query_fault, part_fault, parts_fault, group_fault, clauses_fault};
 ghost use Rattle.name_check.specs.Shown.{all_shown};
 
-use crate::scopes::{Scope, known_column, within};
+use crate::scopes::{Scope, known_column, label_of, within};
 use std::alloc::Global;
 use syntax::{ColumnName, Condition, Expression, Listed, Query};
 use table::Catalog;
-use value::{Refusal, Text};
+use value::Refusal;
 
 /// Looks up the names of a condition, seen from these scopes, the innermost first.
 ///
@@ -124,15 +124,5 @@ fn known_group(scopes: &[Scope], group: &Option<ColumnName>) -> Result<(), Refus
     match group {
         Some(column) => known_column(scopes, column),
         None => Ok(()),
-    }
-}
-
-/// The name that a query's table goes by in it: its alias, if it has one.
-fn label_of<'a>(alias: &'a Option<Text>, table: &'a Text) -> &'a Text
-    ensures { result.now ≡ unwrap_or alias.now table.now }
-{
-    match alias {
-        Some(alias) => alias,
-        None => table,
     }
 }

@@ -70,7 +70,7 @@ pub(crate) fn is_number(found: Option<DataType>) -> bool
 }
 
 /// Whether values of these types can be compared.
-pub(crate) fn are_comparable(left: Option<DataType>, right: Option<DataType>) -> bool
+pub fn are_comparable(left: Option<DataType>, right: Option<DataType>) -> bool
     ensures { result ≡ are_comparable_of left right }
 {
     match (left, right) {

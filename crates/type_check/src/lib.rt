@@ -36,7 +36,7 @@ mod typed_forms;
 mod typed_trees;
 
 pub use bounded_forms::form_is_bounded;
-pub use data_types::{DataType, aggregate_type, column_type};
+pub use data_types::{DataType, aggregate_type, are_comparable, column_type};
 pub use typed_forms::form_is_typed;
 pub use typed_trees::{expression_type, is_typed};
 

@@ -1,6 +1,6 @@
 use Rattle.std.proofs.Common.{◌≡◌, ◌++◌, drop, length}
 use Rattle.assertcheck.specs.Statements.{places_from}
-use Rattle.assertcheck.proofs.inserts.all_places.Given as goal
+use Rattle.assertcheck.proofs.columns.all_places.Given as goal
 
 -- the places so far with those from here on are all
 abbrev pub invariant-loop-column : goal.invariant-loop-column

@@ -1,0 +1,8 @@
+use Rattle.std.proofs.Common.{◌≡◌, drop}
+use Rattle.name_check.specs.Shown.{shown}
+use Rattle.assertcheck.specs.Updates.{values_fault}
+use Rattle.assertcheck.proofs.assignments.known_values.Given as goal
+
+-- the first fault is that of the rest
+abbrev pub invariant-loop-assignment : goal.invariant-loop-assignment
+invariant-loop-assignment l = values_fault l.catalog (shown l.scope) (drop l.assignment-index l.sets) ≡ values_fault l.catalog (shown l.scope) l.sets

@@ -1,0 +1,9 @@
+use Rattle.std.proofs.Common.{◌≡◌, drop}
+use Rattle.name_check.specs.Shown.{shown}
+use Rattle.form_check.specs.Results.{behind}
+use Rattle.assertcheck.specs.Updates.{settings_of}
+use Rattle.assertcheck.proofs.assignments.settings.Given as goal
+
+-- what was made so far with what the rest becomes is what all become
+abbrev pub invariant-loop-i : goal.invariant-loop-i
+invariant-loop-i l = behind l.made.items (settings_of (shown l.scope) (drop l.i l.places) (drop l.i l.sets)) ≡ settings_of (shown l.scope) l.places l.sets
