@@ -21,3 +21,6 @@ mod tables;
 mod taken;
 
 pub use taken::Definitions;
+
+#[cfg(test)]
+mod tests;

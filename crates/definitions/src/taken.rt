@@ -1,18 +1,25 @@
 //! Definitions are taken in one after the other.
 
-ghost use Rattle.std.specs.Prelude.{◌≡◌, ◌≢◌, ◌<◌, IfOk, IfErr, Ok, Err, length};
+ghost use Rattle.std.specs.Prelude.{◌≡◌, ◌≢◌, ◌<◌, IfOk, IfErr, IsOkUnless, Ok, Err, length};
 ghost use Rattle.value.specs.declared.refusals.Refusal.TheVariants.{NoMemory};
-ghost use Rattle.definitions.specs.Taken.{is_asserted, nothing, taken, with_all, with_assertion, with_definition, with_new_row, with_row, with_table};
+ghost use Rattle.definitions.specs.Taken.{is_asserted, nothing, taken, with_all, with_assertion, with_definition, with_table};
+ghost use Rattle.table.specs.Rows.{layouts_of};
+ghost use Rattle.assertion.specs.Meaning.{rows_of};
+ghost use Rattle.assertion.specs.Roots.{IsChangeOf, state_after};
+ghost use Rattle.changes.specs.Insertions.{inserted, insertion_of};
+ghost use Rattle.delta.specs.Views.{IsFitting, layout_at};
 
 use crate::tables::schema_of;
 use assertcheck::{NewRow, check, check_insert};
 use assertion::Assertion;
+use changes::{insertion, schema_at};
+use delta::View;
 use mvrows::Rows;
 use statement_syntax::{Attributes, ColumnDefinition, Definition, Insert};
 use std::alloc::Global;
 use std::marker::Model;
 use syntax::Condition;
-use table::{Catalog, Change, Row, Schema};
+use table::{Catalog, Change, Row};
 use value::{Refusal, Text};
 
 /// What definitions define: tables, assertions over them, and the rows that the tables begin with.
@@ -24,11 +31,12 @@ pub struct Definitions {
 }
 
 impl Model for Definitions {
-    ghost use Rattle.std.specs.Prelude.{◌≡◌, length};
     ghost use Rattle.cond.specs.contracts.conds.Cond as cond_type;
     ghost use Rattle.cond.specs.contracts.exprs.Expr as expr_type;
     ghost use Rattle.std.specs.Coded.{codes};
-    ghost use Rattle.definitions.specs.Taken.{Shown};
+    ghost use Rattle.table.specs.Rows.{layouts_of};
+    ghost use Rattle.delta.specs.Kept.{IsGood};
+    ghost use Rattle.delta.specs.Views.{AreBounded, Shown};
 
     ghost Value = { Shown };
 
@@ -36,7 +44,7 @@ impl Model for Definitions {
 
     ghost view = { λ d. record { tables = d.catalog; assertions = d.assertions.items; state = d.rows.items } };
 
-    ghost invariant = { λ d. length d.rows.items ≡ length d.catalog };
+    ghost invariant = { λ d. AreBounded d.assertions.items × IsGood (layouts_of d.catalog) d.rows.items };
 }
 
 impl Definitions {
@@ -79,6 +87,23 @@ impl Definitions {
         ensures each { length result.now ≡ length self.now.tables }
     {
         self.rows.as_slice()
+    }
+
+    /// The view of these tables, with the verdicts of the assertions on the rows that they begin with.
+    ///
+    /// # Errors
+    ///
+    /// [`Refusal::NoMemory`] alone.
+    pub fn load(self, alloc: Global) -> Result<View, Refusal>
+        ensures only_memory { IsOkUnless result NoMemory }
+        ensures loaded { IfOk result (λ view. view ≡ self) }
+    {
+        let Definitions {
+            catalog,
+            assertions,
+            rows,
+        } = self;
+        View::load(alloc, catalog, assertions, rows.as_slice())
     }
 
     /// No table and no assertion.
@@ -166,21 +191,45 @@ impl Definitions {
 
     /// INSERT: no assertion is looked at.
     fn with_row(self, alloc: Global, insert: &Insert) -> Result<Definitions, Refusal>
-        ensures taken { IfOk result (λ made. with_row insert.now self ≡ Ok made) }
-        ensures refused { IfErr result (λ refusal. refusal ≢ NoMemory → with_row insert.now self ≡ Err refusal) }
+        ensures taken { IfOk result (λ made. inserted self insert.now ≡ Ok made) }
+        ensures refused { IfErr result (λ refusal. refusal ≢ NoMemory → inserted self insert.now ≡ Err refusal) }
     {
         let NewRow { table, row } = check_insert(alloc, &self.catalog, insert)?;
+        let change = self.insertion(&insert.table, table, row)?;
+        self.with_change(&change)
+    }
+
+    /// The change that puts a row into the table at a place, which has this name.
+    fn insertion(&self, name: &Text, table: usize, row: Row) -> Result<Change, Refusal>
+        requires { table < length self.now.tables }
+        ensures made { IfOk result (λ change. insertion_of name.now table (layout_at table (layouts_of self.now.tables)) (rows_of table self.now.state) row ≡ Ok change) }
+        ensures refused { IfErr result (λ refusal. refusal ≢ NoMemory → insertion_of name.now table (layout_at table (layouts_of self.now.tables)) (rows_of table self.now.state) row ≡ Err refusal) }
+        ensures is { IfOk result (λ change. IsChangeOf (layouts_of self.now.tables) change self.now.state) }
+        ensures fits { IfOk result (IsFitting (layouts_of self.now.tables)) }
+    {
+        insertion(
+            name,
+            table,
+            schema_at(&self.catalog, table),
+            &self.rows[table],
+            row,
+        )
+    }
+
+    /// These with a change of one row.
+    fn with_change(self, change: &Change) -> Result<Definitions, Refusal>
+        requires is { IsChangeOf (layouts_of self.tables) change.now self.state }
+        requires fits { IsFitting (layouts_of self.tables) change.now }
+        ensures only_memory { IsOkUnless result NoMemory }
+        ensures changed { IfOk result (λ made. made ≡ record self { state = state_after (layouts_of self.tables) change.now self.state }) }
+    {
         let Definitions {
             catalog,
             assertions,
             mut rows,
         } = self;
-        let Some(schema) = catalog.get(&insert.table) else {
-            return Err(Refusal::UnknownName {
-                name: insert.table.copy()?,
-            });
-        };
-        rows[table] = with_new_row(&insert.table, schema, &rows[table], row)?;
+        let key = schema_at(&catalog, change.table).key();
+        rows[change.table] = rows[change.table].with(key, change)?;
         Ok(Definitions {
             catalog,
             assertions,
@@ -194,28 +243,4 @@ fn is_asserted(assertions: &[Assertion], name: &Text) -> bool
     ensures { result ≡ is_asserted name.now assertions.now }
 {
     assertions.iter().any(|assertion| assertion.name == *name)
-}
-
-/// The rows of a table with one more under its key, if it may stand there and none does.
-fn with_new_row(name: &Text, schema: &Schema, rows: &Rows, row: Row) -> Result<Rows, Refusal>
-    ensures made { IfOk result (λ made. with_new_row name.now schema.now rows.now row ≡ Ok made) }
-    ensures refused { IfErr result (λ refusal. refusal ≢ NoMemory → with_new_row name.now schema.now rows.now row ≡ Err refusal) }
-{
-    schema.admits(&row)?;
-    let key = row.value(schema.key()).copy()?;
-    if rows.get(schema.key(), &key).is_some() {
-        return Err(Refusal::DuplicateKey {
-            table: name.copy()?,
-            key,
-        });
-    }
-    rows.with(
-        schema.key(),
-        &Change {
-            table: 0,
-            key,
-            old: None,
-            new: Some(row),
-        },
-    )
 }

@@ -1,17 +1,31 @@
--- What contracts see of a view, and which rows may be put into it.
-use Rattle.std.specs.Prelude.{List, Option}
-use Rattle.value.specs.declared.values.Value.{Value}
-use Rattle.value.specs.ValueOrder.{value_cmp}
-use Rattle.value.specs.Ordered as ordered
-use Rattle.table.specs.Rows.{RowValues, Layout, FitsColumns, value_in}
-use Rattle.delta.specs.declared.assertions.Assertion.{Assertion}
+-- What contracts see of a view, and what may be put into it.
+use Rattle.std.specs.Prelude.{◌≡◌, ℕ, List, [], All, length, slice_index_or}
+use Rattle.value.specs.Ordered.{HoldsOf}
+use Rattle.table.specs.declared.rows.Change.{Change}
+use Rattle.table.specs.Rows.{Layout, Tables, FitsColumns, IsTable}
+use Rattle.assertion.specs.declared.assertions.Assertion.{Assertion}
+use Rattle.assertion.specs.Bounded.{IsBounded}
+use Rattle.assertion.specs.Meaning.{State, rows_of}
 
--- a view: the columns, the assertion and the plain rows
+-- a view: the tables that there are, the assertions on them, and the rows of each table
 pub record Shown : Type 0 where
-  pub layout : Layout
-  pub assertion : Assertion
-  pub rows : List RowValues
+  pub tables : Tables
+  pub assertions : List Assertion
+  pub state : State
 
--- a row, if there is one, may stand under this key of a table: it fits the columns, and has the key
-abbrev pub IsRowFor : Layout → Value → Option RowValues → Type 0
-IsRowFor layout k new = ordered.HoldsOf (FitsColumns layout.columns) new × ordered.HasKey value_cmp (value_in layout.key) k new
+-- what the table at a place shows of its columns
+abbrev pub layout_at : ℕ → List Layout → Layout
+layout_at table layouts = slice_index_or layouts table (record { columns = []; key = 0 })
+
+-- for each layout there are the rows of a table of it
+pub record AreTables (layouts : List Layout) (state : State) : Type 0 where
+  pub long : length state ≡ length layouts
+  pub each : (table : ℕ) → IsTable (layout_at table layouts) (rows_of table state)
+
+-- the new row of a change, if there is one, fits the columns of its table
+abbrev pub IsFitting : List Layout → Change → Type 0
+IsFitting layouts change = HoldsOf (FitsColumns (layout_at change.table layouts).columns) change.new
+
+-- each assertion is evaluated without overflow
+abbrev pub AreBounded : List Assertion → Type 0
+AreBounded assertions = All (λ a. IsBounded a.form) assertions

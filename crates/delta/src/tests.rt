@@ -1,55 +1,184 @@
-//! That calls succeed, and verdicts counted by hand.
+//! That calls succeed, and verdicts found by hand.
 
-ghost use Rattle.std.specs.Prelude.{◌≡◌, IfOk};
+ghost use Rattle.std.specs.Prelude.{◌≡◌, ◌<◌, ◌∷◌, [], length, IfOk};
 ghost use Rattle.table.specs.Rows.{row_at};
+ghost use Rattle.assertion.specs.Bounded.{IsBounded};
+ghost use Rattle.assertion.specs.Meaning.{rows_of};
+ghost use Rattle.value.specs.declared.values.Value.TheVariants as values;
+ghost use Rattle.delta.specs.Views.{AreBounded};
 
 use super::*;
-use crate::puts::copy_rows;
+use assertion::{Assertion, ConstraintAttributes, Form, Linked, Plain};
+use cond::{Cond, Expr};
+use mvrows::Rows;
+use sqlite_items::Items;
 use std::alloc::Global;
 use std::test::Fail;
-use table::{Change, Column, Row, Schema};
+use table::{Aggregate, Catalog, Change, Column, Row, Schema};
 use threeval::Truth;
 use value::{ColType, Comparison, Refusal, Root, Text, Value};
 
-fn column(alloc: Global, name: &str, is_key: bool) -> Result<Column, Refusal> {
+fn column(alloc: Global, name: &str, kind: ColType, is_key: bool) -> Result<Column, Refusal> {
     Ok(Column {
         name: Text::from_str(alloc, name)?,
-        kind: ColType::Integer,
+        kind,
         nullable: !is_key,
         is_key,
     })
 }
 
-/// A view without rows, of an INTEGER key and an INTEGER column by which the assertion groups.
-fn empty_view(alloc: Global, comparison: Comparison, number: u64) -> Result<View, Refusal> {
+/// ACCOUNT (ID INTEGER, OWNER VARCHAR(3), BAL INTEGER), with the key ID.
+fn schema(alloc: Global) -> Result<Schema, Refusal> {
     let mut columns = Vec::new(alloc);
-    columns.push(column(alloc, "ID", true)?)?;
-    columns.push(column(alloc, "SHIFT", false)?)?;
-    let assertion = Assertion {
-        name: Text::from_str(alloc, "A")?,
-        column: 1,
-        comparison,
-        number,
-    };
-    View::load(alloc, Schema::new(columns, 0), assertion, Vec::new(alloc))
+    columns.push(column(alloc, "ID", ColType::Integer, true)?)?;
+    columns.push(column(alloc, "OWNER", ColType::Varchar(3), false)?)?;
+    columns.push(column(alloc, "BAL", ColType::Integer, false)?)?;
+    Ok(Schema::new(columns, 0))
 }
 
-/// What stands under a key.
-fn old_row(view: &View, key: &Value) -> Result<Option<Row>, Refusal>
-    ensures { IfOk result (λ old. row_at view.now.layout.key key.now view.now.rows ≡ old) }
+/// A row of that table; without an owner's name the owner is NULL.
+fn row(alloc: Global, id: i64, owner: &str, balance: i64) -> Result<Row, Refusal> {
+    let owner = if owner.is_empty() {
+        Value::Null
+    } else {
+        Value::Text(Text::from_str(alloc, owner)?)
+    };
+    Ok(Row::new(vec![in alloc; Value::Int(id), owner, Value::Int(balance)]?))
+}
+
+/// A list of one item.
+fn one<T: Drop>(alloc: Global, item: T) -> Result<Items<T>, Refusal>
+    ensures { IfOk result (λ items. items ≡ item ∷ []) }
 {
-    match view.row(key) {
+    let mut items = Vec::new(alloc);
+    items.push(item)?;
+    Ok(Items::from_vec(items))
+}
+
+/// What slot 0 holds, beside a number.
+fn slot_beside(comparison: Comparison, number: i64) -> Cond
+    ensures { result ≡ Cond.Compare comparison (Expr.Slot 0) (Expr.Literal (values.Int number)) }
+{
+    Cond::Compare(comparison, Expr::Slot(0), Expr::Literal(Value::Int(number)))
+}
+
+/// No owner's least balance is above 5.
+fn high(alloc: Global) -> Result<Form, Refusal>
+    ensures { IfOk result (λ form. IsBounded form) }
+{
+    Ok(Form::ByGroup {
+        table: 0,
+        kept: Cond::And(Items::new(alloc)),
+        group: 1,
+        having: slot_beside(Comparison::Greater, 5),
+        aggregates: one(alloc, Aggregate::Min(2))?,
+    })
+}
+
+/// The sum of the balances above 100 is at most 300.
+fn few(alloc: Global) -> Result<Form, Refusal>
+    ensures { IfOk result (λ form. IsBounded form) }
+{
+    let large = Plain {
+        table: 0,
+        kept: Cond::Compare(
+            Comparison::Greater,
+            Expr::Column(2),
+            Expr::Literal(Value::Int(100)),
+        ),
+        aggregate: Aggregate::Sum(2),
+    };
+    Ok(Form::Single {
+        condition: slot_beside(Comparison::AtMost, 300),
+        queries: one(alloc, large)?,
+    })
+}
+
+/// No account's number is the balance of two.
+fn own(alloc: Global) -> Result<Form, Refusal>
+    ensures { IfOk result (λ form. IsBounded form) }
+{
+    let linked = Linked {
+        table: 0,
+        kept: Cond::And(Items::new(alloc)),
+        link: 2,
+        aggregate: Aggregate::CountRows,
+    };
+    Ok(Form::ByRow {
+        table: 0,
+        condition: slot_beside(Comparison::AtLeast, 2),
+        queries: one(alloc, linked)?,
+    })
+}
+
+/// An assertion of this form.
+fn named(alloc: Global, name: &str, form: Form) -> Result<Assertion, Refusal>
+    ensures { IfOk result (λ assertion. assertion.form ≡ form) }
+{
+    Ok(Assertion {
+        name: Text::from_str(alloc, name)?,
+        attributes: ConstraintAttributes {
+            deferrable: false,
+            initially_deferred: false,
+        },
+        form,
+    })
+}
+
+/// An assertion of each form, in the order by groups, single, by rows.
+fn assertions(alloc: Global) -> Result<Vec<Assertion>, Refusal>
+    ensures bounded { IfOk result (λ made. AreBounded made.items) }
+    ensures three { IfOk result (λ made. length made.items ≡ 3) }
+{
+    let mut made = Vec::new(alloc);
+    made.push(named(alloc, "HIGH", high(alloc)?)?)?;
+    made.push(named(alloc, "FEW", few(alloc)?)?)?;
+    made.push(named(alloc, "OWN", own(alloc)?)?)?;
+    Ok(made)
+}
+
+/// The view of a table of this row alone.
+fn view_of(alloc: Global, row: Row) -> Result<View, Refusal>
+    ensures three { IfOk result (λ view. length view.assertions ≡ 3) }
+    ensures one { IfOk result (λ view. length view.state ≡ 1) }
+{
+    let schema = schema(alloc)?;
+    schema.admits(&row)?;
+    let key = row.value(schema.key()).copy()?;
+    let change = Change {
+        table: 0,
+        key,
+        old: None,
+        new: Some(row),
+    };
+    let mut tables = Vec::new(alloc);
+    tables.push(Rows::new(alloc).with(schema.key(), &change)?)?;
+    let mut catalog = Catalog::new(alloc);
+    catalog.add(Text::from_str(alloc, "ACCOUNT")?, schema)?;
+    View::load(alloc, catalog, assertions(alloc)?, &tables)
+}
+
+/// What stands under a key of the only table, which has this schema.
+fn old_row(view: &View, schema: &Schema, key: &Value) -> Result<Option<Row>, Refusal>
+    requires { 0 < length view.now.state }
+    ensures { IfOk result (λ old. row_at schema.now.key key.now (rows_of 0 view.now.state) ≡ old) }
+{
+    match view.rows(0).get(schema.key(), key) {
         Some(row) => Ok(Some(row.copy()?)),
         None => Ok(None),
     }
 }
 
-/// The view with the row (id, shift), in place of the row of that id.
-fn put(alloc: Global, view: &View, id: i64, shift: Option<i64>) -> Result<View, Refusal> {
-    let row = Row::new(vec![in alloc; Value::Int(id), shift.map_or(Value::Null, Value::Int)]?);
-    view.schema().admits(&row)?;
-    let key = row.value(view.schema().key()).copy()?;
-    let old = old_row(view, &key)?;
+/// The view with the row in place of the one under its key.
+fn put(view: &View, row: Row) -> Result<View, Refusal>
+    ensures { IfOk result (λ after. after.assertions ≡ view.now.assertions) }
+{
+    let Some(schema) = view.catalog().at(0) else {
+        return view.copy();
+    };
+    schema.admits(&row)?;
+    let key = row.value(schema.key()).copy()?;
+    let old = old_row(view, schema, &key)?;
     view.with(&Change {
         table: 0,
         key,
@@ -58,10 +187,15 @@ fn put(alloc: Global, view: &View, id: i64, shift: Option<i64>) -> Result<View, 
     })
 }
 
-/// The view without the row of this id.
-fn remove(view: &View, id: i64) -> Result<View, Refusal> {
+/// The view without the row of this number.
+fn remove(view: &View, id: i64) -> Result<View, Refusal>
+    ensures { IfOk result (λ after. after.assertions ≡ view.now.assertions) }
+{
+    let Some(schema) = view.catalog().at(0) else {
+        return view.copy();
+    };
     let key = Value::Int(id);
-    let old = old_row(view, &key)?;
+    let old = old_row(view, schema, &key)?;
     view.with(&Change {
         table: 0,
         key,
@@ -70,81 +204,54 @@ fn remove(view: &View, id: i64) -> Result<View, Refusal> {
     })
 }
 
-/// A view into which these rows were put, one after the other.
-fn view_of(
-    alloc: Global,
-    comparison: Comparison,
-    number: u64,
-    rows: &[(i64, Option<i64>)],
-) -> Result<View, Refusal> {
-    let mut view = empty_view(alloc, comparison, number)?;
-    for (id, shift) in rows {
-        view = put(alloc, &view, *id, *shift)?;
-    }
-    Ok(view)
-}
-
-/// The view of the same rows, counted afresh.
-fn reloaded(alloc: Global, view: &View) -> Result<View, Refusal> {
-    let rows = copy_rows(alloc, view.rows())?;
-    View::load(alloc, view.schema().copy()?, view.assertion().copy()?, rows)
-}
-
-/// Whether the view is true, or false with this as its least bad root.
-fn has_least_bad(view: &View, root: Option<Value>) -> bool {
-    match (root, view.least_bad()) {
-        (None, None) => view.verdict() == Truth::True,
-        (Some(value), Some(Root::Of(least))) => view.verdict() == Truth::False && *least == value,
-        (None, Some(_)) | (Some(_), None) | (Some(_), Some(Root::All)) => false,
-    }
+/// The verdicts in order.
+fn verdicts(view: &View) -> (Truth, Truth, Truth)
+    requires { length view.now.assertions ≡ 3 }
+{
+    (view.verdict(0), view.verdict(1), view.verdict(2))
 }
 
 #[test]
-fn emptied_groups_vanish(rt: HostRuntime) -> Result<(), Fail> {
-    let one = view_of(
-        rt.alloc(),
-        Comparison::Less,
-        1,
-        &[(1, Some(7)), (1, Some(8))],
-    )?;
-    assert!(rt; has_least_bad(&one, None));
-    assert!(rt; has_least_bad(&remove(&one, 1)?, None));
-    Ok(())
-}
-
-#[test]
-fn rows_move_between_groups(rt: HostRuntime) -> Result<(), Fail> {
-    let rows = [(1, Some(7)), (2, Some(7)), (3, Some(8)), (2, Some(8))];
-    let moved = view_of(rt.alloc(), Comparison::Greater, 1, &rows)?;
-    assert!(rt; has_least_bad(&moved, Some(Value::Int(8))));
-    assert!(rt; has_least_bad(&remove(&moved, 3)?, None));
-    Ok(())
-}
-
-#[test]
-fn nulls_are_one_group_and_the_least(rt: HostRuntime) -> Result<(), Fail> {
+fn least_balance_removed(rt: HostRuntime) -> Result<(), Fail> {
     let alloc = rt.alloc();
-    let rows = [
-        (1, Some(9)),
-        (2, None),
-        (3, Some(7)),
-        (4, Some(7)),
-        (5, Some(9)),
-    ];
-    let view = view_of(alloc, Comparison::AtLeast, 2, &rows)?;
-    assert!(rt; has_least_bad(&view, Some(Value::Int(7))));
-    let more = put(alloc, &view, 6, None)?;
-    assert!(rt; has_least_bad(&more, Some(Value::Null)));
+    let one = view_of(alloc, row(alloc, 1, "KIM", 3)?)?;
+    let two = put(&one, row(alloc, 2, "KIM", 4)?)?;
+    let three = put(&two, row(alloc, 3, "KIM", 9)?)?;
+    assert!(rt; three.verdict(0) == Truth::True && three.least_bad(0).is_none());
+    let fewer = remove(&remove(&three, 1)?, 2)?;
+    let kim = Root::Of(Value::Text(Text::from_str(alloc, "KIM")?));
+    assert!(rt; fewer.least_bad(0) == Some(&kim));
+    assert_eq!(rt; fewer.first_false(), Some(0));
     Ok(())
 }
 
 #[test]
-fn views_are_copied_and_reloaded(rt: HostRuntime) -> Result<(), Fail> {
+fn sum_of_nothing_is_unknown(rt: HostRuntime) -> Result<(), Fail> {
     let alloc = rt.alloc();
-    let view = view_of(alloc, Comparison::Equal, 1, &[(1, Some(7)), (2, None)])?;
-    let again = reloaded(alloc, &view.copy()?)?;
-    assert!(rt; has_least_bad(&again, Some(Value::Null)));
-    assert_eq!(rt; again.rows().len(), 2);
-    assert!(rt; again.row(&Value::Int(1)).is_some());
+    let one = view_of(alloc, row(alloc, 2, "", 2)?)?;
+    assert_eq!(rt; verdicts(&one), (Truth::True, Truth::Unknown, Truth::True));
+    let more = put(&one, row(alloc, 9, "", 2)?)?;
+    assert!(rt; more.least_bad(2) == Some(&Root::Of(Value::Int(2))));
+    let moved = put(&more, row(alloc, 9, "", 301)?)?;
+    assert_eq!(rt; verdicts(&moved), (Truth::True, Truth::False, Truth::True));
+    assert!(rt; moved.least_bad(1) == Some(&Root::All));
+    Ok(())
+}
+
+#[test]
+fn null_group(rt: HostRuntime) -> Result<(), Fail> {
+    let alloc = rt.alloc();
+    let view = view_of(alloc, row(alloc, 7, "", 6)?)?.copy()?;
+    assert!(rt; view.least_bad(0) == Some(&Root::Of(Value::Null)));
+    assert_eq!(rt; view.catalog().len(), 1);
+    assert_eq!(rt; view.assertions().len(), 3);
+    let mut changes = Vec::new(alloc);
+    changes.push(Change {
+        table: 0,
+        key: Value::Int(7),
+        old: Some(row(alloc, 7, "", 6)?),
+        new: None,
+    })?;
+    assert!(rt; view.candidates(0, &changes)?[..] == [Root::Of(Value::Null)]);
     Ok(())
 }

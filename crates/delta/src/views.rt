@@ -1,89 +1,162 @@
-//! A table with the verdict of an assertion kept.
+//! Versions of the tables, with the verdicts of the assertions kept.
 
-ghost use Rattle.std.specs.Prelude.{◌≡◌, ◌<◌, length, IfOk, IsOkUnless};
+ghost use Rattle.std.specs.Prelude.{◌≡◌, ◌<◌, ◌++◌, ◌∷◌, [], Some, None, length, position, slice_index_or, slice_set, IfOk, IfSome, IsOkUnless};
 ghost use Rattle.std.specs.Option.{option_copied};
-ghost use Rattle.table.specs.Rows.{IsTable, row_at, put_row};
 ghost use Rattle.value.specs.declared.refusals.Refusal.TheVariants.{NoMemory};
-ghost use Rattle.delta.specs.Meaning.{verdict_of, least_bad_of};
-ghost use Rattle.delta.specs.Views.{IsRowFor};
+ghost use Rattle.table.specs.Rows.{FitsColumns, IsTable, layouts_of, value_in};
+ghost use Rattle.threeval.specs.Truths.{is_of};
+ghost use Rattle.threeval.specs.declared.Truth.TheVariants.{False};
+ghost use Rattle.assertion.specs.declared.assertions.Assertion.{Assertion as AnyAssertion};
+ghost use Rattle.assertion.specs.Candidates.{candidates_of};
+ghost use Rattle.assertion.specs.Meaning.{least_bad_of, rows_of, verdict_of};
+ghost use Rattle.assertion.specs.Roots.{IsChangeOf, state_after};
+ghost use Rattle.roots.specs.Kept.{IsEmptyState};
+ghost use Rattle.delta.specs.Views.{AreBounded, AreTables, IsFitting, layout_at};
 
-use crate::assertions::Assertion;
-use crate::puts::{copy_rows, find_row, with_row};
-use crate::tallies::Tally;
+use crate::declarations::{Declarations, schemas_of};
+use crate::versions::{
+    copy_tables, copy_watches, tables_after, tables_at_start, watches_after, watches_at_start,
+};
+use crate::watches::{Watch, first_false};
+use assertion::Assertion;
+use mvrows::Rows;
+use roots::candidates;
 use std::alloc::Global;
 use std::marker::Model;
-use table::{Change, Row, Schema};
+use std::sync::Arc;
+use table::{Catalog, Change, Row, Schema};
 use threeval::Truth;
-use value::{Refusal, Root, Value};
+use value::{Refusal, Root};
 
-/// A table's rows, with the verdict of an assertion on them kept. It never changes.
-#[derive(Debug, Drop)]
+/// The rows of each table, with the verdicts of the assertions on them kept. It never changes.
+#[derive(Drop)]
 pub struct View {
-    schema: Schema,
-    assertion: Assertion,
-    rows: Vec<Row>,
-    tally: Tally,
+    declarations: Arc<Declarations, Global>,
+    tables: Vec<Rows>,
+    /// One for each assertion.
+    watches: Vec<Watch>,
 }
 
 impl Model for View {
+    ghost use Rattle.std.specs.Arc.{arc_value};
+    ghost use Rattle.std.specs.Coded.{codes};
+    ghost use Rattle.cond.specs.contracts.conds.Cond as cond_type;
+    ghost use Rattle.cond.specs.contracts.exprs.Expr as expr_type;
     ghost use Rattle.delta.specs.Kept.{IsKept};
     ghost use Rattle.delta.specs.Views.{Shown};
 
     ghost Value = { Shown };
 
-    ghost view = { λ v. record { layout = v.schema; assertion = v.assertion; rows = v.rows.items } };
+    ghost coded = { Prim.hlevel (codes, cond_type.the_row.coded, expr_type.the_row.coded) };
 
-    ghost invariant = { λ v. IsKept v.schema v.assertion v.rows.items v.tally };
+    ghost view = { λ v. record { tables = (arc_value v.declarations).catalog; assertions = (arc_value v.declarations).assertions.items; state = v.tables.items } };
+
+    ghost invariant = { λ v. IsKept (arc_value v.declarations).catalog (arc_value v.declarations).schemas.items (arc_value v.declarations).assertions.items v.tables.items v.watches.items };
 }
 
 impl View {
-    /// The view of these rows, which are a table of the schema. Only memory can fail.
+    /// The view of these tables, one for each of the catalog, in its order.
     pub fn load(
         alloc: Global,
-        schema: Schema,
-        assertion: Assertion,
-        rows: Vec<Row>,
+        catalog: Catalog,
+        assertions: Vec<Assertion>,
+        rows: &[Rows],
     ) -> Result<View, Refusal>
-        requires table { IsTable schema rows.items }
-        requires column_in { assertion.column < length schema.columns }
+        requires bounded { AreBounded assertions.items }
+        requires tables { AreTables (layouts_of catalog) rows.now }
         ensures only_memory { IsOkUnless result NoMemory }
-        ensures loaded { IfOk result (λ view. view ≡ record { layout = schema; assertion = assertion; rows = rows.items }) }
+        ensures loaded { IfOk result (λ view. view ≡ record { tables = catalog; assertions = assertions.items; state = rows.now }) }
     {
-        let mut tally = Tally::new(alloc);
-        for row in &rows {
-            tally = tally.with_one(&assertion, row)?;
+        let mut view = View::start(alloc, catalog, assertions)?;
+        for table in 0..rows.len() {
+            view = view.with_table(table, &rows[table])?;
         }
+        Ok(view)
+    }
+
+    /// The view with these rows in a table that has none.
+    fn with_table(self, table: usize, rows: &Rows) -> Result<View, Refusal>
+        requires table_in { table < length self.state }
+        requires empty { rows_of table self.state ≡ [] }
+        requires table { IsTable (layout_at table (layouts_of self.tables)) rows.now }
+        ensures only_memory { IsOkUnless result NoMemory }
+        ensures filled { IfOk result (λ view. view ≡ record self { state = slice_set self.state table rows.now }) }
+    {
+        let mut view = self;
+        for row in rows.as_slice() {
+            view = view.with_row(table, row)?;
+        }
+        Ok(view)
+    }
+
+    /// The view with one more row, whose key is above those of a table.
+    fn with_row(&self, table: usize, row: &Row) -> Result<View, Refusal>
+        requires table_in { table < length self.now.state }
+        requires table { IsTable (layout_at table (layouts_of self.now.tables)) (rows_of table self.now.state ++ row.now ∷ []) }
+        ensures only_memory { IsOkUnless result NoMemory }
+        ensures added { IfOk result (λ view. view ≡ record self.now { state = slice_set self.now.state table (rows_of table self.now.state ++ row.now ∷ []) }) }
+    {
+        let change = insertion(table, self.schema(table), row)?;
+        self.with(&change)
+    }
+
+    /// The schema of a table.
+    fn schema(&self, table: usize) -> &Schema
+        requires { table < length self.now.state }
+        ensures { result.now ≡ layout_at table (layouts_of self.now.tables) }
+    {
+        &self.declarations.schemas[table]
+    }
+
+    /// The view of tables without rows.
+    fn start(alloc: Global, catalog: Catalog, assertions: Vec<Assertion>) -> Result<View, Refusal>
+        requires bounded { AreBounded assertions.items }
+        ensures only_memory { IsOkUnless result NoMemory }
+        ensures tables { IfOk result (λ view. view.tables ≡ catalog) }
+        ensures assertions { IfOk result (λ view. view.assertions ≡ assertions.items) }
+        ensures long { IfOk result (λ view. length view.state ≡ length (layouts_of catalog)) }
+        ensures empty { IfOk result (λ view. IsEmptyState view.state) }
+    {
+        let schemas = schemas_of(alloc, &catalog)?;
+        let tables = tables_at_start(alloc, &schemas)?;
+        let watches = watches_at_start(alloc, &assertions)?;
+        let declarations = Declarations {
+            catalog,
+            schemas,
+            assertions,
+        };
         Ok(View {
-            schema,
-            assertion,
-            rows,
-            tally,
+            declarations: Arc::new(alloc, declarations)?,
+            tables,
+            watches,
         })
     }
 
     /// The view after a change of one row. The change names what stands under its key now, and this view stays as it
-    /// is; which table it names is not looked at. Only memory can fail.
+    /// is. Only memory can fail.
     pub fn with(&self, change: &Change) -> Result<View, Refusal>
-        requires stands { row_at self.now.layout.key change.now.key self.now.rows ≡ change.now.old }
-        requires fits { IsRowFor self.now.layout change.now.key change.now.new }
+        requires is { IsChangeOf (layouts_of self.now.tables) change.now self.now.state }
+        requires fits { IsFitting (layouts_of self.now.tables) change.now }
         ensures only_memory { IsOkUnless result NoMemory }
-        ensures changed { IfOk result (λ view. view ≡ record self.now { rows = put_row self.now.layout.key change.now.key change.now.new self.now.rows }) }
+        ensures changed { IfOk result (λ view. view ≡ record self.now { state = state_after (layouts_of self.now.tables) change.now self.now.state }) }
     {
-        let alloc = *self.rows.allocator();
-        let rows = with_row(
+        let alloc = *self.tables.allocator();
+        let declarations = Arc::try_clone(&self.declarations)?;
+        let schemas = &self.declarations.schemas;
+        let tables = tables_after(alloc, schemas, &self.tables, change)?;
+        let watches = watches_after(
             alloc,
-            &self.rows,
-            self.schema.key(),
-            &change.key,
-            &change.new,
+            schemas,
+            &self.tables,
+            &tables,
+            &self.declarations.assertions,
+            &self.watches,
+            change,
         )?;
-        let fewer = self.tally.less(&self.assertion, &change.old)?;
-        let tally = fewer.more(&self.assertion, &change.new)?;
         Ok(View {
-            schema: self.schema.copy()?,
-            assertion: self.assertion.copy()?,
-            rows,
-            tally,
+            declarations,
+            tables,
+            watches,
         })
     }
 
@@ -92,57 +165,90 @@ impl View {
         ensures only_memory { IsOkUnless result NoMemory }
         ensures equal { IfOk result (λ copy. copy ≡ self.now) }
     {
+        let alloc = *self.tables.allocator();
         Ok(View {
-            schema: self.schema.copy()?,
-            assertion: self.assertion.copy()?,
-            rows: copy_rows(*self.rows.allocator(), &self.rows)?,
-            tally: self.tally.copy()?,
+            declarations: Arc::try_clone(&self.declarations)?,
+            tables: copy_tables(alloc, &self.tables)?,
+            watches: copy_watches(alloc, &self.watches)?,
         })
     }
 
-    pub fn schema(&self) -> &Schema
-        ensures { result.now ≡ self.now.layout }
+    /// The tables that there are.
+    pub fn catalog(&self) -> &Catalog
+        ensures value { result.now ≡ self.now.tables }
+        ensures tables { AreTables (layouts_of self.now.tables) self.now.state }
     {
-        &self.schema
+        &self.declarations.catalog
     }
 
-    /// The assertion. Its column is one of the table's.
-    pub fn assertion(&self) -> &Assertion
-        ensures value { result.now ≡ self.now.assertion }
-        ensures column_in { self.now.assertion.column < length self.now.layout.columns }
+    /// The assertions on the tables.
+    pub fn assertions(&self) -> &[Assertion]
+        ensures value { result.now ≡ self.now.assertions }
+        ensures bounded { AreBounded self.now.assertions }
     {
-        &self.assertion
+        self.declarations.assertions.as_slice()
     }
 
-    /// The rows in key order, each fitting the columns.
-    pub fn rows(&self) -> &[Row]
-        ensures value { result.now ≡ self.now.rows }
-        ensures table { IsTable self.now.layout self.now.rows }
+    /// The rows of a table in key order, each fitting its columns.
+    pub fn rows(&self, table: usize) -> &Rows
+        requires { table < length self.now.state }
+        ensures value { result.now ≡ rows_of table self.now.state }
+        ensures table { IsTable (layout_at table (layouts_of self.now.tables)) result.now }
     {
-        self.rows.as_slice()
+        &self.tables[table]
     }
 
-    /// The row under a key.
-    pub fn row(&self, key: &Value) -> Option<&Row>
-        ensures { option_copied result ≡ row_at self.now.layout.key key.now self.now.rows }
+    /// The roots at which an assertion can be another after these changes than before.
+    pub fn candidates(&self, assertion: usize, changes: &[Change]) -> Result<Vec<Root>, Refusal>
+        requires { assertion < length self.now.assertions }
+        ensures only_memory { IsOkUnless result NoMemory }
+        ensures candidates { IfOk result (λ roots. (a : AnyAssertion)
+            → roots.items ≡ candidates_of changes.now (slice_index_or self.now.assertions assertion a).form) }
     {
-        find_row(&self.rows, self.schema.key(), key)
+        candidates(
+            *self.tables.allocator(),
+            &self.declarations.assertions[assertion].form,
+            changes,
+        )
     }
 
-    /// The assertion's truth on the rows: what evaluating it afresh gives.
-    pub fn verdict(&self) -> Truth
-        ensures { result ≡ verdict_of self.now.assertion self.now.rows }
+    /// The truth of an assertion on the tables: what evaluating it afresh gives.
+    pub fn verdict(&self, assertion: usize) -> Truth
+        requires { assertion < length self.now.assertions }
+        ensures { (a : AnyAssertion)
+            → result ≡ verdict_of (layouts_of self.now.tables) (slice_index_or self.now.assertions assertion a).form self.now.state }
     {
-        match self.least_bad() {
-            None => Truth::True,
-            Some(_) => Truth::False,
-        }
+        self.watches[assertion].truth
     }
 
-    /// The least root at which the assertion is false, if it is false.
-    pub fn least_bad(&self) -> Option<&Root>
-        ensures { option_copied result ≡ least_bad_of self.now.assertion self.now.rows }
+    /// The first assertion that is false, in their order. What is unknown is not false.
+    pub fn first_false(&self) -> Option<usize>
+        ensures first { result ≡ position (λ a. is_of (verdict_of (layouts_of self.now.tables) a.form self.now.state) False) self.now.assertions }
+        ensures within { IfSome result (λ assertion. assertion < length self.now.assertions) }
     {
-        self.tally.bad.first()
+        first_false(&self.watches)
     }
+
+    /// The least root at which an assertion is false, if it is false.
+    pub fn least_bad(&self, assertion: usize) -> Option<&Root>
+        requires { assertion < length self.now.assertions }
+        ensures { (a : AnyAssertion)
+            → option_copied result ≡ least_bad_of (layouts_of self.now.tables) (slice_index_or self.now.assertions assertion a).form self.now.state }
+    {
+        self.watches[assertion].bad.first()
+    }
+}
+
+/// That this row is put into a table, under a key where none stands.
+fn insertion(table: usize, schema: &Schema, row: &Row) -> Result<Change, Refusal>
+    requires { FitsColumns schema.now.columns row.now }
+    ensures only_memory { IsOkUnless result NoMemory }
+    ensures change { IfOk result (λ change. change ≡ record { table = table; key = value_in schema.now.key row.now; old = None; new = Some row.now }) }
+{
+    Ok(Change {
+        table,
+        key: row.value(schema.key()).copy()?,
+        old: None,
+        new: Some(row.copy()?),
+    })
 }

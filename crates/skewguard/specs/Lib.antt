@@ -1,6 +1,2 @@
-pub mod Report
-pub mod Definitions
-pub mod Statements
-pub mod Sessions
+pub mod Lines
 pub mod Replay
-pub mod Transactions

@@ -1,31 +1,47 @@
 -- What the engine writes for two texts, and what it answers where it writes nothing.
-use Rattle.std.specs.Prelude.{◌≡◌, ℕ, List, Option, Ok, Err, ◌⊎◌}
+use Rattle.std.specs.Prelude.{◌≡◌, ℕ, List, Option, Ok, Err, length, false, ◌⊎◌}
 use Rattle.std.specs.Io.KnownBytes.{Appends}
 use Rattle.value.specs.declared.refusals.Refusal.{Refusal}
-use Rattle.subset_grammar.specs.declared.definitions.Schema.{Schema}
-use Rattle.subset_grammar.specs.declared.scripts.Step.{Step}
-use Rattle.subset_grammar.specs.Grammar.{IsSchema, IsScript}
-use Rattle.subset_grammar.specs.Lexemes.{lexemes}
-use Rattle.subset_grammar.specs.Texts.{Refused}
-use Rattle.skewguard.specs.declared.definitions.Database.{Database}
+use Rattle.value.specs.declared.refusals.Refusal.TheVariants.{OutsideClass}
+use Rattle.reading.specs.Language.{Language}
+use Rattle.reading.specs.Lexemes.{lexemes}
+use Rattle.reading.specs.Answer.{Fits}
+use Rattle.statement_syntax.specs.declared.definitions.Definition.{Definition}
+use Rattle.statement_syntax.specs.declared.statements.Step.{Step}
+use Rattle.statement_syntax.specs.SchemaGrammar.{IsSchema, IsScript}
+use Rattle.parse.specs.Told.{Refused, most_open}
+use Rattle.delta.specs.Views.{Shown}
+use Rattle.commit.specs.Admission.{admitted}
 use Rattle.skewguard.specs.declared.replay.ProgramFault.{ProgramFault}
 use Rattle.skewguard.specs.declared.replay.ProgramFault.TheVariants.{Defs, Script, Output}
-use Rattle.skewguard.specs.Definitions.{defined}
-use Rattle.skewguard.specs.Sessions.{report}
+use Rattle.skewguard.specs.Lines.{is_one_session, report}
 
--- the two texts are read: each has the tree that the grammar gives it
-pub record AreRead (defs script : List ℕ) (schema : Schema) (steps : List Step) : Type 0 where
-  pub defs_read : IsSchema (lexemes defs) schema
-  pub script_read : IsScript (lexemes script) steps
+-- a text has a tree by its grammar, and no parenthesis opens while too many are open
+pub record IsRead {A : Type 0} (L : Language A) (text : List ℕ) (tree : A) : Type 0 where
+  pub has : L (lexemes text) tree
+  pub shallow : Fits most_open (lexemes text)
+
+-- a text has none, for the reason that the refusal gives
+abbrev pub IsUnread : {A : Type 0} → Language A → List ℕ → Refusal → Type 0
+IsUnread L text refusal = Refused L most_open (lexemes text) (length text) refusal
+
+-- both texts are read
+pub record AreRead (defs script : List ℕ) (definitions : List Definition) (steps : List Step) : Type 0 where
+  pub defs_read : IsRead IsSchema defs definitions
+  pub script_read : IsRead IsScript script steps
+
+-- both texts are read, and the definitions are admitted
+pub record AreAdmitted (defs script : List ℕ) (shown : Shown) (steps : List Step) : Type 0 where
+  pub definitions : List Definition
+  pub read : AreRead defs script definitions steps
+  pub admits : admitted definitions ≡ Ok shown
 
 -- the report of the script on what the definitions define
 pub record IsReport (defs script : List ℕ) (limit : ℕ) (bytes : List ℕ) : Type 0 where
-  pub schema : Schema
+  pub shown : Shown
   pub steps : List Step
-  pub database : Database
-  pub read : AreRead defs script schema steps
-  pub admitted : defined schema ≡ Ok database
-  pub prints : bytes ≡ report database limit steps
+  pub taken : AreAdmitted defs script shown steps
+  pub prints : bytes ≡ report shown limit steps
 
 -- the writer gained the report and nothing else
 pub record WritesReport (defs script : List ℕ) (limit : ℕ) (old new : Option (List ℕ)) : Type 0 where
@@ -33,30 +49,37 @@ pub record WritesReport (defs script : List ℕ) (limit : ℕ) (old new : Option
   pub is : IsReport defs script limit bytes
   pub written : Appends old new bytes
 
--- the definitions are read and taken in
-pub record AreTaken (defs script : List ℕ) : Type 0 where
-  pub schema : Schema
-  pub steps : List Step
-  pub database : Database
-  pub read : AreRead defs script schema steps
-  pub admitted : defined schema ≡ Ok database
-
 -- both texts are read, and the definitions are refused so
 pub record AreRefused (defs script : List ℕ) (refusal : Refusal) : Type 0 where
-  pub schema : Schema
+  pub definitions : List Definition
   pub steps : List Step
-  pub read : AreRead defs script schema steps
-  pub refused : defined schema ≡ Err refusal
+  pub read : AreRead defs script definitions steps
+  pub refused : admitted definitions ≡ Err refusal
 
 -- the definitions are read, and the script is no text of its grammar
 pub record IsNoScript (defs script : List ℕ) (refusal : Refusal) : Type 0 where
-  pub schema : Schema
-  pub defs_read : IsSchema (lexemes defs) schema
-  pub refused : Refused IsScript script refusal
+  pub definitions : List Definition
+  pub defs_read : IsRead IsSchema defs definitions
+  pub refused : IsUnread IsScript script refusal
+
+-- the definitions are admitted, and the script has a second session
+pub record HasSecondSession (defs script : List ℕ) (refusal : Refusal) : Type 0 where
+  pub shown : Shown
+  pub steps : List Step
+  pub taken : AreAdmitted defs script shown steps
+  pub second : is_one_session steps ≡ false
+  pub refused : refusal ≡ OutsideClass
+
+-- the definitions are admitted
+pub record AreTaken (defs script : List ℕ) : Type 0 where
+  pub shown : Shown
+  pub steps : List Step
+  pub taken : AreAdmitted defs script shown steps
 
 -- Why the engine writes nothing, by the first fault in the order of its work: the definitions are no text of their grammar; or they
--- are, and the script is none of its own; or both are read, and the definitions have a fault; or all is well but the writer.
+-- are, and the script is none of its own; or both are read, and the definitions have a fault; or they are admitted, and the script has
+-- a second session; or all is well but the writer.
 abbrev pub IsFirstFault : List ℕ → List ℕ → ProgramFault → Type 0
-IsFirstFault defs script (Defs refusal) = Refused IsSchema defs refusal ⊎ AreRefused defs script refusal
-IsFirstFault defs script (Script refusal) = IsNoScript defs script refusal
+IsFirstFault defs script (Defs refusal) = IsUnread IsSchema defs refusal ⊎ AreRefused defs script refusal
+IsFirstFault defs script (Script refusal) = IsNoScript defs script refusal ⊎ HasSecondSession defs script refusal
 IsFirstFault defs script Output = AreTaken defs script

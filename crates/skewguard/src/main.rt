@@ -1,49 +1,32 @@
 //! skewguard replays transactions on tables that SQL-92 assertions guard.
 //!
-//! An assertion (ISO/IEC 9075:1992, assertion definition) is a rule over whole tables, as "no shift has more than two people on
-//! duty". It is satisfied where its condition is not false. The program is given two texts. The definitions say what there is: a
-//! table, an assertion of the form
+//! An assertion (ISO/IEC 9075:1992, assertion definition) is a rule over whole tables, as "some doctor is on call in every shift" or
+//! "no owner's accounts sum below zero". It is satisfied where its condition is not false. The program is given two texts. The
+//! definitions say what there is: tables, assertions over them, and the rows to begin with. The script says what one session
+//! does: it begins transactions, puts rows in and takes rows out, asks for an assertion's truth, commits and rolls back. The
+//! program prints the reply to each event of the script.
 //!
-//! ```text
-//! NOT EXISTS (SELECT k FROM t GROUP BY k HAVING COUNT(*) cmp number)
-//! ```
+//! [`replay_into`] is the engine, and its contract is the promise of the whole program, from bytes to bytes: where both texts are
+//! read, the definitions are admitted and no growth of memory is refused, the writer gains exactly the lines that `specs/` says;
+//! otherwise it gains nothing, and the answer is the first fault. What that promise stands on, from the bottom up:
 //!
-//! and the rows to begin with. The script says what one session does: it begins transactions, puts rows in and takes rows out, asks
-//! for the assertion's truth, commits and rolls back. The program prints the reply to each line of the script.
+//! * `parse`: a text has the tree that the grammar relates to its tokens, or the stated first fault;
+//! * `definitions` and `commit::admit`: what definitions define, and that no assertion is false on the rows they begin with;
+//! * `txn`: a statement alone. After an INSERT or a DELETE each assertion is evaluated on the rows as they then are; where one is
+//!   false, the statement is refused with that assertion and its least bad root, and leaves the tables as they were;
+//! * `commit::Standing`: a session's transactions, one after the other, each run alone on the tables that the commits before it left;
+//! * `report`: the bytes of each line.
 //!
-//! What a reply has to be is said from scratch, in `specs/`:
+//! All of these definitions evaluate whole lists of rows from scratch. None of them knows a total or a bad root that is kept: that
+//! evaluating afresh and keeping give the same is the promise of the crate `delta`.
 //!
-//! * `Definitions`: what definitions define, or their first fault;
-//! * `Statements`: a statement alone: what it answers, and the state that it leaves. After an INSERT or a DELETE the assertion is
-//!   evaluated on the rows as they then are; where it is false, the statement is refused with the assertion's least bad root, and
-//!   leaves the state as it was;
-//! * `Sessions`: a session's transactions, one after the other, each run alone on the state that the commits before it left;
-//! * `Report`: the bytes of each reply line;
-//! * `Replay`: what all of this makes of two texts of bytes.
-//!
-//! [`replay_into`] is the engine, and its contract is the promise of the whole program: where both texts are read, the definitions
-//! are taken in and no growth of memory is refused, the writer gains exactly those lines; otherwise it gains nothing, and the answer
-//! is the first fault. None of those definitions knows a count that is kept: that evaluating afresh and keeping counts give the same
-//! is the promise of the crate `delta`, on which [`execute`] stands.
-//!
-//! The modules, from the top down: `program` is the command line and the files; `replay` the engine; `sessions` answers one event
-//! after the other; `definitions` takes in what is defined; `statements` runs a statement, `filters` is its condition and `names`
-//! looks names up; `report` makes the lines of `answers`.
+//! The modules, from the top down: `program` is the command line and the files; `replay` the engine.
 //!
 //! [`replay_into`]: replay::replay_into
-//! [`execute`]: statements::execute
 #![tactic(auto)]
 
-mod answers;
-mod definitions;
-mod filters;
-mod laws;
-mod names;
 mod program;
 mod replay;
-mod report;
-mod sessions;
-mod statements;
 #[cfg(test)]
 mod tests;
 

@@ -3,8 +3,8 @@
 ghost use Rattle.std.specs.Prelude.{◌≤◌};
 
 use crate::replay::{ProgramFault, replay_into};
-use crate::report::Report;
 use clap::{Arg, ArgMatches, Command};
+use report::Report;
 use std::alloc::{AllocError, Global};
 use std::io::{ErrorKind, Write};
 use std::rt::{Env, Files};
@@ -57,7 +57,7 @@ where
 /// The words that the program takes.
 fn command<'a>(alloc: Global) -> Result<Command<'a>, AllocError> {
     let defs = Arg::new(alloc, "DEFS").required(true).help(
-        "A file of definitions: a table, an assertion and the rows to begin with",
+        "A file of definitions: tables, assertions and the rows to begin with",
     );
     let script = Arg::new(alloc, "SCRIPT")
         .required(true)

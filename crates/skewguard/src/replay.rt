@@ -1,22 +1,22 @@
 //! The engine: two texts, of definitions and of a script, are replayed into a writer.
 
-ghost use Rattle.std.specs.Prelude.{◌≡◌, ◌≢◌, ◌≤◌, ◌++◌, IfOk, IfErr, IsOkUnless, OnOk, Err};
+ghost use Rattle.std.specs.Prelude.{◌≡◌, ◌≢◌, ◌≤◌, ◌++◌, false, IfOk, IfErr, IsOkUnless, IsTrue, OnOk, Err};
 ghost use Rattle.std.specs.Io.KnownBytes.{Appends, Keeps};
-ghost use Rattle.value.specs.declared.refusals.Refusal.TheVariants.{NoMemory};
+ghost use Rattle.value.specs.declared.refusals.Refusal.TheVariants.{NoMemory, OutsideClass};
 ghost use Rattle.skewguard.specs.declared.replay.ProgramFault.TheVariants.{Output};
-ghost use Rattle.skewguard.specs.Sessions.{last_line, lines, standing_after, report};
-ghost use Rattle.skewguard.specs.Replay.{IsReport, WritesReport, IsFirstFault};
+ghost use Rattle.skewguard.specs.Lines.{are_of, is_one_session, last_line, lines, standing_after, report};
+ghost use Rattle.skewguard.specs.Replay.{AreRead, IsReport, WritesReport, IsFirstFault};
 
-use crate::definitions::{Database, take_in};
-use crate::report::Report;
-use crate::sessions::Standing;
+use commit::{Standing, admit};
 use delta::View;
+use parse::{parse_schema, parse_script};
+use report::Report;
+use sqlite_items::Items;
+use statement_syntax::{Definition, Step};
 use std::alloc::Global;
 use std::io::Write;
-use subset_parse::{Step, parse_schema, parse_script};
-use table::Catalog;
 use thiserror::Error;
-use value::Refusal;
+use value::{Refusal, Text};
 
 /// Why nothing was replayed.
 #[derive(Debug, Drop, Error)]
@@ -41,6 +41,7 @@ pub enum ProgramFault {
 ///
 /// The first fault in the order of the work: [`ProgramFault::Defs`] where the definitions are no text of their grammar;
 /// [`ProgramFault::Script`] where the script is none of its own; `Defs` again where the definitions are refused; `Script` of
+/// [`Refusal::OutsideClass`] where the script has a second session (several sessions are not run yet), or of
 /// [`Refusal::NoMemory`] where memory ended the run; [`ProgramFault::Output`] at the first fault of the writer.
 pub fn replay_into<W: Write>(
     alloc: Global,
@@ -65,41 +66,72 @@ fn report_of(alloc: Global, defs: &[u8], script: &[u8], limit: u64) -> Result<Re
     ensures refused { IfErr result (IsFirstFault defs.now script.now) }
     ensures unwritten { IfErr result (λ fault. fault ≢ Output) }
 {
-    let schema = match parse_schema(alloc, defs) {
-        Ok(schema) => schema,
+    let (definitions, steps) = read(alloc, defs, script)?;
+    let view = match admit(alloc, definitions.as_slice()) {
+        Ok(view) => view,
         Err(refusal) => return Err(ProgramFault::Defs(refusal)),
     };
-    let steps = match parse_script(alloc, script) {
-        Ok(steps) => steps,
-        Err(refusal) => return Err(ProgramFault::Script(refusal)),
-    };
-    let database = match take_in(alloc, &schema) {
-        Ok(database) => database,
-        Err(refusal) => return Err(ProgramFault::Defs(refusal)),
-    };
-    match run(alloc, database, limit, steps.as_slice()) {
+    match run(alloc, view, limit, steps.as_slice()) {
         Ok(report) => Ok(report),
         Err(refusal) => Err(ProgramFault::Script(refusal)),
     }
 }
 
-/// The report of the steps on what was defined.
-fn run(alloc: Global, database: Database, limit: u64, steps: &[Step]) -> Result<Report, Refusal>
-    ensures only_memory { IsOkUnless result NoMemory }
-    ensures reported { IfOk result (λ made. made ≡ report database limit steps.now) }
+/// The trees of both texts.
+fn read(
+    alloc: Global,
+    defs: &[u8],
+    script: &[u8],
+) -> Result<(Items<Definition>, Items<Step>), ProgramFault>
+    ensures read { IfOk result (λ trees. AreRead defs.now script.now trees.0 trees.1) }
+    ensures refused { IfErr result (IsFirstFault defs.now script.now) }
+    ensures unwritten { IfErr result (λ fault. fault ≢ Output) }
 {
-    let Database { catalog, view } = database;
+    let definitions = match parse_schema(alloc, defs) {
+        Ok(definitions) => definitions,
+        Err(refusal) => return Err(ProgramFault::Defs(refusal)),
+    };
+    match parse_script(alloc, script) {
+        Ok(steps) => Ok((definitions, steps)),
+        Err(refusal) => Err(ProgramFault::Script(refusal)),
+    }
+}
+
+/// The report of the steps from the tables that they begin with. A second session is outside the class so far.
+fn run(alloc: Global, view: View, limit: u64, steps: &[Step]) -> Result<Report, Refusal>
+    ensures reported { IfOk result (λ made. made ≡ report view limit steps.now) }
+    ensures one { IfOk result (λ _. IsTrue (is_one_session steps.now)) }
+    ensures refused { IfErr result (λ refusal. refusal ≢ NoMemory → (is_one_session steps.now ≡ false) × (refusal ≡ OutsideClass)) }
+{
+    if !is_one_session(steps) {
+        return Err(Refusal::OutsideClass);
+    }
     let mut standing = Standing::new(view);
     let mut report = Report::new(alloc);
-    answer_all(alloc, &catalog, limit, &mut standing, steps, &mut report)?;
+    answer_all(alloc, limit, &mut standing, steps, &mut report)?;
     close(&mut report, steps, &standing.own)?;
     Ok(report)
+}
+
+/// Whether all steps are of one session, that of the first.
+fn is_one_session(steps: &[Step]) -> bool
+    ensures { result ≡ is_one_session steps.now }
+{
+    match steps.first() {
+        None => true,
+        Some(first) => are_of(&first.session, steps),
+    }
+}
+
+fn are_of(session: &Text, steps: &[Step]) -> bool
+    ensures { result ≡ are_of session.now steps.now }
+{
+    steps.iter().all(|step| step.session == *session)
 }
 
 /// Answers the steps one after the other, each by a line.
 fn answer_all(
     alloc: Global,
-    catalog: &Catalog,
     limit: u64,
     standing: &mut Standing,
     steps: &[Step],
@@ -107,11 +139,11 @@ fn answer_all(
 ) -> Result<(), Refusal>
     requires { standing.old.commits ≤ limit }
     ensures only_memory { IsOkUnless result NoMemory }
-    ensures printed { OnOk result (report.new ≡ report.old ++ lines catalog.now limit standing.old steps.now) }
-    ensures led { OnOk result (standing.new ≡ standing_after catalog.now limit standing.old steps.now) }
+    ensures printed { OnOk result (report.new ≡ report.old ++ lines limit standing.old steps.now) }
+    ensures led { OnOk result (standing.new ≡ standing_after limit standing.old steps.now) }
 {
     for step in steps {
-        let answer = standing.answer(alloc, catalog, limit, &step.event)?;
+        let answer = standing.answer(alloc, limit, &step.event)?;
         report.answer(step, &answer)?;
     }
     Ok(())

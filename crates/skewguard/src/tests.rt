@@ -1,16 +1,24 @@
 //! Whole texts through the engine, by the bytes that it writes.
 
-use crate::laws::transactions_run_alone;
 use crate::replay::{ProgramFault, replay_into};
-use crate::report::Report;
+use report::Report;
 use std::alloc::Global;
 use std::io;
 use std::io::{ErrorKind, Write};
 use std::process::Abort;
 use std::test::Fail;
-use value::{Excess, Party, Refusal, Root, Text, Value};
 
-/// At most two people on duty in a shift; two are on duty in shift 7.
+/// Shifts, who is on duty in them, and accounts.
+const TABLES: &str = "CREATE TABLE SHIFTS (ID INTEGER PRIMARY KEY);
+    CREATE TABLE DUTY (ID INTEGER PRIMARY KEY, SHIFT INTEGER, ONCALL INTEGER);
+    CREATE TABLE ACCT (ID INTEGER PRIMARY KEY, OWNER VARCHAR(10), BAL INTEGER);";
+
+/// Someone is on call in each shift.
+const COVER: &str =
+    "CREATE ASSERTION COVER CHECK (NOT EXISTS (SELECT * FROM SHIFTS S WHERE NOT EXISTS
+    (SELECT * FROM DUTY D WHERE D.SHIFT = S.ID AND D.ONCALL = 1)));";
+
+/// At most two people are on duty in a shift; two are on duty in shift 7.
 const AT_MOST_TWO: &str = "CREATE TABLE DUTY (ID INTEGER PRIMARY KEY, SHIFT INTEGER);
     CREATE ASSERTION ATMOST2 CHECK (NOT EXISTS (SELECT SHIFT FROM DUTY GROUP BY SHIFT HAVING COUNT(*) > 2));
     INSERT INTO DUTY VALUES (1, 7); INSERT INTO DUTY VALUES (2, 7);";
@@ -44,6 +52,17 @@ fn prints(
     Ok(())
 }
 
+/// What is printed for these definitions over the tables above.
+fn prints_over_tables(
+    rt: &(impl Abort + Alloc<A = Global>),
+    more: &str,
+    script: &str,
+    want: &str,
+) -> Result<(), Fail> {
+    let defs = format!(in rt.alloc(); "{TABLES}{more}")?;
+    prints(rt, defs.as_str(), script, want)
+}
+
 #[test]
 fn grouped_count(rt: HostRuntime) -> Result<(), Fail> {
     prints(
@@ -69,12 +88,135 @@ fn grouped_count_false_at_creation(rt: HostRuntime) -> Result<(), Fail> {
 
 #[test]
 fn commit_twice(rt: HostRuntime) -> Result<(), Fail> {
+    let script = "A: BEGIN; A: COMMIT; A: COMMIT;";
+    let want = "A: BEGIN 0\nA: COMMIT 1\nA: REFUSED 14 - NO TRANSACTION\n";
+    prints(&rt, AT_MOST_TWO, script, want)?;
+    prints(&rt, TABLES, script, want)
+}
+
+#[test]
+fn false_at_creation(rt: HostRuntime) -> Result<(), Fail> {
+    let defs = format!(in rt.alloc(); "{TABLES}{COVER}INSERT INTO SHIFTS VALUES (7);")?;
     prints(
         &rt,
-        AT_MOST_TWO,
-        "A: BEGIN; A: COMMIT; A: COMMIT;",
-        "A: BEGIN 0\nA: COMMIT 1\nA: REFUSED 14 - NO TRANSACTION\n",
+        defs.as_str(),
+        "A: BEGIN;",
+        "DEFS: REFUSED 21 - COVER 7\n",
     )
+}
+
+#[test]
+fn a_shift_is_covered_before_it_is_there(rt: HostRuntime) -> Result<(), Fail> {
+    prints_over_tables(
+        &rt,
+        COVER,
+        "A: BEGIN; A: INSERT INTO SHIFTS VALUES (7); A: INSERT INTO DUTY VALUES (1, 7, 1); A: INSERT INTO SHIFTS VALUES (7);
+         A: DELETE FROM DUTY WHERE ONCALL = 1; A: DELETE FROM SHIFTS; A: DELETE FROM DUTY WHERE ONCALL = 1; A: COMMIT;",
+        "A: BEGIN 0\nA: REFUSED 10 23000 COVER 7\nA: INSERT 1\nA: INSERT 1\nA: REFUSED 10 23000 COVER 7\nA: DELETE 1\nA: DELETE 1\nA: COMMIT 1\n",
+    )
+}
+
+#[test]
+fn null_group(rt: HostRuntime) -> Result<(), Fail> {
+    prints_over_tables(
+        &rt,
+        "CREATE ASSERTION FUNDS CHECK (NOT EXISTS (SELECT OWNER FROM ACCT GROUP BY OWNER HAVING SUM(BAL) < 0));",
+        "A: BEGIN; A: INSERT INTO ACCT VALUES (1, NULL, 5); A: INSERT INTO ACCT VALUES (2, NULL, -6);",
+        "A: BEGIN 0\nA: INSERT 1\nA: REFUSED 10 23000 FUNDS NULL\nA: ROLLBACK AT END\n",
+    )
+}
+
+#[test]
+fn least_balance_removed(rt: HostRuntime) -> Result<(), Fail> {
+    prints_over_tables(
+        &rt,
+        "INSERT INTO ACCT VALUES (1, 'KIM', 3); INSERT INTO ACCT VALUES (2, 'KIM', 3); INSERT INTO ACCT VALUES (3, 'KIM', 8);
+         CREATE ASSERTION HIGH CHECK (NOT EXISTS (SELECT OWNER FROM ACCT GROUP BY OWNER HAVING MIN(BAL) > 5));",
+        "A: BEGIN; A: DELETE FROM ACCT WHERE ID = 1; A: DELETE FROM ACCT WHERE ID = 2;",
+        "A: BEGIN 0\nA: DELETE 1\nA: REFUSED 10 23000 HIGH 'KIM'\nA: ROLLBACK AT END\n",
+    )
+}
+
+#[test]
+fn sum_of_nothing_is_unknown(rt: HostRuntime) -> Result<(), Fail> {
+    let cap = "CREATE ASSERTION CAP CHECK ((SELECT SUM(BAL) FROM ACCT) <= 100);";
+    prints_over_tables(&rt, cap, "", "")?;
+    prints_over_tables(
+        &rt,
+        cap,
+        "A: BEGIN; A: VERDICT CAP; A: INSERT INTO ACCT VALUES (1, 'KIM', 100); A: VERDICT CAP; A: INSERT INTO ACCT VALUES (2, 'LEE', 1);",
+        "A: BEGIN 0\nA: VERDICT CAP UNKNOWN\nA: INSERT 1\nA: VERDICT CAP TRUE\nA: REFUSED 10 23000 CAP ALL\nA: ROLLBACK AT END\n",
+    )
+}
+
+#[test]
+fn too_wide(rt: HostRuntime) -> Result<(), Fail> {
+    prints_over_tables(
+        &rt,
+        "CREATE ASSERTION W CHECK ((SELECT SUM(BAL) FROM ACCT) * 5000 > 0);",
+        "",
+        "DEFS: REFUSED 18 - TOO WIDE\n",
+    )?;
+    prints_over_tables(
+        &rt,
+        "CREATE ASSERTION W CHECK ((SELECT SUM(BAL) FROM ACCT) * 4000 > 0);",
+        "A: BEGIN; A: VERDICT W;",
+        "A: BEGIN 0\nA: VERDICT W UNKNOWN\nA: ROLLBACK AT END\n",
+    )
+}
+
+#[test]
+fn bound_at_the_limit(rt: HostRuntime) -> Result<(), Fail> {
+    prints_over_tables(
+        &rt,
+        "INSERT INTO ACCT VALUES (1, 'KIM', 1); INSERT INTO ACCT VALUES (2, 'KIM', 0);",
+        "A: BEGIN; A: DELETE FROM ACCT WHERE BAL * BAL * 67108865 > 0; A: DELETE FROM ACCT WHERE BAL * BAL * 67108864 > 0;",
+        "A: BEGIN 0\nA: REFUSED 18 - TOO WIDE\nA: DELETE 1\nA: ROLLBACK AT END\n",
+    )
+}
+
+#[test]
+fn attribute_clash(rt: HostRuntime) -> Result<(), Fail> {
+    let funds =
+        "CREATE ASSERTION FUNDS CHECK (NOT EXISTS (SELECT OWNER FROM ACCT GROUP BY OWNER HAVING SUM(BAL) < 0))";
+    for (attributes, want) in [
+        (
+            "INITIALLY DEFERRED NOT DEFERRABLE",
+            "DEFS: REFUSED 22 - FUNDS\n",
+        ),
+        // Other attributes are not run yet.
+        ("INITIALLY DEFERRED", "DEFS: REFUSED 20 - OUTSIDE CLASS\n"),
+        ("NOT DEFERRABLE", "DEFS: REFUSED 20 - OUTSIDE CLASS\n"),
+        ("", "A: BEGIN 0\nA: ROLLBACK AT END\n"),
+    ] {
+        let more = format!(in rt.alloc(); "{funds} {attributes};")?;
+        prints_over_tables(&rt, more.as_str(), "A: BEGIN;", want)?;
+    }
+    Ok(())
+}
+
+#[test]
+fn unfinished_text(rt: HostRuntime) -> Result<(), Fail> {
+    prints(
+        &rt,
+        TABLES,
+        "A: BEGIN;\nA: INSERT INTO ACCT VALUES (1, 'KI",
+        "SCRIPT: REFUSED 2 - SYNTAX 41\n",
+    )
+}
+
+#[test]
+fn epoch_full(rt: HostRuntime) -> Result<(), Fail> {
+    let got = written(
+        rt.alloc(),
+        AT_MOST_TWO,
+        "A: BEGIN; A: DELETE FROM DUTY; A: COMMIT; A: BEGIN; A: COMMIT; A: COMMIT;",
+        1,
+    )?;
+    let want =
+        "A: BEGIN 0\nA: DELETE 2\nA: COMMIT 1\nA: BEGIN 1\nA: REFUSED 17 - EPOCH FULL\nA: REFUSED 14 - NO TRANSACTION\n";
+    assert_eq!(rt; got.as_slice(), want.as_bytes());
+    Ok(())
 }
 
 #[test]
@@ -83,7 +225,7 @@ fn groups_of_null_and_of_nothing(rt: HostRuntime) -> Result<(), Fail> {
     prints(
         &rt,
         AT_MOST_TWO,
-        "A: BEGIN; A: INSERT INTO DUTY VALUES (3, NULL); A: INSERT INTO DUTY VALUES (4, NULL); A: INSERT INTO DUTY VALUES (5, NULL);
+        "A: BEGIN; A: INSERT INTO DUTY VALUES (3, NULL); A: INSERT INTO DUTY VALUES (4, NULL); A: INSERT INTO DUTY (ID) VALUES (5);
          A: DELETE FROM DUTY WHERE SHIFT = 7; A: DELETE FROM DUTY; A: ROLLBACK WORK; A: BEGIN;",
         "A: BEGIN 0\nA: INSERT 1\nA: INSERT 1\nA: REFUSED 10 23000 ATMOST2 NULL\nA: DELETE 2\nA: DELETE 2\nA: ROLLBACK\nA: BEGIN 0\nA: ROLLBACK AT END\n",
     )?;
@@ -109,186 +251,42 @@ fn statements_are_refused_in_order(rt: HostRuntime) -> Result<(), Fail> {
     )
 }
 
-/// Definitions of two columns, an assertion of this condition and these rows.
-const HEAD: &str =
-    "CREATE TABLE T (K INTEGER PRIMARY KEY, G INTEGER NOT NULL); CREATE ASSERTION R CHECK (NOT EXISTS (SELECT G FROM T GROUP BY G HAVING COUNT(*) = 9)); ";
-
 #[test]
-fn definitions_are_refused_in_order(rt: HostRuntime) -> Result<(), Fail> {
-    for (defs, want) in [
-        ("", "DEFS: REFUSED 2 - SYNTAX 0\n"),
-        (
-            "CREATE TABLE T (K INTEGER, K INTEGER); CREATE ASSERTION R CHECK (NOT EXISTS (SELECT G FROM U GROUP BY G HAVING COUNT(*) = 9));",
-            "DEFS: REFUSED 4 - K\n",
-        ),
-        (
-            "CREATE TABLE T (K INTEGER); CREATE ASSERTION R CHECK (NOT EXISTS (SELECT G FROM U GROUP BY G HAVING COUNT(*) = 9));",
-            "DEFS: REFUSED 20 - OUTSIDE CLASS\n",
-        ),
-        (
-            "CREATE TABLE T (K INT PRIMARY KEY, J INT PRIMARY KEY); CREATE ASSERTION R CHECK (NOT EXISTS (SELECT K FROM T GROUP BY K HAVING COUNT(*) = 9));",
-            "DEFS: REFUSED 20 - OUTSIDE CLASS\n",
-        ),
-        (
-            "CREATE TABLE T (K INT PRIMARY KEY); CREATE ASSERTION R CHECK (NOT EXISTS (SELECT G FROM U GROUP BY H HAVING COUNT(*) = 9));",
-            "DEFS: REFUSED 3 - U\n",
-        ),
-        (
-            "CREATE TABLE T (K INT PRIMARY KEY); CREATE ASSERTION R CHECK (NOT EXISTS (SELECT G FROM T GROUP BY H HAVING COUNT(*) = 9));",
-            "DEFS: REFUSED 3 - G\n",
-        ),
-        (
-            "CREATE TABLE T (K INT PRIMARY KEY, J INT); CREATE ASSERTION R CHECK (NOT EXISTS (SELECT K FROM T GROUP BY J HAVING COUNT(*) = 9));",
-            "DEFS: REFUSED 20 - OUTSIDE CLASS\n",
-        ),
-    ] {
-        prints(&rt, defs, "", want)?;
-    }
-    // The script is read before the definitions are taken in.
+fn what_is_not_run_yet(rt: HostRuntime) -> Result<(), Fail> {
     prints(
         &rt,
-        "CREATE TABLE T (K INTEGER); CREATE ASSERTION R CHECK (NOT EXISTS (SELECT G FROM U GROUP BY G HAVING COUNT(*) = 9));",
-        "A: BEGIN",
-        "SCRIPT: REFUSED 2 - SYNTAX 8\n",
-    )
-}
-
-#[test]
-fn loaded_rows_are_refused_in_order(rt: HostRuntime) -> Result<(), Fail> {
-    for (rows, want) in [
-        ("INSERT INTO U VALUES (1, 2);", "DEFS: REFUSED 3 - U\n"),
-        ("INSERT INTO T VALUES (1);", "DEFS: REFUSED 5 - TYPE\n"),
-        (
-            "INSERT INTO T VALUES (NULL, NULL);",
-            "DEFS: REFUSED 6 23000 K\n",
-        ),
-        (
-            "INSERT INTO T VALUES (-1, NULL);",
-            "DEFS: REFUSED 6 23000 G\n",
-        ),
-        (
-            "INSERT INTO T VALUES (-1, 1); INSERT INTO T VALUES (- 1, 2);",
-            "DEFS: REFUSED 7 23000 T -1\n",
-        ),
-        (
-            "INSERT INTO T VALUES (1, 1)",
-            "DEFS: REFUSED 2 - SYNTAX 175\n",
-        ),
-    ] {
-        let defs = format!(in rt.alloc(); "{HEAD}{rows}")?;
-        prints(&rt, defs.as_str(), "", want)?;
-    }
-    Ok(())
-}
-
-#[test]
-fn epoch_full(rt: HostRuntime) -> Result<(), Fail> {
-    let got = written(
-        rt.alloc(),
         AT_MOST_TWO,
-        "A: BEGIN; A: DELETE FROM DUTY; A: COMMIT; A: BEGIN; A: COMMIT; A: COMMIT;",
-        1,
+        "A: BEGIN; A: UPDATE DUTY SET SHIFT = 1; A: SELECT * FROM DUTY; A: SET CONSTRAINTS ALL DEFERRED;",
+        "A: BEGIN 0\nA: REFUSED 20 - OUTSIDE CLASS\nA: REFUSED 20 - OUTSIDE CLASS\nA: REFUSED 20 - OUTSIDE CLASS\nA: ROLLBACK AT END\n",
     )?;
-    let want =
-        "A: BEGIN 0\nA: DELETE 2\nA: COMMIT 1\nA: BEGIN 1\nA: REFUSED 17 - EPOCH FULL\nA: REFUSED 14 - NO TRANSACTION\n";
-    assert_eq!(rt; got.as_slice(), want.as_bytes());
-    Ok(())
-}
-
-#[test]
-fn texts_that_are_none(rt: HostRuntime) -> Result<(), Fail> {
-    for (script, want) in [
-        ("", ""),
-        ("A: BEGIN; B: COMMIT;", "SCRIPT: REFUSED 2 - SYNTAX 10\n"),
-        (
-            "A: BEGIN; A: INSERT INTO DUTY VALUES (1, 'KI",
-            "SCRIPT: REFUSED 2 - SYNTAX 41\n",
-        ),
-        (
-            "A: UPDATE DUTY SET SHIFT = 1;",
-            "SCRIPT: REFUSED 2 - SYNTAX 3\n",
-        ),
-        (
-            "A: DELETE FROM DUTY WHERE ID = 1 + 1;",
-            "SCRIPT: REFUSED 2 - SYNTAX 33\n",
-        ),
-        ("A: VERDICT \u{e9};", "SCRIPT: REFUSED 2 - SYNTAX 11\n"),
-    ] {
-        prints(&rt, AT_MOST_TWO, script, want)?;
-    }
-    Ok(())
-}
-
-fn prints_fault(
-    rt: &(impl Abort + Alloc<A = Global>),
-    at_commit: bool,
-    refusal: &Refusal,
-    want: &str,
-) -> Result<(), Fail> {
-    let mut line = Report::new(rt.alloc());
-    line.fault(at_commit, refusal)?;
-    assert_eq!(rt; line.as_bytes(), want.as_bytes());
-    Ok(())
-}
-
-/// The faults that name nothing, or numbers alone.
-#[test]
-fn plain_faults_print(rt: HostRuntime) -> Result<(), Fail> {
-    let dangerous = Refusal::Dangerous {
-        reader: Party::Number(1),
-        pivot: Party::This,
-        writer: Party::Number(2),
-    };
-    for (refusal, want) in [
-        (Refusal::NoMemory, "1 - NO MEMORY"),
-        (Refusal::TooDeep { at: 90 }, "19 - TOO DEEP 90"),
-        (dangerous, "13 40001 READER 1 PIVOT THIS WRITER 2"),
-        (Refusal::Stranger, "16 - STRANGER"),
-        (Refusal::TooWide, "18 - TOO WIDE"),
-        (Refusal::ReadOnlyTransaction, "23 - READ ONLY"),
-        (Refusal::TooManySessions, "24 - TOO MANY SESSIONS"),
-    ] {
-        prints_fault(&rt, false, &refusal, want)?;
-    }
-    transactions_run_alone();
-    Ok(())
-}
-
-/// The faults of a column.
-#[test]
-fn column_faults_print(rt: HostRuntime) -> Result<(), Fail> {
-    let column = Text::from_str(rt.alloc(), "N")?;
-    prints_fault(&rt, false, &Refusal::KeyUpdate { column }, "8 - N")?;
-    for (excess, want) in [(Excess::Number, "9 22003 N"), (Excess::Text, "9 22001 N")] {
-        let column = Text::from_str(rt.alloc(), "N")?;
-        prints_fault(&rt, false, &Refusal::OutOfRange { column, excess }, want)?;
-    }
-    Ok(())
-}
-
-/// The faults of an assertion, and a text as a key.
-#[test]
-fn named_faults_print(rt: HostRuntime) -> Result<(), Fail> {
-    let assertion = Text::from_str(rt.alloc(), "N")?;
-    let group = Root::All;
-    prints_fault(
+    prints(
         &rt,
-        true,
-        &Refusal::Violated { assertion, group },
-        "10 40002 N ALL",
-    )?;
-    let assertion = Text::from_str(rt.alloc(), "N")?;
-    prints_fault(&rt, false, &Refusal::NotDeferrable { assertion }, "11 - N")?;
-    let assertion = Text::from_str(rt.alloc(), "N")?;
-    prints_fault(&rt, false, &Refusal::AttributeClash { assertion }, "22 - N")?;
-    let table = Text::from_str(rt.alloc(), "T")?;
-    let key = Value::Text(Text::from_str(rt.alloc(), "O'N")?);
-    prints_fault(
-        &rt,
-        false,
-        &Refusal::WriteConflict { table, key, by: 4 },
-        "12 40001 T 'O''N' BY 4",
+        AT_MOST_TWO,
+        "A: BEGIN; B: BEGIN;",
+        "SCRIPT: REFUSED 20 - OUTSIDE CLASS\n",
     )
+}
+
+#[test]
+fn faults_come_in_order(rt: HostRuntime) -> Result<(), Fail> {
+    // The script is read before the definitions are taken in, and they are taken in before its sessions are counted.
+    let unknown =
+        "CREATE ASSERTION R CHECK (NOT EXISTS (SELECT G FROM U GROUP BY G HAVING COUNT(*) = 9));";
+    for (defs, script, want) in [
+        ("", "", ""),
+        (";", "A: BEGIN", "DEFS: REFUSED 2 - SYNTAX 0\n"),
+        (unknown, "A: BEGIN", "SCRIPT: REFUSED 2 - SYNTAX 8\n"),
+        (unknown, "A: BEGIN; B: BEGIN;", "DEFS: REFUSED 3 - U\n"),
+        ("INSERT INTO U VALUES (1, 2);", "", "DEFS: REFUSED 3 - U\n"),
+        (
+            "CREATE TABLE T (K INT, K INT);",
+            "",
+            "DEFS: REFUSED 4 - K\n",
+        ),
+    ] {
+        prints(&rt, defs, script, want)?;
+    }
+    Ok(())
 }
 
 /// A writer that takes so many bytes and then fails.

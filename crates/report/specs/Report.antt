@@ -1,0 +1,124 @@
+-- The lines of the report: a line for each event's answer, and one for a transaction that was left open.
+use Rattle.std.specs.Prelude.{ℕ, ◌==◌, Bool, true, false, List, [], ◌∷◌, ◌++◌, codes, decimal, if◌then◌else◌}
+use Rattle.std.specs.Fmt.{signed_decimal}
+use Rattle.value.specs.declared.values.Value.{Value}
+use Rattle.value.specs.declared.values.Value.TheVariants.{Null, Int, Text}
+use Rattle.value.specs.declared.values.Root.{Root}
+use Rattle.value.specs.declared.values.Root.TheVariants.{All, Of}
+use Rattle.value.specs.declared.refusals.Party.{Party}
+use Rattle.value.specs.declared.refusals.Party.TheVariants.{This, Number}
+use Rattle.value.specs.declared.refusals.Excess.{Excess}
+use Rattle.value.specs.declared.refusals.Excess.TheVariants as excess
+use Rattle.value.specs.declared.refusals.Refusal.{Refusal}
+use Rattle.value.specs.declared.refusals.Refusal.TheVariants as refusal
+use Rattle.threeval.specs.declared.Truth.{Truth}
+use Rattle.threeval.specs.declared.Truth.TheVariants.{True, False, Unknown}
+use Rattle.answer.specs.declared.Reply.{Reply}
+use Rattle.answer.specs.declared.Reply.TheVariants.{Inserted, Deleted, Verdict}
+use Rattle.answer.specs.declared.Answer.{Answer}
+use Rattle.answer.specs.declared.Answer.TheVariants.{Begun, Replied, Committed, RolledBack, Refused}
+use Rattle.statement_syntax.specs.declared.statements.Statement.TheVariants as statement
+use Rattle.statement_syntax.specs.declared.statements.Event.{Event}
+use Rattle.statement_syntax.specs.declared.statements.Event.TheVariants as event
+use Rattle.statement_syntax.specs.declared.statements.Step.{Step}
+
+-- a quote twice, every other byte once
+abbrev pub quoted_byte : ℕ → List ℕ
+quoted_byte b = if b == 39 then b ∷ b ∷ [] else b ∷ []
+
+-- a text with each quote in it twice
+abbrev pub doubled : List ℕ → List ℕ
+doubled [] = []
+doubled (b ∷ bytes) = quoted_byte b ++ doubled bytes
+
+-- a value as a literal of the language
+abbrev pub value_text : Value → List ℕ
+value_text Null = codes "NULL"
+value_text (Int n) = signed_decimal n
+value_text (Text bytes) = codes "'" ++ doubled bytes ++ codes "'"
+
+abbrev pub root_text : Root → List ℕ
+root_text All = codes "ALL"
+root_text (Of v) = value_text v
+
+abbrev pub truth_text : Truth → List ℕ
+truth_text True = codes "TRUE"
+truth_text False = codes "FALSE"
+truth_text Unknown = codes "UNKNOWN"
+
+abbrev pub party_text : Party → List ℕ
+party_text This = codes "THIS"
+party_text (Number n) = decimal n
+
+-- the SQLSTATE of a number beyond its range, and of a text past its length
+abbrev pub excess_text : Excess → List ℕ
+excess_text excess.Number = codes "9 22003 "
+excess_text excess.Text = codes "9 22001 "
+
+-- the SQLSTATE of a violated assertion, at a statement or at COMMIT
+abbrev pub violated_text : Bool → List ℕ
+violated_text false = codes "10 23000 "
+violated_text true = codes "10 40002 "
+
+-- a fault: its number, its SQLSTATE or a dash, and what it names
+abbrev pub fault_text : (at_commit : Bool) → Refusal → List ℕ
+fault_text at_commit refusal.NoMemory = codes "1 - NO MEMORY"
+fault_text at_commit (refusal.Syntax at) = codes "2 - SYNTAX " ++ decimal at
+fault_text at_commit (refusal.UnknownName name) = codes "3 - " ++ name
+fault_text at_commit (refusal.NameTaken name) = codes "4 - " ++ name
+fault_text at_commit refusal.TypeMismatch = codes "5 - TYPE"
+fault_text at_commit (refusal.NullNotAllowed column) = codes "6 23000 " ++ column
+fault_text at_commit (refusal.DuplicateKey table key) = codes "7 23000 " ++ table ++ codes " " ++ value_text key
+fault_text at_commit (refusal.KeyUpdate column) = codes "8 - " ++ column
+fault_text at_commit (refusal.OutOfRange column excess) = excess_text excess ++ column
+fault_text at_commit (refusal.Violated assertion group) = violated_text at_commit ++ assertion ++ codes " " ++ root_text group
+fault_text at_commit (refusal.NotDeferrable assertion) = codes "11 - " ++ assertion
+fault_text at_commit (refusal.WriteConflict table key by) = codes "12 40001 " ++ table ++ codes " " ++ value_text key ++ codes " BY " ++ decimal by
+fault_text at_commit (refusal.Dangerous reader pivot writer) =
+    (codes "13 40001 READER " ++ party_text reader) ++ (codes " PIVOT " ++ party_text pivot) ++ (codes " WRITER " ++ party_text writer)
+fault_text at_commit refusal.NoTransaction = codes "14 - NO TRANSACTION"
+fault_text at_commit refusal.TransactionOpen = codes "15 - TRANSACTION OPEN"
+fault_text at_commit refusal.Stranger = codes "16 - STRANGER"
+fault_text at_commit refusal.EpochFull = codes "17 - EPOCH FULL"
+fault_text at_commit refusal.TooWide = codes "18 - TOO WIDE"
+fault_text at_commit (refusal.TooDeep at) = codes "19 - TOO DEEP " ++ decimal at
+fault_text at_commit refusal.OutsideClass = codes "20 - OUTSIDE CLASS"
+fault_text at_commit (refusal.FalseAtCreation assertion group) = codes "21 - " ++ assertion ++ codes " " ++ root_text group
+fault_text at_commit (refusal.AttributeClash assertion) = codes "22 - " ++ assertion
+fault_text at_commit refusal.ReadOnlyTransaction = codes "23 - READ ONLY"
+fault_text at_commit refusal.TooManySessions = codes "24 - TOO MANY SESSIONS"
+
+abbrev pub is_commit : Event → Bool
+is_commit event.Begin = false
+is_commit event.Commit = true
+is_commit event.Rollback = false
+is_commit (event.Run statement) = false
+
+-- the name that a VERDICT asks for
+abbrev pub asked_name : Event → List ℕ
+asked_name (event.Run (statement.Verdict name)) = name
+asked_name _ = []
+
+abbrev pub reply_text : Event → Reply → List ℕ
+reply_text event Inserted = codes "INSERT 1"
+reply_text event (Deleted n) = codes "DELETE " ++ decimal n
+reply_text event (Verdict truth) = codes "VERDICT " ++ asked_name event ++ codes " " ++ truth_text truth
+
+abbrev pub answer_text : Event → Answer → List ℕ
+answer_text event (Begun n) = codes "BEGIN " ++ decimal n
+answer_text event (Replied reply) = reply_text event reply
+answer_text event (Committed n) = codes "COMMIT " ++ decimal n
+answer_text event RolledBack = codes "ROLLBACK"
+answer_text event (Refused refusal) = codes "REFUSED " ++ fault_text (is_commit event) refusal
+
+-- the line of an event's answer: the session, what was answered, and a line feed
+abbrev pub answer_line : Step → Answer → List ℕ
+answer_line step answer = step.session ++ codes ": " ++ answer_text step.event answer ++ codes "\n"
+
+-- the line of a transaction that is open when its session's events end
+abbrev pub left_open_line : List ℕ → List ℕ
+left_open_line session = session ++ codes ": ROLLBACK AT END\n"
+
+-- the line of a text that was refused whole, by the name of the text
+abbrev pub refusal_line : List ℕ → Refusal → List ℕ
+refusal_line text refusal = text ++ codes ": REFUSED " ++ fault_text false refusal ++ codes "\n"

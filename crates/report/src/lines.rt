@@ -1,0 +1,288 @@
+//! The lines of the report as they grow. A public call is one line; the private ones put a piece of a line behind what is there.
+
+ghost use Rattle.std.specs.Prelude.{◌≡◌, ◌++◌, List, ℕ, [], OnOk, codes, decimal};
+ghost use Rattle.report.specs.Report.{doubled, quoted_byte, value_text, root_text, party_text, excess_text, violated_text, fault_text, reply_text, answer_text, answer_line, left_open_line, refusal_line, asked_name};
+
+use answer::{Answer, Reply};
+use itoa::Buffer;
+use statement_syntax::{Event, Statement, Step};
+use std::alloc::{AllocError, Global};
+use std::marker::Model;
+use value::{Excess, Party, Refusal, Root, Text, Value};
+
+/// Lines as they grow, in a contract the list of their bytes. A call that finds no memory answers `AllocError`. After it
+/// no clause says what the bytes are, and they may end in the middle of a line.
+#[derive(Drop)]
+pub struct Report {
+    bytes: Vec<u8>,
+}
+
+impl Model for Report {
+    ghost use Rattle.std.specs.Prelude.{List, ℕ};
+
+    ghost Value = { List ℕ };
+
+    ghost view = { λ r. r.bytes.items };
+}
+
+impl Report {
+    /// A report without lines.
+    pub fn new(alloc: Global) -> Report
+        ensures { result ≡ [] }
+    {
+        Report {
+            bytes: Vec::new(alloc),
+        }
+    }
+
+    /// The bytes so far.
+    pub fn as_bytes(&self) -> &[u8]
+        ensures { result.now ≡ self.now }
+    {
+        self.bytes.as_slice()
+    }
+
+    /// Adds the line of a step's answer. `AllocError` where no memory is left; the report may then end in the middle of the
+    /// line.
+    pub fn answer(&mut self, step: &Step, answer: &Answer) -> Result<(), AllocError>
+        ensures { OnOk result (self.new ≡ self.old ++ answer_line step.now answer.now) }
+    {
+        self.text(&step.session)?;
+        self.word(": ")?;
+        self.answer_to(&step.event, answer)?;
+        self.word("\n")
+    }
+
+    /// Adds the line of a transaction that is open when its session's events end. `AllocError` where no memory is left; the
+    /// report may then end in the middle of the line.
+    pub fn left_open(&mut self, session: &Text) -> Result<(), AllocError>
+        ensures { OnOk result (self.new ≡ self.old ++ left_open_line session.now) }
+    {
+        self.text(session)?;
+        self.word(": ROLLBACK AT END\n")
+    }
+
+    /// Adds the line of a text that was refused whole, by the name of the text. `AllocError` where no memory is left; the
+    /// report may then end in the middle of the line.
+    pub fn refusal(&mut self, text: &str, refusal: &Refusal) -> Result<(), AllocError>
+        ensures { OnOk result (self.new ≡ self.old ++ refusal_line text.now refusal.now) }
+    {
+        self.word(text)?;
+        self.word(": REFUSED ")?;
+        self.fault(false, refusal)?;
+        self.word("\n")
+    }
+
+    fn answer_to(&mut self, event: &Event, answer: &Answer) -> Result<(), AllocError>
+        ensures { OnOk result (self.new ≡ self.old ++ answer_text event.now answer.now) }
+    {
+        match answer {
+            Answer::Begun(commits) => self.numbered("BEGIN ", *commits),
+            Answer::Replied(reply) => self.reply(event, *reply),
+            Answer::Committed(number) => self.numbered("COMMIT ", *number),
+            Answer::RolledBack => self.word("ROLLBACK"),
+            Answer::Refused(refusal) => {
+                self.word("REFUSED ")?;
+                self.fault(matches!(event, Event::Commit), refusal)
+            }
+        }
+    }
+
+    fn reply(&mut self, event: &Event, reply: Reply) -> Result<(), AllocError>
+        ensures { OnOk result (self.new ≡ self.old ++ reply_text event.now reply) }
+    {
+        match reply {
+            Reply::Inserted => self.word("INSERT 1"),
+            Reply::Deleted(count) => self.numbered("DELETE ", count),
+            Reply::Verdict(truth) => {
+                self.word("VERDICT ")?;
+                self.asked(event)?;
+                self.word(" ")?;
+                self.word(truth.name())
+            }
+        }
+    }
+
+    /// The name that a VERDICT asks for; another event asks for none.
+    fn asked(&mut self, event: &Event) -> Result<(), AllocError>
+        ensures { OnOk result (self.new ≡ self.old ++ asked_name event.now) }
+    {
+        match event {
+            Event::Run(Statement::Verdict(name)) => self.text(name),
+            _ => Ok(()),
+        }
+    }
+
+    /// A fault: its number, its SQLSTATE or a dash, and what it names. A violated assertion's SQLSTATE is another at COMMIT.
+    fn fault(&mut self, at_commit: bool, refusal: &Refusal) -> Result<(), AllocError>
+        ensures { OnOk result (self.new ≡ self.old ++ fault_text at_commit refusal.now) }
+    {
+        match refusal {
+            Refusal::NoMemory => self.word("1 - NO MEMORY"),
+            Refusal::Syntax { at } => self.numbered("2 - SYNTAX ", *at as u64),
+            Refusal::UnknownName { name } => self.named("3 - ", name),
+            Refusal::NameTaken { name } => self.named("4 - ", name),
+            Refusal::TypeMismatch => self.word("5 - TYPE"),
+            Refusal::NullNotAllowed { column } => self.named("6 23000 ", column),
+            Refusal::DuplicateKey { table, key } => self.keyed("7 23000 ", table, key),
+            Refusal::KeyUpdate { column } => self.named("8 - ", column),
+            Refusal::OutOfRange { column, excess } => self.out_of_range(column, *excess),
+            Refusal::Violated { assertion, group } => self.violated(at_commit, assertion, group),
+            Refusal::NotDeferrable { assertion } => self.named("11 - ", assertion),
+            Refusal::WriteConflict { table, key, by } => self.conflict(table, key, *by),
+            Refusal::Dangerous {
+                reader,
+                pivot,
+                writer,
+            } => self.dangerous(*reader, *pivot, *writer),
+            Refusal::NoTransaction => self.word("14 - NO TRANSACTION"),
+            Refusal::TransactionOpen => self.word("15 - TRANSACTION OPEN"),
+            Refusal::Stranger => self.word("16 - STRANGER"),
+            Refusal::EpochFull => self.word("17 - EPOCH FULL"),
+            Refusal::TooWide => self.word("18 - TOO WIDE"),
+            Refusal::TooDeep { at } => self.numbered("19 - TOO DEEP ", *at as u64),
+            Refusal::OutsideClass => self.word("20 - OUTSIDE CLASS"),
+            Refusal::FalseAtCreation { assertion, group } => self.rooted("21 - ", assertion, group),
+            Refusal::AttributeClash { assertion } => self.named("22 - ", assertion),
+            Refusal::ReadOnlyTransaction => self.word("23 - READ ONLY"),
+            Refusal::TooManySessions => self.word("24 - TOO MANY SESSIONS"),
+        }
+    }
+
+    fn out_of_range(&mut self, column: &Text, excess: Excess) -> Result<(), AllocError>
+        ensures { OnOk result (self.new ≡ self.old ++ (excess_text excess ++ column.now)) }
+    {
+        match excess {
+            Excess::Number => self.named("9 22003 ", column),
+            Excess::Text => self.named("9 22001 ", column),
+        }
+    }
+
+    fn violated(
+        &mut self,
+        at_commit: bool,
+        assertion: &Text,
+        group: &Root,
+    ) -> Result<(), AllocError>
+        ensures { OnOk result (self.new ≡ self.old ++ (violated_text at_commit ++ assertion.now ++ codes " " ++ root_text group.now)) }
+    {
+        if at_commit {
+            self.rooted("10 40002 ", assertion, group)
+        } else {
+            self.rooted("10 23000 ", assertion, group)
+        }
+    }
+
+    fn conflict(&mut self, table: &Text, key: &Value, by: u64) -> Result<(), AllocError>
+        ensures { OnOk result (self.new ≡ self.old ++ (codes "12 40001 " ++ table.now ++ codes " " ++ value_text key.now ++ codes " BY " ++ decimal by)) }
+    {
+        self.keyed("12 40001 ", table, key)?;
+        self.numbered(" BY ", by)
+    }
+
+    fn dangerous(&mut self, reader: Party, pivot: Party, writer: Party) -> Result<(), AllocError>
+        ensures { OnOk result (self.new ≡ self.old ++ ((codes "13 40001 READER " ++ party_text reader) ++ (codes " PIVOT " ++ party_text pivot) ++ (codes " WRITER " ++ party_text writer))) }
+    {
+        self.party("13 40001 READER ", reader)?;
+        self.party(" PIVOT ", pivot)?;
+        self.party(" WRITER ", writer)?;
+        Ok(())
+    }
+
+    fn party(&mut self, word: &str, party: Party) -> Result<(), AllocError>
+        ensures { OnOk result (self.new ≡ self.old ++ (word.now ++ party_text party)) }
+    {
+        match party {
+            Party::This => {
+                self.word(word)?;
+                self.word("THIS")
+            }
+            Party::Number(number) => self.numbered(word, number),
+        }
+    }
+
+    fn named(&mut self, word: &str, name: &Text) -> Result<(), AllocError>
+        ensures { OnOk result (self.new ≡ self.old ++ (word.now ++ name.now)) }
+    {
+        self.word(word)?;
+        self.text(name)
+    }
+
+    fn numbered(&mut self, word: &str, number: u64) -> Result<(), AllocError>
+        ensures { OnOk result (self.new ≡ self.old ++ (word.now ++ decimal number)) }
+    {
+        self.word(word)?;
+        self.word(Buffer::new().format(number))
+    }
+
+    fn keyed(&mut self, word: &str, table: &Text, key: &Value) -> Result<(), AllocError>
+        ensures { OnOk result (self.new ≡ self.old ++ (word.now ++ table.now ++ codes " " ++ value_text key.now)) }
+    {
+        self.named(word, table)?;
+        self.word(" ")?;
+        self.value(key)
+    }
+
+    fn rooted(&mut self, word: &str, assertion: &Text, root: &Root) -> Result<(), AllocError>
+        ensures { OnOk result (self.new ≡ self.old ++ (word.now ++ assertion.now ++ codes " " ++ root_text root.now)) }
+    {
+        self.named(word, assertion)?;
+        self.word(" ")?;
+        self.root(root)
+    }
+
+    fn root(&mut self, root: &Root) -> Result<(), AllocError>
+        ensures { OnOk result (self.new ≡ self.old ++ root_text root.now) }
+    {
+        match root {
+            Root::All => self.word("ALL"),
+            Root::Of(value) => self.value(value),
+        }
+    }
+
+    fn value(&mut self, value: &Value) -> Result<(), AllocError>
+        ensures { OnOk result (self.new ≡ self.old ++ value_text value.now) }
+    {
+        match value {
+            Value::Null => self.word("NULL"),
+            Value::Int(number) => self.word(Buffer::new().format(*number)),
+            Value::Text(text) => {
+                self.word("'")?;
+                self.quoted(text)?;
+                self.word("'")
+            }
+        }
+    }
+
+    /// The text with each quote in it written twice.
+    fn quoted(&mut self, text: &Text) -> Result<(), AllocError>
+        ensures { OnOk result (self.new ≡ self.old ++ doubled text.now) }
+    {
+        for byte in text.as_bytes() {
+            self.quoted_byte(*byte)?;
+        }
+        Ok(())
+    }
+
+    fn quoted_byte(&mut self, byte: u8) -> Result<(), AllocError>
+        ensures { OnOk result (self.new ≡ self.old ++ quoted_byte byte) }
+    {
+        if byte == b'\'' {
+            self.bytes.push(byte)?;
+        }
+        self.bytes.push(byte)?;
+        Ok(())
+    }
+
+    fn text(&mut self, text: &Text) -> Result<(), AllocError>
+        ensures { OnOk result (self.new ≡ self.old ++ text.now) }
+    {
+        self.bytes.extend_from_slice(text.as_bytes())
+    }
+
+    fn word(&mut self, word: &str) -> Result<(), AllocError>
+        ensures { OnOk result (self.new ≡ self.old ++ word.now) }
+    {
+        self.bytes.extend_from_slice(word.as_bytes())
+    }
+}

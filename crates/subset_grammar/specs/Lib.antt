@@ -1,4 +1,0 @@
-pub mod Lexemes
-pub mod Grammar
-pub mod Syntax
-pub mod Texts

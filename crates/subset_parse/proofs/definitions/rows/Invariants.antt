@@ -1,7 +1,0 @@
-use Rattle.std.proofs.Common.{◌≡◌, ◌-◌, []}
-use Rattle.reading.specs.Reading.{all, many}
-use Rattle.subset_grammar.specs.Syntax as reader
-use Rattle.subset_parse.proofs.definitions.rows.Given as goal
-
-abbrev pub invariant-loop-turn : goal.invariant-loop-turn
-invariant-loop-turn l = all reader.starts_row reader.row [] l.fn.tokens ≡ many reader.starts_row reader.row (l._turn-end - l._turn) l.found l.tokens

@@ -1,4 +1,0 @@
-pub mod LoadLemmas
-pub mod StartLemmas
-pub mod TableLemmas
-pub mod WatchLemmas

@@ -1,6 +1,0 @@
-use Rattle.views.specs.Kept.{AreWatched}
-use Rattle.views.proofs.versions.watches_after.Given as goal
-
--- the watches so far are right for the first assertions after the change
-abbrev pub invariant-loop-index : goal.invariant-loop-index
-invariant-loop-index l = AreWatched l.schemas l.after l.assertions l.index l.made.items
