@@ -1,15 +1,20 @@
--- Alice plans the week in two transactions.
+-- Alice plans the week.
 ALICE: BEGIN;
-ALICE: INSERT INTO ONCALL VALUES (5, 7);      -- a third person in shift 7: refused, and nothing has changed
-ALICE: DELETE FROM ONCALL WHERE PERSON = 1;   -- so one has to go first
-ALICE: INSERT INTO ONCALL VALUES (5, 7);
-ALICE: VERDICT ATMOST2;                       -- how the rule stands on her own tables
+ALICE: DELETE FROM DUTY WHERE DOCTOR = 'KIM';           -- nobody would be on call in shift 7: refused, and nothing has changed
+ALICE: INSERT INTO DUTY VALUES (3, 7, 'LEE', 1);        -- so someone else has to be on call first
+ALICE: DELETE FROM DUTY WHERE DOCTOR = 'KIM';
+ALICE: INSERT INTO SHIFTS VALUES (8);                   -- a shift that nobody covers yet
+ALICE: INSERT INTO DUTY VALUES (4, 8, 'KIM', 1);        -- the cover may stand before its shift does
+ALICE: INSERT INTO SHIFTS VALUES (8);
+ALICE: VERDICT COVERED;                                 -- how the rule stands on her own tables
 ALICE: COMMIT;
 
+-- Then she books what was spent.
 ALICE: BEGIN;
-ALICE: INSERT INTO ONCALL VALUES (6, NULL);
-ALICE: INSERT INTO ONCALL VALUES (7, NULL);   -- NULLs are one group: three people without a shift are too many
-ALICE: DELETE FROM ONCALL WHERE SHIFT = 8;
-ALICE: ROLLBACK;                              -- none of this is kept
+ALICE: INSERT INTO ACCT VALUES (12, 'KIM', -50);        -- Kim's accounts sum to zero
+ALICE: INSERT INTO ACCT VALUES (13, 'O''HARA', -21);    -- O'Hara's would sum to -1
+ALICE: INSERT INTO ACCT VALUES (10, 'LEE', 5);          -- there is an account 10 already
+ALICE: DELETE FROM ACCT WHERE BAL > 0 AND OWNER = 'KIM';    -- what makes up for it has to stay
+ALICE: ROLLBACK;                                        -- none of this is kept
 ALICE: BEGIN;
-ALICE: INSERT INTO ONCALL VALUES (3, 9);      -- person 3 is there again
+ALICE: INSERT INTO ACCT VALUES (12, 'KIM', -30);        -- account 12 is free again
