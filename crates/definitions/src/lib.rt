@@ -10,11 +10,13 @@
 //! - INSERT: a row of constants of the columns' types, NULL only where it may stand, each value in its range, under a
 //!   key that is free.
 //!
-//! No assertion is evaluated here. The rows of a schema are loaded one by one, and it is only when all are there that the
-//! assertions have to hold (this project's choice), which the layer above asks of a view of the loaded tables.
+//! No assertion is evaluated while definitions are taken in. The rows of a schema are loaded one by one, and it is only when all
+//! are there that the assertions have to hold (this project's choice): [`Definitions::load`] is the view of what is
+//! defined, of which the layer above asks that.
 //!
 //! What the layer above may rest on: [`Definitions::take`] answers what `specs/Taken` says of the list, or its first fault, or
-//! that memory ran out. `specs/Tables` has CREATE TABLE.
+//! that memory ran out. What is taken in is always good tables and assertions that are evaluated without overflow, which is what a
+//! view is made of. `specs/Tables` has CREATE TABLE; an INSERT is that of `changes`.
 #![tactic(auto)]
 
 mod tables;
