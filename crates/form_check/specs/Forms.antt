@@ -18,7 +18,8 @@ use Rattle.assertion.specs.declared.plain_queries.Plain.{Plain}
 use Rattle.assertion.specs.declared.forms.Form.{Form}
 use Rattle.assertion.specs.declared.forms.Form.TheVariants.{ByRow, ByGroup, Single}
 use Rattle.name_check.specs.Scopes.{Scope, own_column}
-use Rattle.form_check.specs.Results.{and_then, each, in_class, only_if}
+use Rattle.value.specs.Results.{and_then, each}
+use Rattle.form_check.specs.Results.{in_class, only_if}
 use Rattle.form_check.specs.Columns.{no_column, grouping_column}
 use Rattle.form_check.specs.Leaves.{Leaf, Leaves, Rows, Of, Exists, Value, numbered}
 use Rattle.form_check.specs.Queries.{Source, source_of, row_filter, of_column, listed_aggregate, may_be_listed}

@@ -11,7 +11,7 @@ use Rattle.syntax.specs.declared.trees.Expression.{Expression, out-Expression}
 use Rattle.syntax.specs.declared.trees.Listed.{Listed}
 use Rattle.syntax.specs.declared.trees.Query.{Query}
 use Rattle.name_check.specs.Scopes.{Scope, own_column}
-use Rattle.form_check.specs.Results.{each}
+use Rattle.value.specs.Results.{each}
 use Rattle.form_check.specs.Queries.{row_condition}
 
 -- the parts that AND joins at the top of a condition

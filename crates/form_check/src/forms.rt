@@ -4,7 +4,7 @@ ghost use Rattle.std.specs.Prelude.{◌≡◌, ◌≢◌, IfOk, IfErr, Ok, Err};
 ghost use Rattle.syntax.specs.declared.trees.Query.{out-Query};
 ghost use Rattle.value.specs.declared.refusals.Refusal.TheVariants.{NoMemory};
 ghost use Rattle.name_check.specs.Shown.{shown};
-ghost use Rattle.form_check.specs.Results.{each};
+ghost use Rattle.value.specs.Results.{each};
 ghost use Rattle.form_check.specs.Forms.{aggregate_of, by_clauses, by_group, by_row, form_of, having_over, not_exists, row_where, single};
 ghost use Rattle.form_check.specs.Shown.{shown_leaf, shown_leaves, shown_source};
 

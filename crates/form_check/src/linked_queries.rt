@@ -4,7 +4,7 @@ ghost use Rattle.std.specs.Prelude.{◌≡◌, ◌≢◌, IfOk, IfErr, Ok, Err};
 ghost use Rattle.syntax.specs.declared.trees.Query.{out-Query};
 ghost use Rattle.value.specs.declared.refusals.Refusal.TheVariants.{NoMemory};
 ghost use Rattle.name_check.specs.Shown.{shown};
-ghost use Rattle.form_check.specs.Results.{each};
+ghost use Rattle.value.specs.Results.{each};
 ghost use Rattle.form_check.specs.Links.{top_parts};
 ghost use Rattle.form_check.specs.Forms.{linked, linked_by, linked_exists, linked_value, linked_where};
 ghost use Rattle.form_check.specs.Shown.{shown_leaf, shown_leaves, shown_source};
