@@ -11,7 +11,7 @@ ghost use Rattle.form_check.specs.Shown.{shown_leaf, shown_leaves, shown_source}
 
 use crate::leaves::{Columns, Leaf};
 use crate::links::Link;
-use crate::queries::{Source, listed_aggregate, may_be_listed};
+use crate::queries::{Source, may_be_selected, selected_aggregate};
 use assertion::Linked;
 use cond::Cond;
 use name_check::Scope;
@@ -65,7 +65,7 @@ fn linked_exists(
     let Some(child) = Source::of(catalog, &query.table, &query.alias) else {
         return Err(Refusal::OutsideClass);
     };
-    if !may_be_listed(&Columns::Own(child.scope), &query.listed) {
+    if !may_be_selected(&Columns::Own(child.scope), &query.listed) {
         return Err(Refusal::OutsideClass);
     }
     linked_where(
@@ -92,7 +92,7 @@ fn linked_value(
     let Some(child) = Source::of(catalog, &query.table, &query.alias) else {
         return Err(Refusal::OutsideClass);
     };
-    let Some(aggregate) = listed_aggregate(child.scope, &query.listed) else {
+    let Some(aggregate) = selected_aggregate(child.scope, &query.listed) else {
         return Err(Refusal::OutsideClass);
     };
     linked_where(

@@ -22,7 +22,7 @@
 mod scopes;
 mod trees;
 
-pub use scopes::{Scope, label_of};
+pub use scopes::{Scope, correlation_name};
 pub use trees::{known_condition, known_expression};
 
 #[cfg(test)]
