@@ -25,7 +25,7 @@ pub struct Source<'a> {
 }
 
 impl<'a> Source<'a> {
-    /// The rows of a query over this table, which may have an alias.
+    /// The rows of a query over this table, which may have a correlation name.
     pub fn of(catalog: &'a Catalog, table: &'a Text, alias: &'a Option<Text>) -> Option<Source<'a>>
         ensures { option_map shown_source result ≡ source_of catalog.now table.now alias.now }
     {

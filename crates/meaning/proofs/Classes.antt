@@ -1,9 +1,11 @@
 -- The class: a condition has a form exactly where it is in it.
-use Rattle.std.proofs.Common.{◌≡◌, ℕ, true, false, cond, Option, Some, None, Result, Ok, List, [], ◌∷◌, ◌++◌, refl, ap, sym, ◌∙◌, subst, ⊎_elim, inl, inr}
-use Rattle.std.specs.Prelude.{◌⊎◌, IsNone, IsTrue, is_some, is_none, ◌==◌, option_to_list, if◌then◌else◌}
+use Rattle.std.proofs.Common.{◌≡◌, ℕ, suc, ◌+◌, Bool, true, false, cond, map, length, nat_eq, Option, Some, None, Result, Ok, List, [], ◌∷◌, ◌++◌, refl, ap, sym, ◌∙◌, subst, ⊎_elim, inl, inr}
+use Rattle.std.specs.List.{position_or_len}
+use Rattle.std.specs.Cmp.Lexicographic.{pointwise}
+use Rattle.std.specs.Prelude.{◌⊎◌, IsNone, IsSome, not, nat_lt, option_map, unwrap_or, is_some, is_none, ◌==◌, option_to_list, if◌then◌else◌}
 use Rattle.value.specs.declared.refusals.Refusal.{Refusal}
 use Rattle.value.specs.declared.comparisons.Comparison.TheVariants.{Equal, NotEqual, Less, AtMost, Greater, AtLeast}
-use Rattle.table.specs.Rows.{Tables}
+use Rattle.table.specs.Rows.{Layout, Tables, layout_of, names_of, position_of}
 use Rattle.table.specs.declared.aggregates.Aggregate.{Aggregate}
 use Rattle.table.specs.declared.aggregates.Aggregate.TheVariants.{CountRows}
 use Rattle.cond.specs.declared.conds.Cond.{Cond}
@@ -14,18 +16,19 @@ use Rattle.assertion.specs.declared.forms.Form.{Form}
 use Rattle.assertion.specs.declared.forms.Form.TheVariants.{ByRow, ByGroup, Single}
 use Rattle.syntax.specs.declared.trees.ColumnName.{ColumnName}
 use Rattle.syntax.specs.declared.trees.Condition.{Condition, out-Condition, roll-out-Condition}
-use Rattle.syntax.specs.declared.trees.Condition.TheOpen.{Condition-F, Expression-F}
+use Rattle.syntax.specs.declared.trees.Condition.TheOpen.{Condition-F, Expression-F, Listed-F}
 use Rattle.syntax.specs.declared.trees.Expression.{Expression, out-Expression}
-use Rattle.syntax.specs.declared.trees.Listed.{Listed}
+use Rattle.syntax.specs.declared.trees.Listed.{Listed, out-Listed}
 use Rattle.syntax.specs.declared.trees.Query.{Query, out-Query}
 use Rattle.name_check.specs.Scopes.{Scope, named_in, is_name_of, own_column}
 use Rattle.value.specs.Results.{and_then, each}
 use Rattle.form_check.specs.Results.{in_class, only_if}
-use Rattle.form_check.specs.Columns.{no_column, grouping_column}
-use Rattle.form_check.specs.Leaves.{Leaf, Leaves, Rows, Of, Exists, Value, numbered}
-use Rattle.form_check.specs.Queries.{Source, source_of, alone, row_condition, row_filter, of_column, selected_aggregate, may_be_selected}
+use Rattle.form_check.specs.Columns.{no_column, in_group, grouping_column}
+use Rattle.form_check.specs.Leaves.{Leaf, Leaves, numbered}
+use Rattle.form_check.specs.Queries.{Source, sourced, source_of, alone, aggregate_in, aggregate_selected, expression_may_stand, selection_may_stand, row_condition, row_filter, of_column, selected_aggregate, may_be_selected}
 use Rattle.form_check.specs.Forms.{Clauses, plain, plain_by, plain_value, aggregate_of, row_where, by_row, having_over, by_group, by_clauses, not_exists, single, denied, form_in, form_of, linked}
-use Rattle.meaning.specs.Class.{Each, IfWritten, columns_in, leaves_in, condition_leaves, condition_columns, expression_columns, IsOwn, IsOverRows, IsPlainQuery, IsPlainLeaf, IsSingle, IsSetFunction, IsGroupQuery, IsLink, IsLinkedWhere, IsLinkedLeaf, IsRowWhere, IsRowQuery, IsDenied, IsByRows, IsByGroups, IsInClass}
+use Rattle.meaning.specs.Class as class
+use Rattle.meaning.specs.Class.{Piece, Pieces, Each, IfWritten, columns_in, pieces_in, read_by, named_as, IsColumnAt, IsSimple, IsSimpleList, IsSet, IsSetList, parts_of, condition_pieces, condition_columns, expression_columns, IsOwn, IsOverRows, IsPlainQuery, IsPlainPiece, IsSingle, IsSetFunction, IsGroupQuery, IsLink, IsLinkedWhere, IsLinkedPiece, IsRowWhere, IsRowQuery, IsDenied, IsByRows, IsByGroups, IsInClass}
 use Rattle.form_check.specs.Links.{top_parts, name_in, is_key, linked_column, either, link_between, link_in, link_of, links_in, only_one, own_parts, kept_parts}
 use Rattle.form_check.specs.Forms.{linked_where}
 use Rattle.syntax.specs.declared.trees.Condition.TheFolds.{map-Condition, map-Expression, fold_out-Condition, fold_out-Expression}
@@ -35,9 +38,10 @@ use Rattle.meaning.proofs.Links.{one_test, linked_column_is, either_is, linked_w
 use Rattle.meaning.specs.Laws as law
 use Rattle.meaning.proofs.Steps.{and_then_ok, in_class_ok, only_if_ok}
 use Rattle.meaning.proofs.Rows.{alone_ok}
-use Rattle.meaning.proofs.Queries.{plain_by_ok}
+use Rattle.meaning.proofs.Queries.{plain_by_ok, some_same}
+use Rattle.meaning.proofs.Groups.{in_group_is}
 use Rattle.meaning.proofs.Whole.{by_clauses_ok}
-use Rattle.meaning.proofs.Standing.{MayStand, condition_numbers, some_is, columns_of, leaves_at, each_append, condition_leaves_rolled}
+use Rattle.meaning.proofs.Standing.{leaf_of, MayStand, condition_numbers, some_is, columns_of, pieces_at, each_append, condition_pieces_rolled}
 
 -- it is answered
 abbrev pub Answers : {A : Type 0} → Result A Refusal → Type 0
@@ -49,17 +53,24 @@ none_is (Some a) h = cc
 
 -- ---- conditions of one table
 
+equal_itself : (n : ℕ) → n == n ≡ true
+equal_itself n = grind (arith, nat_tests)
+
+no_pieces : (ps : Pieces) → map leaf_of ps ≡ [] → ps ≡ []
+no_pieces [] e = refl
+no_pieces (p ∷ ps) e = cc
+
 over_rows : (scope : Scope) (c : Condition) → Answers (row_condition scope c) → IsOverRows scope c
 over_rows scope c (made, e) =
     let (m, (is, rest)) = and_then_ok (numbered (own_column scope) c []) (λ m. alone m.0 m.1) made e in
     let (same, none) = alone_ok m.0 m.1 made rest in
     let (columns, leaves) = (condition_numbers (own_column scope) c).says [] m.0 m.1 is in
-    record { columns = columns; alone = sym leaves ∙ none }
+    record { columns = columns; alone = no_pieces (pieces_in c) (sym leaves ∙ none) }
 
 rows_over : (scope : Scope) (c : Condition) → IsOverRows scope c → Answers (row_condition scope c)
 rows_over scope c over =
     let (made, is) = (condition_numbers (own_column scope) c).finds [] over.columns in
-    (made, ap (λ r. and_then r (λ m. alone m.0 m.1)) is ∙ ap (alone made) over.alone)
+    (made, ap (λ r. and_then r (λ m. alone m.0 m.1)) is ∙ ap (λ ps. alone made (map leaf_of ps)) over.alone)
 
 over_filter : (scope : Scope) (c : Option Condition) → Answers (row_filter scope c) → IfWritten (IsOverRows scope) c
 over_filter scope None h = tt
@@ -85,6 +96,157 @@ of_each {A = A} make P one (x ∷ xs) h =
     let (others, are) = of_each make P one xs h.1 in
     (a ∷ others, ap (λ r. and_then r (λ a. and_then (each make xs) (λ others. let r : Result (List A) Refusal = Ok (a ∷ others) in r))) is ∙ ap (λ r. and_then r (λ others. let r : Result (List A) Refusal = Ok (a ∷ others) in r)) are)
 
+each_mapped : {X Y A : Type 0} (make : Y → Result A Refusal) (f : X → Y) (xs : List X) → each make (map f xs) ≡ each (λ x. make (f x)) xs
+each_mapped make f [] = refl
+each_mapped {A = A} make f (x ∷ xs) = ap (λ r. and_then (make (f x)) (λ a. and_then r (λ others. let r : Result (List A) Refusal = Ok (a ∷ others) in r))) (each_mapped make f xs)
+
+-- what stands in the slots of pieces
+pieces_of : {A : Type 0} (make : Leaf → Result A Refusal) (P : Piece → Type 0) → ((p : Piece) → Answers (make (leaf_of p)) → P p) → (leaves : Leaves) (ps : Pieces) → leaves ≡ map leaf_of ps → Answers (each make leaves) → Each P ps
+pieces_of make P one leaves ps same (made, e) = each_of (λ p. make (leaf_of p)) P one ps (made, sym (each_mapped make leaf_of ps) ∙ ap (each make) (sym same) ∙ e)
+
+of_pieces : {A : Type 0} (make : Leaf → Result A Refusal) (P : Piece → Type 0) → ((p : Piece) → P p → Answers (make (leaf_of p))) → (ps : Pieces) → Each P ps → Answers (each make (map leaf_of ps))
+of_pieces make P one ps h = let (made, is) = of_each (λ p. make (leaf_of p)) P one ps h in (made, each_mapped make leaf_of ps ∙ is)
+
+each_other : {X : Type 0} (P Q : X → Type 0) → ((x : X) → P x → Q x) → (xs : List X) → Each P xs → Each Q xs
+each_other P Q one [] h = tt
+each_other P Q one (x ∷ xs) h = (one x h.0, each_other P Q one xs h.1)
+
+-- ---- the table that a query reads
+
+source_read : (name : List ℕ) (p : Option ℕ) (l : Option Layout) (source : Source) → sourced name p l ≡ Some source → option_map (named_as name) l ≡ Some source.scope
+source_read name None l source e = cc
+source_read name (Some t) None source e = cc
+source_read name (Some t) (Some l) source e =
+    let found : Source = record { table = t; scope = named_as name l } in ap (λ (s : Source). let o : Option Scope = Some s.scope in o) (some_same found source e)
+
+reads_scope : (tables : Tables) (query : Query) (source : Source) → source_of tables (out-Query query).table (out-Query query).alias ≡ Some source → read_by tables (out-Query query).table (out-Query query).alias ≡ Some source.scope
+reads_scope tables query source e =
+    let q = out-Query query in source_read (unwrap_or q.alias q.table) (position_of q.table tables) (layout_of q.table tables) source e
+
+within_next : (b : Bool) (first l : Layout) (o : Option Layout) (n k : ℕ) → ◌≡◌ {A = Option Layout} (cond b (Some first) o) (Some l) → (o ≡ Some l → nat_lt n k ≡ true) → nat_lt (cond (not b) (1 + n) 0) (suc k) ≡ true
+within_next true first l o n k e more = grind (arith, nat_tests)
+within_next false first l o n k e more = let less = more e in grind (arith, nat_tests)
+
+within : (name : List ℕ) (tables : Tables) (l : Layout) → layout_of name tables ≡ Some l → nat_lt (position_or_len (pointwise nat_eq name) (names_of tables)) (length (names_of tables)) ≡ true
+within name [] l e = cc
+within name (table ∷ tables) l e =
+    within_next (pointwise nat_eq name table.0) table.1 l (layout_of name tables) (position_or_len (pointwise nat_eq name) (names_of tables)) (length (names_of tables)) e (within name tables l)
+
+placed_at : (name : List ℕ) (tables : Tables) (l : Layout) → layout_of name tables ≡ Some l → position_of name tables ≡ Some (position_or_len (pointwise nat_eq name) (names_of tables))
+placed_at name tables l e = ap (λ b. let o : Option ℕ = cond b (Some (position_or_len (pointwise nat_eq name) (names_of tables))) None in o) (within name tables l e)
+
+scope_layout : (name : List ℕ) (o : Option Layout) (scope : Scope) → option_map (named_as name) o ≡ Some scope → (l : Layout) × ((o ≡ Some l) × (named_as name l ≡ scope))
+scope_layout name None scope e = cc
+scope_layout name (Some l) scope e = (l, (refl, some_same (named_as name l) scope e))
+
+-- and so it has a place
+scope_reads : (tables : Tables) (query : Query) (scope : Scope) → read_by tables (out-Query query).table (out-Query query).alias ≡ Some scope → (t : ℕ) × (source_of tables (out-Query query).table (out-Query query).alias ≡ Some (record { table = t; scope = scope }))
+scope_reads tables query scope e =
+    let q = out-Query query in
+    let name = unwrap_or q.alias q.table in
+    let (l, (is, same)) = scope_layout name (layout_of q.table tables) scope e in
+    let t = position_or_len (pointwise nat_eq q.table) (names_of tables) in
+    (t, ap (λ p. sourced name p (layout_of q.table tables)) (placed_at q.table tables l is) ∙ ap (sourced name (Some t)) is ∙ ap (λ (scope : Scope). let o : Option Source = Some (record { table = t; scope = scope }) in o) same)
+
+-- ---- select lists
+
+module _ (place : ColumnName → Option ℕ) (P : ColumnName → Type 0) (of_place : (c : ColumnName) → IsSome (place c) → P c) (to_place : (c : ColumnName) → P c → IsSome (place c)) where
+  simple_layer : (layer : Expression-F Condition Expression Listed Query) → expression_may_stand place layer ≡ true → IsSimple P layer
+  simple_layer (Expression-F.Number n) e = tt
+  simple_layer (Expression-F.Text t) e = tt
+  simple_layer (Expression-F.Column c) e = of_place c e
+  simple_layer Expression-F.CountRows e = cc
+  simple_layer (Expression-F.Aggregate f c) e = cc
+  simple_layer (Expression-F.Subquery query) e = cc
+  simple_layer (Expression-F.Negation part) e = cc
+  simple_layer (Expression-F.Sum parts) e = cc
+  simple_layer (Expression-F.Product parts) e = cc
+
+  layer_simple : (layer : Expression-F Condition Expression Listed Query) → IsSimple P layer → expression_may_stand place layer ≡ true
+  layer_simple (Expression-F.Number n) h = refl
+  layer_simple (Expression-F.Text t) h = refl
+  layer_simple (Expression-F.Column c) h = to_place c h
+  layer_simple Expression-F.CountRows h = absurd h
+  layer_simple (Expression-F.Aggregate f c) h = absurd h
+  layer_simple (Expression-F.Subquery query) h = absurd h
+  layer_simple (Expression-F.Negation part) h = absurd h
+  layer_simple (Expression-F.Sum parts) h = absurd h
+  layer_simple (Expression-F.Product parts) h = absurd h
+
+  list_layer : (layer : Listed-F Condition Expression Listed Query) → selection_may_stand place layer ≡ true → IsSimpleList P layer
+  list_layer Listed-F.Star e = tt
+  list_layer (Listed-F.One x) e = simple_layer (out-Expression x) e
+
+  layer_list : (layer : Listed-F Condition Expression Listed Query) → IsSimpleList P layer → selection_may_stand place layer ≡ true
+  layer_list Listed-F.Star h = refl
+  layer_list (Listed-F.One x) h = layer_simple (out-Expression x) h
+
+  simple_list : (list : Listed) → may_be_selected place list ≡ true → IsSimpleList P (out-Listed list)
+  simple_list list e = list_layer (out-Listed list) e
+
+  list_simple : (list : Listed) → IsSimpleList P (out-Listed list) → may_be_selected place list ≡ true
+  list_simple list h = layer_list (out-Listed list) h
+
+own_list : (scope : Scope) (list : Listed) → may_be_selected (own_column scope) list ≡ true → IsSimpleList (IsOwn scope) (out-Listed list)
+own_list scope list e = simple_list (own_column scope) (IsOwn scope) (λ c h. h) (λ c h. h) list e
+
+list_own : (scope : Scope) (list : Listed) → IsSimpleList (IsOwn scope) (out-Listed list) → may_be_selected (own_column scope) list ≡ true
+list_own scope list h = list_simple (own_column scope) (IsOwn scope) (λ c h. h) (λ c h. h) list h
+
+-- the grouping column
+grouped_at : (group : ℕ) (o : Option ℕ) → IsSome (in_group group o) → o ≡ Some group
+grouped_at group o h = let (c, is) = some_is no_column (in_group group o) h in (in_group_is group o c is).0
+
+at_group : (group : ℕ) (o : Option ℕ) → o ≡ Some group → IsSome (in_group group o)
+at_group group o e = ap (λ o. is_some (in_group group o)) e ∙ ap (λ b. let o : Option ℕ = cond b (Some 0) None in is_some o) (equal_itself group)
+
+group_list : (scope : Scope) (group : ℕ) (list : Listed) → may_be_selected (grouping_column scope group) list ≡ true → IsSimpleList (IsColumnAt scope group) (out-Listed list)
+group_list scope group list e = simple_list (grouping_column scope group) (IsColumnAt scope group) (λ c h. grouped_at group (own_column scope c) h) (λ c h. at_group group (own_column scope c) h) list e
+
+list_group : (scope : Scope) (group : ℕ) (list : Listed) → IsSimpleList (IsColumnAt scope group) (out-Listed list) → may_be_selected (grouping_column scope group) list ≡ true
+list_group scope group list h = list_simple (grouping_column scope group) (IsColumnAt scope group) (λ c h. grouped_at group (own_column scope c) h) (λ c h. at_group group (own_column scope c) h) list h
+
+-- one set function
+some_mapped : {A B : Type 0} (f : A → B) (o : Option A) → is_some (option_map f o) ≡ is_some o
+some_mapped f None = refl
+some_mapped f (Some a) = refl
+
+set_layer : (scope : Scope) (layer : Expression-F Condition Expression Listed Query) → is_some (aggregate_in scope layer) ≡ true → IsSet scope layer
+set_layer scope (Expression-F.Number n) e = cc
+set_layer scope (Expression-F.Text t) e = cc
+set_layer scope (Expression-F.Column c) e = cc
+set_layer scope Expression-F.CountRows e = tt
+set_layer scope (Expression-F.Aggregate f c) e = sym (some_mapped (of_column f) (own_column scope c)) ∙ e
+set_layer scope (Expression-F.Subquery query) e = cc
+set_layer scope (Expression-F.Negation part) e = cc
+set_layer scope (Expression-F.Sum parts) e = cc
+set_layer scope (Expression-F.Product parts) e = cc
+
+layer_set : (scope : Scope) (layer : Expression-F Condition Expression Listed Query) → IsSet scope layer → is_some (aggregate_in scope layer) ≡ true
+layer_set scope (Expression-F.Number n) h = absurd h
+layer_set scope (Expression-F.Text t) h = absurd h
+layer_set scope (Expression-F.Column c) h = absurd h
+layer_set scope Expression-F.CountRows h = refl
+layer_set scope (Expression-F.Aggregate f c) h = some_mapped (of_column f) (own_column scope c) ∙ h
+layer_set scope (Expression-F.Subquery query) h = absurd h
+layer_set scope (Expression-F.Negation part) h = absurd h
+layer_set scope (Expression-F.Sum parts) h = absurd h
+layer_set scope (Expression-F.Product parts) h = absurd h
+
+set_list_layer : (scope : Scope) (layer : Listed-F Condition Expression Listed Query) → is_some (aggregate_selected scope layer) ≡ true → IsSetList scope layer
+set_list_layer scope Listed-F.Star e = cc
+set_list_layer scope (Listed-F.One x) e = set_layer scope (out-Expression x) e
+
+layer_set_list : (scope : Scope) (layer : Listed-F Condition Expression Listed Query) → IsSetList scope layer → is_some (aggregate_selected scope layer) ≡ true
+layer_set_list scope Listed-F.Star h = absurd h
+layer_set_list scope (Listed-F.One x) h = layer_set scope (out-Expression x) h
+
+set_list : (scope : Scope) (list : Listed) → IsSome (selected_aggregate scope list) → IsSetList scope (out-Listed list)
+set_list scope list e = set_list_layer scope (out-Listed list) e
+
+list_set : (scope : Scope) (list : Listed) → IsSetList scope (out-Listed list) → IsSome (selected_aggregate scope list)
+list_set scope list h = layer_set_list scope (out-Listed list) h
+
 -- ---- single conditions
 
 plain_query : (tables : Tables) (query : Query) → Answers (plain_value tables (out-Query query)) → IsPlainQuery tables query
@@ -92,34 +254,36 @@ plain_query tables query (p, e) =
     let q = out-Query query in
     let (source, (found, more)) = in_class_ok (source_of tables q.table q.alias) (λ source. plain_by source (selected_aggregate source.scope q.listed) q.keeps q.group q.having) p e in
     let (no_group, (no_having, (function, (lists, (kept, (filters, makes)))))) = plain_by_ok source (selected_aggregate source.scope q.listed) q.keeps q.group q.having p more in
-    record { source = source; reads = found; lists = ap is_some lists; kept = over_filter source.scope q.keeps (kept, filters); ungrouped = ap is_some no_group; whole = ap is_some no_having }
+    record { scope = source.scope; reads = reads_scope tables query source found; lists = set_list source.scope q.listed (ap is_some lists); kept = over_filter source.scope q.keeps (kept, filters); ungrouped = ap is_some no_group; whole = ap is_some no_having }
 
 query_plain : (tables : Tables) (query : Query) → IsPlainQuery tables query → Answers (plain_value tables (out-Query query))
 query_plain tables query is =
     let q = out-Query query in
-    let scope = is.source.scope in
-    let (a, lists) = some_is no_column (selected_aggregate scope q.listed) is.lists in
+    let scope = is.scope in
+    let (t, reads) = scope_reads tables query scope is.reads in
+    let source : Source = record { table = t; scope = scope } in
+    let (a, lists) = some_is no_column (selected_aggregate scope q.listed) (list_set scope q.listed is.lists) in
     let (kept, filters) = filter_over scope q.keeps is.kept in
-    let make : Aggregate → Cond → Plain = λ a kept. record { table = is.source.table; kept = kept; aggregate = a } in (
+    let make : Aggregate → Cond → Plain = λ a kept. record { table = t; kept = kept; aggregate = a } in (
       make a kept,
-      ap (λ o. in_class o (λ source. plain_by source (selected_aggregate source.scope q.listed) q.keeps q.group q.having)) is.reads
-          ∙ ap (λ g. plain_by is.source (selected_aggregate scope q.listed) q.keeps g q.having) (none_is q.group is.ungrouped)
-          ∙ ap (λ h. plain_by is.source (selected_aggregate scope q.listed) q.keeps None h) (none_is q.having is.whole)
-          ∙ ap (λ o. plain_by is.source o q.keeps None None) lists
+      ap (λ o. in_class o (λ source. plain_by source (selected_aggregate source.scope q.listed) q.keeps q.group q.having)) reads
+          ∙ ap (λ g. plain_by source (selected_aggregate scope q.listed) q.keeps g q.having) (none_is q.group is.ungrouped)
+          ∙ ap (λ h. plain_by source (selected_aggregate scope q.listed) q.keeps None h) (none_is q.having is.whole)
+          ∙ ap (λ o. plain_by source o q.keeps None None) lists
           ∙ ap (λ r. and_then r (λ kept. let r : Result Plain Refusal = Ok (make a kept) in r)) filters,
     )
 
-plain_leaf_is : (tables : Tables) (leaf : Leaf) → Answers (plain tables leaf) → IsPlainLeaf tables leaf
-plain_leaf_is tables Rows (p, e) = cc
-plain_leaf_is tables (Of f c) (p, e) = cc
-plain_leaf_is tables (Exists query) (p, e) = cc
-plain_leaf_is tables (Value query) h = plain_query tables query h
+plain_leaf_is : (tables : Tables) (p : Piece) → Answers (plain tables (leaf_of p)) → IsPlainPiece tables p
+plain_leaf_is tables class.Rows (p, e) = cc
+plain_leaf_is tables (class.Of f c) (p, e) = cc
+plain_leaf_is tables (class.Exists query) (p, e) = cc
+plain_leaf_is tables (class.Value query) h = plain_query tables query h
 
-leaf_is_plain : (tables : Tables) (leaf : Leaf) → IsPlainLeaf tables leaf → Answers (plain tables leaf)
-leaf_is_plain tables Rows h = absurd h
-leaf_is_plain tables (Of f c) h = absurd h
-leaf_is_plain tables (Exists query) h = absurd h
-leaf_is_plain tables (Value query) h = query_plain tables query h
+leaf_is_plain : (tables : Tables) (p : Piece) → IsPlainPiece tables p → Answers (plain tables (leaf_of p))
+leaf_is_plain tables class.Rows h = absurd h
+leaf_is_plain tables (class.Of f c) h = absurd h
+leaf_is_plain tables (class.Exists query) h = absurd h
+leaf_is_plain tables (class.Value query) h = query_plain tables query h
 
 no_columns : (cs : List ColumnName) → Each (MayStand no_column) cs → cs ≡ []
 no_columns [] h = refl
@@ -130,12 +294,12 @@ single_class tables c (form, e) =
     let (m, (is, more)) = and_then_ok (numbered no_column c []) (λ m. and_then (each (plain tables) m.1) (λ queries. let r : Result Form Refusal = Ok (Single m.0 queries) in r)) form e in
     let (queries, (are, makes)) = and_then_ok (each (plain tables) m.1) (λ queries. let r : Result Form Refusal = Ok (Single m.0 queries) in r) form more in
     let (columns, leaves) = (condition_numbers no_column c).says [] m.0 m.1 is in
-    record { columns = no_columns (columns_in c) columns; queries = subst (Each (IsPlainLeaf tables)) leaves (each_of (plain tables) (IsPlainLeaf tables) (plain_leaf_is tables) m.1 (queries, are)) }
+    record { columns = no_columns (columns_in c) columns; queries = pieces_of (plain tables) (IsPlainPiece tables) (plain_leaf_is tables) m.1 (pieces_in c) leaves (queries, are) }
 
 pub class_single : (tables : Tables) (c : Condition) → IsSingle tables c → Answers (single tables c)
 class_single tables c h =
     let (made, is) = (condition_numbers no_column c).finds [] (subst (Each (MayStand no_column)) (sym h.columns) tt) in
-    let (queries, are) = of_each (plain tables) (IsPlainLeaf tables) (leaf_is_plain tables) (leaves_in c) h.queries in (
+    let (queries, are) = of_pieces (plain tables) (IsPlainPiece tables) (leaf_is_plain tables) (pieces_in c) h.queries in (
       Single made queries,
       ap (λ r. and_then r (λ m. and_then (each (plain tables) m.1) (λ queries. let r : Result Form Refusal = Ok (Single m.0 queries) in r))) is
           ∙ ap (λ r. and_then r (λ queries. let r : Result Form Refusal = Ok (Single made queries) in r)) are,
@@ -143,23 +307,23 @@ class_single tables c h =
 
 -- ---- by groups
 
-set_leaf : (scope : Scope) (leaf : Leaf) → Answers (aggregate_of scope leaf) → IsSetFunction scope leaf
-set_leaf scope Rows h = tt
-set_leaf scope (Of f column) (a, e) =
+set_leaf : (scope : Scope) (p : Piece) → Answers (aggregate_of scope (leaf_of p)) → IsSetFunction scope p
+set_leaf scope class.Rows h = tt
+set_leaf scope (class.Of f column) (a, e) =
     let (c, (is, makes)) = in_class_ok (own_column scope column) (λ c. let r : Result Aggregate Refusal = Ok (of_column f c) in r) a e in ap is_some is
-set_leaf scope (Exists query) (a, e) = cc
-set_leaf scope (Value query) (a, e) = cc
+set_leaf scope (class.Exists query) (a, e) = cc
+set_leaf scope (class.Value query) (a, e) = cc
 
-leaf_set : (scope : Scope) (leaf : Leaf) → IsSetFunction scope leaf → Answers (aggregate_of scope leaf)
-leaf_set scope Rows h = (CountRows, refl)
-leaf_set scope (Of f column) h =
+leaf_set : (scope : Scope) (p : Piece) → IsSetFunction scope p → Answers (aggregate_of scope (leaf_of p))
+leaf_set scope class.Rows h = (CountRows, refl)
+leaf_set scope (class.Of f column) h =
     let (c, is) = some_is no_column (own_column scope column) h in
     (of_column f c, ap (λ o. in_class o (λ c. let r : Result Aggregate Refusal = Ok (of_column f c) in r)) is)
-leaf_set scope (Exists query) h = absurd h
-leaf_set scope (Value query) h = absurd h
+leaf_set scope (class.Exists query) h = absurd h
+leaf_set scope (class.Value query) h = absurd h
 
 group_class : (source : Source) (query : Clauses) (column : ColumnName) (having : Condition) → Answers (by_group source query column having)
-    → (group : ℕ) × ((own_column source.scope column ≡ Some group) × (IsTrue (may_be_selected (grouping_column source.scope group) query.listed) × (IfWritten (IsOverRows source.scope) query.keeps × (Each (MayStand (grouping_column source.scope group)) (columns_in having) × Each (IsSetFunction source.scope) (leaves_in having)))))
+    → (group : ℕ) × ((own_column source.scope column ≡ Some group) × (IsSimpleList (IsColumnAt source.scope group) (out-Listed query.listed) × (IfWritten (IsOverRows source.scope) query.keeps × (Each (IsColumnAt source.scope group) (columns_in having) × Each (IsSetFunction source.scope) (pieces_in having)))))
 group_class source query column having (form, e) =
     let scope = source.scope in
     let (group, (own, more)) = in_class_ok (own_column scope column) (λ group. only_if (may_be_selected (grouping_column scope group) query.listed) (and_then (row_filter scope query.keeps) (λ kept. having_over source group kept having))) form e in
@@ -168,18 +332,18 @@ group_class source query column having (form, e) =
     let (m, (is, made)) = and_then_ok (numbered (grouping_column scope group) having []) (λ made. and_then (each (aggregate_of scope) made.1) (λ aggregates. let r : Result Form Refusal = Ok (ByGroup source.table kept group made.0 aggregates) in r)) form over in
     let (aggregates, (are, makes)) = and_then_ok (each (aggregate_of scope) m.1) (λ aggregates. let r : Result Form Refusal = Ok (ByGroup source.table kept group m.0 aggregates) in r) form made in
     let (columns, leaves) = (condition_numbers (grouping_column scope group) having).says [] m.0 m.1 is in
-    (group, (own, (lists, (over_filter scope query.keeps (kept, filters), (columns, subst (Each (IsSetFunction scope)) leaves (each_of (aggregate_of scope) (IsSetFunction scope) (set_leaf scope) m.1 (aggregates, are)))))))
+    (group, (own, (group_list scope group query.listed lists, (over_filter scope query.keeps (kept, filters), (each_other (MayStand (grouping_column scope group)) (IsColumnAt scope group) (λ c h. grouped_at group (own_column scope c) h) (columns_in having) columns, pieces_of (aggregate_of scope) (IsSetFunction scope) (set_leaf scope) m.1 (pieces_in having) leaves (aggregates, are))))))
 
-class_group : (source : Source) (query : Clauses) (column : ColumnName) (having : Condition) (group : ℕ) → own_column source.scope column ≡ Some group → IsTrue (may_be_selected (grouping_column source.scope group) query.listed) → IfWritten (IsOverRows source.scope) query.keeps
-    → Each (MayStand (grouping_column source.scope group)) (columns_in having) → Each (IsSetFunction source.scope) (leaves_in having) → Answers (by_group source query column having)
+class_group : (source : Source) (query : Clauses) (column : ColumnName) (having : Condition) (group : ℕ) → own_column source.scope column ≡ Some group → IsSimpleList (IsColumnAt source.scope group) (out-Listed query.listed) → IfWritten (IsOverRows source.scope) query.keeps
+    → Each (IsColumnAt source.scope group) (columns_in having) → Each (IsSetFunction source.scope) (pieces_in having) → Answers (by_group source query column having)
 class_group source query column having group own lists keeps columns leaves =
     let scope = source.scope in
     let (kept, filters) = filter_over scope query.keeps keeps in
-    let (made, is) = (condition_numbers (grouping_column scope group) having).finds [] columns in
-    let (aggregates, are) = of_each (aggregate_of scope) (IsSetFunction scope) (leaf_set scope) (leaves_in having) leaves in (
+    let (made, is) = (condition_numbers (grouping_column scope group) having).finds [] (each_other (IsColumnAt scope group) (MayStand (grouping_column scope group)) (λ c h. at_group group (own_column scope c) h) (columns_in having) columns) in
+    let (aggregates, are) = of_pieces (aggregate_of scope) (IsSetFunction scope) (leaf_set scope) (pieces_in having) leaves in (
       ByGroup source.table kept group made aggregates,
       ap (λ o. in_class o (λ group. only_if (may_be_selected (grouping_column scope group) query.listed) (and_then (row_filter scope query.keeps) (λ kept. having_over source group kept having)))) own
-          ∙ ap (λ b. only_if b (and_then (row_filter scope query.keeps) (λ kept. having_over source group kept having))) lists
+          ∙ ap (λ b. only_if b (and_then (row_filter scope query.keeps) (λ kept. having_over source group kept having))) (list_group scope group query.listed lists)
           ∙ ap (λ r. and_then r (λ kept. having_over source group kept having)) filters
           ∙ ap (λ r. and_then r (λ made. and_then (each (aggregate_of scope) made.1) (λ aggregates. let r : Result Form Refusal = Ok (ByGroup source.table kept group made.0 aggregates) in r))) is
           ∙ ap (λ r. and_then r (λ aggregates. let r : Result Form Refusal = Ok (ByGroup source.table kept group made aggregates) in r)) are,
@@ -232,13 +396,10 @@ module _ (child root : Scope) where
   link_is : (part : Condition) (c : ℕ) → link_of child root part ≡ Some c → IsLink child root part
   link_is part c e = link_layer part (out-Condition part) refl c e
 
-  itself : (n : ℕ) → n == n ≡ true
-  itself n = grind (arith, nat_tests)
-
   inner_first : (l r : ColumnName) (c : ℕ) → own_column child l ≡ Some c → is_name_of r.qualifier r.name child ≡ false → own_column root r ≡ Some root.layout.key → linked_column child root l r ≡ Some c
   inner_first l r c own none key =
       ap (λ b. if is_key root (if b then None else own_column root r) then own_column child l else None) none
-      ∙ ap (λ o. if is_key root o then own_column child l else None) key ∙ ap (λ b. if b then own_column child l else None) (itself root.layout.key) ∙ own
+      ∙ ap (λ o. if is_key root o then own_column child l else None) key ∙ ap (λ b. if b then own_column child l else None) (equal_itself root.layout.key) ∙ own
 
   inner_hidden : (l r : ColumnName) (c : ℕ) → own_column child r ≡ Some c → linked_column child root l r ≡ None
   inner_hidden l r c own = ap (λ b. if is_key root (if b then None else own_column root r) then own_column child l else None) (one_test (is_name_of r.qualifier r.name child) (named_in r.name child) c own).0
@@ -371,67 +532,71 @@ class_linked_where child root a keeps g h (condition, (is, (linked, (no_group, n
           ∙ ap (λ r. and_then r (λ kept. let r : Result Linked Refusal = Ok (make link kept) in r)) are,
     )
 
-linked_leaf_class : (tables : Tables) (root : Scope) (leaf : Leaf) → Answers (linked tables root leaf) → IsLinkedLeaf tables root leaf
-linked_leaf_class tables root Rows (q, e) = cc
-linked_leaf_class tables root (Of f c) (q, e) = cc
-linked_leaf_class tables root (Exists query) (q, e) =
+linked_leaf_class : (tables : Tables) (root : Scope) (p : Piece) → Answers (linked tables root (leaf_of p)) → IsLinkedPiece tables root p
+linked_leaf_class tables root class.Rows (q, e) = cc
+linked_leaf_class tables root (class.Of f c) (q, e) = cc
+linked_leaf_class tables root (class.Exists query) (q, e) =
     let c = out-Query query in
     let (child, (found, more)) = in_class_ok (source_of tables c.table c.alias) (λ child. only_if (may_be_selected (own_column child.scope) c.listed) (linked_where child root CountRows c.keeps c.group c.having)) q e in
     let (lists, rest) = only_if_ok (may_be_selected (own_column child.scope) c.listed) (linked_where child root CountRows c.keeps c.group c.having) q more in
     let (condition, (is, (where_is, (g, h)))) = linked_where_class child root CountRows c.keeps c.group c.having (q, rest) in
-    record { source = child; condition = condition; reads = found; lists = lists; kept = is; linked = where_is; ungrouped = g; whole = h }
-linked_leaf_class tables root (Value query) (q, e) =
+    record { scope = child.scope; condition = condition; reads = reads_scope tables query child found; lists = own_list child.scope c.listed lists; kept = is; linked = where_is; ungrouped = g; whole = h }
+linked_leaf_class tables root (class.Value query) (q, e) =
     let c = out-Query query in
     let (child, (found, more)) = in_class_ok (source_of tables c.table c.alias) (λ child. in_class (selected_aggregate child.scope c.listed) (λ a. linked_where child root a c.keeps c.group c.having)) q e in
     let (a, (lists, rest)) = in_class_ok (selected_aggregate child.scope c.listed) (λ a. linked_where child root a c.keeps c.group c.having) q more in
     let (condition, (is, (where_is, (g, h)))) = linked_where_class child root a c.keeps c.group c.having (q, rest) in
-    record { source = child; condition = condition; reads = found; lists = ap is_some lists; kept = is; linked = where_is; ungrouped = g; whole = h }
+    record { scope = child.scope; condition = condition; reads = reads_scope tables query child found; lists = set_list child.scope c.listed (ap is_some lists); kept = is; linked = where_is; ungrouped = g; whole = h }
 
-class_linked_leaf : (tables : Tables) (root : Scope) (leaf : Leaf) → IsLinkedLeaf tables root leaf → Answers (linked tables root leaf)
-class_linked_leaf tables root Rows h = absurd h
-class_linked_leaf tables root (Of f c) h = absurd h
-class_linked_leaf tables root (Exists query) h =
+class_linked_leaf : (tables : Tables) (root : Scope) (p : Piece) → IsLinkedPiece tables root p → Answers (linked tables root (leaf_of p))
+class_linked_leaf tables root class.Rows h = absurd h
+class_linked_leaf tables root (class.Of f c) h = absurd h
+class_linked_leaf tables root (class.Exists query) h =
     let c = out-Query query in
-    let (q, is) = class_linked_where h.source root CountRows c.keeps c.group c.having (h.condition, (h.kept, (h.linked, (h.ungrouped, h.whole)))) in (
+    let (t, reads) = scope_reads tables query h.scope h.reads in
+    let child : Source = record { table = t; scope = h.scope } in
+    let (q, is) = class_linked_where child root CountRows c.keeps c.group c.having (h.condition, (h.kept, (h.linked, (h.ungrouped, h.whole)))) in (
       q,
-      ap (λ o. in_class o (λ child. only_if (may_be_selected (own_column child.scope) c.listed) (linked_where child root CountRows c.keeps c.group c.having))) h.reads
-          ∙ ap (λ b. only_if b (linked_where h.source root CountRows c.keeps c.group c.having)) h.lists ∙ is,
+      ap (λ o. in_class o (λ child. only_if (may_be_selected (own_column child.scope) c.listed) (linked_where child root CountRows c.keeps c.group c.having))) reads
+          ∙ ap (λ b. only_if b (linked_where child root CountRows c.keeps c.group c.having)) (list_own h.scope c.listed h.lists) ∙ is,
     )
-class_linked_leaf tables root (Value query) h =
+class_linked_leaf tables root (class.Value query) h =
     let c = out-Query query in
-    let (a, lists) = some_is no_column (selected_aggregate h.source.scope c.listed) h.lists in
-    let (q, is) = class_linked_where h.source root a c.keeps c.group c.having (h.condition, (h.kept, (h.linked, (h.ungrouped, h.whole)))) in (
+    let (t, reads) = scope_reads tables query h.scope h.reads in
+    let child : Source = record { table = t; scope = h.scope } in
+    let (a, lists) = some_is no_column (selected_aggregate h.scope c.listed) (list_set h.scope c.listed h.lists) in
+    let (q, is) = class_linked_where child root a c.keeps c.group c.having (h.condition, (h.kept, (h.linked, (h.ungrouped, h.whole)))) in (
       q,
-      ap (λ o. in_class o (λ child. in_class (selected_aggregate child.scope c.listed) (λ a. linked_where child root a c.keeps c.group c.having))) h.reads
-          ∙ ap (λ o. in_class o (λ a. linked_where h.source root a c.keeps c.group c.having)) lists ∙ is,
+      ap (λ o. in_class o (λ child. in_class (selected_aggregate child.scope c.listed) (λ a. linked_where child root a c.keeps c.group c.having))) reads
+          ∙ ap (λ o. in_class o (λ a. linked_where child root a c.keeps c.group c.having)) lists ∙ is,
     )
 
 row_where_class : (tables : Tables) (root : Scope) (keeps : Option Condition) (made : Cond) (leaves : Leaves) → row_where root keeps ≡ Ok (made, leaves) → Answers (each (linked tables root) leaves) → IfWritten (IsRowWhere tables root) keeps
 row_where_class tables root None made leaves e h = tt
 row_where_class tables root (Some c) made leaves e h =
     let (columns, are) = (condition_numbers (own_column root) c).says [] made leaves e in
-    record { columns = columns; queries = subst (Each (IsLinkedLeaf tables root)) are (each_of (linked tables root) (IsLinkedLeaf tables root) (linked_leaf_class tables root) leaves h) }
+    record { columns = columns; queries = pieces_of (linked tables root) (IsLinkedPiece tables root) (linked_leaf_class tables root) leaves (pieces_in c) are h }
 
 class_row_where : (tables : Tables) (root : Scope) (keeps : Option Condition) → IfWritten (IsRowWhere tables root) keeps → (made : Cond) × ((leaves : Leaves) × ((row_where root keeps ≡ Ok (made, leaves)) × Answers (each (linked tables root) leaves)))
 class_row_where tables root None h = let none : Leaves = [] in let no_queries : List Linked = [] in (cond_of.And [], (none, (refl, (no_queries, refl))))
 class_row_where tables root (Some c) h =
     let (made, is) = (condition_numbers (own_column root) c).finds [] h.columns in
-    (made, (leaves_in c, (is, of_each (linked tables root) (IsLinkedLeaf tables root) (class_linked_leaf tables root) (leaves_in c) h.queries)))
+    (made, (map leaf_of (pieces_in c), (is, of_pieces (linked tables root) (IsLinkedPiece tables root) (class_linked_leaf tables root) (pieces_in c) h.queries)))
 
-row_class : (tables : Tables) (source : Source) (query : Clauses) → Answers (by_row tables source query) → IsTrue (may_be_selected (own_column source.scope) query.listed) × IfWritten (IsRowWhere tables source.scope) query.keeps
+row_class : (tables : Tables) (source : Source) (query : Clauses) → Answers (by_row tables source query) → IsSimpleList (IsOwn source.scope) (out-Listed query.listed) × IfWritten (IsRowWhere tables source.scope) query.keeps
 row_class tables source query (form, e) =
     let scope = source.scope in
     let (lists, rest) = only_if_ok (may_be_selected (own_column scope) query.listed) (and_then (row_where scope query.keeps) (λ made. and_then (each (linked tables scope) made.1) (λ queries. let r : Result Form Refusal = Ok (ByRow source.table made.0 queries) in r))) form e in
     let (m, (is, more)) = and_then_ok (row_where scope query.keeps) (λ made. and_then (each (linked tables scope) made.1) (λ queries. let r : Result Form Refusal = Ok (ByRow source.table made.0 queries) in r)) form rest in
     let (queries, (are, makes)) = and_then_ok (each (linked tables scope) m.1) (λ queries. let r : Result Form Refusal = Ok (ByRow source.table m.0 queries) in r) form more in
-    (lists, row_where_class tables scope query.keeps m.0 m.1 is (queries, are))
+    (own_list scope query.listed lists, row_where_class tables scope query.keeps m.0 m.1 is (queries, are))
 
-class_row : (tables : Tables) (source : Source) (query : Clauses) → IsTrue (may_be_selected (own_column source.scope) query.listed) → IfWritten (IsRowWhere tables source.scope) query.keeps → Answers (by_row tables source query)
+class_row : (tables : Tables) (source : Source) (query : Clauses) → IsSimpleList (IsOwn source.scope) (out-Listed query.listed) → IfWritten (IsRowWhere tables source.scope) query.keeps → Answers (by_row tables source query)
 class_row tables source query lists keeps =
     let scope = source.scope in
     let (made, (leaves, (is, (queries, are)))) = class_row_where tables scope query.keeps keeps in (
       ByRow source.table made queries,
-      ap (λ b. only_if b (and_then (row_where scope query.keeps) (λ made. and_then (each (linked tables scope) made.1) (λ queries. let r : Result Form Refusal = Ok (ByRow source.table made.0 queries) in r)))) lists
+      ap (λ b. only_if b (and_then (row_where scope query.keeps) (λ made. and_then (each (linked tables scope) made.1) (λ queries. let r : Result Form Refusal = Ok (ByRow source.table made.0 queries) in r)))) (list_own scope query.listed lists)
           ∙ ap (λ r. and_then r (λ made. and_then (each (linked tables scope) made.1) (λ queries. let r : Result Form Refusal = Ok (ByRow source.table made.0 queries) in r))) is
           ∙ ap (λ r. and_then r (λ queries. let r : Result Form Refusal = Ok (ByRow source.table made queries) in r)) are,
     )
@@ -443,23 +608,27 @@ exists_class tables query (form, e) =
     let q = out-Query query in
     let (source, (found, more)) = in_class_ok (source_of tables q.table q.alias) (λ source. by_clauses tables source q q.group q.having) form e in
     ⊎_elim
-    (λ rows. let (lists, keeps) = row_class tables source q (form, rows.1.1) in inl (record { source = source; reads = found; lists = lists; kept = keeps; ungrouped = ap is_some rows.0; whole = ap is_some rows.1.0 }))
+    (λ rows. let (lists, keeps) = row_class tables source q (form, rows.1.1) in inl (record { scope = source.scope; reads = reads_scope tables query source found; lists = lists; kept = keeps; ungrouped = ap is_some rows.0; whole = ap is_some rows.1.0 }))
     (λ groups.
     let (group, (own, (lists, (keeps, (columns, sets))))) = group_class source q groups.0 groups.1.0 (form, groups.1.1.1.1) in
-    inr (record { source = source; column = groups.0; group = group; having = groups.1.0; reads = found; grouped = groups.1.1.0; is_own = own; lists = lists; kept = keeps; listed = groups.1.1.1.0; columns = columns; sets = sets }))
+    inr (record { scope = source.scope; column = groups.0; group = group; having = groups.1.0; reads = reads_scope tables query source found; grouped = groups.1.1.0; is_own = own; lists = lists; kept = keeps; listed = groups.1.1.1.0; columns = columns; sets = sets }))
     (by_clauses_ok tables source q q.group q.having form more)
 
 class_rows : (tables : Tables) (query : Query) → IsRowQuery tables query → Answers (not_exists tables (out-Query query))
 class_rows tables query h =
     let q = out-Query query in
-    let (form, is) = class_row tables h.source q h.lists h.kept in
-    (form, ap (λ o. in_class o (λ source. by_clauses tables source q q.group q.having)) h.reads ∙ ap (λ g. by_clauses tables h.source q g q.having) (none_is q.group h.ungrouped) ∙ ap (λ o. by_clauses tables h.source q None o) (none_is q.having h.whole) ∙ is)
+    let (t, reads) = scope_reads tables query h.scope h.reads in
+    let source : Source = record { table = t; scope = h.scope } in
+    let (form, is) = class_row tables source q h.lists h.kept in
+    (form, ap (λ o. in_class o (λ source. by_clauses tables source q q.group q.having)) reads ∙ ap (λ g. by_clauses tables source q g q.having) (none_is q.group h.ungrouped) ∙ ap (λ o. by_clauses tables source q None o) (none_is q.having h.whole) ∙ is)
 
 class_groups : (tables : Tables) (query : Query) → IsGroupQuery tables query → Answers (not_exists tables (out-Query query))
 class_groups tables query h =
     let q = out-Query query in
-    let (form, is) = class_group h.source q h.column h.having h.group h.is_own h.lists h.kept h.columns h.sets in
-    (form, ap (λ o. in_class o (λ source. by_clauses tables source q q.group q.having)) h.reads ∙ ap (λ g. by_clauses tables h.source q g q.having) h.grouped ∙ ap (λ o. by_clauses tables h.source q (Some h.column) o) h.listed ∙ is)
+    let (t, reads) = scope_reads tables query h.scope h.reads in
+    let source : Source = record { table = t; scope = h.scope } in
+    let (form, is) = class_group source q h.column h.having h.group h.is_own h.lists h.kept h.columns h.sets in
+    (form, ap (λ o. in_class o (λ source. by_clauses tables source q q.group q.having)) reads ∙ ap (λ g. by_clauses tables source q g q.having) h.grouped ∙ ap (λ o. by_clauses tables source q (Some h.column) o) h.listed ∙ is)
 
 -- ---- all
 
@@ -501,11 +670,11 @@ rows_form tables c h = denied_form tables c h.0 h.1 (class_rows tables h.0 h.2)
 pub groups_form : (tables : Tables) (c : Condition) → IsByGroups tables c → Answers (form_of tables c)
 groups_form tables c h = denied_form tables c h.0 h.1 (class_groups tables h.0 h.2)
 
-leaves_out : (c : Condition) → leaves_in c ≡ condition_leaves (map-Condition Condition Expression Listed Query (Condition × Leaves) (Expression × Leaves) (Listed × Unit {0}) (Query × Unit {0}) (λ c. (c, leaves_in c)) (λ e. (e, leaves_at e)) (λ l. (l, tt)) (λ q. (q, tt)) (out-Condition c))
-leaves_out c = ap leaves_in (sym (roll-out-Condition c)) ∙ condition_leaves_rolled (out-Condition c)
+leaves_out : (c : Condition) → pieces_in c ≡ condition_pieces (map-Condition Condition Expression Listed Query (Condition × Pieces) (Expression × Pieces) (Listed × Unit {0}) (Query × Unit {0}) (λ c. (c, pieces_in c)) (λ e. (e, pieces_at e)) (λ l. (l, tt)) (λ q. (q, tt)) (out-Condition c))
+leaves_out c = ap pieces_in (sym (roll-out-Condition c)) ∙ condition_pieces_rolled (out-Condition c)
 
-leaves_layer : (c : Condition) (layer : Condition-F Condition Expression Listed Query) → out-Condition c ≡ layer → leaves_in c ≡ condition_leaves (map-Condition Condition Expression Listed Query (Condition × Leaves) (Expression × Leaves) (Listed × Unit {0}) (Query × Unit {0}) (λ c. (c, leaves_in c)) (λ e. (e, leaves_at e)) (λ l. (l, tt)) (λ q. (q, tt)) layer)
-leaves_layer c layer e = leaves_out c ∙ ap (λ layer. condition_leaves (map-Condition Condition Expression Listed Query (Condition × Leaves) (Expression × Leaves) (Listed × Unit {0}) (Query × Unit {0}) (λ c. (c, leaves_in c)) (λ e. (e, leaves_at e)) (λ l. (l, tt)) (λ q. (q, tt)) layer)) e
+leaves_layer : (c : Condition) (layer : Condition-F Condition Expression Listed Query) → out-Condition c ≡ layer → pieces_in c ≡ condition_pieces (map-Condition Condition Expression Listed Query (Condition × Pieces) (Expression × Pieces) (Listed × Unit {0}) (Query × Unit {0}) (λ c. (c, pieces_in c)) (λ e. (e, pieces_at e)) (λ l. (l, tt)) (λ q. (q, tt)) layer)
+leaves_layer c layer e = leaves_out c ∙ ap (λ layer. condition_pieces (map-Condition Condition Expression Listed Query (Condition × Pieces) (Expression × Pieces) (Listed × Unit {0}) (Query × Unit {0}) (λ c. (c, pieces_in c)) (λ e. (e, pieces_at e)) (λ l. (l, tt)) (λ q. (q, tt)) layer)) e
 
 -- a single condition is no NOT EXISTS
 denied_single : (tables : Tables) (c part : Condition) (layer : Condition-F Condition Expression Listed Query) → out-Condition c ≡ Condition-F.Not part → out-Condition part ≡ layer → IsSingle tables c → Answers (denied tables c layer)
@@ -514,8 +683,8 @@ denied_single tables c part (Condition-F.And parts) n p h = class_single tables 
 denied_single tables c part (Condition-F.Not inner) n p h = class_single tables c h
 denied_single tables c part (Condition-F.Is inner wanted) n p h = class_single tables c h
 denied_single tables c part (Condition-F.Exists query) n p h =
-    let is : leaves_in c ≡ Exists query ∷ [] = leaves_layer c (Condition-F.Not part) n ∙ leaves_layer part (Condition-F.Exists query) p in
-    absurd (subst (Each (IsPlainLeaf tables)) is h.queries).0
+    let is : pieces_in c ≡ class.Exists query ∷ [] = leaves_layer c (Condition-F.Not part) n ∙ leaves_layer part (Condition-F.Exists query) p in
+    absurd (subst (Each (IsPlainPiece tables)) is h.queries).0
 denied_single tables c part (Condition-F.Compare left comparison right) n p h = class_single tables c h
 denied_single tables c part (Condition-F.IsNull x) n p h = class_single tables c h
 denied_single tables c part (Condition-F.Between x low high) n p h = class_single tables c h

@@ -1,5 +1,5 @@
 -- Worked rows: names, and the written bad roots and truth of an assertion of each form, computed.
-use Rattle.std.proofs.Common.{◌≡◌, ℕ, pos, true, false, List, [], ◌∷◌, Option, Some, None, refl, ap, ◌∙◌}
+use Rattle.std.proofs.Common.{◌≡◌, ℕ, pos, true, false, List, [], ◌∷◌, Some, None, refl, ap, ◌∙◌}
 use Rattle.value.specs.declared.values.Value.{Value}
 use Rattle.value.specs.declared.values.Value.TheVariants.{Null, Int}
 use Rattle.value.specs.declared.values.Root.TheVariants as root
@@ -10,7 +10,7 @@ use Rattle.threeval.specs.declared.Truth.{Truth}
 use Rattle.threeval.specs.declared.Truth.TheVariants.{True, False, Unknown}
 use Rattle.threeval.specs.Truths.{and_of, not_of, known}
 use Rattle.table.specs.declared.schemas.Column.{Column}
-use Rattle.table.specs.Rows.{RowValues, Layout, Tables}
+use Rattle.table.specs.Rows.{Layout, Tables}
 use Rattle.cond.specs.Values.{compared}
 use Rattle.assertion.specs.Meaning.{State}
 use Rattle.syntax.specs.declared.trees.Aggregate.TheVariants as function
@@ -20,7 +20,6 @@ use Rattle.syntax.specs.declared.trees.Condition.TheOpen.{Condition-F, Expressio
 use Rattle.syntax.specs.declared.trees.Expression.{Expression, roll-Expression}
 use Rattle.syntax.specs.declared.trees.Listed.{Listed, roll-Listed}
 use Rattle.syntax.specs.declared.trees.Query.{Query, roll-Query, out-roll-Query}
-use Rattle.name_check.specs.Scopes.{Scope}
 use Rattle.meaning.specs.Meaning as written
 use Rattle.meaning.specs.Meaning.{Reference, References, Valued, Answer, answers, simple, first, column_values, rows_counted, set_of_column, only_value, is_any, written_bad_roots, written_truth}
 use Rattle.meaning.specs.Laws.{seen}

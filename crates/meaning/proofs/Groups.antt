@@ -14,7 +14,7 @@ use Rattle.value.proofs.OrderedLists.{has, equal_from}
 use Rattle.value.proofs.ValueOrders.{value_cmp_total, value_exact}
 use Rattle.threeval.specs.declared.Truth.TheVariants.{True}
 use Rattle.threeval.specs.Truths.{is_of}
-use Rattle.table.specs.Rows.{RowValues, Layout, Tables, value_in}
+use Rattle.table.specs.Rows.{RowValues, Tables, value_in}
 use Rattle.table.specs.Aggregates.{aggregate, group_of}
 use Rattle.table.specs.declared.aggregates.Aggregate.{Aggregate}
 use Rattle.table.specs.declared.aggregates.Aggregate.TheVariants.{CountRows}
@@ -138,7 +138,7 @@ aggregate_leaf tables state scope rows (Exists query) a e = cc
 aggregate_leaf tables state scope rows (Worth query) a e = cc
 
 -- the grouping column, in the group's row
-in_group_is : (group : ℕ) (o : Option ℕ) (c : ℕ) → in_group group o ≡ Some c → (o ≡ Some group) × (c ≡ 0)
+pub in_group_is : (group : ℕ) (o : Option ℕ) (c : ℕ) → in_group group o ≡ Some c → (o ≡ Some group) × (c ≡ 0)
 in_group_is group None c e = cc
 in_group_is group (Some column) c e =
     let case : (b : Bool) → column == group ≡ b → (if b then Some 0 else None) ≡ Some c → (◌≡◌ {A = Option ℕ} (Some column) (Some group)) × (c ≡ 0) = λ b. elim b as (λ b. column == group ≡ b → (if b then Some 0 else None) ≡ Some c → (◌≡◌ {A = Option ℕ} (Some column) (Some group)) × (c ≡ 0)) [

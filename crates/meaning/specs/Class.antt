@@ -1,20 +1,18 @@
--- Which conditions an assertion may have: by rows, by groups or single. What a condition is made of, and not how it is found.
-use Rattle.std.specs.Prelude.{◌≡◌, ◌⊎◌, ℕ, IsSome, IsNone, IsTrue, List, [], ◌∷◌, ◌++◌, Option, Some, None, flat_map}
+-- Which conditions an assertion may have: by rows, by groups or single (a part of what ISO/IEC 9075:1992, 11.34, lets a
+-- search condition be). What a condition is made of, and not how it is found.
+use Rattle.std.specs.Prelude.{◌≡◌, ◌⊎◌, ℕ, IsSome, IsNone, List, [], ◌∷◌, ◌++◌, Option, Some, None, flat_map, option_map, unwrap_or}
 use Rattle.std.specs.Bool.{IsFalse}
 use Rattle.value.specs.declared.comparisons.Comparison.TheVariants.{Equal}
-use Rattle.table.specs.Rows.{Tables}
+use Rattle.table.specs.Rows.{Layout, Tables, layout_of}
+use Rattle.syntax.specs.declared.trees.Aggregate.{Aggregate}
 use Rattle.syntax.specs.declared.trees.ColumnName.{ColumnName}
 use Rattle.syntax.specs.declared.trees.Condition.{Condition, out-Condition}
-use Rattle.syntax.specs.declared.trees.Condition.TheOpen.{Condition-F, Expression-F}
+use Rattle.syntax.specs.declared.trees.Condition.TheOpen.{Condition-F, Expression-F, Listed-F}
 use Rattle.syntax.specs.declared.trees.Condition.TheFolds.{fold-Condition, para-Condition}
 use Rattle.syntax.specs.declared.trees.Expression.{Expression, out-Expression}
-use Rattle.syntax.specs.declared.trees.Listed.{Listed}
+use Rattle.syntax.specs.declared.trees.Listed.{Listed, out-Listed}
 use Rattle.syntax.specs.declared.trees.Query.{Query, out-Query}
 use Rattle.name_check.specs.Scopes.{Scope, is_name_of, own_column}
-use Rattle.form_check.specs.Columns.{grouping_column}
-use Rattle.form_check.specs.Leaves.{Leaf, Leaves, Rows, Of, Exists, Value}
-use Rattle.form_check.specs.Links.{top_parts}
-use Rattle.form_check.specs.Queries.{Source, source_of, selected_aggregate, may_be_selected}
 
 -- each of a list is so
 abbrev pub Each : {X : Type 0} → (X → Type 0) → List X → Type 0
@@ -27,6 +25,17 @@ IfWritten P None = Unit {0}
 IfWritten P (Some condition) = P condition
 
 -- ---- what stands in a condition
+
+-- what stands there beside columns and literals: COUNT(*), a set function of a column, EXISTS of a query, and a query that
+-- stands for its value
+pub data Piece : Type 0 where
+  Rows : Piece
+  Of : Aggregate → ColumnName → Piece
+  Exists : Query → Piece
+  Value : Query → Piece
+
+abbrev pub Pieces : Type 0
+Pieces = List Piece
 
 -- the columns outside its set functions and queries
 abbrev pub expression_columns : Expression-F (List ColumnName) (List ColumnName) (Unit {0}) (Unit {0}) → List ColumnName
@@ -54,67 +63,104 @@ condition_columns (Condition-F.In x list) = x ++ flat_map (λ part. part) list
 abbrev pub columns_in : Condition → List ColumnName
 columns_in = fold-Condition (List ColumnName) (List ColumnName) (Unit {0}) (Unit {0}) condition_columns expression_columns (λ l. tt) (λ q. tt)
 
--- its set functions and queries
-abbrev pub expression_leaves : Expression-F (Condition × Leaves) (Expression × Leaves) (Listed × Unit {0}) (Query × Unit {0}) → Leaves
-expression_leaves (Expression-F.Number n) = []
-expression_leaves (Expression-F.Text t) = []
-expression_leaves (Expression-F.Column column) = []
-expression_leaves Expression-F.CountRows = Rows ∷ []
-expression_leaves (Expression-F.Aggregate function column) = Of function column ∷ []
-expression_leaves (Expression-F.Subquery query) = Value query.0 ∷ []
-expression_leaves (Expression-F.Negation part) = part.1
-expression_leaves (Expression-F.Sum parts) = flat_map (λ part. part.1) parts
-expression_leaves (Expression-F.Product parts) = flat_map (λ part. part.1) parts
+-- its set functions and queries, and not what stands in those
+abbrev pub expression_pieces : Expression-F (Condition × Pieces) (Expression × Pieces) (Listed × Unit {0}) (Query × Unit {0}) → Pieces
+expression_pieces (Expression-F.Number n) = []
+expression_pieces (Expression-F.Text t) = []
+expression_pieces (Expression-F.Column column) = []
+expression_pieces Expression-F.CountRows = Rows ∷ []
+expression_pieces (Expression-F.Aggregate function column) = Of function column ∷ []
+expression_pieces (Expression-F.Subquery query) = Value query.0 ∷ []
+expression_pieces (Expression-F.Negation part) = part.1
+expression_pieces (Expression-F.Sum parts) = flat_map (λ part. part.1) parts
+expression_pieces (Expression-F.Product parts) = flat_map (λ part. part.1) parts
 
-abbrev pub condition_leaves : Condition-F (Condition × Leaves) (Expression × Leaves) (Listed × Unit {0}) (Query × Unit {0}) → Leaves
-condition_leaves (Condition-F.Or parts) = flat_map (λ part. part.1) parts
-condition_leaves (Condition-F.And parts) = flat_map (λ part. part.1) parts
-condition_leaves (Condition-F.Not part) = part.1
-condition_leaves (Condition-F.Is part truth) = part.1
-condition_leaves (Condition-F.Exists query) = Exists query.0 ∷ []
-condition_leaves (Condition-F.Compare left comparison right) = left.1 ++ right.1
-condition_leaves (Condition-F.IsNull part) = part.1
-condition_leaves (Condition-F.Between x low high) = x.1 ++ (low.1 ++ high.1)
-condition_leaves (Condition-F.In x list) = x.1 ++ flat_map (λ part. part.1) list
+abbrev pub condition_pieces : Condition-F (Condition × Pieces) (Expression × Pieces) (Listed × Unit {0}) (Query × Unit {0}) → Pieces
+condition_pieces (Condition-F.Or parts) = flat_map (λ part. part.1) parts
+condition_pieces (Condition-F.And parts) = flat_map (λ part. part.1) parts
+condition_pieces (Condition-F.Not part) = part.1
+condition_pieces (Condition-F.Is part truth) = part.1
+condition_pieces (Condition-F.Exists query) = Exists query.0 ∷ []
+condition_pieces (Condition-F.Compare left comparison right) = left.1 ++ right.1
+condition_pieces (Condition-F.IsNull part) = part.1
+condition_pieces (Condition-F.Between x low high) = x.1 ++ (low.1 ++ high.1)
+condition_pieces (Condition-F.In x list) = x.1 ++ flat_map (λ part. part.1) list
 
-unfoldable pub leaves_in : Condition → Leaves
-leaves_in = para-Condition Leaves Leaves (Unit {0}) (Unit {0}) condition_leaves expression_leaves (λ l. tt) (λ q. tt)
+unfoldable pub pieces_in : Condition → Pieces
+pieces_in = para-Condition Pieces Pieces (Unit {0}) (Unit {0}) condition_pieces expression_pieces (λ l. tt) (λ q. tt)
 
--- ---- conditions of one table
+-- ---- tables and select lists
 
+-- the table that a query reads, as names in the query see it (6.3, 7.4)
+abbrev pub named_as : List ℕ → Layout → Scope
+named_as name layout = record { correlation_name = name; layout = layout }
+
+abbrev pub read_by : Tables → List ℕ → Option (List ℕ) → Option Scope
+read_by tables table alias = option_map (named_as (unwrap_or alias table)) (layout_of table tables)
+
+-- a name means a column of this table, the innermost
 abbrev pub IsOwn : Scope → ColumnName → Type 0
 IsOwn scope column = IsSome (own_column scope column)
+
+-- a name means this column of it
+abbrev pub IsColumnAt : Scope → ℕ → ColumnName → Type 0
+IsColumnAt scope place column = own_column scope column ≡ Some place
+
+-- a literal, or a column that is so
+abbrev pub IsSimple : (ColumnName → Type 0) → Expression-F Condition Expression Listed Query → Type 0
+IsSimple P (Expression-F.Number n) = Unit {0}
+IsSimple P (Expression-F.Text t) = Unit {0}
+IsSimple P (Expression-F.Column column) = P column
+IsSimple P other = ⊥
+
+-- what EXISTS may list: *, or one literal or column that is so
+abbrev pub IsSimpleList : (ColumnName → Type 0) → Listed-F Condition Expression Listed Query → Type 0
+IsSimpleList P Listed-F.Star = Unit {0}
+IsSimpleList P (Listed-F.One expression) = IsSimple P (out-Expression expression)
+
+-- one set function over a table's rows
+abbrev pub IsSet : Scope → Expression-F Condition Expression Listed Query → Type 0
+IsSet scope Expression-F.CountRows = Unit {0}
+IsSet scope (Expression-F.Aggregate function column) = IsOwn scope column
+IsSet scope other = ⊥
+
+-- what a query lists that stands for its value: one set function
+abbrev pub IsSetList : Scope → Listed-F Condition Expression Listed Query → Type 0
+IsSetList scope Listed-F.Star = ⊥
+IsSetList scope (Listed-F.One expression) = IsSet scope (out-Expression expression)
+
+-- ---- conditions of one table
 
 -- over columns of a table and literals, without set function and query
 pub record IsOverRows (scope : Scope) (condition : Condition) : Type 0 where
   pub columns : Each (IsOwn scope) (columns_in condition)
-  pub alone : leaves_in condition ≡ []
+  pub alone : pieces_in condition ≡ []
 
 -- ---- single
 
 -- (SELECT aggregate FROM t WHERE f)
 pub record IsPlainQuery (tables : Tables) (query : Query) : Type 0 where
-  pub source : Source
-  pub reads : source_of tables (out-Query query).table (out-Query query).alias ≡ Some source
-  pub lists : IsSome (selected_aggregate source.scope (out-Query query).listed)
-  pub kept : IfWritten (IsOverRows source.scope) (out-Query query).keeps
+  pub scope : Scope
+  pub reads : read_by tables (out-Query query).table (out-Query query).alias ≡ Some scope
+  pub lists : IsSetList scope (out-Listed (out-Query query).listed)
+  pub kept : IfWritten (IsOverRows scope) (out-Query query).keeps
   pub ungrouped : IsNone (out-Query query).group
   pub whole : IsNone (out-Query query).having
 
-abbrev pub IsPlainLeaf : Tables → Leaf → Type 0
-IsPlainLeaf tables Rows = ⊥
-IsPlainLeaf tables (Of function column) = ⊥
-IsPlainLeaf tables (Exists query) = ⊥
-IsPlainLeaf tables (Value query) = IsPlainQuery tables query
+abbrev pub IsPlainPiece : Tables → Piece → Type 0
+IsPlainPiece tables Rows = ⊥
+IsPlainPiece tables (Of function column) = ⊥
+IsPlainPiece tables (Exists query) = ⊥
+IsPlainPiece tables (Value query) = IsPlainQuery tables query
 
 -- a condition without EXISTS over literals and such queries
 pub record IsSingle (tables : Tables) (condition : Condition) : Type 0 where
   pub columns : columns_in condition ≡ []
-  pub queries : Each (IsPlainLeaf tables) (leaves_in condition)
+  pub queries : Each (IsPlainPiece tables) (pieces_in condition)
 
 -- ---- by groups
 
-abbrev pub IsSetFunction : Scope → Leaf → Type 0
+abbrev pub IsSetFunction : Scope → Piece → Type 0
 IsSetFunction scope Rows = Unit {0}
 IsSetFunction scope (Of function column) = IsOwn scope column
 IsSetFunction scope (Exists query) = ⊥
@@ -122,18 +168,18 @@ IsSetFunction scope (Value query) = ⊥
 
 -- SELECT k FROM t WHERE f GROUP BY k HAVING h
 pub record IsGroupQuery (tables : Tables) (query : Query) : Type 0 where
-  pub source : Source
+  pub scope : Scope
   pub column : ColumnName
   pub group : ℕ
   pub having : Condition
-  pub reads : source_of tables (out-Query query).table (out-Query query).alias ≡ Some source
+  pub reads : read_by tables (out-Query query).table (out-Query query).alias ≡ Some scope
   pub grouped : (out-Query query).group ≡ Some column
-  pub is_own : own_column source.scope column ≡ Some group
-  pub lists : IsTrue (may_be_selected (grouping_column source.scope group) (out-Query query).listed)
-  pub kept : IfWritten (IsOverRows source.scope) (out-Query query).keeps
+  pub is_own : IsColumnAt scope group column
+  pub lists : IsSimpleList (IsColumnAt scope group) (out-Listed (out-Query query).listed)
+  pub kept : IfWritten (IsOverRows scope) (out-Query query).keeps
   pub listed : (out-Query query).having ≡ Some having
-  pub columns : Each (λ name. IsSome (grouping_column source.scope group name)) (columns_in having)
-  pub sets : Each (IsSetFunction source.scope) (leaves_in having)
+  pub columns : Each (IsColumnAt scope group) (columns_in having)
+  pub sets : Each (IsSetFunction scope) (pieces_in having)
 
 -- ---- by rows
 
@@ -153,43 +199,48 @@ pub record IsLink (child root : Scope) (part : Condition) : Type 0 where
   pub equality : out-Condition part ≡ Condition-F.Compare left Equal right
   pub sides : (IsColumn (IsOwn child) left × IsColumn (IsOuterKey child root) right) ⊎ (IsColumn (IsOuterKey child root) left × IsColumn (IsOwn child) right)
 
+-- the parts that AND joins at the top; a condition without one is its only part
+abbrev pub parts_of : Condition → Condition-F Condition Expression Listed Query → List Condition
+parts_of whole (Condition-F.And parts) = parts
+parts_of whole other = whole ∷ []
+
 -- a WHERE of which AND joins one link and conditions over the child's rows
 pub record IsLinkedWhere (child root : Scope) (condition : Condition) : Type 0 where
   pub before : List Condition
   pub link : Condition
   pub behind : List Condition
-  pub parts : top_parts condition ≡ before ++ link ∷ behind
+  pub parts : parts_of condition (out-Condition condition) ≡ before ++ link ∷ behind
   pub links : IsLink child root link
   pub others : Each (IsOverRows child) (before ++ behind)
 
 -- SELECT .. FROM d WHERE d.column = r.key AND f
-pub record IsLinkedQuery (tables : Tables) (root : Scope) (Lists : Scope → Listed → Type 0) (query : Query) : Type 0 where
-  pub source : Source
+pub record IsLinkedQuery (tables : Tables) (root : Scope) (Lists : Scope → Listed-F Condition Expression Listed Query → Type 0) (query : Query) : Type 0 where
+  pub scope : Scope
   pub condition : Condition
-  pub reads : source_of tables (out-Query query).table (out-Query query).alias ≡ Some source
-  pub lists : Lists source.scope (out-Query query).listed
+  pub reads : read_by tables (out-Query query).table (out-Query query).alias ≡ Some scope
+  pub lists : Lists scope (out-Listed (out-Query query).listed)
   pub kept : (out-Query query).keeps ≡ Some condition
-  pub linked : IsLinkedWhere source.scope root condition
+  pub linked : IsLinkedWhere scope root condition
   pub ungrouped : IsNone (out-Query query).group
   pub whole : IsNone (out-Query query).having
 
-abbrev pub IsLinkedLeaf : Tables → Scope → Leaf → Type 0
-IsLinkedLeaf tables root Rows = ⊥
-IsLinkedLeaf tables root (Of function column) = ⊥
-IsLinkedLeaf tables root (Exists query) = IsLinkedQuery tables root (λ child listed. IsTrue (may_be_selected (own_column child) listed)) query
-IsLinkedLeaf tables root (Value query) = IsLinkedQuery tables root (λ child listed. IsSome (selected_aggregate child listed)) query
+abbrev pub IsLinkedPiece : Tables → Scope → Piece → Type 0
+IsLinkedPiece tables root Rows = ⊥
+IsLinkedPiece tables root (Of function column) = ⊥
+IsLinkedPiece tables root (Exists query) = IsLinkedQuery tables root (λ child. IsSimpleList (IsOwn child)) query
+IsLinkedPiece tables root (Value query) = IsLinkedQuery tables root IsSetList query
 
 -- a condition over a row and its queries
 pub record IsRowWhere (tables : Tables) (root : Scope) (condition : Condition) : Type 0 where
   pub columns : Each (IsOwn root) (columns_in condition)
-  pub queries : Each (IsLinkedLeaf tables root) (leaves_in condition)
+  pub queries : Each (IsLinkedPiece tables root) (pieces_in condition)
 
 -- SELECT * FROM t r WHERE c
 pub record IsRowQuery (tables : Tables) (query : Query) : Type 0 where
-  pub source : Source
-  pub reads : source_of tables (out-Query query).table (out-Query query).alias ≡ Some source
-  pub lists : IsTrue (may_be_selected (own_column source.scope) (out-Query query).listed)
-  pub kept : IfWritten (IsRowWhere tables source.scope) (out-Query query).keeps
+  pub scope : Scope
+  pub reads : read_by tables (out-Query query).table (out-Query query).alias ≡ Some scope
+  pub lists : IsSimpleList (IsOwn scope) (out-Listed (out-Query query).listed)
+  pub kept : IfWritten (IsRowWhere tables scope) (out-Query query).keeps
   pub ungrouped : IsNone (out-Query query).group
   pub whole : IsNone (out-Query query).having
 

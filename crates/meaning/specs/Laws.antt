@@ -1,5 +1,5 @@
 -- The laws of what is written and what is resolved.
-use Rattle.std.specs.Prelude.{◌≡◌, ◌↔◌, ℕ, Contains, IsNone, IsTrue, List, [], ◌∷◌, ◌++◌, filter, Option, Some, None, option_map, Ok}
+use Rattle.std.specs.Prelude.{◌≡◌, ◌↔◌, ℕ, Contains, IsNone, IsTrue, List, [], ◌∷◌, filter, Option, Some, None, option_map, Ok}
 use Rattle.std.specs.Bool.{IsFalse}
 use Rattle.value.specs.declared.values.Value.{Value}
 use Rattle.value.specs.declared.values.Value.TheVariants as value
