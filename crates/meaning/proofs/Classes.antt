@@ -373,7 +373,7 @@ module _ (child root : Scope) where
     sides =
         ⊎_elim
         (λ one. let (none, (key, own)) = linked_column_is child root l r c one in inl ((l, named (out-Expression left) l e, ap is_some own), (r, named (out-Expression right) r f, (none, key))))
-        (λ two. let (none, (key, own)) = linked_column_is child root r l c two in inr ((l, named (out-Expression left) l e, (none, key)), (r, named (out-Expression right) r f, ap is_some own)))
+        (λ two. let (none, (key, own)) = linked_column_is child root r l c two in inr ((r, named (out-Expression right) r f, ap is_some own), (l, named (out-Expression left) l e, (none, key))))
         (either_is (linked_column child root l r) (linked_column child root r l) c is);
   }
 
@@ -415,11 +415,11 @@ module _ (child root : Scope) where
             ∙ ap (λ o. either o (linked_column child root r l)) (inner_first l r c own one.1.2.0 one.1.2.1),
       ))
       (λ two.
-      let l = two.0.0 in let r = two.1.0 in
-      let (c, own) = some_is no_column (own_column child r) two.1.2 in (
+      let r = two.0.0 in let l = two.1.0 in
+      let (c, own) = some_is no_column (own_column child r) two.0.2 in (
         c,
-        ap (link_in child root) h.equality ∙ ap (λ x. link_between child root (name_in x) (name_in (out-Expression h.right))) two.0.1 ∙ ap (λ x. link_between child root (Some l) (name_in x)) two.1.1
-            ∙ ap (λ o. either o (linked_column child root r l)) (inner_hidden l r c own) ∙ inner_first r l c own two.0.2.0 two.0.2.1,
+        ap (link_in child root) h.equality ∙ ap (λ x. link_between child root (name_in x) (name_in (out-Expression h.right))) two.1.1 ∙ ap (λ x. link_between child root (Some l) (name_in x)) two.0.1
+            ∙ ap (λ o. either o (linked_column child root r l)) (inner_hidden l r c own) ∙ inner_first r l c own two.1.2.0 two.1.2.1,
       ))
       h.sides
 
@@ -442,7 +442,7 @@ module _ (child root : Scope) where
       let (on_left, on_right) = (each_append (IsOwn child) (columns_of h.left) (columns_of h.right)).0 (subst (Each (IsOwn child)) (sides_columns part h.left h.right h.equality) over.columns) in
       ⊎_elim
       (λ one. hidden one.1.0 (subst (Each (IsOwn child)) (name_columns h.right one.1.0 one.1.1) on_right).0 one.1.2.0)
-      (λ two. hidden two.0.0 (subst (Each (IsOwn child)) (name_columns h.left two.0.0 two.0.1) on_left).0 two.0.2.0)
+      (λ two. hidden two.1.0 (subst (Each (IsOwn child)) (name_columns h.left two.1.0 two.1.1) on_left).0 two.1.2.0)
       h.sides
 
   no_link : (part : Condition) → IsOverRows child part → link_of child root part ≡ None

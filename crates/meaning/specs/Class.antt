@@ -1,6 +1,7 @@
 -- Which conditions an assertion may have: by rows, by groups or single (a part of what ISO/IEC 9075:1992, 11.34, lets a
 -- search condition be). What a condition is made of, and not how it is found.
-use Rattle.std.specs.Prelude.{◌≡◌, ◌⊎◌, ℕ, IsSome, IsNone, List, [], ◌∷◌, ◌++◌, Option, Some, None, flat_map, option_map, unwrap_or}
+use Rattle.std.specs.Prelude.{◌≡◌, ◌⊎◌, ℕ, IsSome, IsNone, List, [], ◌∷◌, ◌++◌, flat_map}
+use Rattle.std.specs.Prelude.{Option, Some, None, option_map, unwrap_or}
 use Rattle.std.specs.Bool.{IsFalse}
 use Rattle.value.specs.declared.comparisons.Comparison.TheVariants.{Equal}
 use Rattle.table.specs.Rows.{Layout, Tables, layout_of}
@@ -26,8 +27,8 @@ IfWritten P (Some condition) = P condition
 
 -- ---- what stands in a condition
 
--- what stands there beside columns and literals: COUNT(*), a set function of a column, EXISTS of a query, and a query that
--- stands for its value
+-- what stands there beside columns and literals: COUNT(*), a set function of a column, EXISTS of a query, and a query
+-- that stands for its value
 pub data Piece : Type 0 where
   Rows : Piece
   Of : Aggregate → ColumnName → Piece
@@ -38,7 +39,8 @@ abbrev pub Pieces : Type 0
 Pieces = List Piece
 
 -- the columns outside its set functions and queries
-abbrev pub expression_columns : Expression-F (List ColumnName) (List ColumnName) (Unit {0}) (Unit {0}) → List ColumnName
+abbrev pub expression_columns :
+    Expression-F (List ColumnName) (List ColumnName) (Unit {0}) (Unit {0}) → List ColumnName
 expression_columns (Expression-F.Number n) = []
 expression_columns (Expression-F.Text t) = []
 expression_columns (Expression-F.Column column) = column ∷ []
@@ -61,10 +63,13 @@ condition_columns (Condition-F.Between x low high) = x ++ (low ++ high)
 condition_columns (Condition-F.In x list) = x ++ flat_map (λ part. part) list
 
 abbrev pub columns_in : Condition → List ColumnName
-columns_in = fold-Condition (List ColumnName) (List ColumnName) (Unit {0}) (Unit {0}) condition_columns expression_columns (λ l. tt) (λ q. tt)
+columns_in =
+    fold-Condition (List ColumnName) (List ColumnName) (Unit {0}) (Unit {0})
+    condition_columns expression_columns (λ l. tt) (λ q. tt)
 
 -- its set functions and queries, and not what stands in those
-abbrev pub expression_pieces : Expression-F (Condition × Pieces) (Expression × Pieces) (Listed × Unit {0}) (Query × Unit {0}) → Pieces
+abbrev pub expression_pieces :
+    Expression-F (Condition × Pieces) (Expression × Pieces) (Listed × Unit {0}) (Query × Unit {0}) → Pieces
 expression_pieces (Expression-F.Number n) = []
 expression_pieces (Expression-F.Text t) = []
 expression_pieces (Expression-F.Column column) = []
@@ -75,7 +80,8 @@ expression_pieces (Expression-F.Negation part) = part.1
 expression_pieces (Expression-F.Sum parts) = flat_map (λ part. part.1) parts
 expression_pieces (Expression-F.Product parts) = flat_map (λ part. part.1) parts
 
-abbrev pub condition_pieces : Condition-F (Condition × Pieces) (Expression × Pieces) (Listed × Unit {0}) (Query × Unit {0}) → Pieces
+abbrev pub condition_pieces :
+    Condition-F (Condition × Pieces) (Expression × Pieces) (Listed × Unit {0}) (Query × Unit {0}) → Pieces
 condition_pieces (Condition-F.Or parts) = flat_map (λ part. part.1) parts
 condition_pieces (Condition-F.And parts) = flat_map (λ part. part.1) parts
 condition_pieces (Condition-F.Not part) = part.1
@@ -192,12 +198,16 @@ abbrev pub IsOuterKey : Scope → Scope → ColumnName → Type 0
 IsOuterKey child root name =
     IsFalse (is_name_of name.qualifier name.name child) × (own_column root name ≡ Some root.layout.key)
 
+-- a column of the child on one side, and the key of the row around on the other
+abbrev pub JoinsKey : Scope → Scope → Expression → Expression → Type 0
+JoinsKey child root inner outer = IsColumn (IsOwn child) inner × IsColumn (IsOuterKey child root) outer
+
 -- d.column = r.key, either way round
 pub record IsLink (child root : Scope) (part : Condition) : Type 0 where
   pub left : Expression
   pub right : Expression
   pub equality : out-Condition part ≡ Condition-F.Compare left Equal right
-  pub sides : (IsColumn (IsOwn child) left × IsColumn (IsOuterKey child root) right) ⊎ (IsColumn (IsOuterKey child root) left × IsColumn (IsOwn child) right)
+  pub sides : JoinsKey child root left right ⊎ JoinsKey child root right left
 
 -- the parts that AND joins at the top; a condition without one is its only part
 abbrev pub parts_of : Condition → Condition-F Condition Expression Listed Query → List Condition
@@ -213,8 +223,12 @@ pub record IsLinkedWhere (child root : Scope) (condition : Condition) : Type 0 w
   pub links : IsLink child root link
   pub others : Each (IsOverRows child) (before ++ behind)
 
+-- what a query over a table may list
+abbrev pub MayList : Type 1
+MayList = Scope → Listed-F Condition Expression Listed Query → Type 0
+
 -- SELECT .. FROM d WHERE d.column = r.key AND f
-pub record IsLinkedQuery (tables : Tables) (root : Scope) (Lists : Scope → Listed-F Condition Expression Listed Query → Type 0) (query : Query) : Type 0 where
+pub record IsLinkedQuery (tables : Tables) (root : Scope) (Lists : MayList) (query : Query) : Type 0 where
   pub scope : Scope
   pub condition : Condition
   pub reads : read_by tables (out-Query query).table (out-Query query).alias ≡ Some scope

@@ -1,5 +1,6 @@
 -- The laws of what is written and what is resolved.
-use Rattle.std.specs.Prelude.{◌≡◌, ◌↔◌, ℕ, Contains, IsNone, IsTrue, List, [], ◌∷◌, filter, Option, Some, None, option_map, Ok}
+use Rattle.std.specs.Prelude.{◌≡◌, ◌↔◌, ℕ, Contains, IsNone, IsTrue, List, [], ◌∷◌, filter}
+use Rattle.std.specs.Prelude.{Option, Some, None, option_map, Ok}
 use Rattle.std.specs.Bool.{IsFalse}
 use Rattle.value.specs.declared.values.Value.{Value}
 use Rattle.value.specs.declared.values.Value.TheVariants as value
@@ -33,7 +34,8 @@ use Rattle.assertcheck.specs.Assertions.{are_at_odds, attributes_of, checked}
 use Rattle.assertcheck.specs.Statements.{delete_of, places_from, select_of}
 use Rattle.assertcheck.specs.Updates.{update_of}
 use Rattle.meaning.specs.Class.{IsInClass}
-use Rattle.meaning.specs.Meaning.{Reference, References, truth, valued, holds, with_rows, table_of, written_truth, written_bad_roots}
+use Rattle.meaning.specs.Meaning.{Reference, References, truth, valued, holds, with_rows, table_of}
+use Rattle.meaning.specs.Meaning.{written_truth, written_bad_roots}
 
 -- a table as names see it, with rows at hand
 abbrev pub seen : Scope → List RowValues → Reference
@@ -41,8 +43,8 @@ seen scope rows = record { table = scope; rows = rows }
 
 -- ---- rows
 
--- a WHERE over the rows of one table has on each row the truth of its resolved condition, whatever stands around it; so it
--- keeps the same rows
+-- a WHERE over the rows of one table has on each row the truth of its resolved condition, whatever stands around it; so
+-- it keeps the same rows
 abbrev pub KeepsRows : Type 0
 KeepsRows = (scope : Scope) (condition : Condition) (made : Cond) → row_condition scope condition ≡ Ok made
     → (tables : Tables) (state : State) (row : RowValues) (outer : References)
@@ -56,16 +58,23 @@ GivesValues = (scope : Scope) (expression : Expression) (made : Expr) → row_ex
 
 -- ---- forms
 
--- an assertion is bad at the roots at which its form is
-abbrev pub HasWrittenRoots : Type 0
-HasWrittenRoots = (tables : Tables) (condition : Condition) (form : Form) → form_of tables condition ≡ Ok form
-    → (state : State) (r : Root)
+-- on every state a form is bad at the roots of what is written, and true, false or unknown as it is
+abbrev pub HasRootsOf : Tables → Condition → Form → Type 0
+HasRootsOf tables condition form = (state : State) (r : Root)
     → Contains (written_bad_roots tables state condition) r ↔ Contains (bad_roots (layouts_of tables) form state) r
 
--- and has its truth
+abbrev pub HasTruthOf : Tables → Condition → Form → Type 0
+HasTruthOf tables condition form = (state : State)
+    → written_truth tables state condition ≡ verdict_of (layouts_of tables) form state
+
+-- so it is of the form that a condition has
+abbrev pub HasWrittenRoots : Type 0
+HasWrittenRoots = (tables : Tables) (condition : Condition) (form : Form)
+    → form_of tables condition ≡ Ok form → HasRootsOf tables condition form
+
 abbrev pub HasWrittenTruth : Type 0
-HasWrittenTruth = (tables : Tables) (condition : Condition) (form : Form) → form_of tables condition ≡ Ok form
-    → (state : State) → written_truth tables state condition ≡ verdict_of (layouts_of tables) form state
+HasWrittenTruth = (tables : Tables) (condition : Condition) (form : Form)
+    → form_of tables condition ≡ Ok form → HasTruthOf tables condition form
 
 -- a condition has a form exactly where it is in the class
 abbrev pub HasFormInClass : Type 0
@@ -74,21 +83,23 @@ HasFormInClass = (tables : Tables) (condition : Condition)
 
 -- ---- assertions
 
--- an assertion is the one that is written: it has the name and the attributes of its text, and on every state the bad roots
--- and the truth of its condition
-pub record IsWritten (tables : Tables) (name : List ℕ) (condition : Condition) (attributes : Attributes) (assertion : Assertion) : Type 0 where
+-- an assertion is the one that is written: it has the name and the attributes of its text, and on every state the bad
+-- roots and the truth of its condition
+pub record IsWritten (tables : Tables) (name : List ℕ) (condition : Condition) (attributes : Attributes)
+    (assertion : Assertion) : Type 0 where
   pub named : assertion.name ≡ name
   pub attributed : assertion.attributes ≡ attributes_of attributes
-  pub roots : (state : State) (r : Root) → Contains (written_bad_roots tables state condition) r ↔ Contains (bad_roots (layouts_of tables) assertion.form state) r
-  pub truth : (state : State) → written_truth tables state condition ≡ verdict_of (layouts_of tables) assertion.form state
+  pub roots : HasRootsOf tables condition assertion.form
+  pub truth : HasTruthOf tables condition assertion.form
 
 -- an assertion that is taken is the one that is written
 abbrev pub TakesWritten : Type 0
-TakesWritten = (tables : Tables) (name : List ℕ) (condition : Condition) (attributes : Attributes) (assertion : Assertion)
-    → checked tables name condition attributes ≡ Ok assertion → IsWritten tables name condition attributes assertion
+TakesWritten = (tables : Tables) (name : List ℕ) (condition : Condition) (attributes : Attributes)
+    → (assertion : Assertion) → checked tables name condition attributes ≡ Ok assertion
+    → IsWritten tables name condition attributes assertion
 
--- what may be taken: attributes without contradiction, known names, a condition of the class, and in each form of it values
--- of one type compared and expressions with a bound
+-- what may be taken: attributes without contradiction, known names, a condition of the class, and in its form values of
+-- one type compared and expressions with a bound
 pub record MayBeTaken (tables : Tables) (condition : Condition) (attributes : Attributes) : Type 0 where
   pub agreed : IsFalse (are_at_odds attributes)
   pub known : IsNone (condition_fault tables condition [])
@@ -122,7 +133,8 @@ SelectsRows = (tables : Tables) (columns : Which) (name : List ℕ) (condition :
     → (state : State) → where_rows tables state name condition ≡ kept_rows select.kept (rows_of select.table state)
 
 abbrev pub UpdatesRows : Type 0
-UpdatesRows = (tables : Tables) (name : List ℕ) (sets : List Assignment) (condition : Option Condition) (update : Update)
+UpdatesRows = (tables : Tables) (name : List ℕ) (sets : List Assignment) (condition : Option Condition)
+    → (update : Update)
     → update_of tables name sets condition ≡ Ok update
     → (state : State) → where_rows tables state name condition ≡ kept_rows update.kept (rows_of update.table state)
 
@@ -151,7 +163,8 @@ ListsColumns = (tables : Tables) (columns : Which) (name : List ℕ) (condition 
 -- the value that an UPDATE writes for a column of a row, over the row as it was (13.10)
 abbrev pub written_value : Tables → State → Reference → Assigned → RowValues → Value
 written_value tables state table Null row = value.Null
-written_value tables state table (To expression) row = (valued tables state expression).value (with_rows table (row ∷ []) [])
+written_value tables state table (To expression) row =
+    (valued tables state expression).value (with_rows table (row ∷ []) [])
 
 -- the value that it gives
 abbrev pub given_value : Option Expr → RowValues → Value
@@ -159,12 +172,14 @@ given_value None row = value.Null
 given_value (Some made) row = resolved.answer row [] made
 
 -- a column gets what is assigned to its name
-pub record Gives (tables : Tables) (state : State) (table : Reference) (assignment : Assignment) (setting : Setting) : Type 0 where
+pub record Gives (tables : Tables) (state : State) (table : Reference) (assignment : Assignment) (setting : Setting) :
+    Type 0 where
   pub column : IsPlaceOf table.table assignment.column setting.column
   pub value : (row : RowValues) → written_value tables state table assignment.value row ≡ given_value setting.value row
 
 -- an UPDATE gives the columns that are written the values that are written
 abbrev pub UpdatesColumns : Type 0
-UpdatesColumns = (tables : Tables) (name : List ℕ) (sets : List Assignment) (condition : Option Condition) (update : Update)
+UpdatesColumns = (tables : Tables) (name : List ℕ) (sets : List Assignment) (condition : Option Condition)
+    → (update : Update)
     → update_of tables name sets condition ≡ Ok update
     → (state : State) → Pairs (Gives tables state (table_of tables state name None)) sets update.sets

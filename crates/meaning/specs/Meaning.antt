@@ -1,6 +1,7 @@
--- What search conditions, value expressions and queries mean, over their written trees and plain rows (ISO/IEC 9075:1992;
--- the subclause of each piece in brackets).
-use Rattle.std.specs.Prelude.{ℕ, pos, ◌+ℤ◌, ◌*ℤ◌, Bool, true, false, not, ◌||◌, List, [], ◌∷◌, length, map, filter, Option, Some, None, is_some, unwrap_or, if◌then◌else◌}
+-- What search conditions, value expressions and queries mean, over their written trees and plain rows (ISO/IEC
+-- 9075:1992; the subclause of each piece in brackets).
+use Rattle.std.specs.Prelude.{ℕ, pos, ◌+ℤ◌, ◌*ℤ◌, Bool, true, false, not, ◌||◌, if◌then◌else◌, List, [], ◌∷◌}
+use Rattle.std.specs.Prelude.{length, map, filter, Option, Some, None, is_some, unwrap_or}
 use Rattle.std.specs.Ordering.{eq_by_cmp}
 use Rattle.value.specs.declared.values.Value.{Value}
 use Rattle.value.specs.declared.values.Value.TheVariants.{Null, Int, Text}
@@ -82,6 +83,19 @@ pub record Answer : Type 0 where
   pub rows : List RowValues
   pub value : Value
 
+-- a layer of each kind of tree, with what each part means in its place
+abbrev pub MeantCondition : Type 0
+MeantCondition = Condition-F (References → Truth) Valued Valued (References → List Answer)
+
+abbrev pub MeantExpression : Type 0
+MeantExpression = Expression-F (References → Truth) Valued Valued (References → List Answer)
+
+abbrev pub MeantListed : Type 0
+MeantListed = Listed-F (References → Truth) Valued Valued (References → List Answer)
+
+abbrev pub MeantQuery : Type 0
+MeantQuery = Query-F (References → Truth) Valued Valued (References → List Answer)
+
 -- ---- expressions (6.11, 6.12): exact, and NULL where a part is NULL
 
 abbrev pub simple : (References → Value) → Valued
@@ -99,6 +113,9 @@ abbrev pub only_value : List Answer → Value
 only_value [] = Null
 only_value (answer ∷ rest) = answer.value
 
+abbrev pub turned : Valued → References → Value
+turned part around = negated (part.value around)
+
 abbrev pub added : List Valued → References → Value
 added parts around = total (λ m n. m +ℤ n) (Int (pos 0)) (values parts around)
 
@@ -112,14 +129,14 @@ rows_counted around = Int (pos (length (rows_at_hand around)))
 abbrev pub set_of_column : Aggregate → ColumnName → References → Value
 set_of_column function column around = set_function function (filter is_there (column_values column around))
 
-abbrev pub expression_step : Expression-F (References → Truth) Valued Valued (References → List Answer) → Valued
+abbrev pub expression_step : MeantExpression → Valued
 expression_step (Expression-F.Number n) = simple (λ around. Int n)
 expression_step (Expression-F.Text t) = simple (λ around. Text t)
 expression_step (Expression-F.Column column) = simple (λ around. first (column_values column around))
 expression_step Expression-F.CountRows = record { sets = true; value = rows_counted }
 expression_step (Expression-F.Aggregate function column) = record { sets = true; value = set_of_column function column }
 expression_step (Expression-F.Subquery query) = simple (λ around. only_value (query around))
-expression_step (Expression-F.Negation part) = record { sets = part.sets; value = λ around. negated (part.value around) }
+expression_step (Expression-F.Negation part) = record { sets = part.sets; value = turned part }
 expression_step (Expression-F.Sum parts) = record { sets = any_sets parts; value = added parts }
 expression_step (Expression-F.Product parts) = record { sets = any_sets parts; value = multiplied parts }
 
@@ -135,15 +152,17 @@ abbrev pub is_any : List Answer → Bool
 is_any [] = false
 is_any (answer ∷ rest) = true
 
-abbrev pub condition_step : Condition-F (References → Truth) Valued Valued (References → List Answer) → References → Truth
+abbrev pub condition_step : MeantCondition → References → Truth
 condition_step (Condition-F.Or parts) around = any_of (map (λ part. part around) parts)
 condition_step (Condition-F.And parts) around = all_of (map (λ part. part around) parts)
 condition_step (Condition-F.Not part) around = not_of (part around)
 condition_step (Condition-F.Is part wanted) around = known (is_of (part around) wanted)
 condition_step (Condition-F.Exists query) around = known (is_any (query around))
-condition_step (Condition-F.Compare left comparison right) around = compared comparison (left.value around) (right.value around)
+condition_step (Condition-F.Compare left comparison right) around =
+    compared comparison (left.value around) (right.value around)
 condition_step (Condition-F.IsNull part) around = is_null (part.value around)
-condition_step (Condition-F.Between x low high) around = is_between (x.value around) (low.value around) (high.value around)
+condition_step (Condition-F.Between x low high) around =
+    is_between (x.value around) (low.value around) (high.value around)
 condition_step (Condition-F.In x list) around = is_in (x.value around) (values list around)
 
 -- ---- queries (7.9)
@@ -166,8 +185,8 @@ distinct (v ∷ vs) = v ∷ filter (λ w. not (eq_by_cmp value_cmp v w)) (distin
 abbrev pub rows_with : (RowValues → Value) → List RowValues → Value → List RowValues
 rows_with value rows v = filter (λ row. eq_by_cmp value_cmp v (value row)) rows
 
--- GROUP BY makes a group of the rows of each value of its column (7.7); with HAVING or a set function alone all rows are
--- one group, and else each row is on its own (7.9)
+-- GROUP BY makes a group of the rows of each value of its column (7.7); with HAVING or a set function alone all rows
+-- are one group, and else each row is on its own (7.9)
 abbrev pub grouped : Option (RowValues → Value) → Bool → List RowValues → List (List RowValues)
 grouped (Some value) sets rows = map (rows_with value rows) (distinct (map value rows))
 grouped None true rows = rows ∷ []
@@ -179,7 +198,7 @@ grouping None table outer = None
 grouping (Some column) table outer = Some (λ row. first (column_values column (with_rows table (row ∷ []) outer)))
 
 -- FROM, WHERE, GROUP BY, HAVING and the select list, one after the other
-abbrev pub answers_over : Reference → Query-F (References → Truth) Valued Valued (References → List Answer) → References → List Answer
+abbrev pub answers_over : Reference → MeantQuery → References → List Answer
 answers_over table query outer =
     map (λ rows. record { rows = rows; value = query.listed.value (with_rows table rows outer) }) (
     filter (λ rows. holds query.having (with_rows table rows outer)) (
@@ -187,7 +206,7 @@ answers_over table query outer =
     filter (λ row. holds query.keeps (with_rows table (row ∷ []) outer)) table.rows)))
 
 -- what a select list gives; the one column of *
-abbrev pub listed_step : Listed-F (References → Truth) Valued Valued (References → List Answer) → Valued
+abbrev pub listed_step : MeantListed → Valued
 listed_step Listed-F.Star = simple (λ around. first (map (value_in 0) (rows_at_hand around)))
 listed_step (Listed-F.One part) = part
 
@@ -207,22 +226,30 @@ table_of tables state name alias = record {
   rows = rows_at (position_of name tables) state;
 }
 
-abbrev pub query_step : Tables → State → Query-F (References → Truth) Valued Valued (References → List Answer) → References → List Answer
+abbrev pub query_step : Tables → State → MeantQuery → References → List Answer
 query_step tables state query = answers_over (table_of tables state query.table query.alias) query
 
 -- ---- the whole
 
 abbrev pub truth : Tables → State → Condition → References → Truth
-truth tables state = fold-Condition (References → Truth) Valued Valued (References → List Answer) condition_step expression_step listed_step (query_step tables state)
+truth tables state =
+    fold-Condition (References → Truth) Valued Valued (References → List Answer)
+    condition_step expression_step listed_step (query_step tables state)
 
 abbrev pub valued : Tables → State → Expression → Valued
-valued tables state = fold-Expression (References → Truth) Valued Valued (References → List Answer) condition_step expression_step listed_step (query_step tables state)
+valued tables state =
+    fold-Expression (References → Truth) Valued Valued (References → List Answer)
+    condition_step expression_step listed_step (query_step tables state)
 
 abbrev pub listed : Tables → State → Listed → Valued
-listed tables state = fold-Listed (References → Truth) Valued Valued (References → List Answer) condition_step expression_step listed_step (query_step tables state)
+listed tables state =
+    fold-Listed (References → Truth) Valued Valued (References → List Answer)
+    condition_step expression_step listed_step (query_step tables state)
 
 abbrev pub answers : Tables → State → Query → References → List Answer
-answers tables state = fold-Query (References → Truth) Valued Valued (References → List Answer) condition_step expression_step listed_step (query_step tables state)
+answers tables state =
+    fold-Query (References → Truth) Valued Valued (References → List Answer)
+    condition_step expression_step listed_step (query_step tables state)
 
 -- ---- assertions (11.34)
 

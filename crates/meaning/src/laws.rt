@@ -1,16 +1,19 @@
 //! What holds of the written meaning and the resolved one.
 
-ghost use Rattle.meaning.specs.Laws.{DeletesRows, GivesValues, HasFormInClass, HasWrittenRoots, HasWrittenTruth, KeepsRows, ListsColumns, SelectsRows, TakesExactly, TakesWritten, UpdatesColumns, UpdatesRows};
+ghost use Rattle.meaning.specs.Laws.{GivesValues, KeepsRows};
+ghost use Rattle.meaning.specs.Laws.{DeletesRows, ListsColumns, SelectsRows, UpdatesColumns, UpdatesRows};
+ghost use Rattle.meaning.specs.Laws.{HasFormInClass, HasWrittenRoots, HasWrittenTruth};
+ghost use Rattle.meaning.specs.Laws.{TakesExactly, TakesWritten};
 
-/// A condition over the rows of one table is true, false or unknown of a row as it is written, and an expression has its
-/// written value there.
+/// A condition over the rows of one table is true, false or unknown of a row as it is written, and an expression has
+/// its written value there.
 pub fn rows_are_as_written()
     ensures conditions { KeepsRows }
     ensures expressions { GivesValues }
 {}
 
-/// A DELETE, a SELECT and an UPDATE that are taken are of the rows for which their WHERE is true as it is written. A SELECT
-/// lists the columns that are written, and an UPDATE gives the columns that are written the written values.
+/// A DELETE, a SELECT and an UPDATE that are taken are of the rows for which their WHERE is true as it is written. A
+/// SELECT lists the columns that are written, and an UPDATE gives the columns that are written the written values.
 pub fn statements_keep_written_rows()
     ensures delete { DeletesRows }
     ensures select { SelectsRows }
