@@ -43,6 +43,7 @@ use Rattle.meaning.proofs.Steps.{and_then_ok, ok_same}
 use Rattle.meaning.proofs.Rows.{row_expression_value, row_filter_keeps}
 use Rattle.meaning.proofs.Queries.{source_seen}
 use Rattle.meaning.proofs.Whole.{HasWrittenRoots-law, HasWrittenTruth-law}
+use Rattle.meaning.proofs.Grown.{KeepsForm-law}
 use Rattle.meaning.proofs.Classes.{none_is, form_class, class_form}
 
 provided_is : {A : Type 0} (c : Bool) (refusal : Refusal) (r : Result A Refusal) (a : A) → provided c refusal r ≡ Ok a → (c ≡ true) × (r ≡ Ok a)
@@ -90,16 +91,24 @@ passed tables name condition attributes assertion e =
     let (bounded, makes) = provided_is (is_bounded_form form) TooWide whole assertion last in
     record { agreed = agreed; known = known; form = form; formed = is; typed = typed; bounded = bounded; made = ok_same (made_of name attributes form) assertion makes }
 
+-- an assertion has the meaning of a condition of its form
+has_written : (tables : Tables) (name : List ℕ) (condition : Condition) (attributes : Attributes) (form : Form) → form_of tables condition ≡ Ok form → law.IsWritten tables name condition attributes (made_of name attributes form)
+has_written tables name condition attributes form formed = record {
+  named = refl;
+  attributed = refl;
+  roots = HasWrittenRoots-law tables condition form formed;
+  truth = HasWrittenTruth-law tables condition form formed;
+}
+
 pub TakesWritten-law : law.TakesWritten
 TakesWritten-law tables name condition attributes assertion e =
     let p = passed tables name condition attributes assertion e in
-    let written : law.IsWritten tables name condition attributes (made_of name attributes p.form) = record {
-      named = refl;
-      attributed = refl;
-      roots = HasWrittenRoots-law tables condition p.form p.formed;
-      truth = HasWrittenTruth-law tables condition p.form p.formed;
-    } in
-    subst (law.IsWritten tables name condition attributes) p.made written
+    subst (law.IsWritten tables name condition attributes) p.made (has_written tables name condition attributes p.form p.formed)
+
+pub StaysWritten-law : law.StaysWritten
+StaysWritten-law tables more name condition attributes assertion e =
+    let p = passed tables name condition attributes assertion e in
+    subst (law.IsWritten (tables ++ more) name condition attributes) p.made (has_written (tables ++ more) name condition attributes p.form (KeepsForm-law tables more condition p.form p.formed))
 
 not_true : (b : Bool) → not b ≡ true → b ≡ false
 not_true true e = cc

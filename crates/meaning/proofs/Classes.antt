@@ -132,7 +132,7 @@ within name [] l e = cc
 within name (table ∷ tables) l e =
     within_next (pointwise nat_eq name table.0) table.1 l (layout_of name tables) (position_or_len (pointwise nat_eq name) (names_of tables)) (length (names_of tables)) e (within name tables l)
 
-placed_at : (name : List ℕ) (tables : Tables) (l : Layout) → layout_of name tables ≡ Some l → position_of name tables ≡ Some (position_or_len (pointwise nat_eq name) (names_of tables))
+pub placed_at : (name : List ℕ) (tables : Tables) (l : Layout) → layout_of name tables ≡ Some l → position_of name tables ≡ Some (position_or_len (pointwise nat_eq name) (names_of tables))
 placed_at name tables l e = ap (λ b. let o : Option ℕ = cond b (Some (position_or_len (pointwise nat_eq name) (names_of tables))) None in o) (within name tables l e)
 
 scope_layout : (name : List ℕ) (o : Option Layout) (scope : Scope) → option_map (named_as name) o ≡ Some scope → (l : Layout) × ((o ≡ Some l) × (named_as name l ≡ scope))

@@ -10,5 +10,6 @@ pub mod Links
 pub mod Rooted
 pub mod Whole
 pub mod Standing
+pub mod Grown
 pub mod Checked
 pub mod Classes

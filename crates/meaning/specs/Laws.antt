@@ -1,5 +1,5 @@
 -- The laws of what is written and what is resolved.
-use Rattle.std.specs.Prelude.{◌≡◌, ◌↔◌, ℕ, Contains, IsNone, IsTrue, List, [], ◌∷◌, filter}
+use Rattle.std.specs.Prelude.{◌≡◌, ◌↔◌, ℕ, Contains, IsNone, IsTrue, List, [], ◌∷◌, ◌++◌, filter}
 use Rattle.std.specs.Prelude.{Option, Some, None, option_map, Ok}
 use Rattle.std.specs.Bool.{IsFalse}
 use Rattle.value.specs.declared.values.Value.{Value}
@@ -81,6 +81,11 @@ abbrev pub HasFormInClass : Type 0
 HasFormInClass = (tables : Tables) (condition : Condition)
     → ((form : Form) × (form_of tables condition ≡ Ok form)) ↔ IsInClass tables condition
 
+-- and it keeps its form where more tables come after those that it was given one over
+abbrev pub KeepsForm : Type 0
+KeepsForm = (tables more : Tables) (condition : Condition) (form : Form)
+    → form_of tables condition ≡ Ok form → form_of (tables ++ more) condition ≡ Ok form
+
 -- ---- assertions
 
 -- an assertion is the one that is written: it has the name and the attributes of its text, and on every state the bad
@@ -97,6 +102,12 @@ abbrev pub TakesWritten : Type 0
 TakesWritten = (tables : Tables) (name : List ℕ) (condition : Condition) (attributes : Attributes)
     → (assertion : Assertion) → checked tables name condition attributes ≡ Ok assertion
     → IsWritten tables name condition attributes assertion
+
+-- and it stays that where more tables are created after it
+abbrev pub StaysWritten : Type 0
+StaysWritten = (tables more : Tables) (name : List ℕ) (condition : Condition) (attributes : Attributes)
+    → (assertion : Assertion) → checked tables name condition attributes ≡ Ok assertion
+    → IsWritten (tables ++ more) name condition attributes assertion
 
 -- what may be taken: attributes without contradiction, known names, a condition of the class, and in its form values of
 -- one type compared and expressions with a bound

@@ -2,8 +2,8 @@
 
 ghost use Rattle.meaning.specs.Laws.{GivesValues, KeepsRows};
 ghost use Rattle.meaning.specs.Laws.{DeletesRows, ListsColumns, SelectsRows, UpdatesColumns, UpdatesRows};
-ghost use Rattle.meaning.specs.Laws.{HasFormInClass, HasWrittenRoots, HasWrittenTruth};
-ghost use Rattle.meaning.specs.Laws.{TakesExactly, TakesWritten};
+ghost use Rattle.meaning.specs.Laws.{HasFormInClass, HasWrittenRoots, HasWrittenTruth, KeepsForm};
+ghost use Rattle.meaning.specs.Laws.{StaysWritten, TakesExactly, TakesWritten};
 
 /// A condition over the rows of one table is true, false or unknown of a row as it is written, and an expression has
 /// its written value there.
@@ -27,15 +27,19 @@ pub fn class_has_forms()
     ensures { HasFormInClass }
 {}
 
-/// An assertion that has a form is false at the roots that its text names, and true, false or unknown as its text is.
+/// An assertion that has a form is false at the roots that its text names, and true, false or unknown as its text is. It
+/// keeps its form where more tables come after those that it was given one over.
 pub fn form_means_what_is_written()
     ensures roots { HasWrittenRoots }
     ensures truth { HasWrittenTruth }
+    ensures kept { KeepsForm }
 {}
 
-/// An assertion that is taken is the one that is written; and exactly those are taken whose attributes don't contradict
-/// each other, whose names are known, and whose condition is of the class, typed and bounded.
+/// An assertion that is taken is the one that is written, and stays that where more tables are created. And exactly those
+/// are taken whose attributes don't contradict each other, whose names are known, and whose condition is of the class,
+/// typed and bounded.
 pub fn assertion_means_what_is_written()
     ensures written { TakesWritten }
+    ensures later { StaysWritten }
     ensures exact { TakesExactly }
 {}
