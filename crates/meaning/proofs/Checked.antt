@@ -42,7 +42,7 @@ use Rattle.meaning.specs.Laws.{seen, where_rows, Pairs, IsPlaceOf, IsListOf, Giv
 use Rattle.meaning.proofs.Steps.{and_then_ok, ok_same}
 use Rattle.meaning.proofs.Rows.{row_expression_value, row_filter_keeps}
 use Rattle.meaning.proofs.Queries.{source_seen}
-use Rattle.meaning.proofs.Whole.{HasWrittenRoots-law, HasWrittenTruth-law}
+use Rattle.meaning.proofs.Whole.{HasWrittenRoots-law, HasWrittenTruth-law, HasWrittenLeast-law}
 use Rattle.meaning.proofs.Grown.{KeepsForm-law}
 use Rattle.meaning.proofs.Classes.{none_is, form_class, class_form}
 
@@ -98,6 +98,7 @@ has_written tables name condition attributes form formed = record {
   attributed = refl;
   roots = HasWrittenRoots-law tables condition form formed;
   truth = HasWrittenTruth-law tables condition form formed;
+  least = HasWrittenLeast-law tables condition form formed;
 }
 
 pub TakesWritten-law : law.TakesWritten

@@ -11,7 +11,7 @@ use Rattle.cond.specs.declared.conds.Cond.{Cond}
 use Rattle.cond.specs.Eval as resolved
 use Rattle.assertion.specs.declared.forms.Form.{Form}
 use Rattle.assertion.specs.declared.assertions.Assertion.{Assertion}
-use Rattle.assertion.specs.Meaning.{State, rows_of, kept_rows, bad_roots, verdict_of}
+use Rattle.assertion.specs.Meaning.{State, rows_of, kept_rows, bad_roots, verdict_of, least_bad_of}
 use Rattle.syntax.specs.declared.trees.Condition.{Condition}
 use Rattle.syntax.specs.declared.trees.Expression.{Expression}
 use Rattle.statement_syntax.specs.declared.definitions.Attributes.{Attributes}
@@ -35,7 +35,7 @@ use Rattle.assertcheck.specs.Statements.{delete_of, places_from, select_of}
 use Rattle.assertcheck.specs.Updates.{update_of}
 use Rattle.meaning.specs.Class.{IsInClass}
 use Rattle.meaning.specs.Meaning.{Reference, References, truth, valued, holds, with_rows, table_of}
-use Rattle.meaning.specs.Meaning.{written_truth, written_bad_roots}
+use Rattle.meaning.specs.Meaning.{written_truth, written_bad_roots, written_least}
 
 -- a table as names see it, with rows at hand
 abbrev pub seen : Scope → List RowValues → Reference
@@ -58,7 +58,8 @@ GivesValues = (scope : Scope) (expression : Expression) (made : Expr) → row_ex
 
 -- ---- forms
 
--- on every state a form is bad at the roots of what is written, and true, false or unknown as it is
+-- on every state a form is bad at the roots of what is written, true, false or unknown as it is, and its least bad root
+-- is that one's
 abbrev pub HasRootsOf : Tables → Condition → Form → Type 0
 HasRootsOf tables condition form = (state : State) (r : Root)
     → Contains (written_bad_roots tables state condition) r ↔ Contains (bad_roots (layouts_of tables) form state) r
@@ -66,6 +67,10 @@ HasRootsOf tables condition form = (state : State) (r : Root)
 abbrev pub HasTruthOf : Tables → Condition → Form → Type 0
 HasTruthOf tables condition form = (state : State)
     → written_truth tables state condition ≡ verdict_of (layouts_of tables) form state
+
+abbrev pub HasLeastOf : Tables → Condition → Form → Type 0
+HasLeastOf tables condition form = (state : State)
+    → written_least tables state condition ≡ least_bad_of (layouts_of tables) form state
 
 -- so it is of the form that a condition has
 abbrev pub HasWrittenRoots : Type 0
@@ -81,6 +86,10 @@ abbrev pub HasFormInClass : Type 0
 HasFormInClass = (tables : Tables) (condition : Condition)
     → ((form : Form) × (form_of tables condition ≡ Ok form)) ↔ IsInClass tables condition
 
+abbrev pub HasWrittenLeast : Type 0
+HasWrittenLeast = (tables : Tables) (condition : Condition) (form : Form)
+    → form_of tables condition ≡ Ok form → HasLeastOf tables condition form
+
 -- and it keeps its form where more tables come after those that it was given one over
 abbrev pub KeepsForm : Type 0
 KeepsForm = (tables more : Tables) (condition : Condition) (form : Form)
@@ -89,13 +98,14 @@ KeepsForm = (tables more : Tables) (condition : Condition) (form : Form)
 -- ---- assertions
 
 -- an assertion is the one that is written: it has the name and the attributes of its text, and on every state the bad
--- roots and the truth of its condition
+-- roots, the truth and the least bad root of its condition
 pub record IsWritten (tables : Tables) (name : List ℕ) (condition : Condition) (attributes : Attributes)
     (assertion : Assertion) : Type 0 where
   pub named : assertion.name ≡ name
   pub attributed : assertion.attributes ≡ attributes_of attributes
   pub roots : HasRootsOf tables condition assertion.form
   pub truth : HasTruthOf tables condition assertion.form
+  pub least : HasLeastOf tables condition assertion.form
 
 -- an assertion that is taken is the one that is written
 abbrev pub TakesWritten : Type 0

@@ -8,7 +8,7 @@ use Rattle.value.specs.declared.values.Value.TheVariants.{Null, Int, Text}
 use Rattle.value.specs.declared.values.Root.{Root}
 use Rattle.value.specs.declared.values.Root.TheVariants.{All, Of}
 use Rattle.value.specs.declared.comparisons.Comparison.TheVariants.{Equal, AtMost, AtLeast}
-use Rattle.value.specs.ValueOrder.{value_cmp}
+use Rattle.value.specs.ValueOrder.{value_cmp, root_cmp}
 use Rattle.value.specs.Ordered.{least}
 use Rattle.threeval.specs.declared.Truth.{Truth}
 use Rattle.threeval.specs.declared.Truth.TheVariants.{True, False}
@@ -284,3 +284,7 @@ roots_in tables state whole other = roots_of_whole whole
 abbrev pub written_bad_roots : Tables → State → Condition → List Root
 written_bad_roots tables state condition =
     roots_in tables state (written_truth tables state condition) (out-Condition condition)
+
+-- the least of them, in the order of roots
+abbrev pub written_least : Tables → State → Condition → Option Root
+written_least tables state condition = least root_cmp (written_bad_roots tables state condition)

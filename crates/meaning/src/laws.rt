@@ -2,7 +2,7 @@
 
 ghost use Rattle.meaning.specs.Laws.{GivesValues, KeepsRows};
 ghost use Rattle.meaning.specs.Laws.{DeletesRows, ListsColumns, SelectsRows, UpdatesColumns, UpdatesRows};
-ghost use Rattle.meaning.specs.Laws.{HasFormInClass, HasWrittenRoots, HasWrittenTruth, KeepsForm};
+ghost use Rattle.meaning.specs.Laws.{HasFormInClass, HasWrittenLeast, HasWrittenRoots, HasWrittenTruth, KeepsForm};
 ghost use Rattle.meaning.specs.Laws.{StaysWritten, TakesExactly, TakesWritten};
 
 /// A condition over the rows of one table is true, false or unknown of a row as it is written, and an expression has
@@ -27,11 +27,12 @@ pub fn class_has_forms()
     ensures { HasFormInClass }
 {}
 
-/// An assertion that has a form is false at the roots that its text names, and true, false or unknown as its text is. It
-/// keeps its form where more tables come after those that it was given one over.
+/// An assertion that has a form is false at the roots that its text names, and true, false or unknown as its text is; its
+/// least bad root is that of its text. It keeps its form where more tables come after those that it was given one over.
 pub fn form_means_what_is_written()
     ensures roots { HasWrittenRoots }
     ensures truth { HasWrittenTruth }
+    ensures least { HasWrittenLeast }
     ensures kept { KeepsForm }
 {}
 
