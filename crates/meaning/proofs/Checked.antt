@@ -36,7 +36,7 @@ use Rattle.assertcheck.specs.Assertions.{are_at_odds, attributes_of, of_form, ch
 use Rattle.assertcheck.specs.Conditions.{target_of, sound_condition, where_of}
 use Rattle.assertcheck.specs.Statements.{named_column, new_place, places_from, selected, select_of, unlisted}
 use Rattle.assertcheck.specs.Updates.{assignable, not_key, update_of, value_of, names_fault, assigned_places, settings_of, fits, is_bounded_setting, sound_update, update_over}
-use Rattle.meaning.specs.Meaning.{Reference, table_of, truth, holds, with_rows}
+use Rattle.meaning.specs.Meaning.{Reference, table_of, truth, passes, with_rows}
 use Rattle.meaning.specs.Laws as law
 use Rattle.meaning.specs.Laws.{seen, where_rows, Pairs, IsPlaceOf, IsListOf, Gives, written_value, given_value}
 use Rattle.meaning.proofs.Steps.{and_then_ok, ok_same}
@@ -160,8 +160,8 @@ kept_of : (tables : Tables) (state : State) (name : List ℕ) (condition : Optio
     → where_rows tables state name condition ≡ kept_rows kept (rows_of target.table state)
 kept_of tables state name condition target kept found is =
     let rows = rows_of target.table state in
-    ap (λ table. filter (λ row. holds (option_map (truth tables state) condition) (with_rows table (row ∷ []) [])) table.rows) (source_seen tables state name None target found)
-    ∙ filter_agree (λ row. holds (option_map (truth tables state) condition) (with_rows (seen target.scope rows) (row ∷ []) [])) (λ row. resolved.keeps row [] kept) (λ row. row_filter_keeps target.scope condition kept is tables state row []) rows
+    ap (λ table. filter (λ row. passes (option_map (truth tables state) condition) (with_rows table (row ∷ []) [])) table.rows) (source_seen tables state name None target found)
+    ∙ filter_agree (λ row. passes (option_map (truth tables state) condition) (with_rows (seen target.scope rows) (row ∷ []) [])) (λ row. resolved.keeps row [] kept) (λ row. row_filter_keeps target.scope condition kept is tables state row []) rows
 
 pub DeletesRows-law : law.DeletesRows
 DeletesRows-law tables name condition delete e state =

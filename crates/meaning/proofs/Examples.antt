@@ -21,7 +21,7 @@ use Rattle.syntax.specs.declared.trees.Expression.{Expression, roll-Expression}
 use Rattle.syntax.specs.declared.trees.Listed.{Listed, roll-Listed}
 use Rattle.syntax.specs.declared.trees.Query.{Query, roll-Query, out-roll-Query}
 use Rattle.meaning.specs.Meaning as written
-use Rattle.meaning.specs.Meaning.{Reference, References, Valued, Answer, answers, simple, first, column_values, rows_counted, set_of_column, only_value, is_any, written_bad_roots, written_truth}
+use Rattle.meaning.specs.Meaning.{Reference, References, Valued, Answer, answers, simple, first_value, column_values, rows_counted, set_of_column, only_value, is_any, written_bad_roots, written_truth}
 use Rattle.meaning.specs.Laws.{seen}
 use Rattle.meaning.proofs.Nodes.{clauses, number_is, column_is, count_is, set_is, value_is, compare_is, both_is, denies_is, star_is, one_is, filtered_is, grouped_is}
 
@@ -111,7 +111,7 @@ abbrev star_value : Valued
 star_value = written.listed_step Listed-F.Star
 
 abbrev value_named : ColumnName → Valued
-value_named c = simple (λ around. first (column_values c around))
+value_named c = simple (λ around. first_value (column_values c around))
 
 abbrev value_number : ℕ → Valued
 value_number n = simple (λ around. number n)

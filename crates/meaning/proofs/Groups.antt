@@ -31,7 +31,7 @@ use Rattle.form_check.specs.Leaves.{Leaf, Leaves, Rows, Of as SetOf, Exists, Val
 use Rattle.form_check.specs.Queries.{row_filter, of_column}
 use Rattle.form_check.specs.Forms.{aggregate_of}
 use Rattle.meaning.specs.Meaning as written
-use Rattle.meaning.specs.Meaning.{References, Valued, Answer, column_values, first, with_rows, holds, distinct, truth, root_of}
+use Rattle.meaning.specs.Meaning.{References, Valued, Answer, column_values, first_value, with_rows, passes, distinct, truth, root_of}
 use Rattle.meaning.specs.Laws.{seen}
 use Rattle.meaning.proofs.Steps.{in_class_ok, ok_same}
 use Rattle.meaning.proofs.Numbering.{leaf_value, condition_faithful}
@@ -101,14 +101,14 @@ has_passing q vs (Of w) =
 -- ---- groups of rows
 
 -- the rows of a value that some row has are of that value
-first_value : (g : ℕ) (v : Value) (row : RowValues) (rows : List RowValues) → (has value_cmp v (map (value_in g) rows) ≡ true → first (map (value_in g) (group_of g v rows)) ≡ v) → (b : Bool) → eq_by_cmp value_cmp v (value_in g row) ≡ b
-    → b || has value_cmp v (map (value_in g) rows) ≡ true → first (map (value_in g) (cond b (row ∷ group_of g v rows) (group_of g v rows))) ≡ v
-first_value g v row rows more true e h = sym (same_value v (value_in g row) e)
-first_value g v row rows more false e h = more h
+value_first : (g : ℕ) (v : Value) (row : RowValues) (rows : List RowValues) → (has value_cmp v (map (value_in g) rows) ≡ true → first_value (map (value_in g) (group_of g v rows)) ≡ v) → (b : Bool) → eq_by_cmp value_cmp v (value_in g row) ≡ b
+    → b || has value_cmp v (map (value_in g) rows) ≡ true → first_value (map (value_in g) (cond b (row ∷ group_of g v rows) (group_of g v rows))) ≡ v
+value_first g v row rows more true e h = sym (same_value v (value_in g row) e)
+value_first g v row rows more false e h = more h
 
-pub first_of_group : (g : ℕ) (v : Value) (rows : List RowValues) → has value_cmp v (map (value_in g) rows) ≡ true → first (map (value_in g) (group_of g v rows)) ≡ v
+pub first_of_group : (g : ℕ) (v : Value) (rows : List RowValues) → has value_cmp v (map (value_in g) rows) ≡ true → first_value (map (value_in g) (group_of g v rows)) ≡ v
 first_of_group g v [] h = cc
-first_of_group g v (row ∷ rows) h = first_value g v row rows (first_of_group g v rows) (eq_by_cmp value_cmp v (value_in g row)) refl h
+first_of_group g v (row ∷ rows) h = value_first g v row rows (first_of_group g v rows) (eq_by_cmp value_cmp v (value_in g row)) refl h
 
 or_true : (a b : Bool) → b ≡ true → a || b ≡ true
 or_true true b h = refl
@@ -146,15 +146,15 @@ in_group_is group (Some column) c e =
       | false ↦ λ t e. cc
     ] in case (column == group) refl e
 
-group_value : (scope : names.Scope) (group : ℕ) (v : Value) (rows : List RowValues) → first (map (value_in group) rows) ≡ v → (column : ColumnName) (c : ℕ) → grouping_column scope group column ≡ Some c
-    → first (column_values column (seen scope rows ∷ [])) ≡ value_in c (v ∷ [])
+group_value : (scope : names.Scope) (group : ℕ) (v : Value) (rows : List RowValues) → first_value (map (value_in group) rows) ≡ v → (column : ColumnName) (c : ℕ) → grouping_column scope group column ≡ Some c
+    → first_value (column_values column (seen scope rows ∷ [])) ≡ value_in c (v ∷ [])
 group_value scope group v rows is column c e =
     let (own, zero) = in_group_is group (own_column scope column) c e in
-    ap first (own_values scope rows [] column group own) ∙ is ∙ ap (λ n. value_in n (v ∷ [])) (sym zero)
+    ap first_value (own_values scope rows [] column group own) ∙ is ∙ ap (λ n. value_in n (v ∷ [])) (sym zero)
 
 -- HAVING keeps the group of a value exactly where its resolved condition does
 pub having_keeps : (tables : Tables) (state : State) (scope : names.Scope) (group : ℕ) (having : Condition) (made : Cond) (leaves : Leaves) (aggregates : List Aggregate) → numbered (grouping_column scope group) having [] ≡ Ok (made, leaves) → each (aggregate_of scope) leaves ≡ Ok aggregates
-    → (rows : List RowValues) (v : Value) → first (map (value_in group) rows) ≡ v → truth tables state having (seen scope rows ∷ []) ≡ resolved.truth (v ∷ []) (map (λ a. aggregate a rows) aggregates) made
+    → (rows : List RowValues) (v : Value) → first_value (map (value_in group) rows) ≡ v → truth tables state having (seen scope rows ∷ []) ≡ resolved.truth (v ∷ []) (map (λ a. aggregate a rows) aggregates) made
 having_keeps tables state scope group having made leaves aggregates is are rows v named =
     let scopes : References = seen scope rows ∷ [] in
     let slots = map (λ a. aggregate a rows) aggregates in
@@ -165,12 +165,12 @@ having_keeps tables state scope group having made leaves aggregates is are rows 
 
 -- the rows of each value, by two ways to read the value
 regrouped : (f g : RowValues → Value) → ((row : RowValues) → f row ≡ g row) → (p : List RowValues → Bool) (rows : List RowValues)
-    → map (λ rows. Of (first (map f rows))) (filter p (map (λ v. filter (λ row. eq_by_cmp value_cmp v (f row)) rows) (distinct (map f rows))))
-    ≡ map (λ rows. Of (first (map g rows))) (filter p (map (λ v. filter (λ row. eq_by_cmp value_cmp v (g row)) rows) (distinct (map g rows))))
+    → map (λ rows. Of (first_value (map f rows))) (filter p (map (λ v. filter (λ row. eq_by_cmp value_cmp v (f row)) rows) (distinct (map f rows))))
+    ≡ map (λ rows. Of (first_value (map g rows))) (filter p (map (λ v. filter (λ row. eq_by_cmp value_cmp v (g row)) rows) (distinct (map g rows))))
 regrouped f g same p rows =
-    map_agree (λ rows. Of (first (map f rows))) (λ rows. Of (first (map g rows))) (λ rows. ap (λ vs. Of (first vs)) (map_agree f g same rows)) (filter p (map (λ v. filter (λ row. eq_by_cmp value_cmp v (f row)) rows) (distinct (map f rows))))
-    ∙ ap (λ gs. map (λ rows. Of (first (map g rows))) (filter p gs)) (map_agree (λ v. filter (λ row. eq_by_cmp value_cmp v (f row)) rows) (λ v. filter (λ row. eq_by_cmp value_cmp v (g row)) rows) (λ v. filter_agree (λ row. eq_by_cmp value_cmp v (f row)) (λ row. eq_by_cmp value_cmp v (g row)) (λ row. ap (eq_by_cmp value_cmp v) (same row)) rows) (distinct (map f rows)))
-    ∙ ap (λ vs. map (λ rows. Of (first (map g rows))) (filter p (map (λ v. filter (λ row. eq_by_cmp value_cmp v (g row)) rows) (distinct vs)))) (map_agree f g same rows)
+    map_agree (λ rows. Of (first_value (map f rows))) (λ rows. Of (first_value (map g rows))) (λ rows. ap (λ vs. Of (first_value vs)) (map_agree f g same rows)) (filter p (map (λ v. filter (λ row. eq_by_cmp value_cmp v (f row)) rows) (distinct (map f rows))))
+    ∙ ap (λ gs. map (λ rows. Of (first_value (map g rows))) (filter p gs)) (map_agree (λ v. filter (λ row. eq_by_cmp value_cmp v (f row)) rows) (λ v. filter (λ row. eq_by_cmp value_cmp v (g row)) rows) (λ v. filter_agree (λ row. eq_by_cmp value_cmp v (f row)) (λ row. eq_by_cmp value_cmp v (g row)) (λ row. ap (eq_by_cmp value_cmp v) (same row)) rows) (distinct (map f rows)))
+    ∙ ap (λ vs. map (λ rows. Of (first_value (map g rows))) (filter p (map (λ v. filter (λ row. eq_by_cmp value_cmp v (g row)) rows) (distinct vs)))) (map_agree f g same rows)
 
 -- the groups that a query with GROUP BY and HAVING gives are those that the form lists
 pub group_roots_are : (tables : Tables) (state : State) (scope : names.Scope) (rows : List RowValues) (l : ℕ) (list : Valued) (keeps : Option Condition) (kept : Cond) (column : ColumnName) (group : ℕ) (having : Condition) (made : Cond) (leaves : Leaves) (aggregates : List Aggregate)
@@ -179,17 +179,17 @@ pub group_roots_are : (tables : Tables) (state : State) (scope : names.Scope) (r
     ≡ has root_cmp r (group_roots (kept_rows kept rows) group made aggregates)
 group_roots_are tables state scope rows l list keeps kept column group having made leaves aggregates filters own is are r =
     let table = seen scope rows in
-    let f : RowValues → Value = λ row. first (column_values column (with_rows table (row ∷ []) [])) in
+    let f : RowValues → Value = λ row. first_value (column_values column (with_rows table (row ∷ []) [])) in
     let same : (row : RowValues) → f row ≡ value_in group row = λ row. own_value scope row [] column group own in
-    let p : List RowValues → Bool = λ rows. holds (Some (truth tables state having)) (with_rows table rows []) in
+    let p : List RowValues → Bool = λ rows. passes (Some (truth tables state having)) (with_rows table rows []) in
     let k = kept_rows kept rows in
     let q = lists_group k group made aggregates in
     let groups_in : List RowValues → List (List RowValues) = λ rows. filter p (map (λ v. filter (λ row. eq_by_cmp value_cmp v (f row)) rows) (distinct (map f rows))) in
-    let kept_same = filter_agree (λ row. holds (option_map (truth tables state) keeps) (with_rows table (row ∷ []) [])) (λ row. resolved.keeps row [] kept) (λ row. row_filter_keeps scope keeps kept filters tables state row []) rows in
+    let kept_same = filter_agree (λ row. passes (option_map (truth tables state) keeps) (with_rows table (row ∷ []) [])) (λ row. resolved.keeps row [] kept) (λ row. row_filter_keeps scope keeps kept filters tables state row []) rows in
     let answer : List RowValues → Answer = λ rows. record { rows = rows; value = list.value (with_rows table rows []) } in
     ap (λ rows. has root_cmp r (map (root_of (Some f) l) (map answer (groups_in rows)))) kept_same
     ∙ ap (has root_cmp r) (map_twice answer (root_of (Some f) l) (groups_in k) ∙ regrouped f (value_in group) same p k
-    ∙ passing (λ v. group_of group v k) (λ rows. first (map (value_in group) rows)) p q (distinct (map (value_in group) k)) (λ w h.
+    ∙ passing (λ v. group_of group v k) (λ rows. first_value (map (value_in group) rows)) p q (distinct (map (value_in group) k)) (λ w h.
     let named = first_of_group group w k (sym (has_distinct w (map (value_in group) k)) ∙ h) in
     (named, ap (λ t. is_of t True) (having_keeps tables state scope group having made leaves aggregates is are (group_of group w k) w named))))
     ∙ has_passing q (map (value_in group) k) r

@@ -39,7 +39,7 @@ use Rattle.form_check.specs.Queries.{Source, source_of, row_condition, selected_
 use Rattle.form_check.specs.Links.{parts_in, top_parts, name_in, is_key, outer_column, linked_column, either, link_between, link_in, link_of, links_in, only_one, own_parts, kept_parts}
 use Rattle.form_check.specs.Forms.{linked_where, linked_exists, linked_value, linked}
 use Rattle.meaning.specs.Meaning as written
-use Rattle.meaning.specs.Meaning.{References, Valued, Answer, column_values, first, only_value, with_rows, holds, truth, valued, listed, answers}
+use Rattle.meaning.specs.Meaning.{References, Valued, Answer, column_values, first_value, only_value, with_rows, passes, truth, valued, listed, answers}
 use Rattle.meaning.specs.Laws.{seen}
 use Rattle.meaning.proofs.Steps.{and_then_ok, in_class_ok, only_if_ok, ok_same}
 use Rattle.meaning.proofs.Numbering.{leaf_value, truth-And}
@@ -123,10 +123,10 @@ module _ (tables : Tables) (state : State) where
 
   -- a name's value
   name_layer : (layer : Expression-F Condition Expression Listed Query) (column : ColumnName) (scopes : References) → name_in layer ≡ Some column
-      → (written.expression_step (map-Expression Condition Expression Listed Query (References → Truth) Valued Valued (References → List Answer) (truth tables state) (valued tables state) (listed tables state) (answers tables state) layer)).value scopes ≡ first (column_values column scopes)
+      → (written.expression_step (map-Expression Condition Expression Listed Query (References → Truth) Valued Valued (References → List Answer) (truth tables state) (valued tables state) (listed tables state) (answers tables state) layer)).value scopes ≡ first_value (column_values column scopes)
   name_layer (Expression-F.Number n) column scopes e = cc
   name_layer (Expression-F.Text t) column scopes e = cc
-  name_layer (Expression-F.Column c) column scopes e = ap (λ c. first (column_values c scopes)) (some_same c column e)
+  name_layer (Expression-F.Column c) column scopes e = ap (λ c. first_value (column_values c scopes)) (some_same c column e)
   name_layer Expression-F.CountRows column scopes e = cc
   name_layer (Expression-F.Aggregate f c) column scopes e = cc
   name_layer (Expression-F.Subquery query) column scopes e = cc
@@ -134,7 +134,7 @@ module _ (tables : Tables) (state : State) where
   name_layer (Expression-F.Sum parts) column scopes e = cc
   name_layer (Expression-F.Product parts) column scopes e = cc
 
-  name_value : (x : Expression) (column : ColumnName) (scopes : References) → name_in (out-Expression x) ≡ Some column → (valued tables state x).value scopes ≡ first (column_values column scopes)
+  name_value : (x : Expression) (column : ColumnName) (scopes : References) → name_in (out-Expression x) ≡ Some column → (valued tables state x).value scopes ≡ first_value (column_values column scopes)
   name_value x column scopes e =
       ap (λ v. v.value scopes) (fold_out-Expression (References → Truth) Valued Valued (References → List Answer) written.condition_step written.expression_step written.listed_step (written.query_step tables state) x) ∙ name_layer (out-Expression x) column scopes e
 
@@ -160,10 +160,10 @@ module _ (tables : Tables) (state : State) where
     key = value_in root.layout.key row
 
     -- the two sides of a link
-    sides : (inner outer : ColumnName) (c : ℕ) → linked_column child root inner outer ≡ Some c → (first (column_values inner around) ≡ value_in c drow) × (first (column_values outer around) ≡ key)
+    sides : (inner outer : ColumnName) (c : ℕ) → linked_column child root inner outer ≡ Some c → (first_value (column_values inner around) ≡ value_in c drow) × (first_value (column_values outer around) ≡ key)
     sides inner outer c e =
         let (none, (is, own)) = linked_column_is child root inner outer c e in
-        (own_value child drow (seen root (row ∷ []) ∷ []) inner c own, ap first (outer_values child (drow ∷ []) (seen root (row ∷ []) ∷ []) outer none) ∙ own_value root row [] outer root.layout.key is)
+        (own_value child drow (seen root (row ∷ []) ∷ []) inner c own, ap first_value (outer_values child (drow ∷ []) (seen root (row ∷ []) ∷ []) outer none) ∙ own_value root row [] outer root.layout.key is)
 
     link_names : (left right : Expression) (l r : Option ColumnName) → name_in (out-Expression left) ≡ l → name_in (out-Expression right) ≡ r → (c : ℕ) → link_between child root l r ≡ Some c
         → sql.compared Equal ((valued tables state left).value around) ((valued tables state right).value around) ≡ sql.compared Equal key (value_in c drow)
@@ -172,10 +172,10 @@ module _ (tables : Tables) (state : State) where
     link_names left right (Some l) (Some r) e f c is =
         let lv = name_value left l around e in
         let rv = name_value right r around f in
-        ap (λ v. sql.compared Equal v ((valued tables state right).value around)) lv ∙ ap (sql.compared Equal (first (column_values l around))) rv
+        ap (λ v. sql.compared Equal v ((valued tables state right).value around)) lv ∙ ap (sql.compared Equal (first_value (column_values l around))) rv
         ∙ ⊎_elim
-        (λ one. let (inner, outer) = sides l r c one in equal_either (first (column_values l around)) (first (column_values r around)) ∙ ap (λ v. sql.compared Equal v (first (column_values l around))) outer ∙ ap (sql.compared Equal key) inner)
-        (λ two. let (inner, outer) = sides r l c two in ap (λ v. sql.compared Equal v (first (column_values r around))) outer ∙ ap (sql.compared Equal key) inner)
+        (λ one. let (inner, outer) = sides l r c one in equal_either (first_value (column_values l around)) (first_value (column_values r around)) ∙ ap (λ v. sql.compared Equal v (first_value (column_values l around))) outer ∙ ap (sql.compared Equal key) inner)
+        (λ two. let (inner, outer) = sides r l c two in ap (λ v. sql.compared Equal v (first_value (column_values r around))) outer ∙ ap (sql.compared Equal key) inner)
         (either_is (linked_column child root l r) (linked_column child root r l) c is)
 
     link_layer : (layer : Condition-F Condition Expression Listed Query) (c : ℕ) → link_in child root layer ≡ Some c
@@ -222,7 +222,7 @@ module _ (tables : Tables) (state : State) where
         = λ o. elim o as (λ o. link_of child root part ≡ o → each (row_condition child) (cond (is_none o) (part ∷ own_parts child root parts) (own_parts child root parts)) ≡ Ok kept
         → is_true part && list_all is_true parts ≡ list_all (λ c. links c key drow) (option_to_list o ++ links_in child root parts) && list_all (resolved.keeps drow []) kept) [
           | None ↦ λ n e.
-              let (made, (is, more)) = and_then_ok (row_condition child part) (λ first. and_then (each (row_condition child) (own_parts child root parts)) (λ others. let r : Result (List Cond) Refusal = Ok (first ∷ others) in r)) kept e in
+              let (made, (is, more)) = and_then_ok (row_condition child part) (λ first_value. and_then (each (row_condition child) (own_parts child root parts)) (λ others. let r : Result (List Cond) Refusal = Ok (first_value ∷ others) in r)) kept e in
               let (others, (are, makes)) = and_then_ok (each (row_condition child) (own_parts child root parts)) (λ others. let r : Result (List Cond) Refusal = Ok (made ∷ others) in r) kept more in
               ap (λ t. is_of t True && list_all is_true parts) (row_condition_truth child part made is tables state drow (seen root (row ∷ []) ∷ []))
               ∙ ap (λ b. resolved.keeps drow [] made && b) (parts_true parts others are)
@@ -259,7 +259,7 @@ ones f [] = refl
 ones f (row ∷ rows) = ap suc (ones f rows)
 
 pub is_plain : (table : written.Reference) (list : Valued) (keeps : Option (References → Truth)) (outer : References) → list.sets ≡ false
-    → answers_by table list keeps None None outer ≡ map (λ rows. record { rows = rows; value = list.value (with_rows table rows outer) }) (filter (λ rows. true) (map (λ row. row ∷ []) (filter (λ row. holds keeps (with_rows table (row ∷ []) outer)) table.rows)))
+    → answers_by table list keeps None None outer ≡ map (λ rows. record { rows = rows; value = list.value (with_rows table rows outer) }) (filter (λ rows. true) (map (λ row. row ∷ []) (filter (λ row. passes keeps (with_rows table (row ∷ []) outer)) table.rows)))
 is_plain table list keeps outer none = rw none refl
 
 -- what may be listed under EXISTS has no set function
@@ -307,10 +307,10 @@ module _ (tables : Tables) (state : State) (root : names.Scope) (row : RowValues
 
   -- the rows that a linked query keeps
   kept_rows_are : (child : Source) (condition : Condition) (link : ℕ) (kept : List Cond) → only_one (links_in child.scope root (top_parts condition)) ≡ Some link → kept_parts child.scope root (top_parts condition) ≡ Ok kept
-      → filter (λ drow. holds (Some (truth tables state condition)) (with_rows (seen child.scope (rows_of child.table state)) (drow ∷ []) outer_row)) (rows_of child.table state)
+      → filter (λ drow. passes (Some (truth tables state condition)) (with_rows (seen child.scope (rows_of child.table state)) (drow ∷ []) outer_row)) (rows_of child.table state)
       ≡ filter (λ drow. links link root_key drow && resolved.keeps drow [] (cond_of.And kept)) (rows_of child.table state)
   kept_rows_are child condition link kept one are =
-      filter_agree (λ drow. holds (Some (truth tables state condition)) (with_rows (seen child.scope (rows_of child.table state)) (drow ∷ []) outer_row)) (λ drow. links link root_key drow && resolved.keeps drow [] (cond_of.And kept)) (λ drow. where_true tables state child.scope root drow row condition link kept one are) (rows_of child.table state)
+      filter_agree (λ drow. passes (Some (truth tables state condition)) (with_rows (seen child.scope (rows_of child.table state)) (drow ∷ []) outer_row)) (λ drow. links link root_key drow && resolved.keeps drow [] (cond_of.And kept)) (λ drow. where_true tables state child.scope root drow row condition link kept one are) (rows_of child.table state)
 
   -- a query of these clauses, without GROUP BY and HAVING
   clauses_are : (query : Query) (child : Source) (condition : Condition) → source_of tables (out-Query query).table (out-Query query).alias ≡ Some child → (out-Query query).group ≡ None → (out-Query query).having ≡ None → (out-Query query).keeps ≡ Some condition
@@ -335,7 +335,7 @@ module _ (tables : Tables) (state : State) (root : names.Scope) (row : RowValues
       let f : List RowValues → Answer = λ rows. record { rows = rows; value = list.value (with_rows table rows outer_row) } in
       ap (λ (n : ℕ). Int (pos n)) (
       ap length (clauses_are query child condition found no_group no_having keeps ∙ is_plain table list (Some (truth tables state condition)) outer_row (plain_list tables state (own_column child.scope) c.listed lists))
-      ∙ ones f (filter (λ drow. holds (Some (truth tables state condition)) (with_rows table (drow ∷ []) outer_row)) (rows_of child.table state))
+      ∙ ones f (filter (λ drow. passes (Some (truth tables state condition)) (with_rows table (drow ∷ []) outer_row)) (rows_of child.table state))
       ∙ ap length (kept_rows_are child condition link kept one are))
       ∙ ap (linked_answer state root_key) makes
 
@@ -350,7 +350,7 @@ module _ (tables : Tables) (state : State) (root : names.Scope) (row : RowValues
       let (sets, gives) = list_set tables state child.scope a c.listed lists in
       ap only_value (clauses_are query child condition found no_group no_having keeps)
       ∙ only_set table list (Some (truth tables state condition)) outer_row sets
-      ∙ gives (filter (λ drow. holds (Some (truth tables state condition)) (with_rows table (drow ∷ []) outer_row)) (rows_of child.table state)) outer_row
+      ∙ gives (filter (λ drow. passes (Some (truth tables state condition)) (with_rows table (drow ∷ []) outer_row)) (rows_of child.table state)) outer_row
       ∙ ap (aggregate a) (kept_rows_are child condition link kept one are)
       ∙ ap (linked_answer state root_key) makes
 

@@ -17,7 +17,7 @@ use Rattle.syntax.specs.declared.trees.Expression.{Expression, roll-Expression}
 use Rattle.syntax.specs.declared.trees.Listed.{Listed, roll-Listed}
 use Rattle.syntax.specs.declared.trees.Query.{Query, roll-Query}
 use Rattle.meaning.specs.Meaning as written
-use Rattle.meaning.specs.Meaning.{References, Valued, Answer, truth, valued, listed, answers, simple, first, column_values, rows_counted, set_of_column, only_value, is_any}
+use Rattle.meaning.specs.Meaning.{References, Valued, Answer, truth, valued, listed, answers, simple, first_value, column_values, rows_counted, set_of_column, only_value, is_any}
 
 -- a query of these clauses
 abbrev pub clauses : {C E L Q : Type 0} → L → List ℕ → Option C → Option ColumnName → Option C → Query-F C E L Q
@@ -41,7 +41,7 @@ module _ (tables : Tables) (state : State) where
   pub number_is : (n : ℤ) → valued tables state (roll-Expression (Expression-F.Number n)) ≡ simple (λ around. Int n)
   number_is n = expression_rolls (Expression-F.Number n)
 
-  pub column_is : (c : ColumnName) → valued tables state (roll-Expression (Expression-F.Column c)) ≡ simple (λ around. first (column_values c around))
+  pub column_is : (c : ColumnName) → valued tables state (roll-Expression (Expression-F.Column c)) ≡ simple (λ around. first_value (column_values c around))
   column_is c = expression_rolls (Expression-F.Column c)
 
   pub count_is : valued tables state (roll-Expression Expression-F.CountRows) ≡ record { sets = true; value = rows_counted }

@@ -40,7 +40,7 @@ use Rattle.value.specs.Results.{and_then}
 use Rattle.form_check.specs.Leaves.{Leaf, Leaves, Numbered, Rows, Of, Exists, Value as Worth, placed, slot, then_made, both, all, numbered, numbered_expression}
 use Rattle.form_check.specs.Leaves as leaves_of
 use Rattle.meaning.specs.Meaning as written
-use Rattle.meaning.specs.Meaning.{References, Valued, Answer, column_values, first, rows_at_hand, set_function, only_value, is_any, truth, valued, answers}
+use Rattle.meaning.specs.Meaning.{References, Valued, Answer, column_values, first_value, rows_at_hand, set_function, only_value, is_any, truth, valued, answers}
 use Rattle.meaning.proofs.Steps.{and_then_ok, in_class_ok, then_ok, ok_pair}
 
 -- ---- the layers
@@ -222,8 +222,8 @@ module _ (tables : Tables) (state : State) (scopes : References) where
         let (is, same) = ok_pair (expr.Literal v) made before after e in
         (sym (answer-Literal v) ∙ ap (resolved.answer row slots) is, subst Fits (sym same) fits)
 
-    module _ (place : ColumnName → Option ℕ) (means : (column : ColumnName) (c : ℕ) → place column ≡ Some c → first (column_values column scopes) ≡ value_in c row) where
-      column_faithful : (column : ColumnName) → Faithful (resolved.answer row slots) (first (column_values column scopes)) (placed (place column))
+    module _ (place : ColumnName → Option ℕ) (means : (column : ColumnName) (c : ℕ) → place column ≡ Some c → first_value (column_values column scopes) ≡ value_in c row) where
+      column_faithful : (column : ColumnName) → Faithful (resolved.answer row slots) (first_value (column_values column scopes)) (placed (place column))
       column_faithful column before made after e fits =
           let (c, (is, more)) = in_class_ok (place column) (λ c. Ok (expr.Column c, before)) (made, after) e in
           let (makes, same) = ok_pair (expr.Column c) made before after more in

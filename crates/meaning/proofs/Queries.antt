@@ -29,7 +29,7 @@ use Rattle.form_check.specs.Leaves.{Leaf, Leaves, Rows, Of, Exists, Value as Wor
 use Rattle.form_check.specs.Queries.{Source, sourced, source_of, row_filter, of_column, aggregate_in, aggregate_selected, selected_aggregate}
 use Rattle.form_check.specs.Forms.{Clauses, plain, plain_by, plain_value}
 use Rattle.meaning.specs.Meaning as written
-use Rattle.meaning.specs.Meaning.{Reference, References, Valued, Answer, no_layout, rows_at, table_of, column_values, set_function, only_value, with_rows, holds, grouped, grouping, truth, valued, listed, answers}
+use Rattle.meaning.specs.Meaning.{Reference, References, Valued, Answer, no_layout, rows_at, table_of, column_values, set_function, only_value, with_rows, passes, grouped, grouping, truth, valued, listed, answers}
 use Rattle.meaning.specs.Laws.{seen}
 use Rattle.meaning.proofs.Steps.{and_then_ok, in_class_ok, ok_same}
 use Rattle.meaning.proofs.Numbering.{leaf_value}
@@ -61,9 +61,9 @@ mapped tables state = map-Query Condition Expression Listed Query (References �
 abbrev pub answers_by : Reference → Valued → Option (References → Truth) → Option ColumnName → Option (References → Truth) → References → List Answer
 answers_by table list keeps group having outer =
     map (λ rows. record { rows = rows; value = list.value (with_rows table rows outer) }) (
-    filter (λ rows. holds having (with_rows table rows outer)) (
+    filter (λ rows. passes having (with_rows table rows outer)) (
     grouped (grouping group table outer) (is_some having || list.sets) (
-    filter (λ row. holds keeps (with_rows table (row ∷ []) outer)) table.rows)))
+    filter (λ row. passes keeps (with_rows table (row ∷ []) outer)) table.rows)))
 
 -- a query of these parts
 abbrev clauses_of : Listed → List ℕ → Option (List ℕ) → Option Condition → Option ColumnName → Option Condition → Clauses
@@ -144,7 +144,7 @@ list_set tables state scope a list e =
 
 -- the one value of a query that lists a set function
 pub only_set : (table : Reference) (list : Valued) (keeps : Option (References → Truth)) (outer : References) → list.sets ≡ true
-    → only_value (answers_by table list keeps None None outer) ≡ list.value (with_rows table (filter (λ row. holds keeps (with_rows table (row ∷ []) outer)) table.rows) outer)
+    → only_value (answers_by table list keeps None None outer) ≡ list.value (with_rows table (filter (λ row. passes keeps (with_rows table (row ∷ []) outer)) table.rows) outer)
 only_set table list keeps outer sets = rw sets refl
 
 -- ---- slots of a single condition
@@ -169,11 +169,11 @@ plain_is tables state scopes query p e =
     let list = listed tables state q.listed in
     let keeps = option_map (truth tables state) q.keeps in
     let (sets, gives) = list_set tables state source.scope function q.listed lists in
-    let where_rows = filter (λ row. holds keeps (with_rows table (row ∷ []) scopes)) rows in
+    let where_rows = filter (λ row. passes keeps (with_rows table (row ∷ []) scopes)) rows in
     ap only_value (answers_at tables state query source scopes found ∙ ap (λ g. answers_by table list keeps g (option_map (truth tables state) q.having) scopes) no_group ∙ ap (λ h. answers_by table list keeps None (option_map (truth tables state) h) scopes) no_having)
     ∙ only_set table list keeps scopes sets
     ∙ gives where_rows scopes
-    ∙ ap (aggregate function) (filter_agree (λ row. holds keeps (with_rows table (row ∷ []) scopes)) (λ row. resolved.keeps row [] kept) (λ row. row_filter_keeps source.scope q.keeps kept filters tables state row scopes) rows)
+    ∙ ap (aggregate function) (filter_agree (λ row. passes keeps (with_rows table (row ∷ []) scopes)) (λ row. resolved.keeps row [] kept) (λ row. row_filter_keeps source.scope q.keeps kept filters tables state row scopes) rows)
     ∙ ap (plain_answer state) makes
 
 pub plain_leaf : (tables : Tables) (state : State) (scopes : References) (leaf : Leaf) (p : Plain) → plain tables leaf ≡ Ok p → leaf_value tables state scopes leaf ≡ plain_answer state p

@@ -22,7 +22,7 @@ use Rattle.value.specs.Results.{each}
 use Rattle.form_check.specs.Leaves.{Leaves}
 use Rattle.form_check.specs.Queries.{Source, sourced}
 use Rattle.form_check.specs.Forms.{linked, row_where}
-use Rattle.meaning.specs.Meaning.{References, Valued, Answer, first, with_rows, holds, truth, root_of}
+use Rattle.meaning.specs.Meaning.{References, Valued, Answer, first_value, with_rows, passes, truth, root_of}
 use Rattle.meaning.specs.Laws.{seen}
 use Rattle.meaning.proofs.Steps.{ok_pair}
 use Rattle.meaning.proofs.Numbering.{leaf_value, condition_faithful, truth-And}
@@ -36,9 +36,9 @@ cond_some : (b : Bool) (n t : ℕ) → ◌≡◌ {A = Option ℕ} (cond b (Some 
 cond_some true n t e = some_same n t e
 cond_some false n t e = cc
 
-at_next : (b : Bool) (first l : Layout) (rest : List Layout) (n : ℕ) (d : Layout) (o : Option Layout) → ◌≡◌ {A = Option Layout} (cond b (Some first) o) (Some l) → (o ≡ Some l → slice_index_or rest n d ≡ l) → slice_index_or (first ∷ rest) (cond (not b) (1 + n) 0) d ≡ l
-at_next true first l rest n d o e more = some_same first l e
-at_next false first l rest n d o e more = let next : 1 + n ≡ suc n = omega arith in ap (λ k. slice_index_or (first ∷ rest) k d) next ∙ more e
+at_next : (b : Bool) (first_value l : Layout) (rest : List Layout) (n : ℕ) (d : Layout) (o : Option Layout) → ◌≡◌ {A = Option Layout} (cond b (Some first_value) o) (Some l) → (o ≡ Some l → slice_index_or rest n d ≡ l) → slice_index_or (first_value ∷ rest) (cond (not b) (1 + n) 0) d ≡ l
+at_next true first_value l rest n d o e more = some_same first_value l e
+at_next false first_value l rest n d o e more = let next : 1 + n ≡ suc n = omega arith in ap (λ k. slice_index_or (first_value ∷ rest) k d) next ∙ more e
 
 at_first : (name : List ℕ) (d : Layout) (tables : Tables) (l : Layout) → layout_of name tables ≡ Some l → slice_index_or (layouts_of tables) (position_or_len (pointwise nat_eq name) (names_of tables)) d ≡ l
 at_first name d [] l e = cc
@@ -61,7 +61,7 @@ sourced_parts name (Some t) (Some l) source e =
 -- ---- WHERE of the outer query
 
 row_kept : (tables : Tables) (state : State) (root : names.Scope) (keeps : Option Condition) (made : Cond) (leaves : Leaves) (queries : List Linked) → row_where root keeps ≡ Ok (made, leaves) → each (linked tables root) leaves ≡ Ok queries → (row : RowValues)
-    → holds (option_map (truth tables state) keeps) (seen root (row ∷ []) ∷ []) ≡ lists_row state made queries (value_in root.layout.key row) row
+    → passes (option_map (truth tables state) keeps) (seen root (row ∷ []) ∷ []) ≡ lists_row state made queries (value_in root.layout.key row) row
 row_kept tables state root None made leaves queries is are row =
     let none : Leaves = [] in
     let slots = map (linked_answer state (value_in root.layout.key row)) queries in
@@ -85,5 +85,5 @@ row_roots_are tables state root table list keeps made leaves queries none is are
     let scope = seen root rows in
     let f : List RowValues → Answer = λ rows. record { rows = rows; value = list.value (with_rows scope rows []) } in
     ap (map (root_of None root.layout.key)) (is_plain scope list (option_map (truth tables state) keeps) [] none)
-    ∙ one_row f (value_in root.layout.key) (root_of None root.layout.key) (λ row. refl) (filter (λ row. holds (option_map (truth tables state) keeps) (with_rows scope (row ∷ []) [])) rows)
-    ∙ ap (map (λ row. Of (value_in root.layout.key row))) (filter_agree (λ row. holds (option_map (truth tables state) keeps) (with_rows scope (row ∷ []) [])) (λ row. lists_row state made queries (value_in root.layout.key row) row) (row_kept tables state root keeps made leaves queries is are) rows)
+    ∙ one_row f (value_in root.layout.key) (root_of None root.layout.key) (λ row. refl) (filter (λ row. passes (option_map (truth tables state) keeps) (with_rows scope (row ∷ []) [])) rows)
+    ∙ ap (map (λ row. Of (value_in root.layout.key row))) (filter_agree (λ row. passes (option_map (truth tables state) keeps) (with_rows scope (row ∷ []) [])) (λ row. lists_row state made queries (value_in root.layout.key row) row) (row_kept tables state root keeps made leaves queries is are) rows)

@@ -16,7 +16,7 @@ use Rattle.syntax.specs.declared.trees.Expression.{Expression}
 use Rattle.name_check.specs.Scopes.{Scope, named_in, is_name_of, innermost, own_column}
 use Rattle.form_check.specs.Leaves.{Leaves, numbered, numbered_expression}
 use Rattle.form_check.specs.Queries.{alone, row_condition, row_expression, row_filter}
-use Rattle.meaning.specs.Meaning.{Reference, References, column_values, values_at, values_of, first, truth, valued, holds}
+use Rattle.meaning.specs.Meaning.{Reference, References, column_values, values_at, values_of, first_value, truth, valued, passes}
 use Rattle.meaning.specs.Laws.{seen}
 use Rattle.meaning.proofs.Steps.{and_then_ok, ok_same}
 use Rattle.meaning.proofs.Numbering.{Fits, condition_faithful, expression_faithful, truth-And}
@@ -35,8 +35,8 @@ own_values scope rows outer column c is = values_in (is_name_of column.qualifier
 pub outer_values : (scope : Scope) (rows : List RowValues) (outer : References) (column : ColumnName) → is_name_of column.qualifier column.name scope ≡ false → column_values column (seen scope rows ∷ outer) ≡ column_values column outer
 outer_values scope rows outer column is = ap (λ b. values_of column.name (if b then Some (seen scope rows) else innermost (λ (r : Reference). r.table) column outer)) is
 
-pub own_value : (scope : Scope) (row : RowValues) (outer : References) (column : ColumnName) (c : ℕ) → own_column scope column ≡ Some c → first (column_values column (seen scope (row ∷ []) ∷ outer)) ≡ value_in c row
-own_value scope row outer column c is = ap first (own_values scope (row ∷ []) outer column c is)
+pub own_value : (scope : Scope) (row : RowValues) (outer : References) (column : ColumnName) (c : ℕ) → own_column scope column ≡ Some c → first_value (column_values column (seen scope (row ∷ []) ∷ outer)) ≡ value_in c row
+own_value scope row outer column c is = ap first_value (own_values scope (row ∷ []) outer column c is)
 
 -- nothing stood there but the row's columns
 pub alone_ok : {A : Type 0} (made : A) (leaves : Leaves) (a : A) → alone made leaves ≡ Ok a → (made ≡ a) × (leaves ≡ [])
@@ -63,7 +63,7 @@ row_expression_value scope expression made e tables state row outer =
 
 -- a WHERE that may be missing keeps the same rows
 pub row_filter_keeps : (scope : Scope) (condition : Option Condition) (made : Cond) → row_filter scope condition ≡ Ok made
-    → (tables : Tables) (state : State) (row : RowValues) (outer : References) → holds (option_map (truth tables state) condition) (seen scope (row ∷ []) ∷ outer) ≡ resolved.keeps row [] made
+    → (tables : Tables) (state : State) (row : RowValues) (outer : References) → passes (option_map (truth tables state) condition) (seen scope (row ∷ []) ∷ outer) ≡ resolved.keeps row [] made
 row_filter_keeps scope None made e tables state row outer =
     ap (λ t. is_of t True) (sym (truth-And tables state outer row [] [])) ∙ ap (resolved.keeps row []) (ok_same (cond_of.And []) made e)
 row_filter_keeps scope (Some condition) made e tables state row outer = ap (λ t. is_of t True) (row_condition_truth scope condition made e tables state row outer)

@@ -13,12 +13,12 @@ use Rattle.value.specs.Results.{and_then, each}
 use Rattle.form_check.specs.Columns.{no_column}
 use Rattle.form_check.specs.Leaves.{numbered}
 use Rattle.form_check.specs.Forms.{single, plain}
-use Rattle.meaning.specs.Meaning.{References, column_values, first, written_truth}
+use Rattle.meaning.specs.Meaning.{References, column_values, first_value, written_truth}
 use Rattle.meaning.proofs.Steps.{and_then_ok, ok_same}
 use Rattle.meaning.proofs.Numbering.{leaf_value, condition_faithful}
 use Rattle.meaning.proofs.Queries.{plain_leaf, each_leaf}
 
-no_column_means : (row : RowValues) (column : ColumnName) (c : ℕ) → no_column column ≡ Some c → first (column_values column []) ≡ value_in c row
+no_column_means : (row : RowValues) (column : ColumnName) (c : ℕ) → no_column column ≡ Some c → first_value (column_values column []) ≡ value_in c row
 no_column_means row column c e = cc
 
 -- what a single condition becomes, and that it has its truth

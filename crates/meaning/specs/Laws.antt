@@ -34,7 +34,7 @@ use Rattle.assertcheck.specs.Assertions.{are_at_odds, attributes_of, checked}
 use Rattle.assertcheck.specs.Statements.{delete_of, places_from, select_of}
 use Rattle.assertcheck.specs.Updates.{update_of}
 use Rattle.meaning.specs.Class.{IsInClass}
-use Rattle.meaning.specs.Meaning.{Reference, References, truth, valued, holds, with_rows, table_of}
+use Rattle.meaning.specs.Meaning.{Reference, References, truth, valued, passes, with_rows, table_of}
 use Rattle.meaning.specs.Meaning.{written_truth, written_bad_roots, written_least}
 
 -- a table as names see it, with rows at hand
@@ -140,7 +140,7 @@ TakesExactly = (tables : Tables) (name : List ℕ) (condition : Condition) (attr
 abbrev pub where_rows : Tables → State → List ℕ → Option Condition → List RowValues
 where_rows tables state name condition =
     let table = table_of tables state name None in
-    filter (λ row. holds (option_map (truth tables state) condition) (with_rows table (row ∷ []) [])) table.rows
+    filter (λ row. passes (option_map (truth tables state) condition) (with_rows table (row ∷ []) [])) table.rows
 
 -- a DELETE, a SELECT and an UPDATE are of the rows that their WHERE says
 abbrev pub DeletesRows : Type 0

@@ -59,9 +59,9 @@ rows_at_hand [] = []
 rows_at_hand (reference ∷ outer) = reference.rows
 
 -- the value of the row at hand; a group has one value of its grouping column
-abbrev pub first : List Value → Value
-first [] = Null
-first (v ∷ vs) = v
+abbrev pub first_value : List Value → Value
+first_value [] = Null
+first_value (v ∷ vs) = v
 
 -- ---- set functions (6.5): NULLs are left out, and of no value COUNT is 0 and the others are NULL
 
@@ -132,7 +132,7 @@ set_of_column function column around = set_function function (filter is_there (c
 abbrev pub expression_step : MeantExpression → Valued
 expression_step (Expression-F.Number n) = simple (λ around. Int n)
 expression_step (Expression-F.Text t) = simple (λ around. Text t)
-expression_step (Expression-F.Column column) = simple (λ around. first (column_values column around))
+expression_step (Expression-F.Column column) = simple (λ around. first_value (column_values column around))
 expression_step Expression-F.CountRows = record { sets = true; value = rows_counted }
 expression_step (Expression-F.Aggregate function column) = record { sets = true; value = set_of_column function column }
 expression_step (Expression-F.Subquery query) = simple (λ around. only_value (query around))
@@ -172,9 +172,9 @@ abbrev pub with_rows : Reference → List RowValues → References → Reference
 with_rows table rows outer = record table { rows = rows } ∷ outer
 
 -- a condition of WHERE or HAVING, which may be missing, keeps what it is true of (7.6, 7.8)
-abbrev pub holds : Option (References → Truth) → References → Bool
-holds None around = true
-holds (Some condition) around = is_of (condition around) True
+abbrev pub passes : Option (References → Truth) → References → Bool
+passes None around = true
+passes (Some condition) around = is_of (condition around) True
 
 -- the values of a list, each once; NULL is a value like another there
 abbrev pub distinct : List Value → List Value
@@ -195,19 +195,19 @@ grouped None false rows = map (λ row. row ∷ []) rows
 -- the value of the column of GROUP BY in a row
 abbrev pub grouping : Option ColumnName → Reference → References → Option (RowValues → Value)
 grouping None table outer = None
-grouping (Some column) table outer = Some (λ row. first (column_values column (with_rows table (row ∷ []) outer)))
+grouping (Some column) table outer = Some (λ row. first_value (column_values column (with_rows table (row ∷ []) outer)))
 
 -- FROM, WHERE, GROUP BY, HAVING and the select list, one after the other
 abbrev pub answers_over : Reference → MeantQuery → References → List Answer
 answers_over table query outer =
     map (λ rows. record { rows = rows; value = query.listed.value (with_rows table rows outer) }) (
-    filter (λ rows. holds query.having (with_rows table rows outer)) (
+    filter (λ rows. passes query.having (with_rows table rows outer)) (
     grouped (grouping query.group table outer) (is_some query.having || query.listed.sets) (
-    filter (λ row. holds query.keeps (with_rows table (row ∷ []) outer)) table.rows)))
+    filter (λ row. passes query.keeps (with_rows table (row ∷ []) outer)) table.rows)))
 
 -- what a select list gives; the one column of *
 abbrev pub listed_step : MeantListed → Valued
-listed_step Listed-F.Star = simple (λ around. first (map (value_in 0) (rows_at_hand around)))
+listed_step Listed-F.Star = simple (λ around. first_value (map (value_in 0) (rows_at_hand around)))
 listed_step (Listed-F.One part) = part
 
 -- ---- the tables (6.3, 7.4)
@@ -259,8 +259,8 @@ written_truth tables state condition = truth tables state condition []
 
 -- what an answer is named by: the value of GROUP BY's column, or else the key of its row
 abbrev pub root_of : Option (RowValues → Value) → ℕ → Answer → Root
-root_of None key answer = Of (first (map (value_in key) answer.rows))
-root_of (Some value) key answer = Of (first (map value answer.rows))
+root_of None key answer = Of (first_value (map (value_in key) answer.rows))
+root_of (Some value) key answer = Of (first_value (map value answer.rows))
 
 abbrev pub roots_of_answers : Option ColumnName → Reference → List Answer → List Root
 roots_of_answers group table given = map (root_of (grouping group table []) table.table.layout.key) given
