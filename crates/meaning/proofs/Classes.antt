@@ -611,7 +611,7 @@ exists_class tables query (form, e) =
     (λ rows. let (lists, keeps) = row_class tables source q (form, rows.1.1) in inl (record { scope = source.scope; reads = reads_scope tables query source found; lists = lists; kept = keeps; ungrouped = ap is_some rows.0; whole = ap is_some rows.1.0 }))
     (λ groups.
     let (group, (own, (lists, (keeps, (columns, sets))))) = group_class source q groups.0 groups.1.0 (form, groups.1.1.1.1) in
-    inr (record { scope = source.scope; column = groups.0; group = group; having = groups.1.0; reads = reads_scope tables query source found; grouped = groups.1.1.0; is_own = own; lists = lists; kept = keeps; listed = groups.1.1.1.0; columns = columns; sets = sets }))
+    inr (record { scope = source.scope; column = groups.0; group = group; having = groups.1.0; reads = reads_scope tables query source found; grouped = groups.1.1.0; is_own = own; lists = lists; kept = keeps; filtered = groups.1.1.1.0; columns = columns; sets = sets }))
     (by_clauses_ok tables source q q.group q.having form more)
 
 class_rows : (tables : Tables) (query : Query) → IsRowQuery tables query → Answers (not_exists tables (out-Query query))
@@ -628,7 +628,7 @@ class_groups tables query h =
     let (t, reads) = scope_reads tables query h.scope h.reads in
     let source : Source = record { table = t; scope = h.scope } in
     let (form, is) = class_group source q h.column h.having h.group h.is_own h.lists h.kept h.columns h.sets in
-    (form, ap (λ o. in_class o (λ source. by_clauses tables source q q.group q.having)) reads ∙ ap (λ g. by_clauses tables source q g q.having) h.grouped ∙ ap (λ o. by_clauses tables source q (Some h.column) o) h.listed ∙ is)
+    (form, ap (λ o. in_class o (λ source. by_clauses tables source q q.group q.having)) reads ∙ ap (λ g. by_clauses tables source q g q.having) h.grouped ∙ ap (λ o. by_clauses tables source q (Some h.column) o) h.filtered ∙ is)
 
 -- ---- all
 

@@ -183,7 +183,7 @@ pub record IsGroupQuery (tables : Tables) (query : Query) : Type 0 where
   pub is_own : IsColumnAt scope group column
   pub lists : IsSimpleList (IsColumnAt scope group) (out-Listed (out-Query query).listed)
   pub kept : IfWritten (IsOverRows scope) (out-Query query).keeps
-  pub listed : (out-Query query).having ≡ Some having
+  pub filtered : (out-Query query).having ≡ Some having
   pub columns : Each (IsColumnAt scope group) (columns_in having)
   pub sets : Each (IsSetFunction scope) (pieces_in having)
 
