@@ -7,7 +7,7 @@ use Rattle.table.specs.declared.schemas.Column.{Column}
 use Rattle.syntax.specs.declared.trees.Condition.{Condition}
 use Rattle.statement_syntax.specs.declared.statements.Assignment.{Assignment}
 use Rattle.cond.specs.declared.conds.Cond.{Cond}
-use Rattle.form_check.specs.Results.{and_then}
+use Rattle.value.specs.Results.{and_then}
 use Rattle.form_check.specs.Queries.{Source, row_filter}
 use Rattle.assertcheck.specs.declared.updates.Setting.{Setting}
 use Rattle.assertcheck.specs.declared.updates.Update.{Update}

@@ -2,7 +2,7 @@
 use Rattle.std.proofs.Common.{◌≡◌, List, [], ◌∷◌, ◌++◌, Result, Ok, Err, refl, ap, sym}
 use Rattle.std.proofs.lemmas.List.{append_assoc}
 use Rattle.value.specs.declared.refusals.Refusal.{Refusal}
-use Rattle.form_check.specs.Results.{and_then, behind}
+use Rattle.value.specs.Results.{and_then, behind}
 
 -- an item behind those made so far, and then the others
 pub behind_next : {A : Type 0} (made : List A) (item : A) (rest : Result (List A) Refusal)

@@ -11,11 +11,10 @@ use Rattle.assertion.specs.declared.assertions.Assertion.{Assertion}
 use Rattle.assertion.specs.declared.assertions.ConstraintAttributes.{ConstraintAttributes}
 use Rattle.assertion.specs.declared.forms.Form.{Form}
 use Rattle.name_check.specs.Names.{condition_fault}
-use Rattle.form_check.specs.Results.{and_then}
+use Rattle.value.specs.Results.{and_then, provided, unless}
 use Rattle.form_check.specs.Forms.{form_of}
 use Rattle.type_check.specs.Forms.{is_typed_form}
 use Rattle.type_check.specs.Widths.{is_bounded_form}
-use Rattle.assertcheck.specs.Steps.{provided, unless}
 
 -- whether INITIALLY DEFERRED is written
 abbrev pub is_deferred : Option Mode → Bool

@@ -9,10 +9,9 @@ use Rattle.cond.specs.declared.conds.Cond.TheViews as cond_of
 use Rattle.cond.specs.Bounds.{is_bounded}
 use Rattle.name_check.specs.Scopes.{Scope}
 use Rattle.name_check.specs.Names.{condition_fault}
-use Rattle.form_check.specs.Results.{and_then}
+use Rattle.value.specs.Results.{and_then, found, provided, unless}
 use Rattle.form_check.specs.Queries.{Source, source_of, row_condition}
 use Rattle.type_check.specs.Types.{is_typed}
-use Rattle.assertcheck.specs.Steps.{found, provided, unless}
 
 -- the table of a statement; no alias is written there
 abbrev pub target_of : Tables → List ℕ → Result Source Refusal

@@ -1,4 +1,3 @@
-pub mod Steps
 pub mod Assertions
 pub mod Conditions
 pub mod Statements

@@ -12,12 +12,11 @@ use Rattle.syntax.specs.declared.trees.Condition.{Condition}
 use Rattle.statement_syntax.specs.declared.statements.Insert.{Insert}
 use Rattle.statement_syntax.specs.declared.statements.Which.{Which}
 use Rattle.statement_syntax.specs.declared.statements.Which.TheVariants.{All, Names}
-use Rattle.form_check.specs.Results.{and_then, each}
+use Rattle.value.specs.Results.{and_then, each, found, provided}
 use Rattle.form_check.specs.Queries.{Source}
 use Rattle.assertcheck.specs.declared.deletes.Delete.{Delete}
 use Rattle.assertcheck.specs.declared.inserts.NewRow.{NewRow}
 use Rattle.assertcheck.specs.declared.selects.Select.{Select}
-use Rattle.assertcheck.specs.Steps.{found, provided}
 use Rattle.assertcheck.specs.Conditions.{target_of, where_of}
 
 -- DELETE

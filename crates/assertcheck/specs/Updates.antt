@@ -14,13 +14,12 @@ use Rattle.cond.specs.declared.exprs.Expr.{Expr}
 use Rattle.cond.specs.Bounds.{bound_of, is_bounded}
 use Rattle.name_check.specs.Scopes.{Scope}
 use Rattle.name_check.specs.Names.{condition_fault, expression_fault}
-use Rattle.form_check.specs.Results.{and_then}
+use Rattle.value.specs.Results.{and_then, provided, unless}
 use Rattle.form_check.specs.Queries.{Source, row_expression, row_filter}
 use Rattle.type_check.specs.declared.data_types.DataType.{DataType}
 use Rattle.type_check.specs.Types.{are_comparable, column_type, expression_type, is_typed}
 use Rattle.assertcheck.specs.declared.updates.Setting.{Setting}
 use Rattle.assertcheck.specs.declared.updates.Update.{Update}
-use Rattle.assertcheck.specs.Steps.{provided, unless}
 use Rattle.assertcheck.specs.Conditions.{target_of}
 use Rattle.assertcheck.specs.Statements.{new_place}
 

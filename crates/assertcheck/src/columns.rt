@@ -3,7 +3,7 @@
 ghost use Rattle.std.specs.Prelude.{◌≡◌, ◌≢◌, ◌==◌, [], IfOk, IfErr, IsOkUnless, Ok, Err};
 ghost use Rattle.std.specs.List.{list_any};
 ghost use Rattle.value.specs.declared.refusals.Refusal.TheVariants.{NoMemory};
-ghost use Rattle.form_check.specs.Results.{each};
+ghost use Rattle.value.specs.Results.{each};
 ghost use Rattle.assertcheck.specs.Statements.{named_column, new_place, places_from, places_of};
 
 use std::alloc::Global;

@@ -19,7 +19,8 @@ use Rattle.table.specs.declared.rows.Change.{Change}
 use Rattle.table.specs.Rows.{RowValues, Layout, value_in, row_at, put_row}
 use Rattle.table.specs.Aggregates.{is_there, aggregate, group_of}
 use Rattle.cond.specs.declared.conds.Cond.{Cond}
-use Rattle.cond.specs.Eval.{truth, keeps, compared}
+use Rattle.cond.specs.Eval.{truth, keeps}
+use Rattle.cond.specs.Values.{compared}
 use Rattle.assertion.specs.declared.linked_queries.Linked.{Linked}
 use Rattle.assertion.specs.declared.plain_queries.Plain.{Plain}
 use Rattle.assertion.specs.declared.forms.Form.{Form}

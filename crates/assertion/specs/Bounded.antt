@@ -1,23 +1,13 @@
 -- Which forms are evaluated without overflow: those whose conditions have only bounded expressions.
 use Rattle.std.specs.Prelude.{List, [], map, All, IsTrue}
-use Rattle.table.specs.declared.aggregates.Aggregate.{Aggregate}
-use Rattle.table.specs.declared.aggregates.Aggregate.TheVariants as aggregate
 use Rattle.cond.specs.declared.slots.SlotKind.{SlotKind}
-use Rattle.cond.specs.declared.slots.SlotKind.TheVariants.{Count, Sum, Extreme}
 use Rattle.cond.specs.declared.conds.Cond.{Cond}
 use Rattle.cond.specs.Bounds.{is_bounded}
+use Rattle.cond.specs.Kinds.{kind_of_aggregate}
 use Rattle.assertion.specs.declared.linked_queries.Linked.{Linked}
 use Rattle.assertion.specs.declared.plain_queries.Plain.{Plain}
 use Rattle.assertion.specs.declared.forms.Form.{Form}
 use Rattle.assertion.specs.declared.forms.Form.TheVariants.{ByRow, ByGroup, Single}
-
--- the kind of slot that holds what a set function gives
-abbrev pub kind_of_aggregate : Aggregate → SlotKind
-kind_of_aggregate aggregate.CountRows = Count
-kind_of_aggregate (aggregate.Count column) = Count
-kind_of_aggregate (aggregate.Sum column) = Sum
-kind_of_aggregate (aggregate.Min column) = Extreme
-kind_of_aggregate (aggregate.Max column) = Extreme
 
 -- each expression of a condition has a bound, over slots of these kinds
 abbrev pub IsBoundedOver : List SlotKind → Cond → Type 0

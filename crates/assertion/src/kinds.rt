@@ -1,7 +1,7 @@
 //! The kinds of slots that set functions fill.
 
 ghost use Rattle.std.specs.Prelude.{◌≡◌};
-ghost use Rattle.assertion.specs.Bounded.{kind_of_aggregate};
+ghost use Rattle.cond.specs.Kinds.{kind_of_aggregate};
 
 use cond::SlotKind;
 use table::Aggregate;

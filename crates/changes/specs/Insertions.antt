@@ -9,8 +9,7 @@ use Rattle.table.specs.Faults.{row_refusal}
 use Rattle.statement_syntax.specs.declared.statements.Insert.{Insert}
 use Rattle.assertion.specs.Meaning.{rows_of}
 use Rattle.assertion.specs.Roots.{state_after}
-use Rattle.form_check.specs.Results.{and_then}
-use Rattle.assertcheck.specs.Steps.{unless}
+use Rattle.value.specs.Results.{and_then, unless}
 use Rattle.assertcheck.specs.Statements.{insert_of}
 use Rattle.delta.specs.Views.{Shown, layout_at}
 

@@ -6,8 +6,7 @@ use Rattle.value.specs.declared.refusals.Refusal.TheVariants.{OutsideClass, Fals
 use Rattle.table.specs.Rows.{layouts_of}
 use Rattle.statement_syntax.specs.declared.definitions.Definition.{Definition}
 use Rattle.statement_syntax.specs.declared.definitions.Definition.TheVariants as definition
-use Rattle.form_check.specs.Results.{and_then}
-use Rattle.assertcheck.specs.Steps.{provided, unless}
+use Rattle.value.specs.Results.{and_then, provided, unless}
 use Rattle.delta.specs.Views.{Shown}
 use Rattle.definitions.specs.Taken.{taken}
 use Rattle.txn.specs.declared.checks.FalseAssertion.{FalseAssertion}

@@ -14,7 +14,8 @@ use Rattle.cond.specs.declared.conds.Cond.TheViews.{And, Or}
 use Rattle.cond.specs.declared.conds.Cond.TheVariants.{rolls-And, rolls-Or}
 use Rattle.std.specs.Prelude.{IsTrue, ◌&&◌}
 use Rattle.cond.specs.Bounds.{is_bounded, all_true}
-use Rattle.cond.specs.Eval.{all_of, any_of, cond_step, truth}
+use Rattle.cond.specs.Eval.{cond_step, truth}
+use Rattle.cond.specs.Values.{all_of, any_of}
 
 module _ (row : RowValues) (slots : List Value) where
   pub truth-And : (parts : List Cond) → truth row slots (And parts) ≡ all_of (map (truth row slots) parts)

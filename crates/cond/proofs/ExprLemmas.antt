@@ -14,7 +14,8 @@ use Rattle.cond.specs.declared.exprs.Expr.TheViews.{Sum, Product}
 use Rattle.cond.specs.declared.exprs.Expr.TheVariants.{Slot, rolls-Slot, rolls-Sum, rolls-Product}
 use Rattle.cond.specs.Bounds.{joined_bound, bound_step, bound_of, limit_at}
 use Rattle.cond.specs.Slots.{magnitude}
-use Rattle.cond.specs.Eval.{answer, total, joined, expr_step}
+use Rattle.cond.specs.Eval.{answer, expr_step}
+use Rattle.cond.specs.Values.{total, joined}
 use Rattle.cond.proofs.EvalLemmas.{drop_item}
 use Rattle.cond.proofs.SlotLemmas.{limit_at_small}
 

@@ -1,3 +1,5 @@
+pub mod Values
+pub mod Kinds
 pub mod Slots
 pub mod Bounds
 pub mod Eval

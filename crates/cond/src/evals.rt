@@ -2,7 +2,8 @@
 
 ghost use Rattle.std.specs.Prelude.{◌≡◌, ◌≤◌, ◌+◌, ◌*◌, ◌^◌, ◌+ℤ◌, ◌*ℤ◌, IsSome, IfSome};
 ghost use Rattle.cond.specs.Bounds.{bound_of, IsSmallRow};
-ghost use Rattle.cond.specs.Eval.{answer, joined, negated};
+ghost use Rattle.cond.specs.Eval.{answer};
+ghost use Rattle.cond.specs.Values.{joined, negated};
 ghost use Rattle.cond.specs.Shown.{shown};
 ghost use Rattle.cond.specs.Slots.{kinds_of, magnitude, values_of};
 

@@ -2,7 +2,8 @@
 
 ghost use Rattle.std.specs.Prelude.{◌≡◌, ◌↔◌, IsTrue};
 ghost use Rattle.cond.specs.Bounds.{is_bounded, IsSmallRow};
-ghost use Rattle.cond.specs.Eval.{truth, compared as compared_of, keeps as keeps_of};
+ghost use Rattle.cond.specs.Eval.{truth, keeps as keeps_of};
+ghost use Rattle.cond.specs.Values.{compared as compared_of};
 ghost use Rattle.cond.specs.Shown.{shown};
 ghost use Rattle.cond.specs.Slots.{kinds_of, values_of};
 

@@ -7,7 +7,7 @@ use Rattle.value.specs.declared.refusals.Refusal.TheVariants.{NameTaken, Outside
 use Rattle.table.specs.declared.schemas.Column.{Column}
 use Rattle.table.specs.Rows.{Layout}
 use Rattle.statement_syntax.specs.declared.definitions.ColumnDefinition.{ColumnDefinition}
-use Rattle.assertcheck.specs.Steps.{unless}
+use Rattle.value.specs.Results.{unless}
 
 -- a column as it was defined: a key takes no NULL
 abbrev pub defined_column : ColumnDefinition → Column

@@ -14,8 +14,7 @@ use Rattle.statement_syntax.specs.declared.definitions.Definition.TheVariants as
 use Rattle.assertion.specs.declared.assertions.Assertion.{Assertion}
 use Rattle.delta.specs.Views.{Shown}
 use Rattle.changes.specs.Insertions.{inserted}
-use Rattle.form_check.specs.Results.{and_then}
-use Rattle.assertcheck.specs.Steps.{provided}
+use Rattle.value.specs.Results.{and_then, provided}
 use Rattle.assertcheck.specs.Assertions.{checked}
 use Rattle.definitions.specs.Tables.{layout_from}
 

@@ -20,7 +20,7 @@ use Rattle.cond.specs.declared.conds.Cond.{Cond}
 use Rattle.cond.specs.declared.conds.Cond.TheVariants as cond
 use Rattle.cond.specs.declared.conds.Cond.TheViews as cond_of
 use Rattle.cond.specs.Conditions.{between_of, in_of}
-use Rattle.form_check.specs.Results.{and_then}
+use Rattle.value.specs.Results.{and_then}
 use Rattle.form_check.specs.Leaves.{Leaves, Numbered, Rows, Of, Exists, Value, placed, slot, then_made, both, all, numbered, numbered_expression, numbered_conditions, numbered_expressions, expression_step, condition_step, listed_step, query_step}
 
 -- an expression by its layer

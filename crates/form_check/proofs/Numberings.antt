@@ -3,7 +3,7 @@ use Rattle.std.proofs.Common.{◌≡◌, List, [], ◌∷◌, ◌++◌, Result, 
 use Rattle.std.proofs.lemmas.List.{append_assoc}
 use Rattle.value.specs.declared.refusals.Refusal.{Refusal}
 use Rattle.form_check.specs.Leaves.{Leaves, then_made}
-use Rattle.form_check.specs.Results.{and_then, behind}
+use Rattle.value.specs.Results.{and_then, behind}
 
 -- a part behind those made so far, and then the others
 pub so_far_next : {A : Type 0} (made : List A) (part : A) (rest : Result (List A × Leaves) Refusal)

@@ -18,10 +18,11 @@ use Rattle.assertion.specs.declared.plain_queries.Plain.{Plain}
 use Rattle.assertion.specs.declared.forms.Form.{Form}
 use Rattle.assertion.specs.declared.forms.Form.TheVariants.{ByRow, ByGroup, Single}
 use Rattle.name_check.specs.Scopes.{Scope, own_column}
-use Rattle.form_check.specs.Results.{and_then, each, in_class, only_if}
+use Rattle.value.specs.Results.{and_then, each}
+use Rattle.form_check.specs.Results.{in_class, only_if}
 use Rattle.form_check.specs.Columns.{no_column, grouping_column}
 use Rattle.form_check.specs.Leaves.{Leaf, Leaves, Rows, Of, Exists, Value, numbered}
-use Rattle.form_check.specs.Queries.{Source, source_of, row_filter, of_column, listed_aggregate, may_be_listed}
+use Rattle.form_check.specs.Queries.{Source, source_of, row_filter, of_column, selected_aggregate, may_be_selected}
 use Rattle.form_check.specs.Links.{top_parts, links_in, only_one, kept_parts}
 
 -- a query's clauses, with its conditions and its list as trees
@@ -46,12 +47,12 @@ linked_where child root aggregate (Some condition) None (Some having) = Err Outs
 abbrev pub linked_exists : Tables → Scope → Clauses → Result Linked Refusal
 linked_exists tables root query =
     in_class (source_of tables query.table query.alias) (λ child.
-    only_if (may_be_listed (own_column child.scope) query.listed) (linked_where child root CountRows query.keeps query.group query.having))
+    only_if (may_be_selected (own_column child.scope) query.listed) (linked_where child root CountRows query.keeps query.group query.having))
 
 abbrev pub linked_value : Tables → Scope → Clauses → Result Linked Refusal
 linked_value tables root query =
     in_class (source_of tables query.table query.alias) (λ child.
-    in_class (listed_aggregate child.scope query.listed) (λ aggregate. linked_where child root aggregate query.keeps query.group query.having))
+    in_class (selected_aggregate child.scope query.listed) (λ aggregate. linked_where child root aggregate query.keeps query.group query.having))
 
 -- what stands in a slot of a condition over a row
 abbrev pub linked : Tables → Scope → Leaf → Result Linked Refusal
@@ -70,7 +71,7 @@ plain_by source aggregate keeps None (Some having) = Err OutsideClass
 
 abbrev pub plain_value : Tables → Clauses → Result Plain Refusal
 plain_value tables query =
-    in_class (source_of tables query.table query.alias) (λ source. plain_by source (listed_aggregate source.scope query.listed) query.keeps query.group query.having)
+    in_class (source_of tables query.table query.alias) (λ source. plain_by source (selected_aggregate source.scope query.listed) query.keeps query.group query.having)
 
 -- what stands in a slot of a single condition
 abbrev pub plain : Tables → Leaf → Result Plain Refusal
@@ -95,7 +96,7 @@ row_where scope (Some condition) = numbered (own_column scope) condition []
 
 abbrev pub by_row : Tables → Source → Clauses → Result Form Refusal
 by_row tables source query =
-    only_if (may_be_listed (own_column source.scope) query.listed) (
+    only_if (may_be_selected (own_column source.scope) query.listed) (
     and_then (row_where source.scope query.keeps) (λ made.
     and_then (each (linked tables source.scope) made.1) (λ queries. Ok (ByRow source.table made.0 queries))))
 
@@ -107,7 +108,7 @@ having_over source group kept having =
 abbrev pub by_group : Source → Clauses → ColumnName → Condition → Result Form Refusal
 by_group source query column having =
     in_class (own_column source.scope column) (λ group.
-    only_if (may_be_listed (grouping_column source.scope group) query.listed) (
+    only_if (may_be_selected (grouping_column source.scope group) query.listed) (
     and_then (row_filter source.scope query.keeps) (λ kept. having_over source group kept having)))
 
 -- without GROUP BY and HAVING by rows, with both by groups

@@ -17,7 +17,8 @@ use Rattle.syntax.specs.declared.trees.Condition.TheFolds.{para-Condition, para-
 use Rattle.syntax.specs.declared.trees.Expression.{Expression}
 use Rattle.syntax.specs.declared.trees.Listed.{Listed}
 use Rattle.syntax.specs.declared.trees.Query.{Query}
-use Rattle.form_check.specs.Results.{and_then, in_class}
+use Rattle.value.specs.Results.{and_then}
+use Rattle.form_check.specs.Results.{in_class}
 
 -- what stands in a slot: COUNT(*), a set function of a column, a query under EXISTS, or one that stands for its value
 pub data Leaf : Type 0 where

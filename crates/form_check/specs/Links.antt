@@ -10,8 +10,8 @@ use Rattle.syntax.specs.declared.trees.Condition.TheOpen.{Condition-F, Expressio
 use Rattle.syntax.specs.declared.trees.Expression.{Expression, out-Expression}
 use Rattle.syntax.specs.declared.trees.Listed.{Listed}
 use Rattle.syntax.specs.declared.trees.Query.{Query}
-use Rattle.name_check.specs.Scopes.{Scope, own_column}
-use Rattle.form_check.specs.Results.{each}
+use Rattle.name_check.specs.Scopes.{Scope, is_name_of, own_column}
+use Rattle.value.specs.Results.{each}
 use Rattle.form_check.specs.Queries.{row_condition}
 
 -- the parts that AND joins at the top of a condition
@@ -32,9 +32,13 @@ abbrev pub is_key : Scope → Option ℕ → Bool
 is_key root None = false
 is_key root (Some column) = column == root.layout.key
 
--- a column of the child, where the other name isn't one and is the key of the row around
+-- the column of the row around that a name means, if the name is not of the child, which stands further in
+abbrev pub outer_column : Scope → Scope → ColumnName → Option ℕ
+outer_column child root name = if is_name_of name.qualifier name.name child then None else own_column root name
+
+-- a column of the child, where the other name means the key of the row around
 abbrev pub linked_column : Scope → Scope → ColumnName → ColumnName → Option ℕ
-linked_column child root inner outer = if is_none (own_column child outer) then (if is_key root (own_column root outer) then own_column child inner else None) else None
+linked_column child root inner outer = if is_key root (outer_column child root outer) then own_column child inner else None
 
 -- the first that is there
 abbrev pub either : Option ℕ → Option ℕ → Option ℕ

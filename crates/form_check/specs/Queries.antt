@@ -18,7 +18,7 @@ use Rattle.cond.specs.declared.exprs.Expr.{Expr}
 use Rattle.cond.specs.declared.conds.Cond.{Cond}
 use Rattle.cond.specs.declared.conds.Cond.TheViews as cond_of
 use Rattle.name_check.specs.Scopes.{Scope, own_column}
-use Rattle.form_check.specs.Results.{and_then}
+use Rattle.value.specs.Results.{and_then}
 use Rattle.form_check.specs.Leaves.{Leaves, numbered, numbered_expression}
 
 -- the table of a query by its place, and as names in the query see it
@@ -27,9 +27,10 @@ pub record Source : Type 0 where
   pub scope : Scope
 
 abbrev pub sourced : List ℕ → Option ℕ → Option Layout → Option Source
-sourced label None layout = None
-sourced label (Some table) None = None
-sourced label (Some table) (Some layout) = Some (record { table = table; scope = record { label = label; layout = layout } })
+sourced name None layout = None
+sourced name (Some table) None = None
+sourced name (Some table) (Some layout) =
+    Some (record { table = table; scope = record { correlation_name = name; layout = layout } })
 
 abbrev pub source_of : Tables → List ℕ → Option (List ℕ) → Option Source
 source_of tables table alias = sourced (unwrap_or alias table) (position_of table tables) (layout_of table tables)
@@ -65,13 +66,13 @@ aggregate_in scope Expression-F.CountRows = Some CountRows
 aggregate_in scope (Expression-F.Aggregate function column) = option_map (of_column function) (own_column scope column)
 aggregate_in scope other = None
 
-abbrev pub aggregate_listed : Scope → Listed-F Condition Expression Listed Query → Option Aggregate
-aggregate_listed scope Listed-F.Star = None
-aggregate_listed scope (Listed-F.One expression) = aggregate_in scope (out-Expression expression)
+abbrev pub aggregate_selected : Scope → Listed-F Condition Expression Listed Query → Option Aggregate
+aggregate_selected scope Listed-F.Star = None
+aggregate_selected scope (Listed-F.One expression) = aggregate_in scope (out-Expression expression)
 
 -- the one set function that a query lists
-abbrev pub listed_aggregate : Scope → Listed → Option Aggregate
-listed_aggregate scope listed = aggregate_listed scope (out-Listed listed)
+abbrev pub selected_aggregate : Scope → Listed → Option Aggregate
+selected_aggregate scope listed = aggregate_selected scope (out-Listed listed)
 
 -- under EXISTS a query lists *, a literal or a column that may stand there
 abbrev pub expression_may_stand : (ColumnName → Option ℕ) → Expression-F Condition Expression Listed Query → Bool
@@ -80,9 +81,9 @@ expression_may_stand place (Expression-F.Text t) = true
 expression_may_stand place (Expression-F.Column column) = is_some (place column)
 expression_may_stand place other = false
 
-abbrev pub listed_may_stand : (ColumnName → Option ℕ) → Listed-F Condition Expression Listed Query → Bool
-listed_may_stand place Listed-F.Star = true
-listed_may_stand place (Listed-F.One expression) = expression_may_stand place (out-Expression expression)
+abbrev pub selection_may_stand : (ColumnName → Option ℕ) → Listed-F Condition Expression Listed Query → Bool
+selection_may_stand place Listed-F.Star = true
+selection_may_stand place (Listed-F.One expression) = expression_may_stand place (out-Expression expression)
 
-abbrev pub may_be_listed : (ColumnName → Option ℕ) → Listed → Bool
-may_be_listed place listed = listed_may_stand place (out-Listed listed)
+abbrev pub may_be_selected : (ColumnName → Option ℕ) → Listed → Bool
+may_be_selected place listed = selection_may_stand place (out-Listed listed)

@@ -4,14 +4,14 @@ ghost use Rattle.std.specs.Prelude.{◌≡◌, ◌≢◌, IfOk, IfErr, Ok, Err};
 ghost use Rattle.syntax.specs.declared.trees.Query.{out-Query};
 ghost use Rattle.value.specs.declared.refusals.Refusal.TheVariants.{NoMemory};
 ghost use Rattle.name_check.specs.Shown.{shown};
-ghost use Rattle.form_check.specs.Results.{each};
+ghost use Rattle.value.specs.Results.{each};
 ghost use Rattle.form_check.specs.Forms.{aggregate_of, by_clauses, by_group, by_row, form_of, having_over, not_exists, row_where, single};
 ghost use Rattle.form_check.specs.Shown.{shown_leaf, shown_leaves, shown_source};
 
 use crate::leaves::{Columns, Leaf, numbered};
 use crate::linked_queries::all_linked;
 use crate::plain_queries::all_plain;
-use crate::queries::{Source, may_be_listed, of_column, row_filter};
+use crate::queries::{Source, may_be_selected, of_column, row_filter};
 use assertion::Form;
 use cond::Cond;
 use name_check::Scope;
@@ -59,7 +59,7 @@ fn by_row(alloc: Global, catalog: &Catalog, source: Source, query: &Query) -> Re
     ensures made { IfOk result (λ made. by_row catalog.now (shown_source source.entry) (out-Query query.now) ≡ Ok made) }
     ensures refused { IfErr result (λ refusal. refusal ≢ NoMemory → by_row catalog.now (shown_source source.entry) (out-Query query.now) ≡ Err refusal) }
 {
-    if !may_be_listed(&Columns::Own(source.scope), &query.listed) {
+    if !may_be_selected(&Columns::Own(source.scope), &query.listed) {
         return Err(Refusal::OutsideClass);
     }
     let (condition, leaves) = row_where(alloc, source.scope, &query.keeps)?;
@@ -102,7 +102,7 @@ fn by_group(
     let Some(group) = source.scope.own(column) else {
         return Err(Refusal::OutsideClass);
     };
-    if !may_be_listed(&Columns::Grouping(source.scope, group), &query.listed) {
+    if !may_be_selected(&Columns::Grouping(source.scope, group), &query.listed) {
         return Err(Refusal::OutsideClass);
     }
     let kept = row_filter(alloc, source.scope, &query.keeps)?;

@@ -4,14 +4,14 @@ ghost use Rattle.std.specs.Prelude.{◌≡◌, ◌≢◌, IfOk, IfErr, Ok, Err};
 ghost use Rattle.syntax.specs.declared.trees.Query.{out-Query};
 ghost use Rattle.value.specs.declared.refusals.Refusal.TheVariants.{NoMemory};
 ghost use Rattle.name_check.specs.Shown.{shown};
-ghost use Rattle.form_check.specs.Results.{each};
+ghost use Rattle.value.specs.Results.{each};
 ghost use Rattle.form_check.specs.Links.{top_parts};
 ghost use Rattle.form_check.specs.Forms.{linked, linked_by, linked_exists, linked_value, linked_where};
 ghost use Rattle.form_check.specs.Shown.{shown_leaf, shown_leaves, shown_source};
 
 use crate::leaves::{Columns, Leaf};
 use crate::links::Link;
-use crate::queries::{Source, listed_aggregate, may_be_listed};
+use crate::queries::{Source, may_be_selected, selected_aggregate};
 use assertion::Linked;
 use cond::Cond;
 use name_check::Scope;
@@ -65,7 +65,7 @@ fn linked_exists(
     let Some(child) = Source::of(catalog, &query.table, &query.alias) else {
         return Err(Refusal::OutsideClass);
     };
-    if !may_be_listed(&Columns::Own(child.scope), &query.listed) {
+    if !may_be_selected(&Columns::Own(child.scope), &query.listed) {
         return Err(Refusal::OutsideClass);
     }
     linked_where(
@@ -92,7 +92,7 @@ fn linked_value(
     let Some(child) = Source::of(catalog, &query.table, &query.alias) else {
         return Err(Refusal::OutsideClass);
     };
-    let Some(aggregate) = listed_aggregate(child.scope, &query.listed) else {
+    let Some(aggregate) = selected_aggregate(child.scope, &query.listed) else {
         return Err(Refusal::OutsideClass);
     };
     linked_where(

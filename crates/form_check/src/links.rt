@@ -3,7 +3,7 @@
 ghost use Rattle.std.specs.Prelude.{◌≡◌, ◌≢◌, ◌++◌, IfOk, IfErr, Ok, Err, List};
 ghost use Rattle.value.specs.declared.refusals.Refusal.TheVariants.{NoMemory};
 ghost use Rattle.name_check.specs.Shown.{shown};
-ghost use Rattle.form_check.specs.Links.{linked_column, link_of, links_in, only_one, kept_parts};
+ghost use Rattle.form_check.specs.Links.{linked_column, outer_column, link_of, links_in, only_one, kept_parts};
 
 use crate::queries::row_condition;
 use cond::Cond;
@@ -68,16 +68,23 @@ impl<'a> Link<'a> {
         }
     }
 
-    /// The child's column of this name, if the other is not one of the child's and is the root's key.
+    /// The child's column of this name, if the other means the root's key.
     fn linked(&self, inner: &ColumnName, outer: &ColumnName) -> Option<usize>
         ensures { result ≡ linked_column (shown self.now.child) (shown self.now.root) inner.now outer.now }
     {
-        if self.child.own(outer).is_some() {
-            return None;
-        }
-        match self.root.own(outer) {
+        match self.outer(outer) {
             Some(column) if column == self.root.schema.key() => self.child.own(inner),
             Some(_) | None => None,
         }
+    }
+
+    /// The root's column that a name means, if the name is not of the child, which stands further in.
+    fn outer(&self, name: &ColumnName) -> Option<usize>
+        ensures { result ≡ outer_column (shown self.now.child) (shown self.now.root) name.now }
+    {
+        if self.child.is_named(name) {
+            return None;
+        }
+        self.root.own(name)
     }
 }

@@ -3,12 +3,12 @@
 ghost use Rattle.std.specs.Prelude.{◌≡◌, ◌≢◌, IfOk, IfErr, Ok, Err};
 ghost use Rattle.syntax.specs.declared.trees.Query.{out-Query};
 ghost use Rattle.value.specs.declared.refusals.Refusal.TheVariants.{NoMemory};
-ghost use Rattle.form_check.specs.Results.{each};
+ghost use Rattle.value.specs.Results.{each};
 ghost use Rattle.form_check.specs.Forms.{plain, plain_by, plain_value};
 ghost use Rattle.form_check.specs.Shown.{shown_leaf, shown_leaves, shown_source};
 
 use crate::leaves::Leaf;
-use crate::queries::{Source, listed_aggregate, row_filter};
+use crate::queries::{Source, row_filter, selected_aggregate};
 use assertion::Plain;
 use std::alloc::Global;
 use syntax::{ColumnName, Condition, Query};
@@ -46,7 +46,7 @@ fn plain_value(alloc: Global, catalog: &Catalog, query: &Query) -> Result<Plain,
     let Some(source) = Source::of(catalog, &query.table, &query.alias) else {
         return Err(Refusal::OutsideClass);
     };
-    let aggregate = listed_aggregate(source.scope, &query.listed);
+    let aggregate = selected_aggregate(source.scope, &query.listed);
     plain_by(
         alloc,
         source,

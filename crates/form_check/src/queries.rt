@@ -5,12 +5,12 @@ ghost use Rattle.table.specs.Rows.{layout_of, position_of};
 ghost use Rattle.std.specs.Option.{option_map};
 ghost use Rattle.value.specs.declared.refusals.Refusal.TheVariants.{NoMemory};
 ghost use Rattle.name_check.specs.Shown.{shown};
-ghost use Rattle.form_check.specs.Queries.{alone, source_of, sourced, row_condition, row_expression, row_filter, of_column, listed_aggregate, may_be_listed};
+ghost use Rattle.form_check.specs.Queries.{alone, source_of, sourced, row_condition, row_expression, row_filter, of_column, selected_aggregate, may_be_selected};
 ghost use Rattle.form_check.specs.Shown.{shown_leaves, shown_source, place};
 
 use crate::leaves::{Columns, Leaf, numbered, numbered_expression};
 use cond::{Cond, Expr};
-use name_check::{Scope, label_of};
+use name_check::{Scope, correlation_name};
 use sqlite_items::Items;
 use std::alloc::Global;
 use syntax::{Condition, Expression, Listed};
@@ -25,11 +25,11 @@ pub struct Source<'a> {
 }
 
 impl<'a> Source<'a> {
-    /// The rows of a query over this table, which may have an alias.
+    /// The rows of a query over this table, which may have a correlation name.
     pub fn of(catalog: &'a Catalog, table: &'a Text, alias: &'a Option<Text>) -> Option<Source<'a>>
         ensures { option_map shown_source result ≡ source_of catalog.now table.now alias.now }
     {
-        Source::labelled(catalog, table, label_of(alias, table))
+        Source::named(catalog, table, correlation_name(alias, table))
     }
 
     /// The rows of a statement's table, which goes by its own name.
@@ -37,19 +37,22 @@ impl<'a> Source<'a> {
         ensures source { option_map shown_source result ≡ source_of catalog.now table.now None }
         ensures within { IfSome result (λ source. source.table < length catalog.now) }
     {
-        Source::labelled(catalog, table, table)
+        Source::named(catalog, table, table)
     }
 
-    /// The rows of this table, which goes by a label.
-    fn labelled(catalog: &'a Catalog, table: &Text, label: &'a Text) -> Option<Source<'a>>
-        ensures source { option_map shown_source result ≡ sourced label.now (position_of table.now catalog.now) (layout_of table.now catalog.now) }
+    /// The rows of this table under a name that it goes by.
+    fn named(catalog: &'a Catalog, table: &Text, name: &'a Text) -> Option<Source<'a>>
+        ensures source { option_map shown_source result ≡ sourced name.now (position_of table.now catalog.now) (layout_of table.now catalog.now) }
         ensures within { IfSome result (λ source. source.table < length catalog.now) }
     {
         let place = catalog.position(table)?;
         let schema = catalog.get(table)?;
         Some(Source {
             table: place,
-            scope: Scope { label, schema },
+            scope: Scope {
+                correlation_name: name,
+                schema,
+            },
         })
     }
 }
@@ -111,8 +114,8 @@ pub fn row_filter(
 }
 
 /// The one set function that a query lists, over a column of its own table.
-pub fn listed_aggregate(scope: Scope, listed: &Listed) -> Option<Aggregate>
-    ensures { result ≡ listed_aggregate (shown scope.entry) listed.now }
+pub fn selected_aggregate(scope: Scope, listed: &Listed) -> Option<Aggregate>
+    ensures { result ≡ selected_aggregate (shown scope.entry) listed.now }
 {
     match listed {
         Listed::One(Expression::CountRows) => Some(Aggregate::CountRows),
@@ -136,8 +139,8 @@ pub fn of_column(function: syntax::Aggregate, column: usize) -> Aggregate
 }
 
 /// Whether a query under EXISTS may list this: `*`, a literal, or one of these columns.
-pub fn may_be_listed(columns: &Columns, listed: &Listed) -> bool
-    ensures { result ≡ may_be_listed (place columns.now) listed.now }
+pub fn may_be_selected(columns: &Columns, listed: &Listed) -> bool
+    ensures { result ≡ may_be_selected (place columns.now) listed.now }
 {
     match listed {
         Listed::Star | Listed::One(Expression::Number(_) | Expression::Text(_)) => true,

@@ -99,9 +99,9 @@ fn three_forms(rt: HostRuntime) -> Result<(), Fail> {
 #[test]
 fn row_conditions(rt: HostRuntime) -> Result<(), Fail> {
     let alloc = rt.alloc();
-    let (label, schema) = (Text::from_str(alloc, "D")?, schema(alloc, "ID", "SHIFT")?);
+    let (table, schema) = (Text::from_str(alloc, "D")?, schema(alloc, "ID", "SHIFT")?);
     let scope = Scope {
-        label: &label,
+        correlation_name: &table,
         schema: &schema,
     };
     let own = at_most_two(Expression::Column(column(alloc, "SHIFT")?));
@@ -112,11 +112,11 @@ fn row_conditions(rt: HostRuntime) -> Result<(), Fail> {
     assert!(rt; row_expression(alloc, scope, &shift).is_ok());
     let catalog = catalog(alloc)?;
     assert_eq!(rt;
-        Source::of(&catalog, &label, &None).map(|source| source.table),
+        Source::of(&catalog, &table, &None).map(|source| source.table),
         Some(0)
     );
     assert_eq!(rt;
-        Source::unaliased(&catalog, &label).map(|source| source.table),
+        Source::unaliased(&catalog, &table).map(|source| source.table),
         Some(0)
     );
     Ok(())

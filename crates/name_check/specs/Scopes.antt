@@ -1,52 +1,52 @@
--- What a column's name stands for, seen from the tables around it (SQL-92, scope of identifiers and column reference).
-use Rattle.std.specs.Prelude.{ℕ, Bool, true, List, [], ◌∷◌, Option, Some, None, is_some, if◌then◌else◌}
+-- Which table and which column of it a name means, seen from the tables around it (ISO/IEC 9075:1992: 5.4 names and
+-- identifiers, 6.3 table reference, 6.4 column reference).
+use Rattle.std.specs.Prelude.{ℕ, Bool, List, [], ◌∷◌, Option, Some, None, is_some, unwrap_or, if◌then◌else◌}
 use Rattle.std.specs.Str.{bytes_eq}
 use Rattle.value.specs.declared.refusals.Refusal.{Refusal}
 use Rattle.value.specs.declared.refusals.Refusal.TheVariants.{UnknownName}
 use Rattle.table.specs.Rows.{Layout, column_of}
 use Rattle.syntax.specs.declared.trees.ColumnName.{ColumnName}
 
--- a table whose columns names can mean, and the name that it goes by there
+-- a table whose columns names can mean, and the name that it goes by there: its correlation name where one is written,
+-- and else its own (6.3)
 pub record Scope : Type 0 where
-  pub label : List ℕ
+  pub correlation_name : List ℕ
   pub layout : Layout
 
 -- the tables around a name, the innermost first
 abbrev pub Scopes : Type 0
 Scopes = List Scope
 
-abbrev pub has_column : List ℕ → Scope → Bool
-has_column name scope = is_some (column_of name scope.layout.columns)
+-- the column of a table that has this name
+abbrev pub named_in : List ℕ → Scope → Option ℕ
+named_in name scope = column_of name scope.layout.columns
 
--- a name without a qualifier means a column of the innermost table that has it
-abbrev pub bare_fault : List ℕ → Scopes → Option Refusal
-bare_fault name [] = Some (UnknownName name)
-bare_fault name (scope ∷ outer) = if has_column name scope then None else bare_fault name outer
+-- whether a name is of a table, seen from where the table is the innermost: the table goes by its qualifier, or, without
+-- one, has such a column
+abbrev pub is_name_of : Option (List ℕ) → List ℕ → Scope → Bool
+is_name_of None name scope = is_some (named_in name scope)
+is_name_of (Some qualifier) name scope = bytes_eq scope.correlation_name qualifier
 
--- a name that has to be of this table
-abbrev pub one_fault : List ℕ → Scope → Option Refusal
-one_fault name scope = if has_column name scope then None else Some (UnknownName name)
+-- the table that a name is of: the innermost of those around it (6.4)
+abbrev pub innermost : {X : Type 0} → (X → Scope) → ColumnName → List X → Option X
+innermost scope_of column [] = None
+innermost scope_of column (x ∷ outer) =
+    if is_name_of column.qualifier column.name (scope_of x) then Some x else innermost scope_of column outer
 
--- a qualifier means the innermost table that goes by it, and the column has to be one of that table's
-abbrev pub qualified_fault : List ℕ → List ℕ → Scopes → Option Refusal
-qualified_fault qualifier name [] = Some (UnknownName qualifier)
-qualified_fault qualifier name (scope ∷ outer) =
-    if bytes_eq scope.label qualifier then one_fault name scope else qualified_fault qualifier name outer
+-- a table has no such column
+abbrev pub column_error : List ℕ → Scope → Option Refusal
+column_error name scope = if is_some (named_in name scope) then None else Some (UnknownName name)
 
--- what is wrong with a qualifier and a name
-abbrev pub name_fault : Option (List ℕ) → List ℕ → Scopes → Option Refusal
-name_fault None name scopes = bare_fault name scopes
-name_fault (Some qualifier) name scopes = qualified_fault qualifier name scopes
+-- what is wrong with a name of that table: no table goes by its qualifier or has such a column, or this one has none
+abbrev pub fault_in : ColumnName → Option Scope → Option Refusal
+fault_in column None = Some (UnknownName (unwrap_or column.qualifier column.name))
+fault_in column (Some scope) = column_error column.name scope
 
 -- what is wrong with a column's name
 abbrev pub column_fault : ColumnName → Scopes → Option Refusal
-column_fault column scopes = name_fault column.qualifier column.name scopes
+column_fault column scopes = fault_in column (innermost (λ scope. scope) column scopes)
 
--- whether a qualifier, if there is one, names this table
-abbrev pub is_named_by : Option (List ℕ) → Scope → Bool
-is_named_by None scope = true
-is_named_by (Some qualifier) scope = bytes_eq scope.label qualifier
-
--- the column of the innermost table that a name means, if it means one of it
+-- the column that a name means, if the name is of this table, the innermost, and the table has it
 abbrev pub own_column : Scope → ColumnName → Option ℕ
-own_column scope column = if is_named_by column.qualifier scope then column_of column.name scope.layout.columns else None
+own_column scope column =
+    if is_name_of column.qualifier column.name scope then named_in column.name scope else None

@@ -2,7 +2,7 @@
 
 ghost use Rattle.std.specs.Prelude.{◌≡◌, ◌≢◌, ◌++◌, ◌∷◌, [], map, IfOk, IfErr, IsOkUnless, Some, None, unwrap_or};
 ghost use Rattle.value.specs.declared.refusals.Refusal.TheVariants.{NoMemory};
-ghost use Rattle.name_check.specs.Scopes.{bare_fault, qualified_fault, column_fault, has_column, one_fault, own_column};
+ghost use Rattle.name_check.specs.Scopes.{column_error, column_fault, fault_in, innermost, is_name_of, own_column};
 ghost use Rattle.name_check.specs.Shown.{shown, all_shown};
 
 use std::alloc::Global;
@@ -10,35 +10,40 @@ use syntax::ColumnName;
 use table::Schema;
 use value::{Refusal, Text};
 
-/// A table whose columns names can mean, with the name that it goes by there: its alias where one is given, else its
-/// own.
+/// A table whose columns names can mean, with the name that it goes by there: its correlation name where one is written,
+/// else its own.
 #[derive(Clone, Copy)]
 pub struct Scope<'a> {
-    pub label: &'a Text,
+    pub correlation_name: &'a Text,
     pub schema: &'a Schema,
 }
 
 impl<'a> Scope<'a> {
-    /// Whether the table has a column of this name.
-    pub fn has(&self, name: &Text) -> bool
-        ensures { result ≡ has_column name.now (shown self.now) }
+    /// Whether a column's name is of this table, seen from where the table is the innermost: the table goes by its
+    /// qualifier, or, without one, has such a column.
+    pub fn is_named(&self, column: &ColumnName) -> bool
+        ensures { result ≡ is_name_of column.now.qualifier column.now.name (shown self.now) }
     {
-        self.schema.column(name).is_some()
+        match &column.qualifier {
+            Some(qualifier) => *self.correlation_name == *qualifier,
+            None => self.schema.column(&column.name).is_some(),
+        }
     }
 
-    /// The place of the column that a name means, if it means one of this table's and the table is the innermost.
+    /// The place of the column that a name means, if the name is of this table, the innermost, and the table has it.
     pub fn own(&self, column: &ColumnName) -> Option<usize>
         ensures { result ≡ own_column (shown self.now) column.now }
     {
-        match &column.qualifier {
-            Some(qualifier) if *self.label != *qualifier => None,
-            Some(_) | None => self.schema.column(&column.name),
+        if self.is_named(column) {
+            self.schema.column(&column.name)
+        } else {
+            None
         }
     }
 }
 
-/// The name that a query's table goes by in it: its alias, if it has one.
-pub fn label_of<'a>(alias: &'a Option<Text>, table: &'a Text) -> &'a Text
+/// The name that a query's table goes by in it: its correlation name, if one is written, else its own.
+pub fn correlation_name<'a>(alias: &'a Option<Text>, table: &'a Text) -> &'a Text
     ensures { result.now ≡ unwrap_or alias.now table.now }
 {
     match alias {
@@ -69,43 +74,24 @@ pub fn known_column(scopes: &[Scope], column: &ColumnName) -> Result<(), Refusal
     ensures known { IfOk result (λ _. column_fault column.now (all_shown scopes.now) ≡ None) }
     ensures refused { IfErr result (λ refusal. refusal ≢ NoMemory → column_fault column.now (all_shown scopes.now) ≡ Some refusal) }
 {
-    match &column.qualifier {
-        None => known_bare(scopes, &column.name),
-        Some(qualifier) => known_qualified(scopes, qualifier, &column.name),
-    }
-}
-
-fn known_bare(scopes: &[Scope], name: &Text) -> Result<(), Refusal>
-    ensures known { IfOk result (λ _. bare_fault name.now (all_shown scopes.now) ≡ None) }
-    ensures refused { IfErr result (λ refusal. refusal ≢ NoMemory → bare_fault name.now (all_shown scopes.now) ≡ Some refusal) }
-{
     for scope in scopes {
-        if scope.has(name) {
-            return Ok(());
+        if scope.is_named(column) {
+            return known_in(scope, &column.name);
         }
     }
+    let name = match &column.qualifier {
+        Some(qualifier) => qualifier,
+        None => &column.name,
+    };
     Err(Refusal::UnknownName { name: name.copy()? })
 }
 
-fn known_qualified(scopes: &[Scope], qualifier: &Text, name: &Text) -> Result<(), Refusal>
-    ensures known { IfOk result (λ _. qualified_fault qualifier.now name.now (all_shown scopes.now) ≡ None) }
-    ensures refused { IfErr result (λ refusal. refusal ≢ NoMemory → qualified_fault qualifier.now name.now (all_shown scopes.now) ≡ Some refusal) }
-{
-    for scope in scopes {
-        if *scope.label == *qualifier {
-            return known_in(scope, name);
-        }
-    }
-    Err(Refusal::UnknownName {
-        name: qualifier.copy()?,
-    })
-}
-
+/// Refuses the name of a column that this table does not have.
 fn known_in(scope: &Scope, name: &Text) -> Result<(), Refusal>
-    ensures known { IfOk result (λ _. one_fault name.now (shown scope.now) ≡ None) }
-    ensures refused { IfErr result (λ refusal. refusal ≢ NoMemory → one_fault name.now (shown scope.now) ≡ Some refusal) }
+    ensures known { IfOk result (λ _. column_error name.now (shown scope.now) ≡ None) }
+    ensures refused { IfErr result (λ refusal. refusal ≢ NoMemory → column_error name.now (shown scope.now) ≡ Some refusal) }
 {
-    if scope.has(name) {
+    if scope.schema.column(name).is_some() {
         return Ok(());
     }
     Err(Refusal::UnknownName { name: name.copy()? })

@@ -66,10 +66,10 @@ fn is_unknown(answer: &Result<(), Refusal>, wanted: &str) -> bool {
 /// What is answered to the query above in a condition over S.
 fn told(alloc: Global, qualifier: &str, name: &str) -> Result<Result<(), Refusal>, Refusal> {
     let catalog = catalog(alloc)?;
-    let label = Text::from_str(alloc, "S")?;
+    let table = Text::from_str(alloc, "S")?;
     let schema = schema(alloc, "ID")?;
     let scope = Scope {
-        label: &label,
+        correlation_name: &table,
         schema: &schema,
     };
     let condition = exists(alloc, column(alloc, qualifier, name)?)?;
@@ -91,15 +91,15 @@ fn inner_names_and_outer_names(rt: HostRuntime) -> Result<(), Fail> {
 #[test]
 fn own_columns(rt: HostRuntime) -> Result<(), Fail> {
     let alloc = rt.alloc();
-    let label = Text::from_str(alloc, "S")?;
+    let table = Text::from_str(alloc, "S")?;
     let schema = schema(alloc, "ID")?;
     let scope = Scope {
-        label: &label,
+        correlation_name: &table,
         schema: &schema,
     };
     assert_eq!(rt; scope.own(&column(alloc, "", "ID")?), Some(0));
     assert_eq!(rt; scope.own(&column(alloc, "D", "ID")?), None);
-    assert!(rt; scope.has(&Text::from_str(alloc, "ID")?));
+    assert!(rt; scope.is_named(&column(alloc, "S", "ID")?));
     let expression = Expression::Column(column(alloc, "", "SHIFT")?);
     let answer = known_expression(alloc, &catalog(alloc)?, &[scope], &expression);
     assert!(rt; is_unknown(&answer, "SHIFT"));

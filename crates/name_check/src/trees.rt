@@ -5,7 +5,7 @@ ghost use Rattle.value.specs.declared.refusals.Refusal.TheVariants.{NoMemory};
 ghost use Rattle.name_check.specs.Names.{condition_fault, expression_fault, listed_fault, query_fault, part_fault, parts_fault, group_fault, clauses_fault};
 ghost use Rattle.name_check.specs.Shown.{all_shown};
 
-use crate::scopes::{Scope, known_column, label_of, within};
+use crate::scopes::{Scope, correlation_name, known_column, within};
 use std::alloc::Global;
 use syntax::{ColumnName, Condition, Expression, Listed, Query};
 use table::Catalog;
@@ -101,8 +101,15 @@ fn known_query(
             name: query.table.copy()?,
         });
     };
-    let label = label_of(&query.alias, &query.table);
-    let scopes = within(alloc, Scope { label, schema }, scopes)?;
+    let correlation_name = correlation_name(&query.alias, &query.table);
+    let scopes = within(
+        alloc,
+        Scope {
+            correlation_name,
+            schema,
+        },
+        scopes,
+    )?;
     if let Listed::One(listed) = &query.listed {
         known_expression(alloc, catalog, &scopes, listed)?;
     }

@@ -11,7 +11,7 @@ use Rattle.table.specs.Rows.{RowValues}
 use Rattle.cond.specs.declared.conds.Cond.{Cond}
 use Rattle.cond.specs.declared.slots.SlotValue.{SlotValue}
 use Rattle.cond.specs.Slots.{SlotValues, IsWithinKind, kind_of, kinds_of, value_of, values_of}
-use Rattle.assertion.specs.Bounded.{kind_of_aggregate}
+use Rattle.cond.specs.Kinds.{kind_of_aggregate}
 use Rattle.assertion.specs.Meaning.{State}
 use Rattle.assertion.specs.declared.forms.Form.{Form}
 use Rattle.assertion.specs.declared.forms.Form.TheVariants.{ByGroup}

@@ -6,7 +6,8 @@ use Rattle.table.specs.declared.aggregates.Aggregate.{Aggregate}
 use Rattle.cond.specs.declared.conds.Cond.{Cond}
 use Rattle.assertion.specs.declared.forms.Form.{Form}
 use Rattle.assertion.specs.declared.forms.Form.TheVariants.{ByRow, ByGroup, Single}
-use Rattle.assertion.specs.Bounded.{IsBounded, IsBoundedOver, kind_of_aggregate}
+use Rattle.assertion.specs.Bounded.{IsBounded, IsBoundedOver}
+use Rattle.cond.specs.Kinds.{kind_of_aggregate}
 use Rattle.assertion.specs.declared.linked_queries.Linked.{Linked}
 use Rattle.assertion.specs.declared.plain_queries.Plain.{Plain}
 use Rattle.roots.specs.Answers.{SlotQuery, kinds_in, queries_of}

@@ -6,7 +6,7 @@ use Rattle.table.specs.Aggregates.{aggregate}
 use Rattle.cond.specs.declared.slots.SlotKind.{SlotKind}
 use Rattle.assertion.specs.declared.forms.Form.{Form}
 use Rattle.assertion.specs.declared.forms.Form.TheVariants.{ByRow, ByGroup, Single}
-use Rattle.assertion.specs.Bounded.{kind_of_aggregate}
+use Rattle.cond.specs.Kinds.{kind_of_aggregate}
 use Rattle.assertion.specs.Meaning.{State}
 use Rattle.roots.specs.Summaries.{GroupedTable, Summary, column_of, group_rows, linked_table, plain_table, group_table}
 

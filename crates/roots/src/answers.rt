@@ -6,7 +6,7 @@ ghost use Rattle.value.specs.declared.values.Value.{Value as values};
 ghost use Rattle.table.specs.Rows.{RowValues};
 ghost use Rattle.table.specs.Aggregates.{aggregate as aggregate_of};
 ghost use Rattle.cond.specs.Slots.{IsWithinKind, kind_of, kinds_of, value_of, values_of};
-ghost use Rattle.assertion.specs.Bounded.{kind_of_aggregate};
+ghost use Rattle.cond.specs.Kinds.{kind_of_aggregate};
 ghost use Rattle.assertion.specs.Meaning.{State};
 ghost use Rattle.groups.specs.Totals.{Members, AreTotalsOf, IsWithin};
 ghost use Rattle.roots.specs.Answers.{SlotQuery, IsReadBy, IsReadFrom, kinds_in, queries_of, query_answer};

@@ -12,8 +12,7 @@ use Rattle.cond.specs.declared.conds.Cond.{Cond}
 use Rattle.cond.specs.Eval.{keeps}
 use Rattle.assertion.specs.declared.assertions.Assertion.{Assertion}
 use Rattle.assertion.specs.Meaning.{State, rows_of, verdict_of}
-use Rattle.form_check.specs.Results.{and_then}
-use Rattle.assertcheck.specs.Steps.{found, unless}
+use Rattle.value.specs.Results.{and_then, found, unless}
 use Rattle.assertcheck.specs.Statements.{delete_of}
 use Rattle.changes.specs.Insertions.{inserted}
 use Rattle.answer.specs.declared.Reply.{Reply}

@@ -6,7 +6,8 @@ use Rattle.assertion.specs.declared.linked_queries.Linked.{Linked}
 use Rattle.assertion.specs.declared.plain_queries.Plain.{Plain}
 use Rattle.assertion.specs.declared.forms.Form.{Form}
 use Rattle.assertion.specs.declared.forms.Form.TheVariants.{ByRow, ByGroup, Single}
-use Rattle.assertion.specs.Bounded.{kind_of_aggregate, linked_kinds, plain_kinds}
+use Rattle.assertion.specs.Bounded.{linked_kinds, plain_kinds}
+use Rattle.cond.specs.Kinds.{kind_of_aggregate}
 
 -- whether each condition of a form has only bounded expressions; a WHERE has no slots
 abbrev pub is_bounded_form : Form → Bool

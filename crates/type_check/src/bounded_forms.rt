@@ -4,7 +4,8 @@ ghost use Rattle.std.specs.Prelude.{◌≡◌, ◌↔◌, [], map, IfOk, IsOkUnl
 ghost use Rattle.std.specs.List.{list_all};
 ghost use Rattle.value.specs.declared.refusals.Refusal.TheVariants.{NoMemory};
 ghost use Rattle.cond.specs.Bounds.{is_bounded as is_bounded_of};
-ghost use Rattle.assertion.specs.Bounded.{IsBounded, kind_of_aggregate, linked_kinds as linked_kinds_of, plain_kinds as plain_kinds_of};
+ghost use Rattle.assertion.specs.Bounded.{IsBounded, linked_kinds as linked_kinds_of, plain_kinds as plain_kinds_of};
+ghost use Rattle.cond.specs.Kinds.{kind_of_aggregate};
 ghost use Rattle.type_check.specs.Widths.{is_bounded_form};
 
 use assertion::{Form, Linked, Plain, kind};

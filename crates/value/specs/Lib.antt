@@ -1,4 +1,5 @@
 pub mod Comparisons
 pub mod Ordered
+pub mod Results
 pub mod Texts
 pub mod ValueOrder

@@ -1,6 +1,6 @@
 use Rattle.std.proofs.Common.{◌≡◌, drop}
 use Rattle.name_check.specs.Shown.{shown}
-use Rattle.form_check.specs.Results.{behind}
+use Rattle.value.specs.Results.{behind}
 use Rattle.assertcheck.specs.Updates.{settings_of}
 use Rattle.assertcheck.proofs.assignments.settings.Given as goal
 

@@ -1,5 +1,5 @@
 use Rattle.std.proofs.Common.{◌≡◌, drop}
-use Rattle.form_check.specs.Results.{each, behind}
+use Rattle.value.specs.Results.{each, behind}
 use Rattle.assertcheck.specs.Statements.{named_column}
 use Rattle.assertcheck.proofs.columns.named_columns.Given as goal
 

@@ -2,7 +2,8 @@ use Rattle.std.proofs.Common.{ℕ, ◌≡◌, ◌+◌, ◌*◌, ◌≤◌, ◌^�
 use Rattle.std.specs.Prelude.{pos, ◌+ℤ◌, ◌*ℤ◌}
 use Rattle.value.specs.declared.values.Value.TheVariants.{Int}
 use Rattle.cond.specs.Bounds.{joined_bound, bound_of}
-use Rattle.cond.specs.Eval.{answer, total}
+use Rattle.cond.specs.Eval.{answer}
+use Rattle.cond.specs.Values.{total}
 use Rattle.cond.specs.Shown.{shown}
 use Rattle.cond.specs.Slots.{kinds_of, magnitude, values_of}
 use Rattle.cond.proofs.evals.+evaluate.Given as goal

@@ -2,7 +2,8 @@ use Rattle.std.proofs.Common.{◌≡◌, drop, map}
 use Rattle.std.specs.Prelude.{IsTrue}
 use Rattle.threeval.specs.Truths.{and_of, or_of}
 use Rattle.cond.specs.Bounds.{is_bounded, all_true}
-use Rattle.cond.specs.Eval.{truth, all_of, any_of}
+use Rattle.cond.specs.Eval.{truth}
+use Rattle.cond.specs.Values.{all_of, any_of}
 use Rattle.cond.specs.Slots.{kinds_of, values_of}
 use Rattle.cond.proofs.truths.+eval.Given as goal
 

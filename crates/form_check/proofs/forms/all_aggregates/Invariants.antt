@@ -1,7 +1,7 @@
 use Rattle.std.proofs.Common.{◌≡◌, drop}
 use Rattle.name_check.specs.Shown.{shown}
 use Rattle.form_check.specs.Forms.{aggregate_of}
-use Rattle.form_check.specs.Results.{each, behind}
+use Rattle.value.specs.Results.{each, behind}
 use Rattle.form_check.specs.Shown.{shown_leaves}
 use Rattle.form_check.proofs.forms.all_aggregates.Given as goal
 

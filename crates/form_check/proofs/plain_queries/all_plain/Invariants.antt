@@ -1,6 +1,6 @@
 use Rattle.std.proofs.Common.{◌≡◌, drop}
 use Rattle.form_check.specs.Forms.{plain}
-use Rattle.form_check.specs.Results.{each, behind}
+use Rattle.value.specs.Results.{each, behind}
 use Rattle.form_check.specs.Shown.{shown_leaves}
 use Rattle.form_check.proofs.plain_queries.all_plain.Given as goal
 

@@ -1,5 +1,5 @@
 use Rattle.std.proofs.Common.{◌≡◌, take, map}
-use Rattle.assertion.specs.Bounded.{kind_of_aggregate}
+use Rattle.cond.specs.Kinds.{kind_of_aggregate}
 use Rattle.type_check.proofs.bounded_forms.aggregate_kinds.Given as goal
 
 -- the kinds so far

@@ -1,7 +1,7 @@
 use Rattle.std.proofs.Common.{◌≡◌, drop}
 use Rattle.name_check.specs.Shown.{shown}
 use Rattle.form_check.specs.Links.{kept_parts}
-use Rattle.form_check.specs.Results.{behind}
+use Rattle.value.specs.Results.{behind}
 use Rattle.form_check.proofs.links.Link.kept_parts.Given as goal
 
 -- the conditions made so far with those of the rest are all

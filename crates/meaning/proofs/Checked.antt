@@ -1,0 +1,299 @@
+-- Assertions and statements that are taken.
+use Rattle.std.proofs.Common.{◌≡◌, ℕ, Bool, true, false, Option, Some, None, Result, Ok, Err, List, [], ◌∷◌, ◌++◌, append-nil, append_assoc, filter, refl, sym, ap, ◌∙◌, subst}
+use Rattle.std.specs.Prelude.{◌&&◌, not, is_some, option_map, ◌==◌, if◌then◌else◌}
+use Rattle.std.specs.List.{list_all, list_any}
+use Rattle.std.proofs.lemmas.List.Elements.{filter_agree}
+use Rattle.value.specs.declared.refusals.Refusal.{Refusal}
+use Rattle.value.specs.declared.refusals.Refusal.TheVariants.{AttributeClash, KeyUpdate, NameTaken, TypeMismatch, TooWide}
+use Rattle.table.specs.Rows.{RowValues, Tables, layouts_of, column_of}
+use Rattle.cond.specs.declared.exprs.Expr.{Expr}
+use Rattle.cond.specs.declared.conds.Cond.{Cond}
+use Rattle.cond.specs.Bounds.{is_bounded}
+use Rattle.cond.specs.Eval as resolved
+use Rattle.assertion.specs.declared.assertions.Assertion.{Assertion}
+use Rattle.assertion.specs.declared.forms.Form.{Form}
+use Rattle.assertion.specs.Meaning.{State, rows_of, kept_rows}
+use Rattle.syntax.specs.declared.trees.Condition.{Condition}
+use Rattle.statement_syntax.specs.declared.definitions.Attributes.{Attributes}
+use Rattle.statement_syntax.specs.declared.statements.Assigned.{Assigned}
+use Rattle.statement_syntax.specs.declared.statements.Assigned.TheVariants.{Null, To}
+use Rattle.statement_syntax.specs.declared.statements.Assignment.{Assignment}
+use Rattle.statement_syntax.specs.declared.statements.Which.{Which}
+use Rattle.statement_syntax.specs.declared.statements.Which.TheVariants.{All, Names}
+use Rattle.name_check.specs.Scopes.{Scope}
+use Rattle.name_check.specs.Names.{condition_fault}
+use Rattle.value.specs.Results.{and_then, each, found, provided, unless}
+use Rattle.form_check.specs.Forms.{form_of}
+use Rattle.form_check.specs.Queries.{Source, source_of, row_condition, row_expression, row_filter}
+use Rattle.type_check.specs.Forms.{is_typed_form}
+use Rattle.type_check.specs.Types.{is_typed}
+use Rattle.type_check.specs.Widths.{is_bounded_form}
+use Rattle.assertcheck.specs.declared.deletes.Delete.{Delete}
+use Rattle.assertcheck.specs.declared.selects.Select.{Select}
+use Rattle.assertcheck.specs.declared.updates.Setting.{Setting}
+use Rattle.assertcheck.specs.declared.updates.Update.{Update}
+use Rattle.assertcheck.specs.Assertions.{are_at_odds, attributes_of, of_form, checked}
+use Rattle.assertcheck.specs.Conditions.{target_of, sound_condition, where_of}
+use Rattle.assertcheck.specs.Statements.{named_column, new_place, places_from, selected, select_of, unlisted}
+use Rattle.assertcheck.specs.Updates.{assignable, not_key, update_of, value_of, names_fault, assigned_places, settings_of, fits, is_bounded_setting, sound_update, update_over}
+use Rattle.meaning.specs.Meaning.{Reference, table_of, truth, passes, with_rows}
+use Rattle.meaning.specs.Laws as law
+use Rattle.meaning.specs.Laws.{seen, where_rows, Pairs, IsPlaceOf, IsListOf, Gives, written_value, given_value}
+use Rattle.meaning.proofs.Steps.{and_then_ok, ok_same}
+use Rattle.meaning.proofs.Rows.{row_expression_value, row_filter_keeps}
+use Rattle.meaning.proofs.Queries.{source_seen}
+use Rattle.meaning.proofs.Whole.{HasWrittenRoots-law, HasWrittenTruth-law, HasWrittenLeast-law}
+use Rattle.meaning.proofs.Grown.{KeepsForm-law}
+use Rattle.meaning.proofs.Classes.{none_is, form_class, class_form}
+
+provided_is : {A : Type 0} (c : Bool) (refusal : Refusal) (r : Result A Refusal) (a : A) → provided c refusal r ≡ Ok a → (c ≡ true) × (r ≡ Ok a)
+provided_is true refusal r a e = (refl, e)
+provided_is false refusal r a e = cc
+
+unless_is : {A : Type 0} (fault : Option Refusal) (r : Result A Refusal) (a : A) → unless fault r ≡ Ok a → (fault ≡ None) × (r ≡ Ok a)
+unless_is None r a e = (refl, e)
+unless_is (Some fault) r a e = cc
+
+provided_ok : {A : Type 0} (c : Bool) (refusal : Refusal) (r : Result A Refusal) (a : A) → provided c refusal r ≡ Ok a → r ≡ Ok a
+provided_ok c refusal r a e = (provided_is c refusal r a e).1
+
+unless_ok : {A : Type 0} (fault : Option Refusal) (r : Result A Refusal) (a : A) → unless fault r ≡ Ok a → r ≡ Ok a
+unless_ok fault r a e = (unless_is fault r a e).1
+
+found_ok : {A : Type 0} (name : List ℕ) (o : Option A) (a : A) → found name o ≡ Ok a → o ≡ Some a
+found_ok name None a e = cc
+found_ok name (Some x) a e = ap (λ y. let o : Option _ = Some y in o) (ok_same x a e)
+
+-- ---- assertions
+
+abbrev made_of : List ℕ → Attributes → Form → Assertion
+made_of name attributes form = record { name = name; attributes = attributes_of attributes; form = form }
+
+-- what an assertion that is taken has passed
+record Passed (tables : Tables) (name : List ℕ) (condition : Condition) (attributes : Attributes) (assertion : Assertion) : Type 0 where
+  agreed : not (are_at_odds attributes) ≡ true
+  known : condition_fault tables condition [] ≡ None
+  form : Form
+  formed : form_of tables condition ≡ Ok form
+  typed : is_typed_form (layouts_of tables) form ≡ true
+  bounded : is_bounded_form form ≡ true
+  made : made_of name attributes form ≡ assertion
+
+passed : (tables : Tables) (name : List ℕ) (condition : Condition) (attributes : Attributes) (assertion : Assertion) → checked tables name condition attributes ≡ Ok assertion → Passed tables name condition attributes assertion
+passed tables name condition attributes assertion e =
+    let shaped = and_then (form_of tables condition) (of_form tables name (attributes_of attributes)) in
+    let (agreed, named) = provided_is (not (are_at_odds attributes)) (AttributeClash name) (unless (condition_fault tables condition []) shaped) assertion e in
+    let (known, rest) = unless_is (condition_fault tables condition []) shaped assertion named in
+    let (form, (is, more)) = and_then_ok (form_of tables condition) (of_form tables name (attributes_of attributes)) assertion rest in
+    let whole : Result Assertion Refusal = Ok (made_of name attributes form) in
+    let bounds : Result Assertion Refusal = provided (is_bounded_form form) TooWide whole in
+    let (typed, last) = provided_is (is_typed_form (layouts_of tables) form) TypeMismatch bounds assertion more in
+    let (bounded, makes) = provided_is (is_bounded_form form) TooWide whole assertion last in
+    record { agreed = agreed; known = known; form = form; formed = is; typed = typed; bounded = bounded; made = ok_same (made_of name attributes form) assertion makes }
+
+-- an assertion has the meaning of a condition of its form
+has_written : (tables : Tables) (name : List ℕ) (condition : Condition) (attributes : Attributes) (form : Form) → form_of tables condition ≡ Ok form → law.IsWritten tables name condition attributes (made_of name attributes form)
+has_written tables name condition attributes form formed = record {
+  named = refl;
+  attributed = refl;
+  roots = HasWrittenRoots-law tables condition form formed;
+  truth = HasWrittenTruth-law tables condition form formed;
+  least = HasWrittenLeast-law tables condition form formed;
+}
+
+pub TakesWritten-law : law.TakesWritten
+TakesWritten-law tables name condition attributes assertion e =
+    let p = passed tables name condition attributes assertion e in
+    subst (law.IsWritten tables name condition attributes) p.made (has_written tables name condition attributes p.form p.formed)
+
+pub StaysWritten-law : law.StaysWritten
+StaysWritten-law tables more name condition attributes assertion e =
+    let p = passed tables name condition attributes assertion e in
+    subst (law.IsWritten (tables ++ more) name condition attributes) p.made (has_written (tables ++ more) name condition attributes p.form (KeepsForm-law tables more condition p.form p.formed))
+
+not_true : (b : Bool) → not b ≡ true → b ≡ false
+not_true true e = cc
+not_true false e = refl
+
+same_form : (tables : Tables) (condition : Condition) (f g : Form) → form_of tables condition ≡ Ok f → form_of tables condition ≡ Ok g → f ≡ g
+same_form tables condition f g e h = ok_same f g (sym e ∙ h)
+
+may_be_taken : (tables : Tables) (name : List ℕ) (condition : Condition) (attributes : Attributes) → ((assertion : Assertion) × (checked tables name condition attributes ≡ Ok assertion)) → law.MayBeTaken tables condition attributes
+may_be_taken tables name condition attributes (assertion, e) =
+    let p = passed tables name condition attributes assertion e in record {
+      agreed = not_true (are_at_odds attributes) p.agreed;
+      known = ap is_some p.known;
+      shaped = form_class tables condition (p.form, p.formed);
+      typed = λ form is. subst (λ f. is_typed_form (layouts_of tables) f ≡ true) (same_form tables condition p.form form p.formed is) p.typed;
+      bounded = λ form is. subst (λ f. is_bounded_form f ≡ true) (same_form tables condition p.form form p.formed is) p.bounded;
+    }
+
+is_taken : (tables : Tables) (name : List ℕ) (condition : Condition) (attributes : Attributes) → law.MayBeTaken tables condition attributes → (assertion : Assertion) × (checked tables name condition attributes ≡ Ok assertion)
+is_taken tables name condition attributes may =
+    let (form, is) = class_form tables condition may.shaped in
+    let shaped = and_then (form_of tables condition) (of_form tables name (attributes_of attributes)) in
+    let whole : Result Assertion Refusal = Ok (made_of name attributes form) in
+    let bounds : Result Assertion Refusal = provided (is_bounded_form form) TooWide whole in (
+      made_of name attributes form,
+      ap (λ b. provided (not b) (AttributeClash name) (unless (condition_fault tables condition []) shaped)) may.agreed
+          ∙ ap (λ o. unless o shaped) (none_is (condition_fault tables condition []) may.known)
+          ∙ ap (λ r. and_then r (of_form tables name (attributes_of attributes))) is
+          ∙ ap (λ b. provided b TypeMismatch bounds) (may.typed form is)
+          ∙ ap (λ b. provided b TooWide whole) (may.bounded form is),
+    )
+
+pub TakesExactly-law : law.TakesExactly
+TakesExactly-law tables name condition attributes = (may_be_taken tables name condition attributes, is_taken tables name condition attributes)
+
+-- ---- statements
+
+where_filter : (tables : Tables) (scope : Scope) (condition : Option Condition) (kept : Cond) → where_of tables scope condition ≡ Ok kept → row_filter scope condition ≡ Ok kept
+where_filter tables scope None kept e = e
+where_filter tables scope (Some condition) kept e =
+    let (made, (is, more)) = and_then_ok (row_condition scope condition) (sound_condition scope) kept (unless_ok (condition_fault tables condition (scope ∷ [])) (and_then (row_condition scope condition) (sound_condition scope)) kept e) in
+    let bounded : Result Cond Refusal = provided (is_bounded [] made) TooWide (Ok made) in
+    let same = provided_ok (is_bounded [] made) TooWide (Ok made) kept (provided_ok (is_typed scope.layout.columns [] made) TypeMismatch bounded kept more) in
+    is ∙ same
+
+-- the rows that a resolved WHERE keeps of its table
+kept_of : (tables : Tables) (state : State) (name : List ℕ) (condition : Option Condition) (target : Source) (kept : Cond) → source_of tables name None ≡ Some target → row_filter target.scope condition ≡ Ok kept
+    → where_rows tables state name condition ≡ kept_rows kept (rows_of target.table state)
+kept_of tables state name condition target kept found is =
+    let rows = rows_of target.table state in
+    ap (λ table. filter (λ row. passes (option_map (truth tables state) condition) (with_rows table (row ∷ []) [])) table.rows) (source_seen tables state name None target found)
+    ∙ filter_agree (λ row. passes (option_map (truth tables state) condition) (with_rows (seen target.scope rows) (row ∷ []) [])) (λ row. resolved.keeps row [] kept) (λ row. row_filter_keeps target.scope condition kept is tables state row []) rows
+
+pub DeletesRows-law : law.DeletesRows
+DeletesRows-law tables name condition delete e state =
+    let make : Source → Cond → Delete = λ target kept. record { table = target.table; kept = kept } in
+    let (target, (is, more)) = and_then_ok (target_of tables name) (λ target. and_then (where_of tables target.scope condition) (λ kept. let r : Result Delete Refusal = Ok (make target kept) in r)) delete e in
+    let (kept, (keeps, makes)) = and_then_ok (where_of tables target.scope condition) (λ kept. let r : Result Delete Refusal = Ok (make target kept) in r) delete more in
+    kept_of tables state name condition target kept (found_ok name (source_of tables name None) target is) (where_filter tables target.scope condition kept keeps)
+    ∙ ap (λ (d : Delete). kept_rows d.kept (rows_of d.table state)) (ok_same (make target kept) delete makes)
+
+-- each of a list, one by one
+each_pairs : {X A : Type 0} (make : X → Result A Refusal) (P : X → A → Type 0) → ((x : X) (a : A) → make x ≡ Ok a → P x a) → (xs : List X) (made : List A) → each make xs ≡ Ok made → Pairs P xs made
+each_pairs {A = A} make P one [] made e = let none : List A = [] in subst (Pairs P []) (ok_same none made e) tt
+each_pairs {A = A} make P one (x ∷ xs) made e =
+    let (a, (is, more)) = and_then_ok (make x) (λ a. and_then (each make xs) (λ others. let r : Result (List A) Refusal = Ok (a ∷ others) in r)) made e in
+    let (others, (are, makes)) = and_then_ok (each make xs) (λ others. let r : Result (List A) Refusal = Ok (a ∷ others) in r) made more in
+    subst (Pairs P (x ∷ xs)) (ok_same (a ∷ others) made makes) (one x a is, each_pairs make P one xs others are)
+
+-- the table of a statement
+scope_is : (tables : Tables) (state : State) (name : List ℕ) (target : Source) → source_of tables name None ≡ Some target → target.scope ≡ (table_of tables state name None).table
+scope_is tables state name target found = sym (ap (λ (r : Reference). r.table) (source_seen tables state name None target found))
+
+-- the parts of a SELECT that is taken
+record Selects (tables : Tables) (columns : Which) (name : List ℕ) (condition : Option Condition) (select : Select) : Type 0 where
+  target : Source
+  found : source_of tables name None ≡ Some target
+  places : List ℕ
+  listed : selected target.scope.layout.columns columns ≡ Ok places
+  kept : Cond
+  keeps : row_filter target.scope condition ≡ Ok kept
+  made : ◌≡◌ {A = Select} (record { table = target.table; columns = places; kept = kept }) select
+
+selects : (tables : Tables) (columns : Which) (name : List ℕ) (condition : Option Condition) (select : Select) → select_of tables columns name condition ≡ Ok select → Selects tables columns name condition select
+selects tables columns name condition select e =
+    let make : Source → List ℕ → Cond → Select = λ target places kept. record { table = target.table; columns = places; kept = kept } in
+    let (target, (is, more)) = and_then_ok (target_of tables name) (λ target. and_then (selected target.scope.layout.columns columns) (λ places. and_then (where_of tables target.scope condition) (λ kept. let r : Result Select Refusal = Ok (make target places kept) in r))) select e in
+    let (places, (are, rest)) = and_then_ok (selected target.scope.layout.columns columns) (λ places. and_then (where_of tables target.scope condition) (λ kept. let r : Result Select Refusal = Ok (make target places kept) in r)) select more in
+    let (kept, (keeps, makes)) = and_then_ok (where_of tables target.scope condition) (λ kept. let r : Result Select Refusal = Ok (make target places kept) in r) select rest in
+    record { target = target; found = found_ok name (source_of tables name None) target is; places = places; listed = are; kept = kept; keeps = where_filter tables target.scope condition kept keeps; made = ok_same (make target places kept) select makes }
+
+pub SelectsRows-law : law.SelectsRows
+SelectsRows-law tables columns name condition select e state =
+    let s = selects tables columns name condition select e in
+    kept_of tables state name condition s.target s.kept s.found s.keeps ∙ ap (λ (s : Select). kept_rows s.kept (rows_of s.table state)) s.made
+
+named_is : (scope : Scope) (name : List ℕ) (place : ℕ) → named_column scope.layout.columns name ≡ Ok place → IsPlaceOf scope name place
+named_is scope name place e = found_ok name (column_of name scope.layout.columns) place e
+
+selected_are : (scope : Scope) (columns : Which) (places : List ℕ) → selected scope.layout.columns columns ≡ Ok places → IsListOf scope columns places
+selected_are scope All places e = sym (ok_same (places_from 0 scope.layout.columns) places e)
+selected_are scope (Names names) places e = each_pairs (named_column scope.layout.columns) (IsPlaceOf scope) (named_is scope) names places e
+
+pub ListsColumns-law : law.ListsColumns
+ListsColumns-law tables columns name condition select e state =
+    let s = selects tables columns name condition select e in
+    subst (λ (made : Select). IsListOf (table_of tables state name None).table columns made.columns) s.made
+    (subst (λ scope. IsListOf scope columns s.places) (scope_is tables state name s.target s.found) (selected_are s.target.scope columns s.places s.listed))
+
+-- the parts of an UPDATE that is taken
+record Updates (tables : Tables) (name : List ℕ) (sets : List Assignment) (condition : Option Condition) (update : Update) : Type 0 where
+  target : Source
+  found : source_of tables name None ≡ Some target
+  columns : List ℕ
+  assigned : assigned_places target.scope.layout [] sets ≡ Ok columns
+  settings : List Setting
+  set : settings_of target.scope columns sets ≡ Ok settings
+  kept : Cond
+  keeps : row_filter target.scope condition ≡ Ok kept
+  made : ◌≡◌ {A = Update} (record { table = target.table; sets = settings; kept = kept }) update
+
+updates : (tables : Tables) (name : List ℕ) (sets : List Assignment) (condition : Option Condition) (update : Update) → update_of tables name sets condition ≡ Ok update → Updates tables name sets condition update
+updates tables name sets condition update e =
+    let make : Source → List Setting → Cond → Update = λ target settings kept. record { table = target.table; sets = settings; kept = kept } in
+    let (target, (is, more)) = and_then_ok (target_of tables name) (λ target. and_then (assigned_places target.scope.layout [] sets) (λ columns. unless (names_fault tables target.scope sets condition) (update_over target columns sets condition))) update e in
+    let (columns, (are, rest)) = and_then_ok (assigned_places target.scope.layout [] sets) (λ columns. unless (names_fault tables target.scope sets condition) (update_over target columns sets condition)) update more in
+    let over = unless_ok (names_fault tables target.scope sets condition) (update_over target columns sets condition) update rest in
+    let (settings, (set, last)) = and_then_ok (settings_of target.scope columns sets) (λ settings. and_then (row_filter target.scope condition) (λ kept. sound_update target.scope.layout.columns (make target settings kept))) update over in
+    let (kept, (keeps, sound)) = and_then_ok (row_filter target.scope condition) (λ kept. sound_update target.scope.layout.columns (make target settings kept)) update last in
+    let made = make target settings kept in
+    let bounded : Result Update Refusal = provided (list_all is_bounded_setting settings && is_bounded [] kept) TooWide (Ok made) in
+    let same = provided_ok (list_all is_bounded_setting settings && is_bounded [] kept) TooWide (Ok made) update (provided_ok (list_all (fits target.scope.layout.columns) settings && is_typed target.scope.layout.columns [] kept) TypeMismatch bounded update sound) in
+    record { target = target; found = found_ok name (source_of tables name None) target is; columns = columns; assigned = are; settings = settings; set = set; kept = kept; keeps = keeps; made = ok_same made update same }
+
+pub UpdatesRows-law : law.UpdatesRows
+UpdatesRows-law tables name sets condition update e state =
+    let u = updates tables name sets condition update e in
+    kept_of tables state name condition u.target u.kept u.found u.keeps ∙ ap (λ (u : Update). kept_rows u.kept (rows_of u.table state)) u.made
+
+-- a test that refuses, or else hands on
+not_refused : (b : Bool) (refusal : Refusal) (c d : ℕ) → ◌≡◌ {A = Result ℕ Refusal} (if b then Err refusal else Ok c) (Ok d) → c ≡ d
+not_refused true refusal c d e = cc
+not_refused false refusal c d e = ok_same c d e
+
+assignable_is : (scope : Scope) (before : List ℕ) (name : List ℕ) (place : ℕ) → assignable scope.layout before name ≡ Ok place → IsPlaceOf scope name place
+assignable_is scope before name place e =
+    let (new, (is, rest)) = and_then_ok (new_place scope.layout.columns before name) (not_key scope.layout.key name) place e in
+    let (c, (named, more)) = and_then_ok (named_column scope.layout.columns name) (unlisted before name) new is in
+    let same = not_refused (list_any (λ place. place == c) before) (NameTaken name) c new more ∙ not_refused (new == scope.layout.key) (KeyUpdate name) new place rest in
+    subst (IsPlaceOf scope name) same (named_is scope name c named)
+
+abbrev IsAssigned : Scope → Assignment → ℕ → Type 0
+IsAssigned scope assignment place = IsPlaceOf scope assignment.column place
+
+assigned_are : (scope : Scope) (before : List ℕ) (sets : List Assignment) (columns : List ℕ) → assigned_places scope.layout before sets ≡ Ok columns → (more : List ℕ) × ((columns ≡ before ++ more) × Pairs (IsAssigned scope) sets more)
+assigned_are scope before [] columns e = let none : List ℕ = [] in (none, (sym (ok_same before columns e) ∙ sym (append-nil before), tt))
+assigned_are scope before (assignment ∷ rest) columns e =
+    let (new, (is, more)) = and_then_ok (assignable scope.layout before assignment.column) (λ new. assigned_places scope.layout (before ++ new ∷ []) rest) columns e in
+    let (others, (are, pairs)) = assigned_are scope (before ++ new ∷ []) rest columns more in
+    (new ∷ others, (are ∙ append_assoc before (new ∷ []) others, (assignable_is scope before assignment.column new is, pairs)))
+
+value_is : (tables : Tables) (state : State) (scope : Scope) (rows : List RowValues) (assigned : Assigned) (made : Option Expr) → value_of scope assigned ≡ Ok made → (row : RowValues) → written_value tables state (seen scope rows) assigned row ≡ given_value made row
+value_is tables state scope rows Null made e row = ap (λ m. given_value m row) (ok_same None made e)
+value_is tables state scope rows (To expression) made e row =
+    let (found, (is, makes)) = and_then_ok (row_expression scope expression) (λ found. let r : Result (Option Expr) Refusal = Ok (Some found) in r) made e in
+    row_expression_value scope expression found is tables state row [] ∙ ap (λ m. given_value m row) (ok_same (Some found) made makes)
+
+settings_are : (tables : Tables) (state : State) (scope : Scope) (rows : List RowValues) (columns : List ℕ) (sets : List Assignment) (settings : List Setting) → Pairs (IsAssigned scope) sets columns → settings_of scope columns sets ≡ Ok settings
+    → Pairs (Gives tables state (seen scope rows)) sets settings
+settings_are tables state scope rows [] [] settings h e = let none : List Setting = [] in subst (Pairs (Gives tables state (seen scope rows)) []) (ok_same none settings e) tt
+settings_are tables state scope rows [] (assignment ∷ sets) settings h e = absurd h
+settings_are tables state scope rows (column ∷ columns) [] settings h e = absurd h
+settings_are tables state scope rows (column ∷ columns) (assignment ∷ rest) settings h e =
+    let make : Option Expr → Setting = λ value. record { column = column; value = value } in
+    let (value, (is, more)) = and_then_ok (value_of scope assignment.value) (λ value. and_then (settings_of scope columns rest) (λ others. let r : Result (List Setting) Refusal = Ok (make value ∷ others) in r)) settings e in
+    let (others, (are, makes)) = and_then_ok (settings_of scope columns rest) (λ others. let r : Result (List Setting) Refusal = Ok (make value ∷ others) in r) settings more in
+    subst (Pairs (Gives tables state (seen scope rows)) (assignment ∷ rest)) (ok_same (make value ∷ others) settings makes)
+    (record { column = h.0; value = value_is tables state scope rows assignment.value value is }, settings_are tables state scope rows columns rest others h.1 are)
+
+pub UpdatesColumns-law : law.UpdatesColumns
+UpdatesColumns-law tables name sets condition update e state =
+    let u = updates tables name sets condition update e in
+    let (columns, (are, pairs)) = assigned_are u.target.scope [] sets u.columns u.assigned in
+    let rows = rows_of u.target.table state in
+    subst (λ (made : Update). Pairs (Gives tables state (table_of tables state name None)) sets made.sets) u.made
+    (subst (λ table. Pairs (Gives tables state table) sets u.settings) (sym (source_seen tables state name None u.target u.found))
+    (settings_are tables state u.target.scope rows u.columns sets u.settings (subst (Pairs (IsAssigned u.target.scope) sets) (sym are) pairs) u.set))

@@ -1,0 +1,709 @@
+-- The class: a condition has a form exactly where it is in it.
+use Rattle.std.proofs.Common.{◌≡◌, ℕ, suc, ◌+◌, Bool, true, false, cond, map, length, nat_eq, Option, Some, None, Result, Ok, List, [], ◌∷◌, ◌++◌, refl, ap, sym, ◌∙◌, subst, ⊎_elim, inl, inr}
+use Rattle.std.specs.List.{position_or_len}
+use Rattle.std.specs.Cmp.Lexicographic.{pointwise}
+use Rattle.std.specs.Prelude.{◌⊎◌, IsNone, IsSome, not, nat_lt, option_map, unwrap_or, is_some, is_none, ◌==◌, option_to_list, if◌then◌else◌}
+use Rattle.value.specs.declared.refusals.Refusal.{Refusal}
+use Rattle.value.specs.declared.comparisons.Comparison.TheVariants.{Equal, NotEqual, Less, AtMost, Greater, AtLeast}
+use Rattle.table.specs.Rows.{Layout, Tables, layout_of, names_of, position_of}
+use Rattle.table.specs.declared.aggregates.Aggregate.{Aggregate}
+use Rattle.table.specs.declared.aggregates.Aggregate.TheVariants.{CountRows}
+use Rattle.cond.specs.declared.conds.Cond.{Cond}
+use Rattle.cond.specs.declared.conds.Cond.TheViews as cond_of
+use Rattle.assertion.specs.declared.linked_queries.Linked.{Linked}
+use Rattle.assertion.specs.declared.plain_queries.Plain.{Plain}
+use Rattle.assertion.specs.declared.forms.Form.{Form}
+use Rattle.assertion.specs.declared.forms.Form.TheVariants.{ByRow, ByGroup, Single}
+use Rattle.syntax.specs.declared.trees.ColumnName.{ColumnName}
+use Rattle.syntax.specs.declared.trees.Condition.{Condition, out-Condition, roll-out-Condition}
+use Rattle.syntax.specs.declared.trees.Condition.TheOpen.{Condition-F, Expression-F, Listed-F}
+use Rattle.syntax.specs.declared.trees.Expression.{Expression, out-Expression}
+use Rattle.syntax.specs.declared.trees.Listed.{Listed, out-Listed}
+use Rattle.syntax.specs.declared.trees.Query.{Query, out-Query}
+use Rattle.name_check.specs.Scopes.{Scope, named_in, is_name_of, own_column}
+use Rattle.value.specs.Results.{and_then, each}
+use Rattle.form_check.specs.Results.{in_class, only_if}
+use Rattle.form_check.specs.Columns.{no_column, in_group, grouping_column}
+use Rattle.form_check.specs.Leaves.{Leaf, Leaves, numbered}
+use Rattle.form_check.specs.Queries.{Source, sourced, source_of, alone, aggregate_in, aggregate_selected, expression_may_stand, selection_may_stand, row_condition, row_filter, of_column, selected_aggregate, may_be_selected}
+use Rattle.form_check.specs.Forms.{Clauses, plain, plain_by, plain_value, aggregate_of, row_where, by_row, having_over, by_group, by_clauses, not_exists, single, denied, form_in, form_of, linked}
+use Rattle.meaning.specs.Class as class
+use Rattle.meaning.specs.Class.{Piece, Pieces, Each, IfWritten, columns_in, pieces_in, read_by, named_as, IsColumnAt, IsSimple, IsSimpleList, IsSet, IsSetList, parts_of, condition_pieces, condition_columns, expression_columns, IsOwn, IsOverRows, IsPlainQuery, IsPlainPiece, IsSingle, IsSetFunction, IsGroupQuery, IsLink, IsLinkedWhere, IsLinkedPiece, IsRowWhere, IsRowQuery, IsDenied, IsByRows, IsByGroups, IsInClass}
+use Rattle.form_check.specs.Links.{top_parts, name_in, is_key, linked_column, either, link_between, link_in, link_of, links_in, only_one, own_parts, kept_parts}
+use Rattle.form_check.specs.Forms.{linked_where}
+use Rattle.syntax.specs.declared.trees.Condition.TheFolds.{map-Condition, map-Expression, fold_out-Condition, fold_out-Expression}
+use Rattle.std.proofs.Common.{arith}
+use Rattle.std.proofs.lemmas.Bool.Decides.{nat_tests}
+use Rattle.meaning.proofs.Links.{one_test, linked_column_is, either_is, linked_where_ok}
+use Rattle.meaning.specs.Laws as law
+use Rattle.meaning.proofs.Steps.{and_then_ok, in_class_ok, only_if_ok}
+use Rattle.meaning.proofs.Rows.{alone_ok}
+use Rattle.meaning.proofs.Queries.{plain_by_ok, some_same}
+use Rattle.meaning.proofs.Groups.{in_group_is}
+use Rattle.meaning.proofs.Whole.{by_clauses_ok}
+use Rattle.meaning.proofs.Standing.{leaf_of, MayStand, condition_numbers, some_is, columns_of, pieces_at, each_append, condition_pieces_rolled}
+
+-- it is answered
+abbrev pub Answers : {A : Type 0} → Result A Refusal → Type 0
+Answers {A} r = (a : A) × (r ≡ Ok a)
+
+pub none_is : {A : Type 0} (o : Option A) → IsNone o → o ≡ None
+none_is None h = refl
+none_is (Some a) h = cc
+
+-- ---- conditions of one table
+
+equal_itself : (n : ℕ) → n == n ≡ true
+equal_itself n = grind (arith, nat_tests)
+
+no_pieces : (ps : Pieces) → map leaf_of ps ≡ [] → ps ≡ []
+no_pieces [] e = refl
+no_pieces (p ∷ ps) e = cc
+
+over_rows : (scope : Scope) (c : Condition) → Answers (row_condition scope c) → IsOverRows scope c
+over_rows scope c (made, e) =
+    let (m, (is, rest)) = and_then_ok (numbered (own_column scope) c []) (λ m. alone m.0 m.1) made e in
+    let (same, none) = alone_ok m.0 m.1 made rest in
+    let (columns, leaves) = (condition_numbers (own_column scope) c).says [] m.0 m.1 is in
+    record { columns = columns; alone = no_pieces (pieces_in c) (sym leaves ∙ none) }
+
+rows_over : (scope : Scope) (c : Condition) → IsOverRows scope c → Answers (row_condition scope c)
+rows_over scope c over =
+    let (made, is) = (condition_numbers (own_column scope) c).finds [] over.columns in
+    (made, ap (λ r. and_then r (λ m. alone m.0 m.1)) is ∙ ap (λ ps. alone made (map leaf_of ps)) over.alone)
+
+over_filter : (scope : Scope) (c : Option Condition) → Answers (row_filter scope c) → IfWritten (IsOverRows scope) c
+over_filter scope None h = tt
+over_filter scope (Some c) h = over_rows scope c h
+
+filter_over : (scope : Scope) (c : Option Condition) → IfWritten (IsOverRows scope) c → Answers (row_filter scope c)
+filter_over scope None h = (cond_of.And [], refl)
+filter_over scope (Some c) h = rows_over scope c h
+
+-- ---- slots one after the other
+
+each_of : {X A : Type 0} (make : X → Result A Refusal) (P : X → Type 0) → ((x : X) → Answers (make x) → P x) → (xs : List X) → Answers (each make xs) → Each P xs
+each_of make P one [] h = tt
+each_of {A = A} make P one (x ∷ xs) (made, e) =
+    let (a, (is, more)) = and_then_ok (make x) (λ a. and_then (each make xs) (λ others. let r : Result (List A) Refusal = Ok (a ∷ others) in r)) made e in
+    let (others, (are, makes)) = and_then_ok (each make xs) (λ others. let r : Result (List A) Refusal = Ok (a ∷ others) in r) made more in
+    (one x (a, is), each_of make P one xs (others, are))
+
+of_each : {X A : Type 0} (make : X → Result A Refusal) (P : X → Type 0) → ((x : X) → P x → Answers (make x)) → (xs : List X) → Each P xs → Answers (each make xs)
+of_each {A = A} make P one [] h = let none : List A = [] in (none, refl)
+of_each {A = A} make P one (x ∷ xs) h =
+    let (a, is) = one x h.0 in
+    let (others, are) = of_each make P one xs h.1 in
+    (a ∷ others, ap (λ r. and_then r (λ a. and_then (each make xs) (λ others. let r : Result (List A) Refusal = Ok (a ∷ others) in r))) is ∙ ap (λ r. and_then r (λ others. let r : Result (List A) Refusal = Ok (a ∷ others) in r)) are)
+
+each_mapped : {X Y A : Type 0} (make : Y → Result A Refusal) (f : X → Y) (xs : List X) → each make (map f xs) ≡ each (λ x. make (f x)) xs
+each_mapped make f [] = refl
+each_mapped {A = A} make f (x ∷ xs) = ap (λ r. and_then (make (f x)) (λ a. and_then r (λ others. let r : Result (List A) Refusal = Ok (a ∷ others) in r))) (each_mapped make f xs)
+
+-- what stands in the slots of pieces
+pieces_of : {A : Type 0} (make : Leaf → Result A Refusal) (P : Piece → Type 0) → ((p : Piece) → Answers (make (leaf_of p)) → P p) → (leaves : Leaves) (ps : Pieces) → leaves ≡ map leaf_of ps → Answers (each make leaves) → Each P ps
+pieces_of make P one leaves ps same (made, e) = each_of (λ p. make (leaf_of p)) P one ps (made, sym (each_mapped make leaf_of ps) ∙ ap (each make) (sym same) ∙ e)
+
+of_pieces : {A : Type 0} (make : Leaf → Result A Refusal) (P : Piece → Type 0) → ((p : Piece) → P p → Answers (make (leaf_of p))) → (ps : Pieces) → Each P ps → Answers (each make (map leaf_of ps))
+of_pieces make P one ps h = let (made, is) = of_each (λ p. make (leaf_of p)) P one ps h in (made, each_mapped make leaf_of ps ∙ is)
+
+each_other : {X : Type 0} (P Q : X → Type 0) → ((x : X) → P x → Q x) → (xs : List X) → Each P xs → Each Q xs
+each_other P Q one [] h = tt
+each_other P Q one (x ∷ xs) h = (one x h.0, each_other P Q one xs h.1)
+
+-- ---- the table that a query reads
+
+source_read : (name : List ℕ) (p : Option ℕ) (l : Option Layout) (source : Source) → sourced name p l ≡ Some source → option_map (named_as name) l ≡ Some source.scope
+source_read name None l source e = cc
+source_read name (Some t) None source e = cc
+source_read name (Some t) (Some l) source e =
+    let found : Source = record { table = t; scope = named_as name l } in ap (λ (s : Source). let o : Option Scope = Some s.scope in o) (some_same found source e)
+
+reads_scope : (tables : Tables) (query : Query) (source : Source) → source_of tables (out-Query query).table (out-Query query).alias ≡ Some source → read_by tables (out-Query query).table (out-Query query).alias ≡ Some source.scope
+reads_scope tables query source e =
+    let q = out-Query query in source_read (unwrap_or q.alias q.table) (position_of q.table tables) (layout_of q.table tables) source e
+
+within_next : (b : Bool) (first l : Layout) (o : Option Layout) (n k : ℕ) → ◌≡◌ {A = Option Layout} (cond b (Some first) o) (Some l) → (o ≡ Some l → nat_lt n k ≡ true) → nat_lt (cond (not b) (1 + n) 0) (suc k) ≡ true
+within_next true first l o n k e more = grind (arith, nat_tests)
+within_next false first l o n k e more = let less = more e in grind (arith, nat_tests)
+
+within : (name : List ℕ) (tables : Tables) (l : Layout) → layout_of name tables ≡ Some l → nat_lt (position_or_len (pointwise nat_eq name) (names_of tables)) (length (names_of tables)) ≡ true
+within name [] l e = cc
+within name (table ∷ tables) l e =
+    within_next (pointwise nat_eq name table.0) table.1 l (layout_of name tables) (position_or_len (pointwise nat_eq name) (names_of tables)) (length (names_of tables)) e (within name tables l)
+
+pub placed_at : (name : List ℕ) (tables : Tables) (l : Layout) → layout_of name tables ≡ Some l → position_of name tables ≡ Some (position_or_len (pointwise nat_eq name) (names_of tables))
+placed_at name tables l e = ap (λ b. let o : Option ℕ = cond b (Some (position_or_len (pointwise nat_eq name) (names_of tables))) None in o) (within name tables l e)
+
+scope_layout : (name : List ℕ) (o : Option Layout) (scope : Scope) → option_map (named_as name) o ≡ Some scope → (l : Layout) × ((o ≡ Some l) × (named_as name l ≡ scope))
+scope_layout name None scope e = cc
+scope_layout name (Some l) scope e = (l, (refl, some_same (named_as name l) scope e))
+
+-- and so it has a place
+scope_reads : (tables : Tables) (query : Query) (scope : Scope) → read_by tables (out-Query query).table (out-Query query).alias ≡ Some scope → (t : ℕ) × (source_of tables (out-Query query).table (out-Query query).alias ≡ Some (record { table = t; scope = scope }))
+scope_reads tables query scope e =
+    let q = out-Query query in
+    let name = unwrap_or q.alias q.table in
+    let (l, (is, same)) = scope_layout name (layout_of q.table tables) scope e in
+    let t = position_or_len (pointwise nat_eq q.table) (names_of tables) in
+    (t, ap (λ p. sourced name p (layout_of q.table tables)) (placed_at q.table tables l is) ∙ ap (sourced name (Some t)) is ∙ ap (λ (scope : Scope). let o : Option Source = Some (record { table = t; scope = scope }) in o) same)
+
+-- ---- select lists
+
+module _ (place : ColumnName → Option ℕ) (P : ColumnName → Type 0) (of_place : (c : ColumnName) → IsSome (place c) → P c) (to_place : (c : ColumnName) → P c → IsSome (place c)) where
+  simple_layer : (layer : Expression-F Condition Expression Listed Query) → expression_may_stand place layer ≡ true → IsSimple P layer
+  simple_layer (Expression-F.Number n) e = tt
+  simple_layer (Expression-F.Text t) e = tt
+  simple_layer (Expression-F.Column c) e = of_place c e
+  simple_layer Expression-F.CountRows e = cc
+  simple_layer (Expression-F.Aggregate f c) e = cc
+  simple_layer (Expression-F.Subquery query) e = cc
+  simple_layer (Expression-F.Negation part) e = cc
+  simple_layer (Expression-F.Sum parts) e = cc
+  simple_layer (Expression-F.Product parts) e = cc
+
+  layer_simple : (layer : Expression-F Condition Expression Listed Query) → IsSimple P layer → expression_may_stand place layer ≡ true
+  layer_simple (Expression-F.Number n) h = refl
+  layer_simple (Expression-F.Text t) h = refl
+  layer_simple (Expression-F.Column c) h = to_place c h
+  layer_simple Expression-F.CountRows h = absurd h
+  layer_simple (Expression-F.Aggregate f c) h = absurd h
+  layer_simple (Expression-F.Subquery query) h = absurd h
+  layer_simple (Expression-F.Negation part) h = absurd h
+  layer_simple (Expression-F.Sum parts) h = absurd h
+  layer_simple (Expression-F.Product parts) h = absurd h
+
+  list_layer : (layer : Listed-F Condition Expression Listed Query) → selection_may_stand place layer ≡ true → IsSimpleList P layer
+  list_layer Listed-F.Star e = tt
+  list_layer (Listed-F.One x) e = simple_layer (out-Expression x) e
+
+  layer_list : (layer : Listed-F Condition Expression Listed Query) → IsSimpleList P layer → selection_may_stand place layer ≡ true
+  layer_list Listed-F.Star h = refl
+  layer_list (Listed-F.One x) h = layer_simple (out-Expression x) h
+
+  simple_list : (list : Listed) → may_be_selected place list ≡ true → IsSimpleList P (out-Listed list)
+  simple_list list e = list_layer (out-Listed list) e
+
+  list_simple : (list : Listed) → IsSimpleList P (out-Listed list) → may_be_selected place list ≡ true
+  list_simple list h = layer_list (out-Listed list) h
+
+own_list : (scope : Scope) (list : Listed) → may_be_selected (own_column scope) list ≡ true → IsSimpleList (IsOwn scope) (out-Listed list)
+own_list scope list e = simple_list (own_column scope) (IsOwn scope) (λ c h. h) (λ c h. h) list e
+
+list_own : (scope : Scope) (list : Listed) → IsSimpleList (IsOwn scope) (out-Listed list) → may_be_selected (own_column scope) list ≡ true
+list_own scope list h = list_simple (own_column scope) (IsOwn scope) (λ c h. h) (λ c h. h) list h
+
+-- the grouping column
+grouped_at : (group : ℕ) (o : Option ℕ) → IsSome (in_group group o) → o ≡ Some group
+grouped_at group o h = let (c, is) = some_is no_column (in_group group o) h in (in_group_is group o c is).0
+
+at_group : (group : ℕ) (o : Option ℕ) → o ≡ Some group → IsSome (in_group group o)
+at_group group o e = ap (λ o. is_some (in_group group o)) e ∙ ap (λ b. let o : Option ℕ = cond b (Some 0) None in is_some o) (equal_itself group)
+
+group_list : (scope : Scope) (group : ℕ) (list : Listed) → may_be_selected (grouping_column scope group) list ≡ true → IsSimpleList (IsColumnAt scope group) (out-Listed list)
+group_list scope group list e = simple_list (grouping_column scope group) (IsColumnAt scope group) (λ c h. grouped_at group (own_column scope c) h) (λ c h. at_group group (own_column scope c) h) list e
+
+list_group : (scope : Scope) (group : ℕ) (list : Listed) → IsSimpleList (IsColumnAt scope group) (out-Listed list) → may_be_selected (grouping_column scope group) list ≡ true
+list_group scope group list h = list_simple (grouping_column scope group) (IsColumnAt scope group) (λ c h. grouped_at group (own_column scope c) h) (λ c h. at_group group (own_column scope c) h) list h
+
+-- one set function
+some_mapped : {A B : Type 0} (f : A → B) (o : Option A) → is_some (option_map f o) ≡ is_some o
+some_mapped f None = refl
+some_mapped f (Some a) = refl
+
+set_layer : (scope : Scope) (layer : Expression-F Condition Expression Listed Query) → is_some (aggregate_in scope layer) ≡ true → IsSet scope layer
+set_layer scope (Expression-F.Number n) e = cc
+set_layer scope (Expression-F.Text t) e = cc
+set_layer scope (Expression-F.Column c) e = cc
+set_layer scope Expression-F.CountRows e = tt
+set_layer scope (Expression-F.Aggregate f c) e = sym (some_mapped (of_column f) (own_column scope c)) ∙ e
+set_layer scope (Expression-F.Subquery query) e = cc
+set_layer scope (Expression-F.Negation part) e = cc
+set_layer scope (Expression-F.Sum parts) e = cc
+set_layer scope (Expression-F.Product parts) e = cc
+
+layer_set : (scope : Scope) (layer : Expression-F Condition Expression Listed Query) → IsSet scope layer → is_some (aggregate_in scope layer) ≡ true
+layer_set scope (Expression-F.Number n) h = absurd h
+layer_set scope (Expression-F.Text t) h = absurd h
+layer_set scope (Expression-F.Column c) h = absurd h
+layer_set scope Expression-F.CountRows h = refl
+layer_set scope (Expression-F.Aggregate f c) h = some_mapped (of_column f) (own_column scope c) ∙ h
+layer_set scope (Expression-F.Subquery query) h = absurd h
+layer_set scope (Expression-F.Negation part) h = absurd h
+layer_set scope (Expression-F.Sum parts) h = absurd h
+layer_set scope (Expression-F.Product parts) h = absurd h
+
+set_list_layer : (scope : Scope) (layer : Listed-F Condition Expression Listed Query) → is_some (aggregate_selected scope layer) ≡ true → IsSetList scope layer
+set_list_layer scope Listed-F.Star e = cc
+set_list_layer scope (Listed-F.One x) e = set_layer scope (out-Expression x) e
+
+layer_set_list : (scope : Scope) (layer : Listed-F Condition Expression Listed Query) → IsSetList scope layer → is_some (aggregate_selected scope layer) ≡ true
+layer_set_list scope Listed-F.Star h = absurd h
+layer_set_list scope (Listed-F.One x) h = layer_set scope (out-Expression x) h
+
+set_list : (scope : Scope) (list : Listed) → IsSome (selected_aggregate scope list) → IsSetList scope (out-Listed list)
+set_list scope list e = set_list_layer scope (out-Listed list) e
+
+list_set : (scope : Scope) (list : Listed) → IsSetList scope (out-Listed list) → IsSome (selected_aggregate scope list)
+list_set scope list h = layer_set_list scope (out-Listed list) h
+
+-- ---- single conditions
+
+plain_query : (tables : Tables) (query : Query) → Answers (plain_value tables (out-Query query)) → IsPlainQuery tables query
+plain_query tables query (p, e) =
+    let q = out-Query query in
+    let (source, (found, more)) = in_class_ok (source_of tables q.table q.alias) (λ source. plain_by source (selected_aggregate source.scope q.listed) q.keeps q.group q.having) p e in
+    let (no_group, (no_having, (function, (lists, (kept, (filters, makes)))))) = plain_by_ok source (selected_aggregate source.scope q.listed) q.keeps q.group q.having p more in
+    record { scope = source.scope; reads = reads_scope tables query source found; lists = set_list source.scope q.listed (ap is_some lists); kept = over_filter source.scope q.keeps (kept, filters); ungrouped = ap is_some no_group; whole = ap is_some no_having }
+
+query_plain : (tables : Tables) (query : Query) → IsPlainQuery tables query → Answers (plain_value tables (out-Query query))
+query_plain tables query is =
+    let q = out-Query query in
+    let scope = is.scope in
+    let (t, reads) = scope_reads tables query scope is.reads in
+    let source : Source = record { table = t; scope = scope } in
+    let (a, lists) = some_is no_column (selected_aggregate scope q.listed) (list_set scope q.listed is.lists) in
+    let (kept, filters) = filter_over scope q.keeps is.kept in
+    let make : Aggregate → Cond → Plain = λ a kept. record { table = t; kept = kept; aggregate = a } in (
+      make a kept,
+      ap (λ o. in_class o (λ source. plain_by source (selected_aggregate source.scope q.listed) q.keeps q.group q.having)) reads
+          ∙ ap (λ g. plain_by source (selected_aggregate scope q.listed) q.keeps g q.having) (none_is q.group is.ungrouped)
+          ∙ ap (λ h. plain_by source (selected_aggregate scope q.listed) q.keeps None h) (none_is q.having is.whole)
+          ∙ ap (λ o. plain_by source o q.keeps None None) lists
+          ∙ ap (λ r. and_then r (λ kept. let r : Result Plain Refusal = Ok (make a kept) in r)) filters,
+    )
+
+plain_leaf_is : (tables : Tables) (p : Piece) → Answers (plain tables (leaf_of p)) → IsPlainPiece tables p
+plain_leaf_is tables class.Rows (p, e) = cc
+plain_leaf_is tables (class.Of f c) (p, e) = cc
+plain_leaf_is tables (class.Exists query) (p, e) = cc
+plain_leaf_is tables (class.Value query) h = plain_query tables query h
+
+leaf_is_plain : (tables : Tables) (p : Piece) → IsPlainPiece tables p → Answers (plain tables (leaf_of p))
+leaf_is_plain tables class.Rows h = absurd h
+leaf_is_plain tables (class.Of f c) h = absurd h
+leaf_is_plain tables (class.Exists query) h = absurd h
+leaf_is_plain tables (class.Value query) h = query_plain tables query h
+
+no_columns : (cs : List ColumnName) → Each (MayStand no_column) cs → cs ≡ []
+no_columns [] h = refl
+no_columns (c ∷ cs) h = let k : false ≡ true = h.0 in cc
+
+pub single_class : (tables : Tables) (c : Condition) → Answers (single tables c) → IsSingle tables c
+single_class tables c (form, e) =
+    let (m, (is, more)) = and_then_ok (numbered no_column c []) (λ m. and_then (each (plain tables) m.1) (λ queries. let r : Result Form Refusal = Ok (Single m.0 queries) in r)) form e in
+    let (queries, (are, makes)) = and_then_ok (each (plain tables) m.1) (λ queries. let r : Result Form Refusal = Ok (Single m.0 queries) in r) form more in
+    let (columns, leaves) = (condition_numbers no_column c).says [] m.0 m.1 is in
+    record { columns = no_columns (columns_in c) columns; queries = pieces_of (plain tables) (IsPlainPiece tables) (plain_leaf_is tables) m.1 (pieces_in c) leaves (queries, are) }
+
+pub class_single : (tables : Tables) (c : Condition) → IsSingle tables c → Answers (single tables c)
+class_single tables c h =
+    let (made, is) = (condition_numbers no_column c).finds [] (subst (Each (MayStand no_column)) (sym h.columns) tt) in
+    let (queries, are) = of_pieces (plain tables) (IsPlainPiece tables) (leaf_is_plain tables) (pieces_in c) h.queries in (
+      Single made queries,
+      ap (λ r. and_then r (λ m. and_then (each (plain tables) m.1) (λ queries. let r : Result Form Refusal = Ok (Single m.0 queries) in r))) is
+          ∙ ap (λ r. and_then r (λ queries. let r : Result Form Refusal = Ok (Single made queries) in r)) are,
+    )
+
+-- ---- by groups
+
+set_leaf : (scope : Scope) (p : Piece) → Answers (aggregate_of scope (leaf_of p)) → IsSetFunction scope p
+set_leaf scope class.Rows h = tt
+set_leaf scope (class.Of f column) (a, e) =
+    let (c, (is, makes)) = in_class_ok (own_column scope column) (λ c. let r : Result Aggregate Refusal = Ok (of_column f c) in r) a e in ap is_some is
+set_leaf scope (class.Exists query) (a, e) = cc
+set_leaf scope (class.Value query) (a, e) = cc
+
+leaf_set : (scope : Scope) (p : Piece) → IsSetFunction scope p → Answers (aggregate_of scope (leaf_of p))
+leaf_set scope class.Rows h = (CountRows, refl)
+leaf_set scope (class.Of f column) h =
+    let (c, is) = some_is no_column (own_column scope column) h in
+    (of_column f c, ap (λ o. in_class o (λ c. let r : Result Aggregate Refusal = Ok (of_column f c) in r)) is)
+leaf_set scope (class.Exists query) h = absurd h
+leaf_set scope (class.Value query) h = absurd h
+
+group_class : (source : Source) (query : Clauses) (column : ColumnName) (having : Condition) → Answers (by_group source query column having)
+    → (group : ℕ) × ((own_column source.scope column ≡ Some group) × (IsSimpleList (IsColumnAt source.scope group) (out-Listed query.listed) × (IfWritten (IsOverRows source.scope) query.keeps × (Each (IsColumnAt source.scope group) (columns_in having) × Each (IsSetFunction source.scope) (pieces_in having)))))
+group_class source query column having (form, e) =
+    let scope = source.scope in
+    let (group, (own, more)) = in_class_ok (own_column scope column) (λ group. only_if (may_be_selected (grouping_column scope group) query.listed) (and_then (row_filter scope query.keeps) (λ kept. having_over source group kept having))) form e in
+    let (lists, rest) = only_if_ok (may_be_selected (grouping_column scope group) query.listed) (and_then (row_filter scope query.keeps) (λ kept. having_over source group kept having)) form more in
+    let (kept, (filters, over)) = and_then_ok (row_filter scope query.keeps) (λ kept. having_over source group kept having) form rest in
+    let (m, (is, made)) = and_then_ok (numbered (grouping_column scope group) having []) (λ made. and_then (each (aggregate_of scope) made.1) (λ aggregates. let r : Result Form Refusal = Ok (ByGroup source.table kept group made.0 aggregates) in r)) form over in
+    let (aggregates, (are, makes)) = and_then_ok (each (aggregate_of scope) m.1) (λ aggregates. let r : Result Form Refusal = Ok (ByGroup source.table kept group m.0 aggregates) in r) form made in
+    let (columns, leaves) = (condition_numbers (grouping_column scope group) having).says [] m.0 m.1 is in
+    (group, (own, (group_list scope group query.listed lists, (over_filter scope query.keeps (kept, filters), (each_other (MayStand (grouping_column scope group)) (IsColumnAt scope group) (λ c h. grouped_at group (own_column scope c) h) (columns_in having) columns, pieces_of (aggregate_of scope) (IsSetFunction scope) (set_leaf scope) m.1 (pieces_in having) leaves (aggregates, are))))))
+
+class_group : (source : Source) (query : Clauses) (column : ColumnName) (having : Condition) (group : ℕ) → own_column source.scope column ≡ Some group → IsSimpleList (IsColumnAt source.scope group) (out-Listed query.listed) → IfWritten (IsOverRows source.scope) query.keeps
+    → Each (IsColumnAt source.scope group) (columns_in having) → Each (IsSetFunction source.scope) (pieces_in having) → Answers (by_group source query column having)
+class_group source query column having group own lists keeps columns leaves =
+    let scope = source.scope in
+    let (kept, filters) = filter_over scope query.keeps keeps in
+    let (made, is) = (condition_numbers (grouping_column scope group) having).finds [] (each_other (IsColumnAt scope group) (MayStand (grouping_column scope group)) (λ c h. at_group group (own_column scope c) h) (columns_in having) columns) in
+    let (aggregates, are) = of_pieces (aggregate_of scope) (IsSetFunction scope) (leaf_set scope) (pieces_in having) leaves in (
+      ByGroup source.table kept group made aggregates,
+      ap (λ o. in_class o (λ group. only_if (may_be_selected (grouping_column scope group) query.listed) (and_then (row_filter scope query.keeps) (λ kept. having_over source group kept having)))) own
+          ∙ ap (λ b. only_if b (and_then (row_filter scope query.keeps) (λ kept. having_over source group kept having))) (list_group scope group query.listed lists)
+          ∙ ap (λ r. and_then r (λ kept. having_over source group kept having)) filters
+          ∙ ap (λ r. and_then r (λ made. and_then (each (aggregate_of scope) made.1) (λ aggregates. let r : Result Form Refusal = Ok (ByGroup source.table kept group made.0 aggregates) in r))) is
+          ∙ ap (λ r. and_then r (λ aggregates. let r : Result Form Refusal = Ok (ByGroup source.table kept group made aggregates) in r)) are,
+    )
+
+-- ---- links
+
+named : (layer : Expression-F Condition Expression Listed Query) (column : ColumnName) → name_in layer ≡ Some column → layer ≡ Expression-F.Column column
+named (Expression-F.Number n) column e = cc
+named (Expression-F.Text t) column e = cc
+named (Expression-F.Column c) column e = ap (λ c. let l : Expression-F Condition Expression Listed Query = Expression-F.Column c in l) (ap (λ o. elim o [ None ↦ c | Some x ↦ x ]) e)
+named Expression-F.CountRows column e = cc
+named (Expression-F.Aggregate f c) column e = cc
+named (Expression-F.Subquery query) column e = cc
+named (Expression-F.Negation part) column e = cc
+named (Expression-F.Sum parts) column e = cc
+named (Expression-F.Product parts) column e = cc
+
+module _ (child root : Scope) where
+  link_names : (part : Condition) (left right : Expression) → out-Condition part ≡ Condition-F.Compare left Equal right → (l r : Option ColumnName) → name_in (out-Expression left) ≡ l → name_in (out-Expression right) ≡ r → (c : ℕ) → link_between child root l r ≡ Some c → IsLink child root part
+  link_names part left right out None r e f c is = cc
+  link_names part left right out (Some l) None e f c is = cc
+  link_names part left right out (Some l) (Some r) e f c is = record {
+    left = left;
+    right = right;
+    equality = out;
+    sides =
+        ⊎_elim
+        (λ one. let (none, (key, own)) = linked_column_is child root l r c one in inl ((l, named (out-Expression left) l e, ap is_some own), (r, named (out-Expression right) r f, (none, key))))
+        (λ two. let (none, (key, own)) = linked_column_is child root r l c two in inr ((r, named (out-Expression right) r f, ap is_some own), (l, named (out-Expression left) l e, (none, key))))
+        (either_is (linked_column child root l r) (linked_column child root r l) c is);
+  }
+
+  link_layer : (part : Condition) (layer : Condition-F Condition Expression Listed Query) → out-Condition part ≡ layer → (c : ℕ) → link_in child root layer ≡ Some c → IsLink child root part
+  link_layer part (Condition-F.Or parts) out c e = cc
+  link_layer part (Condition-F.And parts) out c e = cc
+  link_layer part (Condition-F.Not inner) out c e = cc
+  link_layer part (Condition-F.Is inner wanted) out c e = cc
+  link_layer part (Condition-F.Exists query) out c e = cc
+  link_layer part (Condition-F.Compare left Equal right) out c e = link_names part left right out (name_in (out-Expression left)) (name_in (out-Expression right)) refl refl c e
+  link_layer part (Condition-F.Compare left NotEqual right) out c e = cc
+  link_layer part (Condition-F.Compare left Less right) out c e = cc
+  link_layer part (Condition-F.Compare left AtMost right) out c e = cc
+  link_layer part (Condition-F.Compare left Greater right) out c e = cc
+  link_layer part (Condition-F.Compare left AtLeast right) out c e = cc
+  link_layer part (Condition-F.IsNull x) out c e = cc
+  link_layer part (Condition-F.Between x low high) out c e = cc
+  link_layer part (Condition-F.In x list) out c e = cc
+
+  link_is : (part : Condition) (c : ℕ) → link_of child root part ≡ Some c → IsLink child root part
+  link_is part c e = link_layer part (out-Condition part) refl c e
+
+  inner_first : (l r : ColumnName) (c : ℕ) → own_column child l ≡ Some c → is_name_of r.qualifier r.name child ≡ false → own_column root r ≡ Some root.layout.key → linked_column child root l r ≡ Some c
+  inner_first l r c own none key =
+      ap (λ b. if is_key root (if b then None else own_column root r) then own_column child l else None) none
+      ∙ ap (λ o. if is_key root o then own_column child l else None) key ∙ ap (λ b. if b then own_column child l else None) (equal_itself root.layout.key) ∙ own
+
+  inner_hidden : (l r : ColumnName) (c : ℕ) → own_column child r ≡ Some c → linked_column child root l r ≡ None
+  inner_hidden l r c own = ap (λ b. if is_key root (if b then None else own_column root r) then own_column child l else None) (one_test (is_name_of r.qualifier r.name child) (named_in r.name child) c own).0
+
+  is_link : (part : Condition) → IsLink child root part → (c : ℕ) × (link_of child root part ≡ Some c)
+  is_link part h =
+      ⊎_elim
+      (λ one.
+      let l = one.0.0 in let r = one.1.0 in
+      let (c, own) = some_is no_column (own_column child l) one.0.2 in (
+        c,
+        ap (link_in child root) h.equality ∙ ap (λ x. link_between child root (name_in x) (name_in (out-Expression h.right))) one.0.1 ∙ ap (λ x. link_between child root (Some l) (name_in x)) one.1.1
+            ∙ ap (λ o. either o (linked_column child root r l)) (inner_first l r c own one.1.2.0 one.1.2.1),
+      ))
+      (λ two.
+      let r = two.0.0 in let l = two.1.0 in
+      let (c, own) = some_is no_column (own_column child r) two.0.2 in (
+        c,
+        ap (link_in child root) h.equality ∙ ap (λ x. link_between child root (name_in x) (name_in (out-Expression h.right))) two.1.1 ∙ ap (λ x. link_between child root (Some l) (name_in x)) two.0.1
+            ∙ ap (λ o. either o (linked_column child root r l)) (inner_hidden l r c own) ∙ inner_first r l c own two.1.2.0 two.1.2.1,
+      ))
+      h.sides
+
+  -- a link names a column that is not the child's, so it is not over the child's rows
+  name_columns : (x : Expression) (name : ColumnName) → out-Expression x ≡ Expression-F.Column name → columns_of x ≡ name ∷ []
+  name_columns x name e =
+      fold_out-Expression (List ColumnName) (List ColumnName) (Unit {0}) (Unit {0}) condition_columns expression_columns (λ l. tt) (λ q. tt) x
+      ∙ ap (λ layer. expression_columns (map-Expression Condition Expression Listed Query (List ColumnName) (List ColumnName) (Unit {0}) (Unit {0}) columns_in columns_of (λ l. tt) (λ q. tt) layer)) e
+
+  sides_columns : (part : Condition) (left right : Expression) → out-Condition part ≡ Condition-F.Compare left Equal right → columns_in part ≡ columns_of left ++ columns_of right
+  sides_columns part left right e =
+      fold_out-Condition (List ColumnName) (List ColumnName) (Unit {0}) (Unit {0}) condition_columns expression_columns (λ l. tt) (λ q. tt) part
+      ∙ ap (λ layer. condition_columns (map-Condition Condition Expression Listed Query (List ColumnName) (List ColumnName) (Unit {0}) (Unit {0}) columns_in columns_of (λ l. tt) (λ q. tt) layer)) e
+
+  hidden : (name : ColumnName) → IsOwn child name → is_name_of name.qualifier name.name child ≡ false → ⊥
+  hidden name own none = let e : is_some (own_column child name) ≡ false = ap (λ b. is_some (if b then named_in name.name child else None)) none in let k : true ≡ false = sym own ∙ e in cc
+
+  not_both : (part : Condition) → IsOverRows child part → IsLink child root part → ⊥
+  not_both part over h =
+      let (on_left, on_right) = (each_append (IsOwn child) (columns_of h.left) (columns_of h.right)).0 (subst (Each (IsOwn child)) (sides_columns part h.left h.right h.equality) over.columns) in
+      ⊎_elim
+      (λ one. hidden one.1.0 (subst (Each (IsOwn child)) (name_columns h.right one.1.0 one.1.1) on_right).0 one.1.2.0)
+      (λ two. hidden two.1.0 (subst (Each (IsOwn child)) (name_columns h.left two.1.0 two.1.1) on_left).0 two.1.2.0)
+      h.sides
+
+  no_link : (part : Condition) → IsOverRows child part → link_of child root part ≡ None
+  no_link part over =
+      let case : (o : Option ℕ) → link_of child root part ≡ o → o ≡ None = λ o. elim o as (λ o. link_of child root part ≡ o → o ≡ None) [ None ↦ λ e. refl | Some c ↦ λ e. absurd (not_both part over (link_is part c e)) ]
+      in case (link_of child root part) refl
+
+  -- ---- the parts of a linked WHERE
+
+  none_left : (parts : List Condition) → links_in child root parts ≡ [] → own_parts child root parts ≡ parts
+  none_left [] e = refl
+  none_left (part ∷ parts) e =
+      let case : (o : Option ℕ) → option_to_list o ++ links_in child root parts ≡ [] → cond (is_none o) (part ∷ own_parts child root parts) (own_parts child root parts) ≡ part ∷ parts = λ o. elim o as (λ o. option_to_list o ++ links_in child root parts ≡ [] → cond (is_none o) (part ∷ own_parts child root parts) (own_parts child root parts) ≡ part ∷ parts) [
+        | None ↦ λ e. ap (λ ps. part ∷ ps) (none_left parts e)
+        | Some c ↦ λ e. cc
+      ] in case (link_of child root part) e
+
+  abbrev Split : List Condition → Type 0
+  Split parts = (before : List Condition) × ((link : Condition) × ((behind : List Condition) × ((parts ≡ before ++ link ∷ behind) × (IsLink child root link × Each (IsOverRows child) (before ++ behind)))))
+
+  split : (parts : List Condition) (c : ℕ) → links_in child root parts ≡ c ∷ [] → Each (IsOverRows child) (own_parts child root parts) → Split parts
+  split [] c e h = cc
+  split (part ∷ parts) c e h =
+      let case : (o : Option ℕ) → link_of child root part ≡ o → option_to_list o ++ links_in child root parts ≡ c ∷ [] → Each (IsOverRows child) (cond (is_none o) (part ∷ own_parts child root parts) (own_parts child root parts)) → Split (part ∷ parts) = λ o. elim o as (λ o. link_of child root part ≡ o → option_to_list o ++ links_in child root parts ≡ c ∷ [] → Each (IsOverRows child) (cond (is_none o) (part ∷ own_parts child root parts) (own_parts child root parts)) → Split (part ∷ parts)) [
+        | None ↦ λ n e h. let (before, (link, (behind, (is, (links, others))))) = split parts c e h.1 in (part ∷ before, (link, (behind, (ap (λ ps. part ∷ ps) is, (links, (h.0, others))))))
+        | Some d ↦ λ s e h.
+            let rest : links_in child root parts ≡ [] = ap (λ (cs : List ℕ). elim cs [ [] ↦ [] | x ∷ xs ↦ xs ]) e in
+            let nothing : List Condition = [] in
+            (nothing, (part, (parts, (refl, (link_is part d s, subst (Each (IsOverRows child)) (none_left parts rest) h)))))
+      ] in case (link_of child root part) refl e h
+
+  own_lists : (parts : List Condition) → Each (IsOverRows child) parts → (links_in child root parts ≡ []) × (own_parts child root parts ≡ parts)
+  own_lists [] h = (refl, refl)
+  own_lists (part ∷ parts) h =
+      let (links, own) = own_lists parts h.1 in
+      let none = no_link part h.0 in
+      (ap (λ o. option_to_list o ++ links_in child root parts) none ∙ links, ap (λ o. cond (is_none o) (part ∷ own_parts child root parts) (own_parts child root parts)) none ∙ ap (λ ps. part ∷ ps) own)
+
+  join : (before behind : List Condition) (link : Condition) (c : ℕ) → link_of child root link ≡ Some c → Each (IsOverRows child) (before ++ behind) → (links_in child root (before ++ link ∷ behind) ≡ c ∷ []) × (own_parts child root (before ++ link ∷ behind) ≡ before ++ behind)
+  join [] behind link c is h =
+      let (links, own) = own_lists behind h in
+      (ap (λ o. option_to_list o ++ links_in child root behind) is ∙ ap (λ cs. c ∷ cs) links, ap (λ o. cond (is_none o) (link ∷ own_parts child root behind) (own_parts child root behind)) is ∙ own)
+  join (part ∷ before) behind link c is h =
+      let (links, own) = join before behind link c is h.1 in
+      let none = no_link part h.0 in
+      let rest = before ++ link ∷ behind in
+      (ap (λ o. option_to_list o ++ links_in child root rest) none ∙ links, ap (λ o. cond (is_none o) (part ∷ own_parts child root rest) (own_parts child root rest)) none ∙ ap (λ ps. part ∷ ps) own)
+
+  only : (cs : List ℕ) (c : ℕ) → only_one cs ≡ Some c → cs ≡ c ∷ []
+  only [] c e = cc
+  only (x ∷ []) c e = ap (λ o. elim o [ None ↦ x ∷ [] | Some y ↦ y ∷ [] ]) e
+  only (x ∷ y ∷ cs) c e = cc
+
+  where_class : (condition : Condition) (c : ℕ) → only_one (links_in child root (top_parts condition)) ≡ Some c → Answers (kept_parts child root (top_parts condition)) → IsLinkedWhere child root condition
+  where_class condition c one kept =
+      let (before, (link, (behind, (is, (links, others))))) = split (top_parts condition) c (only (links_in child root (top_parts condition)) c one) (each_of (row_condition child) (IsOverRows child) (over_rows child) (own_parts child root (top_parts condition)) kept) in
+      record { before = before; link = link; behind = behind; parts = is; links = links; others = others }
+
+  class_where : (condition : Condition) → IsLinkedWhere child root condition → (c : ℕ) × ((only_one (links_in child root (top_parts condition)) ≡ Some c) × Answers (kept_parts child root (top_parts condition)))
+  class_where condition h =
+      let (c, is) = is_link h.link h.links in
+      let (links, own) = join h.before h.behind h.link c is h.others in (
+        c,
+        (
+          ap (λ ps. only_one (links_in child root ps)) h.parts ∙ ap only_one links,
+          subst (λ ps. Answers (each (row_condition child) (own_parts child root ps))) (sym h.parts) (subst (λ ps. Answers (each (row_condition child) ps)) (sym own) (of_each (row_condition child) (IsOverRows child) (rows_over child) (h.before ++ h.behind) h.others)),
+        ),
+      )
+
+-- ---- by rows
+
+abbrev Made : Source → Scope → Option Condition → Option ColumnName → Option Condition → Type 0
+Made child root keeps g h = (condition : Condition) × ((keeps ≡ Some condition) × (IsLinkedWhere child.scope root condition × (IsNone g × IsNone h)))
+
+linked_where_class : (child : Source) (root : Scope) (a : Aggregate) (keeps : Option Condition) (g : Option ColumnName) (h : Option Condition) → Answers (linked_where child root a keeps g h) → Made child root keeps g h
+linked_where_class child root a keeps g h (q, e) =
+    let (no_group, (no_having, (condition, (is, (link, (one, (kept, (are, makes)))))))) = linked_where_ok child root a keeps g h q e in
+    (condition, (is, (where_class child.scope root condition link one (kept, are), (ap is_some no_group, ap is_some no_having))))
+
+class_linked_where : (child : Source) (root : Scope) (a : Aggregate) (keeps : Option Condition) (g : Option ColumnName) (h : Option Condition) → Made child root keeps g h → Answers (linked_where child root a keeps g h)
+class_linked_where child root a keeps g h (condition, (is, (linked, (no_group, no_having)))) =
+    let (link, (one, (kept, are))) = class_where child.scope root condition linked in
+    let make : ℕ → List Cond → Linked = λ link kept. record { table = child.table; kept = cond_of.And kept; link = link; aggregate = a } in (
+      make link kept,
+      ap (λ k. linked_where child root a k g h) is ∙ ap (λ g. linked_where child root a (Some condition) g h) (none_is g no_group) ∙ ap (λ h. linked_where child root a (Some condition) None h) (none_is h no_having)
+          ∙ ap (λ o. in_class o (λ link. and_then (kept_parts child.scope root (top_parts condition)) (λ kept. let r : Result Linked Refusal = Ok (make link kept) in r))) one
+          ∙ ap (λ r. and_then r (λ kept. let r : Result Linked Refusal = Ok (make link kept) in r)) are,
+    )
+
+linked_leaf_class : (tables : Tables) (root : Scope) (p : Piece) → Answers (linked tables root (leaf_of p)) → IsLinkedPiece tables root p
+linked_leaf_class tables root class.Rows (q, e) = cc
+linked_leaf_class tables root (class.Of f c) (q, e) = cc
+linked_leaf_class tables root (class.Exists query) (q, e) =
+    let c = out-Query query in
+    let (child, (found, more)) = in_class_ok (source_of tables c.table c.alias) (λ child. only_if (may_be_selected (own_column child.scope) c.listed) (linked_where child root CountRows c.keeps c.group c.having)) q e in
+    let (lists, rest) = only_if_ok (may_be_selected (own_column child.scope) c.listed) (linked_where child root CountRows c.keeps c.group c.having) q more in
+    let (condition, (is, (where_is, (g, h)))) = linked_where_class child root CountRows c.keeps c.group c.having (q, rest) in
+    record { scope = child.scope; condition = condition; reads = reads_scope tables query child found; lists = own_list child.scope c.listed lists; kept = is; linked = where_is; ungrouped = g; whole = h }
+linked_leaf_class tables root (class.Value query) (q, e) =
+    let c = out-Query query in
+    let (child, (found, more)) = in_class_ok (source_of tables c.table c.alias) (λ child. in_class (selected_aggregate child.scope c.listed) (λ a. linked_where child root a c.keeps c.group c.having)) q e in
+    let (a, (lists, rest)) = in_class_ok (selected_aggregate child.scope c.listed) (λ a. linked_where child root a c.keeps c.group c.having) q more in
+    let (condition, (is, (where_is, (g, h)))) = linked_where_class child root a c.keeps c.group c.having (q, rest) in
+    record { scope = child.scope; condition = condition; reads = reads_scope tables query child found; lists = set_list child.scope c.listed (ap is_some lists); kept = is; linked = where_is; ungrouped = g; whole = h }
+
+class_linked_leaf : (tables : Tables) (root : Scope) (p : Piece) → IsLinkedPiece tables root p → Answers (linked tables root (leaf_of p))
+class_linked_leaf tables root class.Rows h = absurd h
+class_linked_leaf tables root (class.Of f c) h = absurd h
+class_linked_leaf tables root (class.Exists query) h =
+    let c = out-Query query in
+    let (t, reads) = scope_reads tables query h.scope h.reads in
+    let child : Source = record { table = t; scope = h.scope } in
+    let (q, is) = class_linked_where child root CountRows c.keeps c.group c.having (h.condition, (h.kept, (h.linked, (h.ungrouped, h.whole)))) in (
+      q,
+      ap (λ o. in_class o (λ child. only_if (may_be_selected (own_column child.scope) c.listed) (linked_where child root CountRows c.keeps c.group c.having))) reads
+          ∙ ap (λ b. only_if b (linked_where child root CountRows c.keeps c.group c.having)) (list_own h.scope c.listed h.lists) ∙ is,
+    )
+class_linked_leaf tables root (class.Value query) h =
+    let c = out-Query query in
+    let (t, reads) = scope_reads tables query h.scope h.reads in
+    let child : Source = record { table = t; scope = h.scope } in
+    let (a, lists) = some_is no_column (selected_aggregate h.scope c.listed) (list_set h.scope c.listed h.lists) in
+    let (q, is) = class_linked_where child root a c.keeps c.group c.having (h.condition, (h.kept, (h.linked, (h.ungrouped, h.whole)))) in (
+      q,
+      ap (λ o. in_class o (λ child. in_class (selected_aggregate child.scope c.listed) (λ a. linked_where child root a c.keeps c.group c.having))) reads
+          ∙ ap (λ o. in_class o (λ a. linked_where child root a c.keeps c.group c.having)) lists ∙ is,
+    )
+
+row_where_class : (tables : Tables) (root : Scope) (keeps : Option Condition) (made : Cond) (leaves : Leaves) → row_where root keeps ≡ Ok (made, leaves) → Answers (each (linked tables root) leaves) → IfWritten (IsRowWhere tables root) keeps
+row_where_class tables root None made leaves e h = tt
+row_where_class tables root (Some c) made leaves e h =
+    let (columns, are) = (condition_numbers (own_column root) c).says [] made leaves e in
+    record { columns = columns; queries = pieces_of (linked tables root) (IsLinkedPiece tables root) (linked_leaf_class tables root) leaves (pieces_in c) are h }
+
+class_row_where : (tables : Tables) (root : Scope) (keeps : Option Condition) → IfWritten (IsRowWhere tables root) keeps → (made : Cond) × ((leaves : Leaves) × ((row_where root keeps ≡ Ok (made, leaves)) × Answers (each (linked tables root) leaves)))
+class_row_where tables root None h = let none : Leaves = [] in let no_queries : List Linked = [] in (cond_of.And [], (none, (refl, (no_queries, refl))))
+class_row_where tables root (Some c) h =
+    let (made, is) = (condition_numbers (own_column root) c).finds [] h.columns in
+    (made, (map leaf_of (pieces_in c), (is, of_pieces (linked tables root) (IsLinkedPiece tables root) (class_linked_leaf tables root) (pieces_in c) h.queries)))
+
+row_class : (tables : Tables) (source : Source) (query : Clauses) → Answers (by_row tables source query) → IsSimpleList (IsOwn source.scope) (out-Listed query.listed) × IfWritten (IsRowWhere tables source.scope) query.keeps
+row_class tables source query (form, e) =
+    let scope = source.scope in
+    let (lists, rest) = only_if_ok (may_be_selected (own_column scope) query.listed) (and_then (row_where scope query.keeps) (λ made. and_then (each (linked tables scope) made.1) (λ queries. let r : Result Form Refusal = Ok (ByRow source.table made.0 queries) in r))) form e in
+    let (m, (is, more)) = and_then_ok (row_where scope query.keeps) (λ made. and_then (each (linked tables scope) made.1) (λ queries. let r : Result Form Refusal = Ok (ByRow source.table made.0 queries) in r)) form rest in
+    let (queries, (are, makes)) = and_then_ok (each (linked tables scope) m.1) (λ queries. let r : Result Form Refusal = Ok (ByRow source.table m.0 queries) in r) form more in
+    (own_list scope query.listed lists, row_where_class tables scope query.keeps m.0 m.1 is (queries, are))
+
+class_row : (tables : Tables) (source : Source) (query : Clauses) → IsSimpleList (IsOwn source.scope) (out-Listed query.listed) → IfWritten (IsRowWhere tables source.scope) query.keeps → Answers (by_row tables source query)
+class_row tables source query lists keeps =
+    let scope = source.scope in
+    let (made, (leaves, (is, (queries, are)))) = class_row_where tables scope query.keeps keeps in (
+      ByRow source.table made queries,
+      ap (λ b. only_if b (and_then (row_where scope query.keeps) (λ made. and_then (each (linked tables scope) made.1) (λ queries. let r : Result Form Refusal = Ok (ByRow source.table made.0 queries) in r)))) (list_own scope query.listed lists)
+          ∙ ap (λ r. and_then r (λ made. and_then (each (linked tables scope) made.1) (λ queries. let r : Result Form Refusal = Ok (ByRow source.table made.0 queries) in r))) is
+          ∙ ap (λ r. and_then r (λ queries. let r : Result Form Refusal = Ok (ByRow source.table made queries) in r)) are,
+    )
+
+-- ---- NOT EXISTS
+
+exists_class : (tables : Tables) (query : Query) → Answers (not_exists tables (out-Query query)) → IsRowQuery tables query ⊎ IsGroupQuery tables query
+exists_class tables query (form, e) =
+    let q = out-Query query in
+    let (source, (found, more)) = in_class_ok (source_of tables q.table q.alias) (λ source. by_clauses tables source q q.group q.having) form e in
+    ⊎_elim
+    (λ rows. let (lists, keeps) = row_class tables source q (form, rows.1.1) in inl (record { scope = source.scope; reads = reads_scope tables query source found; lists = lists; kept = keeps; ungrouped = ap is_some rows.0; whole = ap is_some rows.1.0 }))
+    (λ groups.
+    let (group, (own, (lists, (keeps, (columns, sets))))) = group_class source q groups.0 groups.1.0 (form, groups.1.1.1.1) in
+    inr (record { scope = source.scope; column = groups.0; group = group; having = groups.1.0; reads = reads_scope tables query source found; grouped = groups.1.1.0; is_own = own; lists = lists; kept = keeps; filtered = groups.1.1.1.0; columns = columns; sets = sets }))
+    (by_clauses_ok tables source q q.group q.having form more)
+
+class_rows : (tables : Tables) (query : Query) → IsRowQuery tables query → Answers (not_exists tables (out-Query query))
+class_rows tables query h =
+    let q = out-Query query in
+    let (t, reads) = scope_reads tables query h.scope h.reads in
+    let source : Source = record { table = t; scope = h.scope } in
+    let (form, is) = class_row tables source q h.lists h.kept in
+    (form, ap (λ o. in_class o (λ source. by_clauses tables source q q.group q.having)) reads ∙ ap (λ g. by_clauses tables source q g q.having) (none_is q.group h.ungrouped) ∙ ap (λ o. by_clauses tables source q None o) (none_is q.having h.whole) ∙ is)
+
+class_groups : (tables : Tables) (query : Query) → IsGroupQuery tables query → Answers (not_exists tables (out-Query query))
+class_groups tables query h =
+    let q = out-Query query in
+    let (t, reads) = scope_reads tables query h.scope h.reads in
+    let source : Source = record { table = t; scope = h.scope } in
+    let (form, is) = class_group source q h.column h.having h.group h.is_own h.lists h.kept h.columns h.sets in
+    (form, ap (λ o. in_class o (λ source. by_clauses tables source q q.group q.having)) reads ∙ ap (λ g. by_clauses tables source q g q.having) h.grouped ∙ ap (λ o. by_clauses tables source q (Some h.column) o) h.filtered ∙ is)
+
+-- ---- all
+
+denied_class : (tables : Tables) (c part : Condition) (layer : Condition-F Condition Expression Listed Query) → out-Condition c ≡ Condition-F.Not part → out-Condition part ≡ layer → Answers (denied tables c layer) → IsInClass tables c
+denied_class tables c part (Condition-F.Or parts) n p h = inr (inr (single_class tables c h))
+denied_class tables c part (Condition-F.And parts) n p h = inr (inr (single_class tables c h))
+denied_class tables c part (Condition-F.Not inner) n p h = inr (inr (single_class tables c h))
+denied_class tables c part (Condition-F.Is inner wanted) n p h = inr (inr (single_class tables c h))
+denied_class tables c part (Condition-F.Exists query) n p h =
+    let denies : IsDenied c query = record { part = part; denies = n; exists = p } in
+    ⊎_elim (λ rows. inl (query, denies, rows)) (λ groups. inr (inl (query, denies, groups))) (exists_class tables query h)
+denied_class tables c part (Condition-F.Compare left comparison right) n p h = inr (inr (single_class tables c h))
+denied_class tables c part (Condition-F.IsNull x) n p h = inr (inr (single_class tables c h))
+denied_class tables c part (Condition-F.Between x low high) n p h = inr (inr (single_class tables c h))
+denied_class tables c part (Condition-F.In x list) n p h = inr (inr (single_class tables c h))
+
+whole_class : (tables : Tables) (c : Condition) (layer : Condition-F Condition Expression Listed Query) → out-Condition c ≡ layer → Answers (form_in tables c layer) → IsInClass tables c
+whole_class tables c (Condition-F.Or parts) e h = inr (inr (single_class tables c h))
+whole_class tables c (Condition-F.And parts) e h = inr (inr (single_class tables c h))
+whole_class tables c (Condition-F.Not part) e h = denied_class tables c part (out-Condition part) e refl h
+whole_class tables c (Condition-F.Is inner wanted) e h = inr (inr (single_class tables c h))
+whole_class tables c (Condition-F.Exists query) e h = inr (inr (single_class tables c h))
+whole_class tables c (Condition-F.Compare left comparison right) e h = inr (inr (single_class tables c h))
+whole_class tables c (Condition-F.IsNull x) e h = inr (inr (single_class tables c h))
+whole_class tables c (Condition-F.Between x low high) e h = inr (inr (single_class tables c h))
+whole_class tables c (Condition-F.In x list) e h = inr (inr (single_class tables c h))
+
+-- a condition that has a form is in the class
+pub form_class : (tables : Tables) (c : Condition) → Answers (form_of tables c) → IsInClass tables c
+form_class tables c h = whole_class tables c (out-Condition c) refl h
+
+-- NOT EXISTS of a query has the form that its query has
+denied_form : (tables : Tables) (c : Condition) (query : Query) → IsDenied c query → Answers (not_exists tables (out-Query query)) → Answers (form_of tables c)
+denied_form tables c query d (form, is) = (form, ap (form_in tables c) d.denies ∙ ap (denied tables c) d.exists ∙ is)
+
+pub rows_form : (tables : Tables) (c : Condition) → IsByRows tables c → Answers (form_of tables c)
+rows_form tables c h = denied_form tables c h.0 h.1 (class_rows tables h.0 h.2)
+
+pub groups_form : (tables : Tables) (c : Condition) → IsByGroups tables c → Answers (form_of tables c)
+groups_form tables c h = denied_form tables c h.0 h.1 (class_groups tables h.0 h.2)
+
+leaves_out : (c : Condition) → pieces_in c ≡ condition_pieces (map-Condition Condition Expression Listed Query (Condition × Pieces) (Expression × Pieces) (Listed × Unit {0}) (Query × Unit {0}) (λ c. (c, pieces_in c)) (λ e. (e, pieces_at e)) (λ l. (l, tt)) (λ q. (q, tt)) (out-Condition c))
+leaves_out c = ap pieces_in (sym (roll-out-Condition c)) ∙ condition_pieces_rolled (out-Condition c)
+
+leaves_layer : (c : Condition) (layer : Condition-F Condition Expression Listed Query) → out-Condition c ≡ layer → pieces_in c ≡ condition_pieces (map-Condition Condition Expression Listed Query (Condition × Pieces) (Expression × Pieces) (Listed × Unit {0}) (Query × Unit {0}) (λ c. (c, pieces_in c)) (λ e. (e, pieces_at e)) (λ l. (l, tt)) (λ q. (q, tt)) layer)
+leaves_layer c layer e = leaves_out c ∙ ap (λ layer. condition_pieces (map-Condition Condition Expression Listed Query (Condition × Pieces) (Expression × Pieces) (Listed × Unit {0}) (Query × Unit {0}) (λ c. (c, pieces_in c)) (λ e. (e, pieces_at e)) (λ l. (l, tt)) (λ q. (q, tt)) layer)) e
+
+-- a single condition is no NOT EXISTS
+denied_single : (tables : Tables) (c part : Condition) (layer : Condition-F Condition Expression Listed Query) → out-Condition c ≡ Condition-F.Not part → out-Condition part ≡ layer → IsSingle tables c → Answers (denied tables c layer)
+denied_single tables c part (Condition-F.Or parts) n p h = class_single tables c h
+denied_single tables c part (Condition-F.And parts) n p h = class_single tables c h
+denied_single tables c part (Condition-F.Not inner) n p h = class_single tables c h
+denied_single tables c part (Condition-F.Is inner wanted) n p h = class_single tables c h
+denied_single tables c part (Condition-F.Exists query) n p h =
+    let is : pieces_in c ≡ class.Exists query ∷ [] = leaves_layer c (Condition-F.Not part) n ∙ leaves_layer part (Condition-F.Exists query) p in
+    absurd (subst (Each (IsPlainPiece tables)) is h.queries).0
+denied_single tables c part (Condition-F.Compare left comparison right) n p h = class_single tables c h
+denied_single tables c part (Condition-F.IsNull x) n p h = class_single tables c h
+denied_single tables c part (Condition-F.Between x low high) n p h = class_single tables c h
+denied_single tables c part (Condition-F.In x list) n p h = class_single tables c h
+
+whole_single : (tables : Tables) (c : Condition) (layer : Condition-F Condition Expression Listed Query) → out-Condition c ≡ layer → IsSingle tables c → Answers (form_in tables c layer)
+whole_single tables c (Condition-F.Or parts) e h = class_single tables c h
+whole_single tables c (Condition-F.And parts) e h = class_single tables c h
+whole_single tables c (Condition-F.Not part) e h = denied_single tables c part (out-Condition part) e refl h
+whole_single tables c (Condition-F.Is inner wanted) e h = class_single tables c h
+whole_single tables c (Condition-F.Exists query) e h = class_single tables c h
+whole_single tables c (Condition-F.Compare left comparison right) e h = class_single tables c h
+whole_single tables c (Condition-F.IsNull x) e h = class_single tables c h
+whole_single tables c (Condition-F.Between x low high) e h = class_single tables c h
+whole_single tables c (Condition-F.In x list) e h = class_single tables c h
+
+-- a condition of the class has a form
+pub class_form : (tables : Tables) (c : Condition) → IsInClass tables c → Answers (form_of tables c)
+class_form tables c h = ⊎_elim (rows_form tables c) (λ more. ⊎_elim (groups_form tables c) (whole_single tables c (out-Condition c) refl) more) h
+
+pub HasFormInClass-law : law.HasFormInClass
+HasFormInClass-law tables c = (form_class tables c, class_form tables c)

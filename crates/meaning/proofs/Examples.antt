@@ -1,0 +1,242 @@
+-- Worked rows: names, and the written bad roots and truth of an assertion of each form, computed.
+use Rattle.std.proofs.Common.{◌≡◌, ℕ, pos, true, false, List, [], ◌∷◌, Some, None, refl, ap, ◌∙◌}
+use Rattle.value.specs.declared.values.Value.{Value}
+use Rattle.value.specs.declared.values.Value.TheVariants.{Null, Int}
+use Rattle.value.specs.declared.values.Root.TheVariants as root
+use Rattle.value.specs.declared.values.ColType.TheVariants.{Integer}
+use Rattle.value.specs.declared.comparisons.Comparison.{Comparison}
+use Rattle.value.specs.declared.comparisons.Comparison.TheVariants.{Equal, AtMost, Greater}
+use Rattle.threeval.specs.declared.Truth.{Truth}
+use Rattle.threeval.specs.declared.Truth.TheVariants.{True, False, Unknown}
+use Rattle.threeval.specs.Truths.{and_of, not_of, known}
+use Rattle.table.specs.declared.schemas.Column.{Column}
+use Rattle.table.specs.Rows.{Layout, Tables}
+use Rattle.cond.specs.Values.{compared}
+use Rattle.assertion.specs.Meaning.{State}
+use Rattle.syntax.specs.declared.trees.Aggregate.TheVariants as function
+use Rattle.syntax.specs.declared.trees.ColumnName.{ColumnName}
+use Rattle.syntax.specs.declared.trees.Condition.{Condition, roll-Condition, out-roll-Condition}
+use Rattle.syntax.specs.declared.trees.Condition.TheOpen.{Condition-F, Expression-F, Listed-F, Query-F}
+use Rattle.syntax.specs.declared.trees.Expression.{Expression, roll-Expression}
+use Rattle.syntax.specs.declared.trees.Listed.{Listed, roll-Listed}
+use Rattle.syntax.specs.declared.trees.Query.{Query, roll-Query, out-roll-Query}
+use Rattle.meaning.specs.Meaning as written
+use Rattle.meaning.specs.Meaning.{Reference, References, Valued, Answer, answers, simple, first_value, column_values, rows_counted, set_of_column, only_value, is_any, written_bad_roots, written_truth}
+use Rattle.meaning.specs.Laws.{seen}
+use Rattle.meaning.proofs.Nodes.{clauses, number_is, column_is, count_is, set_is, value_is, compare_is, both_is, denies_is, star_is, one_is, filtered_is, grouped_is}
+
+abbrev column_at : ℕ → Column
+column_at name = record { name = name ∷ []; kind = Integer; nullable = true; is_key = false }
+
+-- names of one letter
+abbrev S : ℕ
+S = 83
+
+abbrev D : ℕ
+D = 68
+
+abbrev I : ℕ
+I = 73
+
+abbrev O : ℕ
+O = 79
+
+abbrev X : ℕ
+X = 88
+
+-- the tables S (I) and D (I, S, O): shifts, and who is on duty in which shift, on call or not
+abbrev of_s : Layout
+of_s = record { columns = column_at I ∷ []; key = 0 }
+
+abbrev of_d : Layout
+of_d = record { columns = column_at I ∷ column_at S ∷ column_at O ∷ []; key = 0 }
+
+abbrev both : Tables
+both = (S ∷ [], of_s) ∷ (D ∷ [], of_d) ∷ []
+
+abbrev number : ℕ → Value
+number n = Int (pos n)
+
+abbrev bare : ℕ → ColumnName
+bare name = record { qualifier = None; name = name ∷ [] }
+
+abbrev of : ℕ → ℕ → ColumnName
+of qualifier name = record { qualifier = Some (qualifier ∷ []); name = name ∷ [] }
+
+-- ---- names
+
+-- a row of D inside a row of S, each under its name
+abbrev inside : ℕ → ℕ → References
+inside child outer =
+    seen (record { correlation_name = child ∷ []; layout = of_d }) ((number 1 ∷ number 7 ∷ number 0 ∷ []) ∷ [])
+    ∷ seen (record { correlation_name = outer ∷ []; layout = of_s }) ((number 5 ∷ []) ∷ []) ∷ []
+
+-- both have I: without a qualifier it is the inner table's
+inner_name : column_values (bare I) (inside D S) ≡ number 1 ∷ []
+inner_name = refl
+
+-- a qualifier reaches the outer table
+qualified_name : column_values (of S I) (inside D S) ≡ number 5 ∷ []
+qualified_name = refl
+
+-- a column is not a table: S without a qualifier is D's column
+column_name : column_values (bare S) (inside D S) ≡ number 7 ∷ []
+column_name = refl
+
+-- a qualifier that both go by means the inner table, also where only the outer one has the column
+same_correlation_name : column_values (of X I) (inside X X) ≡ number 1 ∷ []
+same_correlation_name = refl
+
+hidden_column : column_values (of X O) (seen (record { correlation_name = X ∷ []; layout = of_s }) ((number 5 ∷ []) ∷ []) ∷ seen (record { correlation_name = X ∷ []; layout = of_d }) ((number 1 ∷ number 7 ∷ number 0 ∷ []) ∷ []) ∷ []) ≡ []
+hidden_column = refl
+
+-- ---- trees
+
+abbrev column : ColumnName → Expression
+column c = roll-Expression (Expression-F.Column c)
+
+abbrev literal : ℕ → Expression
+literal n = roll-Expression (Expression-F.Number (pos n))
+
+abbrev compare : Expression → Comparison → Expression → Condition
+compare l c r = roll-Condition (Condition-F.Compare l c r)
+
+abbrev not_exists : Query → Condition
+not_exists q = roll-Condition (Condition-F.Not (roll-Condition (Condition-F.Exists q)))
+
+abbrev star : Listed
+star = roll-Listed Listed-F.Star
+
+abbrev star_value : Valued
+star_value = written.listed_step Listed-F.Star
+
+abbrev value_named : ColumnName → Valued
+value_named c = simple (λ around. first_value (column_values c around))
+
+abbrev value_number : ℕ → Valued
+value_number n = simple (λ around. number n)
+
+-- the bad roots of NOT EXISTS of a query are what the query gives
+denied : (state : State) (q : Query-F Condition Expression Listed Query) (a : References → List Answer) → answers both state (roll-Query q) ≡ a
+    → written_bad_roots both state (not_exists (roll-Query q)) ≡ written.roots_of_answers q.group (written.table_of both state q.table q.alias) (a [])
+denied state q a e =
+    let whole = written_truth both state (not_exists (roll-Query q)) in
+    ap (written.roots_in both state whole) (out-roll-Condition (Condition-F.Not (roll-Condition (Condition-F.Exists (roll-Query q)))))
+    ∙ ap (written.denied_roots both state whole) (out-roll-Condition (Condition-F.Exists (roll-Query q)))
+    ∙ ap (written.query_roots both state (roll-Query q)) (out-roll-Query q)
+    ∙ ap (λ (a : References → List Answer). written.roots_of_answers q.group (written.table_of both state q.table q.alias) (a [])) e
+
+-- ---- by rows
+
+-- NOT EXISTS (SELECT * FROM S WHERE NOT EXISTS (SELECT * FROM D WHERE D.S = S.I AND D.O = 1))
+abbrev duty : Query-F Condition Expression Listed Query
+duty = clauses star (D ∷ []) (Some (roll-Condition (Condition-F.And (compare (column (of D S)) Equal (column (of S I)) ∷ compare (column (of D O)) Equal (literal 1) ∷ [])))) None None
+
+abbrev uncovered : Query-F Condition Expression Listed Query
+uncovered = clauses star (S ∷ []) (Some (not_exists (roll-Query duty))) None None
+
+abbrev duty_where : References → Truth
+duty_where around = and_of (compared Equal ((value_named (of D S)).value around) ((value_named (of S I)).value around)) (and_of (compared Equal ((value_named (of D O)).value around) (number 1)) True)
+
+abbrev duty_given : State → References → List Answer
+duty_given state = written.query_step both state (clauses star_value (D ∷ []) (Some duty_where) None None)
+
+duty_is : (state : State) → answers both state (roll-Query duty) ≡ duty_given state
+duty_is state =
+    filtered_is both state star (D ∷ []) (roll-Condition (Condition-F.And (compare (column (of D S)) Equal (column (of S I)) ∷ compare (column (of D O)) Equal (literal 1) ∷ []))) star_value duty_where (star_is both state)
+    (both_is both state (compare (column (of D S)) Equal (column (of S I))) (compare (column (of D O)) Equal (literal 1)) (λ around. compared Equal ((value_named (of D S)).value around) ((value_named (of S I)).value around)) (λ around. compared Equal ((value_named (of D O)).value around) (number 1))
+    (compare_is both state (column (of D S)) Equal (column (of S I)) (value_named (of D S)) (value_named (of S I)) (column_is both state (of D S)) (column_is both state (of S I)))
+    (compare_is both state (column (of D O)) Equal (literal 1) (value_named (of D O)) (value_number 1) (column_is both state (of D O)) (number_is both state (pos 1))))
+
+abbrev uncovered_where : State → References → Truth
+uncovered_where state around = not_of (known (is_any (duty_given state around)))
+
+uncovered_is : (state : State) → answers both state (roll-Query uncovered) ≡ written.query_step both state (clauses star_value (S ∷ []) (Some (uncovered_where state)) None None)
+uncovered_is state = filtered_is both state star (S ∷ []) (not_exists (roll-Query duty)) star_value (uncovered_where state) (star_is both state) (denies_is both state (roll-Query duty) (duty_given state) (duty_is state))
+
+-- shifts 7 and 8; on duty 1 in 7, on call, and 2 in 8, not on call
+abbrev week : State
+week = ((number 7 ∷ []) ∷ (number 8 ∷ []) ∷ []) ∷ ((number 1 ∷ number 7 ∷ number 1 ∷ []) ∷ (number 2 ∷ number 8 ∷ number 0 ∷ []) ∷ []) ∷ []
+
+-- the shift without anybody on call is the bad root
+by_rows : written_bad_roots both week (not_exists (roll-Query uncovered)) ≡ root.Of (number 8) ∷ []
+by_rows = denied week uncovered (written.query_step both week (clauses star_value (S ∷ []) (Some (uncovered_where week)) None None)) (uncovered_is week)
+
+-- ---- by groups
+
+-- NOT EXISTS (SELECT * FROM D WHERE O = 1 GROUP BY S HAVING COUNT(*) > 1)
+abbrev on_call : Condition
+on_call = compare (column (bare O)) Equal (literal 1)
+
+abbrev crowded : Condition
+crowded = compare (roll-Expression Expression-F.CountRows) Greater (literal 1)
+
+abbrev groups : Query-F Condition Expression Listed Query
+groups = clauses star (D ∷ []) (Some on_call) (Some (bare S)) (Some crowded)
+
+abbrev on_call_truth : References → Truth
+on_call_truth around = compared Equal ((value_named (bare O)).value around) (number 1)
+
+abbrev crowded_truth : References → Truth
+crowded_truth around = compared Greater (rows_counted around) (number 1)
+
+abbrev groups_given : State → References → List Answer
+groups_given state = written.query_step both state (clauses star_value (D ∷ []) (Some on_call_truth) (Some (bare S)) (Some crowded_truth))
+
+on_call_is : (state : State) → written.truth both state on_call ≡ on_call_truth
+on_call_is state = compare_is both state (column (bare O)) Equal (literal 1) (value_named (bare O)) (value_number 1) (column_is both state (bare O)) (number_is both state (pos 1))
+
+groups_are : (state : State) → answers both state (roll-Query groups) ≡ groups_given state
+groups_are state =
+    grouped_is both state star (D ∷ []) on_call (bare S) crowded star_value on_call_truth crowded_truth (star_is both state) (on_call_is state)
+    (compare_is both state (roll-Expression Expression-F.CountRows) Greater (literal 1) (record { sets = true; value = rows_counted }) (value_number 1) (count_is both state) (number_is both state (pos 1)))
+
+-- on call: 1 and 2 in 7, 3 in 8, and 5 and 6 in no shift; 4 is in 8 too, but not on call
+abbrev crowd : State
+crowd = [] ∷ (
+    (number 1 ∷ number 7 ∷ number 1 ∷ []) ∷ (number 2 ∷ number 7 ∷ number 1 ∷ []) ∷ (number 3 ∷ number 8 ∷ number 1 ∷ [])
+    ∷ (number 4 ∷ number 8 ∷ number 0 ∷ []) ∷ (number 5 ∷ Null ∷ number 1 ∷ []) ∷ (number 6 ∷ Null ∷ number 1 ∷ []) ∷ []
+    ) ∷ []
+
+-- NULL is a group as well, and WHERE goes before the count
+by_groups : written_bad_roots both crowd (not_exists (roll-Query groups)) ≡ root.Of (number 7) ∷ root.Of Null ∷ []
+by_groups = denied crowd groups (groups_given crowd) (groups_are crowd)
+
+-- ---- single
+
+-- (SELECT f FROM D WHERE O = 1) <= n
+abbrev taken : Expression → Query
+taken f = roll-Query (clauses (roll-Listed (Listed-F.One f)) (D ∷ []) (Some on_call) None None)
+
+abbrev at_most : Expression → ℕ → Condition
+at_most f n = compare (roll-Expression (Expression-F.Subquery (taken f))) AtMost (literal n)
+
+abbrev taken_given : State → Valued → References → List Answer
+taken_given state v = written.query_step both state (clauses v (D ∷ []) (Some on_call_truth) None None)
+
+single_truth : (state : State) (f : Expression) (v : Valued) (n : ℕ) → written.valued both state f ≡ v → written_truth both state (at_most f n) ≡ compared AtMost (only_value (taken_given state v [])) (number n)
+single_truth state f v n is =
+    ap (λ (t : References → Truth). t [])
+    (compare_is both state (roll-Expression (Expression-F.Subquery (taken f))) AtMost (literal n) (simple (λ around. only_value (taken_given state v around))) (value_number n)
+    (value_is both state (taken f) (taken_given state v) (filtered_is both state (roll-Listed (Listed-F.One f)) (D ∷ []) on_call v on_call_truth (one_is both state f v is) (on_call_is state))) (number_is both state (pos n)))
+
+single_roots : (state : State) (f : Expression) (n : ℕ) (t : Truth) → written_truth both state (at_most f n) ≡ t → written_bad_roots both state (at_most f n) ≡ written.roots_of_whole t
+single_roots state f n t e =
+    ap (written.roots_in both state (written_truth both state (at_most f n))) (out-roll-Condition (Condition-F.Compare (roll-Expression (Expression-F.Subquery (taken f))) AtMost (literal n))) ∙ ap written.roots_of_whole e
+
+-- five are on call, which is more than four
+single_false : written_truth both crowd (at_most (roll-Expression Expression-F.CountRows) 4) ≡ False
+single_false = single_truth crowd (roll-Expression Expression-F.CountRows) (record { sets = true; value = rows_counted }) 4 (count_is both crowd)
+
+single_bad : written_bad_roots both crowd (at_most (roll-Expression Expression-F.CountRows) 4) ≡ root.All ∷ []
+single_bad = single_roots crowd (roll-Expression Expression-F.CountRows) 4 False single_false
+
+-- nobody is on call: the sum over no row is NULL, so the condition is unknown, and the assertion satisfied
+abbrev nobody : State
+nobody = [] ∷ [] ∷ []
+
+single_unknown : written_truth both nobody (at_most (roll-Expression (Expression-F.Aggregate function.Sum (bare I))) 4) ≡ Unknown
+single_unknown = single_truth nobody (roll-Expression (Expression-F.Aggregate function.Sum (bare I))) (record { sets = true; value = set_of_column function.Sum (bare I) }) 4 (set_is both nobody function.Sum (bare I))
+
+single_satisfied : written_bad_roots both nobody (at_most (roll-Expression (Expression-F.Aggregate function.Sum (bare I))) 4) ≡ []
+single_satisfied = single_roots nobody (roll-Expression (Expression-F.Aggregate function.Sum (bare I))) 4 Unknown single_unknown

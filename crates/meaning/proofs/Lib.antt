@@ -1,0 +1,15 @@
+pub mod Steps
+pub mod Nodes
+pub mod Examples
+pub mod Numbering
+pub mod Rows
+pub mod Queries
+pub mod Singles
+pub mod Groups
+pub mod Links
+pub mod Rooted
+pub mod Whole
+pub mod Standing
+pub mod Grown
+pub mod Checked
+pub mod Classes

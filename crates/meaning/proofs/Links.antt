@@ -1,0 +1,362 @@
+-- Queries that are linked to the row around them.
+use Rattle.std.proofs.Common.{◌≡◌, ℕ, Bool, true, false, cond, pos, Option, Some, None, Result, Ok, List, [], ◌∷◌, ◌++◌, map, filter, length, suc, refl, ap, sym, ◌∙◌, arith, ⊎_elim, inl, inr}
+use Rattle.std.specs.Prelude.{◌⊎◌, ◌&&◌, is_none, option_map, option_to_list, if◌then◌else◌}
+use Rattle.std.specs.List.{list_all}
+use Rattle.std.proofs.lemmas.List.Elements.{filter_agree}
+use Rattle.std.specs.Ordering.{eq_by_cmp}
+use Rattle.std.proofs.lemmas.Bool.Decides.{nat_tests}
+use Rattle.value.specs.declared.values.Value.{Value}
+use Rattle.value.specs.declared.values.Value.TheVariants.{Null, Int, Text}
+use Rattle.value.specs.declared.refusals.Refusal.{Refusal}
+use Rattle.value.specs.declared.comparisons.Comparison.TheVariants.{Equal, NotEqual, Less, AtMost, Greater, AtLeast}
+use Rattle.value.specs.ValueOrder.{value_cmp}
+use Rattle.threeval.specs.declared.Truth.{Truth}
+use Rattle.threeval.specs.declared.Truth.TheVariants.{True, False, Unknown}
+use Rattle.threeval.specs.Truths.{and_of, is_of, known}
+use Rattle.table.specs.Rows.{RowValues, Tables, value_in}
+use Rattle.table.specs.Aggregates.{aggregate}
+use Rattle.table.specs.declared.aggregates.Aggregate.{Aggregate}
+use Rattle.table.specs.declared.aggregates.Aggregate.TheVariants.{CountRows}
+use Rattle.cond.specs.declared.conds.Cond.{Cond}
+use Rattle.cond.specs.declared.conds.Cond.TheViews as cond_of
+use Rattle.cond.specs.Values as sql
+use Rattle.cond.specs.Eval as resolved
+use Rattle.assertion.specs.declared.linked_queries.Linked.{Linked}
+use Rattle.assertion.specs.Meaning.{State, rows_of, links, linked_answer}
+use Rattle.syntax.specs.declared.trees.ColumnName.{ColumnName}
+use Rattle.syntax.specs.declared.trees.Condition.{Condition, out-Condition}
+use Rattle.syntax.specs.declared.trees.Condition.TheOpen.{Condition-F, Expression-F, Listed-F}
+use Rattle.syntax.specs.declared.trees.Condition.TheFolds.{map-Condition, map-Expression, map-Listed, fold_out-Condition, fold_out-Expression, fold_out-Listed}
+use Rattle.syntax.specs.declared.trees.Expression.{Expression, out-Expression}
+use Rattle.syntax.specs.declared.trees.Listed.{Listed, out-Listed}
+use Rattle.syntax.specs.declared.trees.Query.{Query, out-Query}
+use Rattle.name_check.specs.Scopes as names
+use Rattle.name_check.specs.Scopes.{is_name_of, own_column}
+use Rattle.value.specs.Results.{and_then, each}
+use Rattle.form_check.specs.Results.{in_class, only_if}
+use Rattle.form_check.specs.Leaves.{Leaf, Rows, Of, Exists, Value as Worth}
+use Rattle.form_check.specs.Queries.{Source, source_of, row_condition, selected_aggregate, may_be_selected, selection_may_stand, expression_may_stand}
+use Rattle.form_check.specs.Links.{parts_in, top_parts, name_in, is_key, outer_column, linked_column, either, link_between, link_in, link_of, links_in, only_one, own_parts, kept_parts}
+use Rattle.form_check.specs.Forms.{linked_where, linked_exists, linked_value, linked}
+use Rattle.meaning.specs.Meaning as written
+use Rattle.meaning.specs.Meaning.{References, Valued, Answer, column_values, first_value, only_value, with_rows, passes, truth, valued, listed, answers}
+use Rattle.meaning.specs.Laws.{seen}
+use Rattle.meaning.proofs.Steps.{and_then_ok, in_class_ok, only_if_ok, ok_same}
+use Rattle.meaning.proofs.Numbering.{leaf_value, truth-And}
+use Rattle.meaning.proofs.Rows.{own_value, outer_values, row_condition_truth}
+use Rattle.meaning.proofs.Queries.{answers_by, answers_at, list_set, only_set, some_same}
+use Rattle.meaning.proofs.Groups.{map_twice, same_value, itself}
+
+-- ---- lists of truths
+
+and_true : (t : Truth) → t ≡ and_of t True
+and_true True = refl
+and_true False = refl
+and_true Unknown = refl
+
+both_true : (a b : Truth) → is_of (and_of a b) True ≡ is_of a True && is_of b True
+both_true True True = refl
+both_true True False = refl
+both_true True Unknown = refl
+both_true False b = refl
+both_true Unknown True = refl
+both_true Unknown False = refl
+both_true Unknown Unknown = refl
+
+all_true : {X : Type 0} (f : X → Truth) (xs : List X) → is_of (sql.all_of (map f xs)) True ≡ list_all (λ x. is_of (f x) True) xs
+all_true f [] = refl
+all_true f (x ∷ xs) = both_true (f x) (sql.all_of (map f xs)) ∙ ap (λ b. is_of (f x) True && b) (all_true f xs)
+
+-- ---- the equality of a link, either way round
+
+equal_back : (v w : Value) (b : Bool) → eq_by_cmp value_cmp v w ≡ b → (c : Bool) → eq_by_cmp value_cmp w v ≡ c → b ≡ c
+equal_back v w true e true f = refl
+equal_back v w true e false f = let k : true ≡ false = sym (itself w) ∙ ap (eq_by_cmp value_cmp w) (sym (same_value v w e)) ∙ f in cc
+equal_back v w false e true f = let k : true ≡ false = sym (itself v) ∙ ap (eq_by_cmp value_cmp v) (sym (same_value w v f)) ∙ e in cc
+equal_back v w false e false f = refl
+
+equal_either : (v w : Value) → sql.compared Equal v w ≡ sql.compared Equal w v
+equal_either Null Null = refl
+equal_either Null (Int n) = refl
+equal_either Null (Text t) = refl
+equal_either (Int m) Null = refl
+equal_either (Text s) Null = refl
+equal_either (Int m) (Int n) = ap known (equal_back (Int m) (Int n) (eq_by_cmp value_cmp (Int m) (Int n)) refl (eq_by_cmp value_cmp (Int n) (Int m)) refl)
+equal_either (Int m) (Text t) = refl
+equal_either (Text s) (Int n) = refl
+equal_either (Text s) (Text t) = ap known (equal_back (Text s) (Text t) (eq_by_cmp value_cmp (Text s) (Text t)) refl (eq_by_cmp value_cmp (Text t) (Text s)) refl)
+
+-- ---- what a link's names are
+
+none_of : {A : Type 0} (o : Option A) → is_none o ≡ true → o ≡ None
+none_of None e = refl
+none_of (Some a) e = cc
+
+key_of_root : (root : names.Scope) (o : Option ℕ) → is_key root o ≡ true → o ≡ Some root.layout.key
+key_of_root root None e = cc
+key_of_root root (Some column) e = let same : column ≡ root.layout.key = grind (arith, nat_tests) in ap (λ (n : ℕ). let o : Option ℕ = Some n in o) same
+
+pub one_test : (a : Bool) (o : Option ℕ) (c : ℕ) → (if a then o else None) ≡ Some c → (a ≡ true) × (o ≡ Some c)
+one_test true o c e = (refl, e)
+one_test false o c e = cc
+
+other_test : (a : Bool) (o : Option ℕ) (c : ℕ) → (if a then None else o) ≡ Some c → (a ≡ false) × (o ≡ Some c)
+other_test true o c e = cc
+other_test false o c e = (refl, e)
+
+pub linked_column_is : (child root : names.Scope) (inner outer : ColumnName) (c : ℕ) → linked_column child root inner outer ≡ Some c
+    → (is_name_of outer.qualifier outer.name child ≡ false) × ((own_column root outer ≡ Some root.layout.key) × (own_column child inner ≡ Some c))
+linked_column_is child root inner outer c e =
+    let (is_key, own) = one_test (is_key root (outer_column child root outer)) (own_column child inner) c e in
+    let (none, key) = other_test (is_name_of outer.qualifier outer.name child) (own_column root outer) root.layout.key (key_of_root root (outer_column child root outer) is_key) in
+    (none, (key, own))
+
+pub either_is : (a b : Option ℕ) (c : ℕ) → either a b ≡ Some c → (a ≡ Some c) ⊎ (b ≡ Some c)
+either_is None b c e = inr e
+either_is (Some x) b c e = inl e
+
+-- ---- a query's WHERE
+
+module _ (tables : Tables) (state : State) where
+  pub condition_out : (c : Condition) → truth tables state c ≡ written.condition_step (map-Condition Condition Expression Listed Query (References → Truth) Valued Valued (References → List Answer) (truth tables state) (valued tables state) (listed tables state) (answers tables state) (out-Condition c))
+  condition_out c = fold_out-Condition (References → Truth) Valued Valued (References → List Answer) written.condition_step written.expression_step written.listed_step (written.query_step tables state) c
+
+  -- a name's value
+  name_layer : (layer : Expression-F Condition Expression Listed Query) (column : ColumnName) (scopes : References) → name_in layer ≡ Some column
+      → (written.expression_step (map-Expression Condition Expression Listed Query (References → Truth) Valued Valued (References → List Answer) (truth tables state) (valued tables state) (listed tables state) (answers tables state) layer)).value scopes ≡ first_value (column_values column scopes)
+  name_layer (Expression-F.Number n) column scopes e = cc
+  name_layer (Expression-F.Text t) column scopes e = cc
+  name_layer (Expression-F.Column c) column scopes e = ap (λ c. first_value (column_values c scopes)) (some_same c column e)
+  name_layer Expression-F.CountRows column scopes e = cc
+  name_layer (Expression-F.Aggregate f c) column scopes e = cc
+  name_layer (Expression-F.Subquery query) column scopes e = cc
+  name_layer (Expression-F.Negation part) column scopes e = cc
+  name_layer (Expression-F.Sum parts) column scopes e = cc
+  name_layer (Expression-F.Product parts) column scopes e = cc
+
+  name_value : (x : Expression) (column : ColumnName) (scopes : References) → name_in (out-Expression x) ≡ Some column → (valued tables state x).value scopes ≡ first_value (column_values column scopes)
+  name_value x column scopes e =
+      ap (λ v. v.value scopes) (fold_out-Expression (References → Truth) Valued Valued (References → List Answer) written.condition_step written.expression_step written.listed_step (written.query_step tables state) x) ∙ name_layer (out-Expression x) column scopes e
+
+  -- the parts that AND joins at the top
+  parts_layer : (c : Condition) (scopes : References) (layer : Condition-F Condition Expression Listed Query) → out-Condition c ≡ layer → truth tables state c scopes ≡ sql.all_of (map (λ part. truth tables state part scopes) (parts_in c layer))
+  parts_layer c scopes (Condition-F.Or parts) e = and_true (truth tables state c scopes)
+  parts_layer c scopes (Condition-F.And parts) e =
+      ap (λ t. t scopes) (condition_out c) ∙ ap (λ layer. written.condition_step (map-Condition Condition Expression Listed Query (References → Truth) Valued Valued (References → List Answer) (truth tables state) (valued tables state) (listed tables state) (answers tables state) layer) scopes) e
+      ∙ ap sql.all_of (map_twice (truth tables state) (λ t. t scopes) parts)
+  parts_layer c scopes (Condition-F.Not part) e = and_true (truth tables state c scopes)
+  parts_layer c scopes (Condition-F.Is part wanted) e = and_true (truth tables state c scopes)
+  parts_layer c scopes (Condition-F.Exists query) e = and_true (truth tables state c scopes)
+  parts_layer c scopes (Condition-F.Compare left comparison right) e = and_true (truth tables state c scopes)
+  parts_layer c scopes (Condition-F.IsNull part) e = and_true (truth tables state c scopes)
+  parts_layer c scopes (Condition-F.Between x low high) e = and_true (truth tables state c scopes)
+  parts_layer c scopes (Condition-F.In x list) e = and_true (truth tables state c scopes)
+
+  module _ (child root : names.Scope) (drow row : RowValues) where
+    abbrev around : References
+    around = seen child (drow ∷ []) ∷ seen root (row ∷ []) ∷ []
+
+    abbrev key : Value
+    key = value_in root.layout.key row
+
+    -- the two sides of a link
+    sides : (inner outer : ColumnName) (c : ℕ) → linked_column child root inner outer ≡ Some c → (first_value (column_values inner around) ≡ value_in c drow) × (first_value (column_values outer around) ≡ key)
+    sides inner outer c e =
+        let (none, (is, own)) = linked_column_is child root inner outer c e in
+        (own_value child drow (seen root (row ∷ []) ∷ []) inner c own, ap first_value (outer_values child (drow ∷ []) (seen root (row ∷ []) ∷ []) outer none) ∙ own_value root row [] outer root.layout.key is)
+
+    link_names : (left right : Expression) (l r : Option ColumnName) → name_in (out-Expression left) ≡ l → name_in (out-Expression right) ≡ r → (c : ℕ) → link_between child root l r ≡ Some c
+        → sql.compared Equal ((valued tables state left).value around) ((valued tables state right).value around) ≡ sql.compared Equal key (value_in c drow)
+    link_names left right None r e f c is = cc
+    link_names left right (Some l) None e f c is = cc
+    link_names left right (Some l) (Some r) e f c is =
+        let lv = name_value left l around e in
+        let rv = name_value right r around f in
+        ap (λ v. sql.compared Equal v ((valued tables state right).value around)) lv ∙ ap (sql.compared Equal (first_value (column_values l around))) rv
+        ∙ ⊎_elim
+        (λ one. let (inner, outer) = sides l r c one in equal_either (first_value (column_values l around)) (first_value (column_values r around)) ∙ ap (λ v. sql.compared Equal v (first_value (column_values l around))) outer ∙ ap (sql.compared Equal key) inner)
+        (λ two. let (inner, outer) = sides r l c two in ap (λ v. sql.compared Equal v (first_value (column_values r around))) outer ∙ ap (sql.compared Equal key) inner)
+        (either_is (linked_column child root l r) (linked_column child root r l) c is)
+
+    link_layer : (layer : Condition-F Condition Expression Listed Query) (c : ℕ) → link_in child root layer ≡ Some c
+        → written.condition_step (map-Condition Condition Expression Listed Query (References → Truth) Valued Valued (References → List Answer) (truth tables state) (valued tables state) (listed tables state) (answers tables state) layer) around ≡ sql.compared Equal key (value_in c drow)
+    link_layer (Condition-F.Or parts) c e = cc
+    link_layer (Condition-F.And parts) c e = cc
+    link_layer (Condition-F.Not part) c e = cc
+    link_layer (Condition-F.Is part wanted) c e = cc
+    link_layer (Condition-F.Exists query) c e = cc
+    link_layer (Condition-F.Compare left Equal right) c e = link_names left right (name_in (out-Expression left)) (name_in (out-Expression right)) refl refl c e
+    link_layer (Condition-F.Compare left NotEqual right) c e = cc
+    link_layer (Condition-F.Compare left Less right) c e = cc
+    link_layer (Condition-F.Compare left AtMost right) c e = cc
+    link_layer (Condition-F.Compare left Greater right) c e = cc
+    link_layer (Condition-F.Compare left AtLeast right) c e = cc
+    link_layer (Condition-F.IsNull part) c e = cc
+    link_layer (Condition-F.Between x low high) c e = cc
+    link_layer (Condition-F.In x list) c e = cc
+
+    link_true : (part : Condition) (c : ℕ) → link_of child root part ≡ Some c → is_of (truth tables state part around) True ≡ links c key drow
+    link_true part c e = ap (λ t. is_of t True) (ap (λ t. t around) (condition_out part) ∙ link_layer (out-Condition part) c e)
+
+    abbrev is_true : Condition → Bool
+    is_true part = is_of (truth tables state part around) True
+
+    and_swap : (a b c : Bool) → a && (b && c) ≡ b && (a && c)
+    and_swap true true c = refl
+    and_swap true false c = refl
+    and_swap false true c = refl
+    and_swap false false c = refl
+
+    and_join : (a b c : Bool) → a && (b && c) ≡ (a && b) && c
+    and_join true b c = refl
+    and_join false b c = refl
+
+    -- all parts are true where the links are, and what is kept
+    parts_true : (parts : List Condition) (kept : List Cond) → each (row_condition child) (own_parts child root parts) ≡ Ok kept
+        → list_all is_true parts ≡ list_all (λ c. links c key drow) (links_in child root parts) && list_all (resolved.keeps drow []) kept
+    parts_true [] kept e = let none : List Cond = [] in ap (list_all (resolved.keeps drow [])) (ok_same none kept e)
+    parts_true (part ∷ parts) kept e =
+        let l = list_all (λ c. links c key drow) (links_in child root parts) in
+        let case : (o : Option ℕ) → link_of child root part ≡ o → each (row_condition child) (cond (is_none o) (part ∷ own_parts child root parts) (own_parts child root parts)) ≡ Ok kept
+        → is_true part && list_all is_true parts ≡ list_all (λ c. links c key drow) (option_to_list o ++ links_in child root parts) && list_all (resolved.keeps drow []) kept
+        = λ o. elim o as (λ o. link_of child root part ≡ o → each (row_condition child) (cond (is_none o) (part ∷ own_parts child root parts) (own_parts child root parts)) ≡ Ok kept
+        → is_true part && list_all is_true parts ≡ list_all (λ c. links c key drow) (option_to_list o ++ links_in child root parts) && list_all (resolved.keeps drow []) kept) [
+          | None ↦ λ n e.
+              let (made, (is, more)) = and_then_ok (row_condition child part) (λ first_value. and_then (each (row_condition child) (own_parts child root parts)) (λ others. let r : Result (List Cond) Refusal = Ok (first_value ∷ others) in r)) kept e in
+              let (others, (are, makes)) = and_then_ok (each (row_condition child) (own_parts child root parts)) (λ others. let r : Result (List Cond) Refusal = Ok (made ∷ others) in r) kept more in
+              ap (λ t. is_of t True && list_all is_true parts) (row_condition_truth child part made is tables state drow (seen root (row ∷ []) ∷ []))
+              ∙ ap (λ b. resolved.keeps drow [] made && b) (parts_true parts others are)
+              ∙ and_swap (resolved.keeps drow [] made) l (list_all (resolved.keeps drow []) others)
+              ∙ ap (λ ks. l && list_all (resolved.keeps drow []) ks) (ok_same (made ∷ others) kept makes)
+          | Some c ↦ λ s e.
+              ap (λ b. b && list_all is_true parts) (link_true part c s) ∙ ap (λ b. links c key drow && b) (parts_true parts kept e) ∙ and_join (links c key drow) l (list_all (resolved.keeps drow []) kept)
+        ] in case (link_of child root part) refl e
+
+    only_one_is : (cs : List ℕ) (c : ℕ) → only_one cs ≡ Some c → cs ≡ c ∷ []
+    only_one_is [] c e = cc
+    only_one_is (x ∷ []) c e = ap (λ (n : ℕ). n ∷ []) (some_same x c e)
+    only_one_is (x ∷ y ∷ cs) c e = cc
+
+    and_one : (a b : Bool) → (a && true) && b ≡ a && b
+    and_one true b = refl
+    and_one false b = refl
+
+    -- WHERE is true of a row where the link is, and what is kept
+    where_true : (condition : Condition) (link : ℕ) (kept : List Cond) → only_one (links_in child root (top_parts condition)) ≡ Some link → kept_parts child root (top_parts condition) ≡ Ok kept
+        → is_true condition ≡ links link key drow && resolved.keeps drow [] (cond_of.And kept)
+    where_true condition link kept one are =
+        ap (λ t. is_of t True) (parts_layer condition around (out-Condition condition) refl)
+        ∙ all_true (λ part. truth tables state part around) (top_parts condition)
+        ∙ parts_true (top_parts condition) kept are
+        ∙ ap (λ cs. list_all (λ c. links c key drow) cs && list_all (resolved.keeps drow []) kept) (only_one_is (links_in child root (top_parts condition)) link one)
+        ∙ and_one (links link key drow) (list_all (resolved.keeps drow []) kept)
+        ∙ ap (λ b. links link key drow && b) (sym (all_true (resolved.truth drow []) kept) ∙ sym (ap (λ t. is_of t True) (truth-And tables state around drow [] kept)))
+
+-- ---- what a row's queries give
+
+ones : (f : List RowValues → Answer) (rows : List RowValues) → length (map f (filter (λ rows. true) (map (λ row. row ∷ []) rows))) ≡ length rows
+ones f [] = refl
+ones f (row ∷ rows) = ap suc (ones f rows)
+
+pub is_plain : (table : written.Reference) (list : Valued) (keeps : Option (References → Truth)) (outer : References) → list.sets ≡ false
+    → answers_by table list keeps None None outer ≡ map (λ rows. record { rows = rows; value = list.value (with_rows table rows outer) }) (filter (λ rows. true) (map (λ row. row ∷ []) (filter (λ row. passes keeps (with_rows table (row ∷ []) outer)) table.rows)))
+is_plain table list keeps outer none = rw none refl
+
+-- what may be listed under EXISTS has no set function
+plain_layer : (tables : Tables) (state : State) (place : ColumnName → Option ℕ) (layer : Expression-F Condition Expression Listed Query) → expression_may_stand place layer ≡ true
+    → (written.expression_step (map-Expression Condition Expression Listed Query (References → Truth) Valued Valued (References → List Answer) (truth tables state) (valued tables state) (listed tables state) (answers tables state) layer)).sets ≡ false
+plain_layer tables state place (Expression-F.Number n) e = refl
+plain_layer tables state place (Expression-F.Text t) e = refl
+plain_layer tables state place (Expression-F.Column column) e = refl
+plain_layer tables state place Expression-F.CountRows e = cc
+plain_layer tables state place (Expression-F.Aggregate f column) e = cc
+plain_layer tables state place (Expression-F.Subquery query) e = refl
+plain_layer tables state place (Expression-F.Negation part) e = cc
+plain_layer tables state place (Expression-F.Sum parts) e = cc
+plain_layer tables state place (Expression-F.Product parts) e = cc
+
+plain_list_layer : (tables : Tables) (state : State) (place : ColumnName → Option ℕ) (layer : Listed-F Condition Expression Listed Query) → selection_may_stand place layer ≡ true
+    → (written.listed_step (map-Listed Condition Expression Listed Query (References → Truth) Valued Valued (References → List Answer) (truth tables state) (valued tables state) (listed tables state) (answers tables state) layer)).sets ≡ false
+plain_list_layer tables state place Listed-F.Star e = refl
+plain_list_layer tables state place (Listed-F.One x) e =
+    ap (λ v. v.sets) (fold_out-Expression (References → Truth) Valued Valued (References → List Answer) written.condition_step written.expression_step written.listed_step (written.query_step tables state) x) ∙ plain_layer tables state place (out-Expression x) e
+
+pub plain_list : (tables : Tables) (state : State) (place : ColumnName → Option ℕ) (list : Listed) → may_be_selected place list ≡ true → (listed tables state list).sets ≡ false
+plain_list tables state place list e =
+    ap (λ v. v.sets) (fold_out-Listed (References → Truth) Valued Valued (References → List Answer) written.condition_step written.expression_step written.listed_step (written.query_step tables state) list) ∙ plain_list_layer tables state place (out-Listed list) e
+
+-- what a linked query is made of
+pub linked_where_ok : (child : Source) (root : names.Scope) (a : Aggregate) (keeps : Option Condition) (g : Option ColumnName) (h : Option Condition) (q : Linked) → linked_where child root a keeps g h ≡ Ok q
+    → (g ≡ None) × ((h ≡ None) × ((condition : Condition) × ((keeps ≡ Some condition) × ((link : ℕ) × ((only_one (links_in child.scope root (top_parts condition)) ≡ Some link) × ((kept : List Cond) × ((kept_parts child.scope root (top_parts condition) ≡ Ok kept)
+    × (◌≡◌ {A = Linked} (record { table = child.table; kept = cond_of.And kept; link = link; aggregate = a }) q))))))))
+linked_where_ok child root a (Some condition) None None q e =
+    let make : ℕ → List Cond → Linked = λ link kept. record { table = child.table; kept = cond_of.And kept; link = link; aggregate = a } in
+    let (link, (one, more)) = in_class_ok (only_one (links_in child.scope root (top_parts condition))) (λ link. and_then (kept_parts child.scope root (top_parts condition)) (λ kept. let r : Result Linked Refusal = Ok (make link kept) in r)) q e in
+    let (kept, (are, makes)) = and_then_ok (kept_parts child.scope root (top_parts condition)) (λ kept. let r : Result Linked Refusal = Ok (make link kept) in r) q more in
+    (refl, (refl, (condition, (refl, (link, (one, (kept, (are, ok_same (make link kept) q makes))))))))
+linked_where_ok child root a None g h q e = cc
+linked_where_ok child root a (Some condition) (Some g) h q e = cc
+linked_where_ok child root a (Some condition) None (Some h) q e = cc
+
+module _ (tables : Tables) (state : State) (root : names.Scope) (row : RowValues) where
+  abbrev outer_row : References
+  outer_row = seen root (row ∷ []) ∷ []
+
+  abbrev root_key : Value
+  root_key = value_in root.layout.key row
+
+  -- the rows that a linked query keeps
+  kept_rows_are : (child : Source) (condition : Condition) (link : ℕ) (kept : List Cond) → only_one (links_in child.scope root (top_parts condition)) ≡ Some link → kept_parts child.scope root (top_parts condition) ≡ Ok kept
+      → filter (λ drow. passes (Some (truth tables state condition)) (with_rows (seen child.scope (rows_of child.table state)) (drow ∷ []) outer_row)) (rows_of child.table state)
+      ≡ filter (λ drow. links link root_key drow && resolved.keeps drow [] (cond_of.And kept)) (rows_of child.table state)
+  kept_rows_are child condition link kept one are =
+      filter_agree (λ drow. passes (Some (truth tables state condition)) (with_rows (seen child.scope (rows_of child.table state)) (drow ∷ []) outer_row)) (λ drow. links link root_key drow && resolved.keeps drow [] (cond_of.And kept)) (λ drow. where_true tables state child.scope root drow row condition link kept one are) (rows_of child.table state)
+
+  -- a query of these clauses, without GROUP BY and HAVING
+  clauses_are : (query : Query) (child : Source) (condition : Condition) → source_of tables (out-Query query).table (out-Query query).alias ≡ Some child → (out-Query query).group ≡ None → (out-Query query).having ≡ None → (out-Query query).keeps ≡ Some condition
+      → answers tables state query outer_row ≡ answers_by (seen child.scope (rows_of child.table state)) (listed tables state (out-Query query).listed) (Some (truth tables state condition)) None None outer_row
+  clauses_are query child condition found no_group no_having keeps =
+      let q = out-Query query in
+      let table = seen child.scope (rows_of child.table state) in
+      let list = listed tables state q.listed in
+      answers_at tables state query child outer_row found
+      ∙ ap (λ g. answers_by table list (option_map (truth tables state) q.keeps) g (option_map (truth tables state) q.having) outer_row) no_group
+      ∙ ap (λ h. answers_by table list (option_map (truth tables state) q.keeps) None (option_map (truth tables state) h) outer_row) no_having
+      ∙ ap (λ k. answers_by table list (option_map (truth tables state) k) None None outer_row) keeps
+
+  exists_is : (query : Query) (q : Linked) → linked_exists tables root (out-Query query) ≡ Ok q → ◌≡◌ {A = Value} (Int (pos (length (answers tables state query outer_row)))) (linked_answer state root_key q)
+  exists_is query q e =
+      let c = out-Query query in
+      let (child, (found, more)) = in_class_ok (source_of tables c.table c.alias) (λ child. only_if (may_be_selected (own_column child.scope) c.listed) (linked_where child root CountRows c.keeps c.group c.having)) q e in
+      let (lists, rest) = only_if_ok (may_be_selected (own_column child.scope) c.listed) (linked_where child root CountRows c.keeps c.group c.having) q more in
+      let (no_group, (no_having, (condition, (keeps, (link, (one, (kept, (are, makes)))))))) = linked_where_ok child root CountRows c.keeps c.group c.having q rest in
+      let table = seen child.scope (rows_of child.table state) in
+      let list = listed tables state c.listed in
+      let f : List RowValues → Answer = λ rows. record { rows = rows; value = list.value (with_rows table rows outer_row) } in
+      ap (λ (n : ℕ). Int (pos n)) (
+      ap length (clauses_are query child condition found no_group no_having keeps ∙ is_plain table list (Some (truth tables state condition)) outer_row (plain_list tables state (own_column child.scope) c.listed lists))
+      ∙ ones f (filter (λ drow. passes (Some (truth tables state condition)) (with_rows table (drow ∷ []) outer_row)) (rows_of child.table state))
+      ∙ ap length (kept_rows_are child condition link kept one are))
+      ∙ ap (linked_answer state root_key) makes
+
+  value_is : (query : Query) (q : Linked) → linked_value tables root (out-Query query) ≡ Ok q → only_value (answers tables state query outer_row) ≡ linked_answer state root_key q
+  value_is query q e =
+      let c = out-Query query in
+      let (child, (found, more)) = in_class_ok (source_of tables c.table c.alias) (λ child. in_class (selected_aggregate child.scope c.listed) (λ a. linked_where child root a c.keeps c.group c.having)) q e in
+      let (a, (lists, rest)) = in_class_ok (selected_aggregate child.scope c.listed) (λ a. linked_where child root a c.keeps c.group c.having) q more in
+      let (no_group, (no_having, (condition, (keeps, (link, (one, (kept, (are, makes)))))))) = linked_where_ok child root a c.keeps c.group c.having q rest in
+      let table = seen child.scope (rows_of child.table state) in
+      let list = listed tables state c.listed in
+      let (sets, gives) = list_set tables state child.scope a c.listed lists in
+      ap only_value (clauses_are query child condition found no_group no_having keeps)
+      ∙ only_set table list (Some (truth tables state condition)) outer_row sets
+      ∙ gives (filter (λ drow. passes (Some (truth tables state condition)) (with_rows table (drow ∷ []) outer_row)) (rows_of child.table state)) outer_row
+      ∙ ap (aggregate a) (kept_rows_are child condition link kept one are)
+      ∙ ap (linked_answer state root_key) makes
+
+  -- what stands in a slot of a condition over a row
+  pub linked_leaf : (leaf : Leaf) (q : Linked) → linked tables root leaf ≡ Ok q → leaf_value tables state outer_row leaf ≡ linked_answer state root_key q
+  linked_leaf Rows q e = cc
+  linked_leaf (Of f column) q e = cc
+  linked_leaf (Exists query) q e = exists_is query q e
+  linked_leaf (Worth query) q e = value_is query q e

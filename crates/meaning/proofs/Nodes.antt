@@ -1,0 +1,84 @@
+-- What each node of a tree means, by what its parts mean.
+use Rattle.std.proofs.Common.{◌≡◌, ℕ, ℤ, true, Option, Some, None, List, [], ◌∷◌, ap, ◌∙◌}
+use Rattle.value.specs.declared.values.Value.TheVariants.{Int}
+use Rattle.value.specs.declared.comparisons.Comparison.{Comparison}
+use Rattle.threeval.specs.declared.Truth.{Truth}
+use Rattle.threeval.specs.declared.Truth.TheVariants.{True}
+use Rattle.threeval.specs.Truths.{and_of, not_of, known}
+use Rattle.table.specs.Rows.{Tables}
+use Rattle.cond.specs.Values.{compared}
+use Rattle.assertion.specs.Meaning.{State}
+use Rattle.syntax.specs.declared.trees.Aggregate.{Aggregate}
+use Rattle.syntax.specs.declared.trees.ColumnName.{ColumnName}
+use Rattle.syntax.specs.declared.trees.Condition.{Condition, roll-Condition}
+use Rattle.syntax.specs.declared.trees.Condition.TheFolds.{map-Condition, map-Expression, map-Listed, map-Query, fold-roll-Condition, fold-roll-Expression, fold-roll-Listed, fold-roll-Query}
+use Rattle.syntax.specs.declared.trees.Condition.TheOpen.{Condition-F, Expression-F, Listed-F, Query-F}
+use Rattle.syntax.specs.declared.trees.Expression.{Expression, roll-Expression}
+use Rattle.syntax.specs.declared.trees.Listed.{Listed, roll-Listed}
+use Rattle.syntax.specs.declared.trees.Query.{Query, roll-Query}
+use Rattle.meaning.specs.Meaning as written
+use Rattle.meaning.specs.Meaning.{References, Valued, Answer, truth, valued, listed, answers, simple, first_value, column_values, rows_counted, set_of_column, only_value, is_any}
+
+-- a query of these clauses
+abbrev pub clauses : {C E L Q : Type 0} → L → List ℕ → Option C → Option ColumnName → Option C → Query-F C E L Q
+clauses list table keeps group having = record { listed = list; table = table; alias = None; keeps = keeps; group = group; having = having }
+
+module _ (tables : Tables) (state : State) where
+  condition_rolls : (layer : Condition-F Condition Expression Listed Query) → truth tables state (roll-Condition layer) ≡ written.condition_step (map-Condition Condition Expression Listed Query (References → Truth) Valued Valued (References → List Answer) (truth tables state) (valued tables state) (listed tables state) (answers tables state) layer)
+  condition_rolls layer = fold-roll-Condition (References → Truth) Valued Valued (References → List Answer) written.condition_step written.expression_step written.listed_step (written.query_step tables state) layer
+
+  expression_rolls : (layer : Expression-F Condition Expression Listed Query) → valued tables state (roll-Expression layer) ≡ written.expression_step (map-Expression Condition Expression Listed Query (References → Truth) Valued Valued (References → List Answer) (truth tables state) (valued tables state) (listed tables state) (answers tables state) layer)
+  expression_rolls layer = fold-roll-Expression (References → Truth) Valued Valued (References → List Answer) written.condition_step written.expression_step written.listed_step (written.query_step tables state) layer
+
+  listed_rolls : (layer : Listed-F Condition Expression Listed Query) → listed tables state (roll-Listed layer) ≡ written.listed_step (map-Listed Condition Expression Listed Query (References → Truth) Valued Valued (References → List Answer) (truth tables state) (valued tables state) (listed tables state) (answers tables state) layer)
+  listed_rolls layer = fold-roll-Listed (References → Truth) Valued Valued (References → List Answer) written.condition_step written.expression_step written.listed_step (written.query_step tables state) layer
+
+  query_rolls : (layer : Query-F Condition Expression Listed Query) → answers tables state (roll-Query layer) ≡ written.query_step tables state (map-Query Condition Expression Listed Query (References → Truth) Valued Valued (References → List Answer) (truth tables state) (valued tables state) (listed tables state) (answers tables state) layer)
+  query_rolls layer = fold-roll-Query (References → Truth) Valued Valued (References → List Answer) written.condition_step written.expression_step written.listed_step (written.query_step tables state) layer
+
+  -- ---- expressions
+
+  pub number_is : (n : ℤ) → valued tables state (roll-Expression (Expression-F.Number n)) ≡ simple (λ around. Int n)
+  number_is n = expression_rolls (Expression-F.Number n)
+
+  pub column_is : (c : ColumnName) → valued tables state (roll-Expression (Expression-F.Column c)) ≡ simple (λ around. first_value (column_values c around))
+  column_is c = expression_rolls (Expression-F.Column c)
+
+  pub count_is : valued tables state (roll-Expression Expression-F.CountRows) ≡ record { sets = true; value = rows_counted }
+  count_is = expression_rolls Expression-F.CountRows
+
+  pub set_is : (f : Aggregate) (c : ColumnName) → valued tables state (roll-Expression (Expression-F.Aggregate f c)) ≡ record { sets = true; value = set_of_column f c }
+  set_is f c = expression_rolls (Expression-F.Aggregate f c)
+
+  pub value_is : (q : Query) (a : References → List Answer) → answers tables state q ≡ a → valued tables state (roll-Expression (Expression-F.Subquery q)) ≡ simple (λ around. only_value (a around))
+  value_is q a e = expression_rolls (Expression-F.Subquery q) ∙ ap (λ (a : References → List Answer). simple (λ around. only_value (a around))) e
+
+  -- ---- conditions
+
+  pub compare_is : (l : Expression) (c : Comparison) (r : Expression) (v w : Valued) → valued tables state l ≡ v → valued tables state r ≡ w → truth tables state (roll-Condition (Condition-F.Compare l c r)) ≡ (λ around. compared c (v.value around) (w.value around))
+  compare_is l c r v w a b = condition_rolls (Condition-F.Compare l c r) ∙ ap (λ (v : Valued). λ around. compared c (v.value around) ((valued tables state r).value around)) a ∙ ap (λ (w : Valued). λ around. compared c (v.value around) (w.value around)) b
+
+  pub both_is : (c d : Condition) (s t : References → Truth) → truth tables state c ≡ s → truth tables state d ≡ t → truth tables state (roll-Condition (Condition-F.And (c ∷ d ∷ []))) ≡ (λ around. and_of (s around) (and_of (t around) True))
+  both_is c d s t a b = condition_rolls (Condition-F.And (c ∷ d ∷ [])) ∙ ap (λ (s : References → Truth). λ around. and_of (s around) (and_of (truth tables state d around) True)) a ∙ ap (λ (t : References → Truth). λ around. and_of (s around) (and_of (t around) True)) b
+
+  pub denies_is : (q : Query) (a : References → List Answer) → answers tables state q ≡ a → truth tables state (roll-Condition (Condition-F.Not (roll-Condition (Condition-F.Exists q)))) ≡ (λ around. not_of (known (is_any (a around))))
+  denies_is q a e = condition_rolls (Condition-F.Not (roll-Condition (Condition-F.Exists q))) ∙ ap (λ (t : References → Truth). λ around. not_of (t around)) (condition_rolls (Condition-F.Exists q)) ∙ ap (λ (a : References → List Answer). λ around. not_of (known (is_any (a around)))) e
+
+  -- ---- queries
+
+  pub star_is : listed tables state (roll-Listed Listed-F.Star) ≡ written.listed_step Listed-F.Star
+  star_is = listed_rolls Listed-F.Star
+
+  pub one_is : (e : Expression) (v : Valued) → valued tables state e ≡ v → listed tables state (roll-Listed (Listed-F.One e)) ≡ v
+  one_is e v is = listed_rolls (Listed-F.One e) ∙ is
+
+  pub filtered_is : (l : Listed) (table : List ℕ) (c : Condition) (v : Valued) (t : References → Truth) → listed tables state l ≡ v → truth tables state c ≡ t
+      → answers tables state (roll-Query (clauses l table (Some c) None None)) ≡ written.query_step tables state (clauses v table (Some t) None None)
+  filtered_is l table c v t a b =
+      query_rolls (clauses l table (Some c) None None) ∙ ap (λ (v : Valued). written.query_step tables state (clauses v table (Some (truth tables state c)) None None)) a ∙ ap (λ (t : References → Truth). written.query_step tables state (clauses v table (Some t) None None)) b
+
+  pub grouped_is : (l : Listed) (table : List ℕ) (c : Condition) (g : ColumnName) (h : Condition) (v : Valued) (t u : References → Truth) → listed tables state l ≡ v → truth tables state c ≡ t → truth tables state h ≡ u
+      → answers tables state (roll-Query (clauses l table (Some c) (Some g) (Some h))) ≡ written.query_step tables state (clauses v table (Some t) (Some g) (Some u))
+  grouped_is l table c g h v t u a b d =
+      query_rolls (clauses l table (Some c) (Some g) (Some h)) ∙ ap (λ (v : Valued). written.query_step tables state (clauses v table (Some (truth tables state c)) (Some g) (Some (truth tables state h)))) a
+      ∙ ap (λ (t : References → Truth). written.query_step tables state (clauses v table (Some t) (Some g) (Some (truth tables state h)))) b ∙ ap (λ (u : References → Truth). written.query_step tables state (clauses v table (Some t) (Some g) (Some u))) d

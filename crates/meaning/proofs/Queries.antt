@@ -1,0 +1,192 @@
+-- Queries by their clauses, and what stands in the slots of a single condition.
+use Rattle.std.proofs.Common.{◌≡◌, ℕ, true, Option, Some, None, Result, Ok, List, [], ◌∷◌, map, filter, refl, ap, sym, ◌∙◌, subst}
+use Rattle.std.specs.Prelude.{◌||◌, is_some, unwrap_or, option_map}
+use Rattle.std.proofs.lemmas.List.Elements.{filter_agree}
+use Rattle.value.specs.declared.values.Value.{Value}
+use Rattle.value.specs.declared.refusals.Refusal.{Refusal}
+use Rattle.threeval.specs.declared.Truth.{Truth}
+use Rattle.table.specs.Rows.{RowValues, Layout, Tables, layout_of, position_of}
+use Rattle.table.specs.Aggregates.{is_there, aggregate, values_in}
+use Rattle.table.specs.declared.aggregates.Aggregate.{Aggregate}
+use Rattle.table.specs.declared.aggregates.Aggregate.TheVariants.{CountRows}
+use Rattle.cond.specs.declared.conds.Cond.{Cond}
+use Rattle.cond.specs.Eval as resolved
+use Rattle.assertion.specs.declared.plain_queries.Plain.{Plain}
+use Rattle.assertion.specs.Meaning.{State, rows_of, plain_answer}
+use Rattle.syntax.specs.declared.trees.Aggregate.{Aggregate as Function}
+use Rattle.syntax.specs.declared.trees.Aggregate.TheVariants as function
+use Rattle.syntax.specs.declared.trees.ColumnName.{ColumnName}
+use Rattle.syntax.specs.declared.trees.Condition.{Condition}
+use Rattle.syntax.specs.declared.trees.Condition.TheOpen.{Expression-F, Listed-F, Query-F}
+use Rattle.syntax.specs.declared.trees.Condition.TheFolds.{map-Expression, map-Listed, map-Query, fold_out-Expression, fold_out-Listed, fold_out-Query}
+use Rattle.syntax.specs.declared.trees.Expression.{Expression, out-Expression}
+use Rattle.syntax.specs.declared.trees.Listed.{Listed, out-Listed}
+use Rattle.syntax.specs.declared.trees.Query.{Query, out-Query}
+use Rattle.name_check.specs.Scopes as names
+use Rattle.name_check.specs.Scopes.{own_column}
+use Rattle.value.specs.Results.{and_then, each}
+use Rattle.form_check.specs.Leaves.{Leaf, Leaves, Rows, Of, Exists, Value as Worth}
+use Rattle.form_check.specs.Queries.{Source, sourced, source_of, row_filter, of_column, aggregate_in, aggregate_selected, selected_aggregate}
+use Rattle.form_check.specs.Forms.{Clauses, plain, plain_by, plain_value}
+use Rattle.meaning.specs.Meaning as written
+use Rattle.meaning.specs.Meaning.{Reference, References, Valued, Answer, no_layout, rows_at, table_of, column_values, set_function, only_value, with_rows, passes, grouped, grouping, truth, valued, listed, answers}
+use Rattle.meaning.specs.Laws.{seen}
+use Rattle.meaning.proofs.Steps.{and_then_ok, in_class_ok, ok_same}
+use Rattle.meaning.proofs.Numbering.{leaf_value}
+use Rattle.meaning.proofs.Rows.{own_values, row_filter_keeps}
+
+pub some_same : {A : Type 0} (a b : A) → Some a ≡ Some b → a ≡ b
+some_same {A = A} a b e = ap (λ (o : Option A). unwrap_or o a) e
+
+-- ---- FROM
+
+sourced_seen : (name : List ℕ) (p : Option ℕ) (l : Option Layout) (state : State) (source : Source) → sourced name p l ≡ Some source
+    → ◌≡◌ {A = Reference} (record { table = record { correlation_name = name; layout = unwrap_or l no_layout }; rows = rows_at p state }) (seen source.scope (rows_of source.table state))
+sourced_seen name None l state source e = cc
+sourced_seen name (Some t) None state source e = cc
+sourced_seen name (Some t) (Some l) state source e =
+    let found : Source = record { table = t; scope = record { correlation_name = name; layout = l } } in
+    ap (λ (s : Source). seen s.scope (rows_of s.table state)) (some_same found source e)
+
+-- the table that a query reads
+pub source_seen : (tables : Tables) (state : State) (table : List ℕ) (alias : Option (List ℕ)) (source : Source) → source_of tables table alias ≡ Some source → table_of tables state table alias ≡ seen source.scope (rows_of source.table state)
+source_seen tables state table alias source e = sourced_seen (unwrap_or alias table) (position_of table tables) (layout_of table tables) state source e
+
+-- ---- the clauses
+
+abbrev pub mapped : Tables → State → Clauses → Query-F (References → Truth) Valued Valued (References → List Answer)
+mapped tables state = map-Query Condition Expression Listed Query (References → Truth) Valued Valued (References → List Answer) (truth tables state) (valued tables state) (listed tables state) (answers tables state)
+
+-- what a query gives, by its clauses
+abbrev pub answers_by : Reference → Valued → Option (References → Truth) → Option ColumnName → Option (References → Truth) → References → List Answer
+answers_by table list keeps group having outer =
+    map (λ rows. record { rows = rows; value = list.value (with_rows table rows outer) }) (
+    filter (λ rows. passes having (with_rows table rows outer)) (
+    grouped (grouping group table outer) (is_some having || list.sets) (
+    filter (λ row. passes keeps (with_rows table (row ∷ []) outer)) table.rows)))
+
+-- a query of these parts
+abbrev clauses_of : Listed → List ℕ → Option (List ℕ) → Option Condition → Option ColumnName → Option Condition → Clauses
+clauses_of list table alias keeps group having = record { listed = list; table = table; alias = alias; keeps = keeps; group = group; having = having }
+
+mapped_keeps : (tables : Tables) (state : State) (list : Listed) (table : List ℕ) (alias : Option (List ℕ)) (keeps : Option Condition) (group : Option ColumnName) (having : Option Condition)
+    → (mapped tables state (clauses_of list table alias keeps group having)).keeps ≡ option_map (truth tables state) keeps
+mapped_keeps tables state list table alias None group having = refl
+mapped_keeps tables state list table alias (Some c) group having = refl
+
+mapped_having : (tables : Tables) (state : State) (list : Listed) (table : List ℕ) (alias : Option (List ℕ)) (keeps : Option Condition) (group : Option ColumnName) (having : Option Condition)
+    → (mapped tables state (clauses_of list table alias keeps group having)).having ≡ option_map (truth tables state) having
+mapped_having tables state list table alias keeps group None = refl
+mapped_having tables state list table alias keeps group (Some c) = refl
+
+mapped_option : (tables : Tables) (state : State) (query : Clauses) (outer : References)
+    → written.query_step tables state (mapped tables state query) outer
+    ≡ answers_by (table_of tables state query.table query.alias) (listed tables state query.listed) (option_map (truth tables state) query.keeps) query.group (option_map (truth tables state) query.having) outer
+mapped_option tables state query outer =
+    let table = table_of tables state query.table query.alias in
+    let list = listed tables state query.listed in
+    ap (λ k. answers_by table list k query.group (mapped tables state query).having outer) (mapped_keeps tables state query.listed query.table query.alias query.keeps query.group query.having)
+    ∙ ap (λ h. answers_by table list (option_map (truth tables state) query.keeps) query.group h outer) (mapped_having tables state query.listed query.table query.alias query.keeps query.group query.having)
+
+pub answers_at : (tables : Tables) (state : State) (query : Query) (source : Source) (outer : References) → source_of tables (out-Query query).table (out-Query query).alias ≡ Some source
+    → answers tables state query outer
+    ≡ answers_by (seen source.scope (rows_of source.table state)) (listed tables state (out-Query query).listed) (option_map (truth tables state) (out-Query query).keeps) (out-Query query).group (option_map (truth tables state) (out-Query query).having) outer
+answers_at tables state query source outer e =
+    let q = out-Query query in
+    ap (λ a. a outer) (fold_out-Query (References → Truth) Valued Valued (References → List Answer) written.condition_step written.expression_step written.listed_step (written.query_step tables state) query)
+    ∙ mapped_option tables state q outer
+    ∙ ap (λ t. answers_by t (listed tables state q.listed) (option_map (truth tables state) q.keeps) q.group (option_map (truth tables state) q.having) outer) (source_seen tables state q.table q.alias source e)
+
+-- ---- set functions
+
+function_alike : (f : Function) (c : ℕ) (rows : List RowValues) → set_function f (values_in c rows) ≡ aggregate (of_column f c) rows
+function_alike function.Count c rows = refl
+function_alike function.Sum c rows = refl
+function_alike function.Min c rows = refl
+function_alike function.Max c rows = refl
+
+-- a set function of a column of the rows at hand
+pub set_function_of : (f : Function) (scope : names.Scope) (rows : List RowValues) (outer : References) (column : ColumnName) (c : ℕ) → own_column scope column ≡ Some c
+    → set_function f (filter is_there (column_values column (seen scope rows ∷ outer))) ≡ aggregate (of_column f c) rows
+set_function_of f scope rows outer column c is = ap (λ vs. set_function f (filter is_there vs)) (own_values scope rows outer column c is) ∙ function_alike f c rows
+
+mapped_some : {A B : Type 0} (f : A → B) (o : Option A) (b : B) → option_map f o ≡ Some b → (a : A) × ((o ≡ Some a) × (f a ≡ b))
+mapped_some f None b e = cc
+mapped_some f (Some a) b e = (a, (refl, some_same (f a) b e))
+
+-- an expression that is one set function
+abbrev IsSet : names.Scope → Aggregate → Valued → Type 0
+IsSet scope a v = (v.sets ≡ true) × ((rows : List RowValues) (outer : References) → v.value (seen scope rows ∷ outer) ≡ aggregate a rows)
+
+set_in : (tables : Tables) (state : State) (scope : names.Scope) (a : Aggregate) (layer : Expression-F Condition Expression Listed Query) → aggregate_in scope layer ≡ Some a
+    → IsSet scope a (written.expression_step (map-Expression Condition Expression Listed Query (References → Truth) Valued Valued (References → List Answer) (truth tables state) (valued tables state) (listed tables state) (answers tables state) layer))
+set_in tables state scope a (Expression-F.Number n) e = cc
+set_in tables state scope a (Expression-F.Text t) e = cc
+set_in tables state scope a (Expression-F.Column column) e = cc
+set_in tables state scope a Expression-F.CountRows e = (refl, λ rows outer. ap (λ (a : Aggregate). aggregate a rows) (some_same CountRows a e))
+set_in tables state scope a (Expression-F.Aggregate f column) e =
+    let (c, (is, same)) = mapped_some (of_column f) (own_column scope column) a e in
+    (refl, λ rows outer. set_function_of f scope rows outer column c is ∙ ap (λ (a : Aggregate). aggregate a rows) same)
+set_in tables state scope a (Expression-F.Subquery query) e = cc
+set_in tables state scope a (Expression-F.Negation part) e = cc
+set_in tables state scope a (Expression-F.Sum parts) e = cc
+set_in tables state scope a (Expression-F.Product parts) e = cc
+
+list_in : (tables : Tables) (state : State) (scope : names.Scope) (a : Aggregate) (layer : Listed-F Condition Expression Listed Query) → aggregate_selected scope layer ≡ Some a
+    → IsSet scope a (written.listed_step (map-Listed Condition Expression Listed Query (References → Truth) Valued Valued (References → List Answer) (truth tables state) (valued tables state) (listed tables state) (answers tables state) layer))
+list_in tables state scope a Listed-F.Star e = cc
+list_in tables state scope a (Listed-F.One x) e =
+    subst (IsSet scope a) (sym (fold_out-Expression (References → Truth) Valued Valued (References → List Answer) written.condition_step written.expression_step written.listed_step (written.query_step tables state) x)) (set_in tables state scope a (out-Expression x) e)
+
+pub list_set : (tables : Tables) (state : State) (scope : names.Scope) (a : Aggregate) (list : Listed) → selected_aggregate scope list ≡ Some a → IsSet scope a (listed tables state list)
+list_set tables state scope a list e =
+    subst (IsSet scope a) (sym (fold_out-Listed (References → Truth) Valued Valued (References → List Answer) written.condition_step written.expression_step written.listed_step (written.query_step tables state) list)) (list_in tables state scope a (out-Listed list) e)
+
+-- the one value of a query that lists a set function
+pub only_set : (table : Reference) (list : Valued) (keeps : Option (References → Truth)) (outer : References) → list.sets ≡ true
+    → only_value (answers_by table list keeps None None outer) ≡ list.value (with_rows table (filter (λ row. passes keeps (with_rows table (row ∷ []) outer)) table.rows) outer)
+only_set table list keeps outer sets = rw sets refl
+
+-- ---- slots of a single condition
+
+pub plain_by_ok : (source : Source) (a : Option Aggregate) (keeps : Option Condition) (g : Option ColumnName) (h : Option Condition) (p : Plain) → plain_by source a keeps g h ≡ Ok p
+    → (g ≡ None) × ((h ≡ None) × ((function : Aggregate) × ((a ≡ Some function) × ((kept : Cond) × ((row_filter source.scope keeps ≡ Ok kept) × (◌≡◌ {A = Plain} (record { table = source.table; kept = kept; aggregate = function }) p))))))
+plain_by_ok source a keeps None None p e =
+    let (function, (is, more)) = in_class_ok a (λ a. and_then (row_filter source.scope keeps) (λ kept. let r : Result Plain Refusal = Ok (record { table = source.table; kept = kept; aggregate = a }) in r)) p e in
+    let (kept, (filters, makes)) = and_then_ok (row_filter source.scope keeps) (λ kept. let r : Result Plain Refusal = Ok (record { table = source.table; kept = kept; aggregate = function }) in r) p more in
+    let made : Plain = record { table = source.table; kept = kept; aggregate = function } in
+    (refl, (refl, (function, (is, (kept, (filters, ok_same made p makes))))))
+plain_by_ok source a keeps (Some g) h p e = cc
+plain_by_ok source a keeps None (Some h) p e = cc
+
+plain_is : (tables : Tables) (state : State) (scopes : References) (query : Query) (p : Plain) → plain_value tables (out-Query query) ≡ Ok p → only_value (answers tables state query scopes) ≡ plain_answer state p
+plain_is tables state scopes query p e =
+    let q = out-Query query in
+    let (source, (found, more)) = in_class_ok (source_of tables q.table q.alias) (λ source. plain_by source (selected_aggregate source.scope q.listed) q.keeps q.group q.having) p e in
+    let (no_group, (no_having, (function, (lists, (kept, (filters, makes)))))) = plain_by_ok source (selected_aggregate source.scope q.listed) q.keeps q.group q.having p more in
+    let rows = rows_of source.table state in
+    let table = seen source.scope rows in
+    let list = listed tables state q.listed in
+    let keeps = option_map (truth tables state) q.keeps in
+    let (sets, gives) = list_set tables state source.scope function q.listed lists in
+    let where_rows = filter (λ row. passes keeps (with_rows table (row ∷ []) scopes)) rows in
+    ap only_value (answers_at tables state query source scopes found ∙ ap (λ g. answers_by table list keeps g (option_map (truth tables state) q.having) scopes) no_group ∙ ap (λ h. answers_by table list keeps None (option_map (truth tables state) h) scopes) no_having)
+    ∙ only_set table list keeps scopes sets
+    ∙ gives where_rows scopes
+    ∙ ap (aggregate function) (filter_agree (λ row. passes keeps (with_rows table (row ∷ []) scopes)) (λ row. resolved.keeps row [] kept) (λ row. row_filter_keeps source.scope q.keeps kept filters tables state row scopes) rows)
+    ∙ ap (plain_answer state) makes
+
+pub plain_leaf : (tables : Tables) (state : State) (scopes : References) (leaf : Leaf) (p : Plain) → plain tables leaf ≡ Ok p → leaf_value tables state scopes leaf ≡ plain_answer state p
+plain_leaf tables state scopes Rows p e = cc
+plain_leaf tables state scopes (Of f column) p e = cc
+plain_leaf tables state scopes (Exists query) p e = cc
+plain_leaf tables state scopes (Worth query) p e = plain_is tables state scopes query p e
+
+-- slots one after the other
+pub each_leaf : {Q : Type 0} (tables : Tables) (state : State) (scopes : References) (make : Leaf → Result Q Refusal) (gives : Q → Value) → ((leaf : Leaf) (q : Q) → make leaf ≡ Ok q → leaf_value tables state scopes leaf ≡ gives q)
+    → (leaves : Leaves) (queries : List Q) → each make leaves ≡ Ok queries → map gives queries ≡ map (leaf_value tables state scopes) leaves
+each_leaf {Q = Q} tables state scopes make gives one [] queries e = let none : List Q = [] in ap (map gives) (sym (ok_same none queries e))
+each_leaf {Q = Q} tables state scopes make gives one (leaf ∷ leaves) queries e =
+    let (first, (is, more)) = and_then_ok (make leaf) (λ first. and_then (each make leaves) (λ others. let r : Result (List Q) Refusal = Ok (first ∷ others) in r)) queries e in
+    let (others, (are, makes)) = and_then_ok (each make leaves) (λ others. let r : Result (List Q) Refusal = Ok (first ∷ others) in r) queries more in
+    ap (map gives) (sym (ok_same (first ∷ others) queries makes)) ∙ ap (λ v. v ∷ map gives others) (sym (one leaf first is)) ∙ ap (λ vs. leaf_value tables state scopes leaf ∷ vs) (each_leaf tables state scopes make gives one leaves others are)

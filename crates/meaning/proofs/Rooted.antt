@@ -1,0 +1,89 @@
+-- Assertions by rows.
+use Rattle.std.proofs.Common.{◌≡◌, ℕ, suc, ◌+◌, arith, Bool, true, false, cond, Option, Some, None, Ok, List, [], ◌∷◌, map, filter, length, refl, ap, sym, ◌∙◌, append-nil, nat_eq}
+use Rattle.std.specs.Prelude.{not, option_map, slice_index_or, nat_lt}
+use Rattle.std.specs.List.{position_or_len}
+use Rattle.std.specs.Cmp.Lexicographic.{pointwise}
+use Rattle.std.proofs.lemmas.List.Elements.{filter_agree}
+use Rattle.value.specs.declared.values.Value.{Value}
+use Rattle.value.specs.declared.values.Root.{Root}
+use Rattle.value.specs.declared.values.Root.TheVariants.{Of}
+use Rattle.threeval.specs.declared.Truth.TheVariants.{True}
+use Rattle.threeval.specs.Truths.{is_of}
+use Rattle.table.specs.Rows.{RowValues, Layout, Tables, value_in, layout_of, position_of, layouts_of, names_of}
+use Rattle.cond.specs.declared.conds.Cond.{Cond}
+use Rattle.cond.specs.declared.conds.Cond.TheViews as cond_of
+use Rattle.cond.specs.Eval as resolved
+use Rattle.assertion.specs.declared.linked_queries.Linked.{Linked}
+use Rattle.assertion.specs.Meaning.{State, rows_of, linked_answer, lists_row, row_roots}
+use Rattle.syntax.specs.declared.trees.Condition.{Condition}
+use Rattle.name_check.specs.Scopes as names
+use Rattle.name_check.specs.Scopes.{own_column}
+use Rattle.value.specs.Results.{each}
+use Rattle.form_check.specs.Leaves.{Leaves}
+use Rattle.form_check.specs.Queries.{Source, sourced}
+use Rattle.form_check.specs.Forms.{linked, row_where}
+use Rattle.meaning.specs.Meaning.{References, Valued, Answer, first_value, with_rows, passes, truth, root_of}
+use Rattle.meaning.specs.Laws.{seen}
+use Rattle.meaning.proofs.Steps.{ok_pair}
+use Rattle.meaning.proofs.Numbering.{leaf_value, condition_faithful, truth-And}
+use Rattle.meaning.proofs.Rows.{own_value}
+use Rattle.meaning.proofs.Queries.{answers_by, each_leaf, some_same}
+use Rattle.meaning.proofs.Links.{linked_leaf, is_plain}
+
+-- ---- the place of a table
+
+cond_some : (b : Bool) (n t : ℕ) → ◌≡◌ {A = Option ℕ} (cond b (Some n) None) (Some t) → n ≡ t
+cond_some true n t e = some_same n t e
+cond_some false n t e = cc
+
+at_next : (b : Bool) (first_value l : Layout) (rest : List Layout) (n : ℕ) (d : Layout) (o : Option Layout) → ◌≡◌ {A = Option Layout} (cond b (Some first_value) o) (Some l) → (o ≡ Some l → slice_index_or rest n d ≡ l) → slice_index_or (first_value ∷ rest) (cond (not b) (1 + n) 0) d ≡ l
+at_next true first_value l rest n d o e more = some_same first_value l e
+at_next false first_value l rest n d o e more = let next : 1 + n ≡ suc n = omega arith in ap (λ k. slice_index_or (first_value ∷ rest) k d) next ∙ more e
+
+at_first : (name : List ℕ) (d : Layout) (tables : Tables) (l : Layout) → layout_of name tables ≡ Some l → slice_index_or (layouts_of tables) (position_or_len (pointwise nat_eq name) (names_of tables)) d ≡ l
+at_first name d [] l e = cc
+at_first name d (table ∷ tables) l e = at_next (pointwise nat_eq name table.0) table.1 l (layouts_of tables) (position_or_len (pointwise nat_eq name) (names_of tables)) d (layout_of name tables) e (at_first name d tables l)
+
+pub layout_at : (name : List ℕ) (d : Layout) (tables : Tables) (t : ℕ) (l : Layout) → position_of name tables ≡ Some t → layout_of name tables ≡ Some l → slice_index_or (layouts_of tables) t d ≡ l
+layout_at name d tables t l p e =
+    let n = position_or_len (pointwise nat_eq name) (names_of tables) in
+    let same : n ≡ t = cond_some (nat_lt n (length (names_of tables))) n t p in
+    ap (λ n. slice_index_or (layouts_of tables) n d) (sym same) ∙ at_first name d tables l e
+
+pub sourced_parts : (name : List ℕ) (p : Option ℕ) (l : Option Layout) (source : Source) → sourced name p l ≡ Some source → (p ≡ Some source.table) × (l ≡ Some source.scope.layout)
+sourced_parts name None l source e = cc
+sourced_parts name (Some t) None source e = cc
+sourced_parts name (Some t) (Some l) source e =
+    let found : Source = record { table = t; scope = record { correlation_name = name; layout = l } } in
+    let same = some_same found source e in
+    (ap (λ (s : Source). let o : Option ℕ = Some s.table in o) same, ap (λ (s : Source). let o : Option Layout = Some s.scope.layout in o) same)
+
+-- ---- WHERE of the outer query
+
+row_kept : (tables : Tables) (state : State) (root : names.Scope) (keeps : Option Condition) (made : Cond) (leaves : Leaves) (queries : List Linked) → row_where root keeps ≡ Ok (made, leaves) → each (linked tables root) leaves ≡ Ok queries → (row : RowValues)
+    → passes (option_map (truth tables state) keeps) (seen root (row ∷ []) ∷ []) ≡ lists_row state made queries (value_in root.layout.key row) row
+row_kept tables state root None made leaves queries is are row =
+    let none : Leaves = [] in
+    let slots = map (linked_answer state (value_in root.layout.key row)) queries in
+    let (same, nothing) = ok_pair (cond_of.And []) made none leaves is in
+    ap (λ t. is_of t True) (sym (truth-And tables state [] row slots [])) ∙ ap (resolved.keeps row slots) same
+row_kept tables state root (Some condition) made leaves queries is are row =
+    let scopes : References = seen root (row ∷ []) ∷ [] in
+    let slots = map (linked_answer state (value_in root.layout.key row)) queries in
+    let fits = each_leaf tables state scopes (linked tables root) (linked_answer state (value_in root.layout.key row)) (linked_leaf tables state root row) leaves queries are ∙ sym (append-nil (map (leaf_value tables state scopes) leaves)) in
+    ap (λ t. is_of t True) (condition_faithful tables state scopes row slots (own_column root) (own_value root row []) condition [] made leaves is ([], fits)).0
+
+one_row : (f : List RowValues → Answer) (key : RowValues → Value) (g : Answer → Root) → ((row : RowValues) → g (f (row ∷ [])) ≡ Of (key row)) → (rows : List RowValues) → map g (map f (filter (λ rows. true) (map (λ row. row ∷ []) rows))) ≡ map (λ row. Of (key row)) rows
+one_row f key g same [] = refl
+one_row f key g same (row ∷ rows) = ap (λ r. r ∷ map g (map f (filter (λ rows. true) (map (λ row. row ∷ []) rows)))) (same row) ∙ ap (λ rs. Of (key row) ∷ rs) (one_row f key g same rows)
+
+-- the rows that a query with neither gives are those that the form lists
+pub row_roots_are : (tables : Tables) (state : State) (root : names.Scope) (table : ℕ) (list : Valued) (keeps : Option Condition) (made : Cond) (leaves : Leaves) (queries : List Linked) → list.sets ≡ false → row_where root keeps ≡ Ok (made, leaves) → each (linked tables root) leaves ≡ Ok queries
+    → map (root_of None root.layout.key) (answers_by (seen root (rows_of table state)) list (option_map (truth tables state) keeps) None None []) ≡ row_roots state table root.layout.key made queries
+row_roots_are tables state root table list keeps made leaves queries none is are =
+    let rows = rows_of table state in
+    let scope = seen root rows in
+    let f : List RowValues → Answer = λ rows. record { rows = rows; value = list.value (with_rows scope rows []) } in
+    ap (map (root_of None root.layout.key)) (is_plain scope list (option_map (truth tables state) keeps) [] none)
+    ∙ one_row f (value_in root.layout.key) (root_of None root.layout.key) (λ row. refl) (filter (λ row. passes (option_map (truth tables state) keeps) (with_rows scope (row ∷ []) [])) rows)
+    ∙ ap (map (λ row. Of (value_in root.layout.key row))) (filter_agree (λ row. passes (option_map (truth tables state) keeps) (with_rows scope (row ∷ []) [])) (λ row. lists_row state made queries (value_in root.layout.key row) row) (row_kept tables state root keeps made leaves queries is are) rows)

@@ -1,0 +1,207 @@
+-- Assertions of every form.
+use Rattle.std.proofs.Common.{◌≡◌, ℕ, true, false, Option, Some, None, Result, Ok, List, [], ◌∷◌, map, refl, ap, sym, ◌∙◌, subst, ⊎_elim, inl, inr}
+use Rattle.std.specs.Prelude.{◌⊎◌, unwrap_or, option_map, if◌then◌else◌}
+use Rattle.value.specs.declared.values.Root.{Root}
+use Rattle.value.specs.declared.values.Root.TheVariants.{All}
+use Rattle.value.specs.declared.refusals.Refusal.{Refusal}
+use Rattle.value.specs.ValueOrder.{root_cmp}
+use Rattle.value.specs.Ordered.{least, lesser}
+use Rattle.value.proofs.OrderedLists.{has, has-itself}
+use Rattle.value.proofs.ValueOrders.{root_cmp_total, root_exact}
+use Rattle.threeval.specs.declared.Truth.{Truth}
+use Rattle.threeval.specs.declared.Truth.TheVariants.{False}
+use Rattle.threeval.specs.Truths.{not_of, is_of, known}
+use Rattle.table.specs.Rows.{Layout, Tables, layout_of, position_of, layouts_of}
+use Rattle.assertion.specs.declared.forms.Form.{Form}
+use Rattle.assertion.specs.declared.forms.Form.TheVariants.{ByRow, ByGroup}
+use Rattle.assertion.specs.Meaning.{State, rows_of, key_of, bad_roots, verdict_of, truth_of_roots, row_roots}
+use Rattle.assertion.proofs.ListLemmas.{has-contains, contains-has}
+use Rattle.assertion.proofs.RootLists.{has-least_of, least-lowest, least-only}
+use Rattle.syntax.specs.declared.trees.ColumnName.{ColumnName}
+use Rattle.syntax.specs.declared.trees.Condition.{Condition, out-Condition}
+use Rattle.syntax.specs.declared.trees.Condition.TheOpen.{Condition-F}
+use Rattle.syntax.specs.declared.trees.Condition.TheFolds.{map-Condition}
+use Rattle.syntax.specs.declared.trees.Expression.{Expression}
+use Rattle.syntax.specs.declared.trees.Listed.{Listed}
+use Rattle.syntax.specs.declared.trees.Query.{Query, out-Query}
+use Rattle.name_check.specs.Scopes.{own_column}
+use Rattle.value.specs.Results.{and_then, each}
+use Rattle.form_check.specs.Results.{only_if}
+use Rattle.form_check.specs.Columns.{grouping_column}
+use Rattle.form_check.specs.Leaves.{numbered}
+use Rattle.form_check.specs.Queries.{Source, source_of, row_filter, may_be_selected}
+use Rattle.form_check.specs.Forms.{Clauses, linked, aggregate_of, row_where, by_row, having_over, by_group, by_clauses, not_exists, single, denied, form_in}
+use Rattle.meaning.specs.Meaning as written
+use Rattle.meaning.specs.Meaning.{References, Valued, Answer, is_any, truth, valued, listed, answers, table_of, grouping, root_of, roots_of_answers, query_roots, roots_in, denied_roots, written_truth, written_bad_roots}
+use Rattle.meaning.specs.Laws as law
+use Rattle.meaning.specs.Laws.{seen}
+use Rattle.meaning.proofs.Steps.{and_then_ok, in_class_ok, only_if_ok, ok_same}
+use Rattle.meaning.proofs.Queries.{answers_by, answers_at, source_seen}
+use Rattle.meaning.proofs.Singles.{single_is}
+use Rattle.meaning.proofs.Groups.{group_roots_are}
+use Rattle.meaning.proofs.Links.{condition_out, plain_list}
+use Rattle.meaning.proofs.Rooted.{layout_at, sourced_parts, row_roots_are}
+
+-- two lists with the same roots are both empty or neither
+same_empty : (xs ys : List Root) → ((r : Root) → has root_cmp r xs ≡ has root_cmp r ys) → truth_of_roots xs ≡ truth_of_roots ys
+same_empty [] [] h = refl
+same_empty [] (y ∷ ys) h = let k : false ≡ true = h y ∙ has-itself root_cmp_total y ys in cc
+same_empty (x ∷ xs) [] h = let k : true ≡ false = sym (has-itself root_cmp_total x xs) ∙ h x in cc
+same_empty (x ∷ xs) (y ∷ ys) h = refl
+
+-- and have the same least root
+least_alike : (xs ys : List Root) → ((r : Root) → has root_cmp r xs ≡ has root_cmp r ys) → least root_cmp xs ≡ least root_cmp ys
+least_alike [] [] h = refl
+least_alike (x ∷ xs) [] h = let k : true ≡ false = sym (has-itself root_cmp_total x xs) ∙ h x in cc
+least_alike xs (y ∷ ys) h =
+    let r = lesser root_cmp y (least root_cmp ys) in
+    least-only xs r (h r ∙ has-least_of (y ∷ ys) r refl) (λ q e. least-lowest (y ∷ ys) r refl q (sym (h q) ∙ e))
+
+none_given : (g : Answer → Root) (rows : List Answer) → not_of (known (is_any rows)) ≡ truth_of_roots (map g rows)
+none_given g [] = refl
+none_given g (row ∷ rows) = refl
+
+-- the same roots and the same truth as a form
+abbrev Agrees : Tables → State → Form → List Root → Truth → Type 0
+Agrees tables state form roots t = ((r : Root) → has root_cmp r roots ≡ has root_cmp r (bad_roots (layouts_of tables) form state)) × (t ≡ verdict_of (layouts_of tables) form state)
+
+-- ---- single conditions
+
+single_agrees : (tables : Tables) (condition : Condition) (form : Form) → single tables condition ≡ Ok form → (state : State) → Agrees tables state form (written.roots_of_whole (written_truth tables state condition)) (written_truth tables state condition)
+single_agrees tables condition form e state =
+    let (made, (queries, (is, means))) = single_is tables condition form e in
+    subst (λ form. Agrees tables state form (written.roots_of_whole (written_truth tables state condition)) (written_truth tables state condition)) is (
+      (λ r. ap (λ t. has root_cmp r (if is_of t False then All ∷ [] else [])) (means state)),
+      means state,
+    )
+
+-- ---- NOT EXISTS
+
+pub by_clauses_ok : (tables : Tables) (source : Source) (query : Clauses) (g : Option ColumnName) (h : Option Condition) (form : Form) → by_clauses tables source query g h ≡ Ok form
+    → ((g ≡ None) × ((h ≡ None) × (by_row tables source query ≡ Ok form))) ⊎ ((column : ColumnName) × ((having : Condition) × ((g ≡ Some column) × ((h ≡ Some having) × (by_group source query column having ≡ Ok form)))))
+by_clauses_ok tables source query None None form e = inl (refl, (refl, e))
+by_clauses_ok tables source query (Some column) (Some having) form e = inr (column, (having, (refl, (refl, e))))
+by_clauses_ok tables source query None (Some having) form e = cc
+by_clauses_ok tables source query (Some column) None form e = cc
+
+-- the roots of a query, by its clauses and the table that it reads
+roots_by : (tables : Tables) (state : State) (query : Query) (source : Source) → source_of tables (out-Query query).table (out-Query query).alias ≡ Some source
+    → (g : Option ColumnName) (h : Option Condition) → (out-Query query).group ≡ g → (out-Query query).having ≡ h
+    → query_roots tables state query (out-Query query)
+    ≡ roots_of_answers g (seen source.scope (rows_of source.table state)) (answers_by (seen source.scope (rows_of source.table state)) (listed tables state (out-Query query).listed) (option_map (truth tables state) (out-Query query).keeps) g (option_map (truth tables state) h) [])
+roots_by tables state query source found g h is_g is_h =
+    let q = out-Query query in
+    let table = seen source.scope (rows_of source.table state) in
+    let list = listed tables state q.listed in
+    let keeps = option_map (truth tables state) q.keeps in
+    ap (λ t. roots_of_answers q.group t (answers tables state query [])) (source_seen tables state q.table q.alias source found)
+    ∙ ap (roots_of_answers q.group table) (answers_at tables state query source [] found)
+    ∙ ap (λ g. roots_of_answers g table (answers_by table list keeps g (option_map (truth tables state) q.having) [])) is_g
+    ∙ ap (λ h. roots_of_answers g table (answers_by table list keeps g (option_map (truth tables state) h) [])) is_h
+
+key_at : (tables : Tables) (table : List ℕ) (alias : Option (List ℕ)) (source : Source) → source_of tables table alias ≡ Some source → key_of source.table (layouts_of tables) ≡ source.scope.layout.key
+key_at tables table alias source found =
+    let (place, layout) = sourced_parts (unwrap_or alias table) (position_of table tables) (layout_of table tables) source found in
+    ap (λ (l : Layout). l.key) (layout_at table (record { columns = []; key = 0 }) tables source.table source.scope.layout place layout)
+
+row_agrees : (tables : Tables) (state : State) (query : Query) (source : Source) (form : Form) → source_of tables (out-Query query).table (out-Query query).alias ≡ Some source → (out-Query query).group ≡ None → (out-Query query).having ≡ None → by_row tables source (out-Query query) ≡ Ok form
+    → (r : Root) → has root_cmp r (query_roots tables state query (out-Query query)) ≡ has root_cmp r (bad_roots (layouts_of tables) form state)
+row_agrees tables state query source form found no_group no_having e r =
+    let q = out-Query query in
+    let (lists, rest) = only_if_ok (may_be_selected (own_column source.scope) q.listed) (and_then (row_where source.scope q.keeps) (λ made. and_then (each (linked tables source.scope) made.1) (λ queries. let r : Result Form Refusal = Ok (ByRow source.table made.0 queries) in r))) form e in
+    let (m, (is, more)) = and_then_ok (row_where source.scope q.keeps) (λ made. and_then (each (linked tables source.scope) made.1) (λ queries. let r : Result Form Refusal = Ok (ByRow source.table made.0 queries) in r)) form rest in
+    let (queries, (are, makes)) = and_then_ok (each (linked tables source.scope) m.1) (λ queries. let r : Result Form Refusal = Ok (ByRow source.table m.0 queries) in r) form more in
+    ap (has root_cmp r) (
+    roots_by tables state query source found None None no_group no_having
+    ∙ row_roots_are tables state source.scope source.table (listed tables state q.listed) q.keeps m.0 m.1 queries (plain_list tables state (own_column source.scope) q.listed lists) is are
+    ∙ ap (λ key. row_roots state source.table key m.0 queries) (sym (key_at tables q.table q.alias source found)))
+    ∙ ap (λ form. has root_cmp r (bad_roots (layouts_of tables) form state)) (ok_same (ByRow source.table m.0 queries) form makes)
+
+group_agrees : (tables : Tables) (state : State) (query : Query) (source : Source) (column : ColumnName) (having : Condition) (form : Form) → source_of tables (out-Query query).table (out-Query query).alias ≡ Some source → (out-Query query).group ≡ Some column → (out-Query query).having ≡ Some having → by_group source (out-Query query) column having ≡ Ok form
+    → (r : Root) → has root_cmp r (query_roots tables state query (out-Query query)) ≡ has root_cmp r (bad_roots (layouts_of tables) form state)
+group_agrees tables state query source column having form found is_group is_having e r =
+    let q = out-Query query in
+    let (group, (own, more)) = in_class_ok (own_column source.scope column) (λ group. only_if (may_be_selected (grouping_column source.scope group) q.listed) (and_then (row_filter source.scope q.keeps) (λ kept. having_over source group kept having))) form e in
+    let (lists, rest) = only_if_ok (may_be_selected (grouping_column source.scope group) q.listed) (and_then (row_filter source.scope q.keeps) (λ kept. having_over source group kept having)) form more in
+    let (kept, (filters, over)) = and_then_ok (row_filter source.scope q.keeps) (λ kept. having_over source group kept having) form rest in
+    let (m, (is, made)) = and_then_ok (numbered (grouping_column source.scope group) having []) (λ made. and_then (each (aggregate_of source.scope) made.1) (λ aggregates. let r : Result Form Refusal = Ok (ByGroup source.table kept group made.0 aggregates) in r)) form over in
+    let (aggregates, (are, makes)) = and_then_ok (each (aggregate_of source.scope) m.1) (λ aggregates. let r : Result Form Refusal = Ok (ByGroup source.table kept group m.0 aggregates) in r) form made in
+    ap (has root_cmp r) (roots_by tables state query source found (Some column) (Some having) is_group is_having)
+    ∙ group_roots_are tables state source.scope (rows_of source.table state) source.scope.layout.key (listed tables state q.listed) q.keeps kept column group having m.0 m.1 aggregates filters own is are r
+    ∙ ap (λ form. has root_cmp r (bad_roots (layouts_of tables) form state)) (ok_same (ByGroup source.table kept group m.0 aggregates) form makes)
+
+-- a form that NOT EXISTS makes has the truth of its roots
+abbrev IsOfRoots : Tables → State → Form → Type 0
+IsOfRoots tables state form = verdict_of (layouts_of tables) form state ≡ truth_of_roots (bad_roots (layouts_of tables) form state)
+
+by_row_of_roots : (tables : Tables) (state : State) (source : Source) (query : Clauses) (form : Form) → by_row tables source query ≡ Ok form → IsOfRoots tables state form
+by_row_of_roots tables state source query form e =
+    let (lists, rest) = only_if_ok (may_be_selected (own_column source.scope) query.listed) (and_then (row_where source.scope query.keeps) (λ made. and_then (each (linked tables source.scope) made.1) (λ queries. let r : Result Form Refusal = Ok (ByRow source.table made.0 queries) in r))) form e in
+    let (m, (is, more)) = and_then_ok (row_where source.scope query.keeps) (λ made. and_then (each (linked tables source.scope) made.1) (λ queries. let r : Result Form Refusal = Ok (ByRow source.table made.0 queries) in r)) form rest in
+    let (queries, (are, makes)) = and_then_ok (each (linked tables source.scope) m.1) (λ queries. let r : Result Form Refusal = Ok (ByRow source.table m.0 queries) in r) form more in
+    subst (IsOfRoots tables state) (ok_same (ByRow source.table m.0 queries) form makes) refl
+
+by_group_of_roots : (tables : Tables) (state : State) (source : Source) (query : Clauses) (column : ColumnName) (having : Condition) (form : Form) → by_group source query column having ≡ Ok form → IsOfRoots tables state form
+by_group_of_roots tables state source query column having form e =
+    let (group, (own, more)) = in_class_ok (own_column source.scope column) (λ group. only_if (may_be_selected (grouping_column source.scope group) query.listed) (and_then (row_filter source.scope query.keeps) (λ kept. having_over source group kept having))) form e in
+    let (lists, rest) = only_if_ok (may_be_selected (grouping_column source.scope group) query.listed) (and_then (row_filter source.scope query.keeps) (λ kept. having_over source group kept having)) form more in
+    let (kept, (filters, over)) = and_then_ok (row_filter source.scope query.keeps) (λ kept. having_over source group kept having) form rest in
+    let (m, (is, made)) = and_then_ok (numbered (grouping_column source.scope group) having []) (λ made. and_then (each (aggregate_of source.scope) made.1) (λ aggregates. let r : Result Form Refusal = Ok (ByGroup source.table kept group made.0 aggregates) in r)) form over in
+    let (aggregates, (are, makes)) = and_then_ok (each (aggregate_of source.scope) m.1) (λ aggregates. let r : Result Form Refusal = Ok (ByGroup source.table kept group m.0 aggregates) in r) form made in
+    subst (IsOfRoots tables state) (ok_same (ByGroup source.table kept group m.0 aggregates) form makes) refl
+
+exists_agrees : (tables : Tables) (query : Query) (form : Form) → not_exists tables (out-Query query) ≡ Ok form → (state : State) → Agrees tables state form (query_roots tables state query (out-Query query)) (not_of (known (is_any (answers tables state query []))))
+exists_agrees tables query form e state =
+    let q = out-Query query in
+    let (source, (found, more)) = in_class_ok (source_of tables q.table q.alias) (λ source. by_clauses tables source q q.group q.having) form e in
+    let finish : ((r : Root) → has root_cmp r (query_roots tables state query q) ≡ has root_cmp r (bad_roots (layouts_of tables) form state)) → IsOfRoots tables state form → Agrees tables state form (query_roots tables state query q) (not_of (known (is_any (answers tables state query [])))) = λ same of_roots.
+    (same, none_given (root_of (grouping q.group (table_of tables state q.table q.alias) []) (table_of tables state q.table q.alias).table.layout.key) (answers tables state query []) ∙ same_empty (query_roots tables state query q) (bad_roots (layouts_of tables) form state) same ∙ sym of_roots) in
+    ⊎_elim
+    (λ rows. finish (row_agrees tables state query source form found rows.0 rows.1.0 rows.1.1) (by_row_of_roots tables state source q form rows.1.1))
+    (λ groups. finish (group_agrees tables state query source groups.0 groups.1.0 form found groups.1.1.0 groups.1.1.1.0 groups.1.1.1.1) (by_group_of_roots tables state source q groups.0 groups.1.0 form groups.1.1.1.1))
+    (by_clauses_ok tables source q q.group q.having form more)
+
+-- ---- all
+
+abbrev step_at : Tables → State → Condition-F Condition Expression Listed Query → Truth
+step_at tables state layer = written.condition_step (map-Condition Condition Expression Listed Query (References → Truth) Valued Valued (References → List Answer) (truth tables state) (valued tables state) (listed tables state) (answers tables state) layer) []
+
+denied_agrees : (tables : Tables) (condition part : Condition) (form : Form) (layer : Condition-F Condition Expression Listed Query) → out-Condition condition ≡ Condition-F.Not part → out-Condition part ≡ layer → denied tables condition layer ≡ Ok form
+    → (state : State) → Agrees tables state form (denied_roots tables state (written_truth tables state condition) layer) (written_truth tables state condition)
+denied_agrees tables condition part form (Condition-F.Or parts) n p e state = single_agrees tables condition form e state
+denied_agrees tables condition part form (Condition-F.And parts) n p e state = single_agrees tables condition form e state
+denied_agrees tables condition part form (Condition-F.Not inner) n p e state = single_agrees tables condition form e state
+denied_agrees tables condition part form (Condition-F.Is inner wanted) n p e state = single_agrees tables condition form e state
+denied_agrees tables condition part form (Condition-F.Exists query) n p e state =
+    let (same, is) = exists_agrees tables query form e state in
+    (same, ap (λ t. t []) (condition_out tables state condition) ∙ ap (λ layer. step_at tables state layer) n ∙ ap not_of (ap (λ t. t []) (condition_out tables state part) ∙ ap (λ layer. step_at tables state layer) p) ∙ is)
+denied_agrees tables condition part form (Condition-F.Compare left comparison right) n p e state = single_agrees tables condition form e state
+denied_agrees tables condition part form (Condition-F.IsNull x) n p e state = single_agrees tables condition form e state
+denied_agrees tables condition part form (Condition-F.Between x low high) n p e state = single_agrees tables condition form e state
+denied_agrees tables condition part form (Condition-F.In x list) n p e state = single_agrees tables condition form e state
+
+whole_agrees : (tables : Tables) (condition : Condition) (form : Form) (layer : Condition-F Condition Expression Listed Query) → out-Condition condition ≡ layer → form_in tables condition layer ≡ Ok form
+    → (state : State) → Agrees tables state form (roots_in tables state (written_truth tables state condition) layer) (written_truth tables state condition)
+whole_agrees tables condition form (Condition-F.Or parts) is e state = single_agrees tables condition form e state
+whole_agrees tables condition form (Condition-F.And parts) is e state = single_agrees tables condition form e state
+whole_agrees tables condition form (Condition-F.Not part) is e state = denied_agrees tables condition part form (out-Condition part) is refl e state
+whole_agrees tables condition form (Condition-F.Is inner wanted) is e state = single_agrees tables condition form e state
+whole_agrees tables condition form (Condition-F.Exists query) is e state = single_agrees tables condition form e state
+whole_agrees tables condition form (Condition-F.Compare left comparison right) is e state = single_agrees tables condition form e state
+whole_agrees tables condition form (Condition-F.IsNull x) is e state = single_agrees tables condition form e state
+whole_agrees tables condition form (Condition-F.Between x low high) is e state = single_agrees tables condition form e state
+whole_agrees tables condition form (Condition-F.In x list) is e state = single_agrees tables condition form e state
+
+pub HasWrittenRoots-law : law.HasWrittenRoots
+HasWrittenRoots-law tables condition form e state r =
+    let (same, is) = whole_agrees tables condition form (out-Condition condition) refl e state in
+    let bad = bad_roots (layouts_of tables) form state in
+    let roots = written_bad_roots tables state condition in
+    (λ c. contains-has root_exact bad r (sym (same r) ∙ has-contains root_cmp_total roots r c), λ c. contains-has root_exact roots r (same r ∙ has-contains root_cmp_total bad r c))
+
+pub HasWrittenTruth-law : law.HasWrittenTruth
+HasWrittenTruth-law tables condition form e state = (whole_agrees tables condition form (out-Condition condition) refl e state).1
+
+pub HasWrittenLeast-law : law.HasWrittenLeast
+HasWrittenLeast-law tables condition form e state =
+    least_alike (written_bad_roots tables state condition) (bad_roots (layouts_of tables) form state) (whole_agrees tables condition form (out-Condition condition) refl e state).0

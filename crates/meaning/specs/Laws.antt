@@ -1,0 +1,206 @@
+-- The laws of what is written and what is resolved.
+use Rattle.std.specs.Prelude.{◌≡◌, ◌↔◌, ℕ, Contains, IsNone, IsTrue, List, [], ◌∷◌, ◌++◌, filter}
+use Rattle.std.specs.Prelude.{Option, Some, None, option_map, Ok}
+use Rattle.std.specs.Bool.{IsFalse}
+use Rattle.value.specs.declared.values.Value.{Value}
+use Rattle.value.specs.declared.values.Value.TheVariants as value
+use Rattle.value.specs.declared.values.Root.{Root}
+use Rattle.table.specs.Rows.{RowValues, Tables, layouts_of}
+use Rattle.cond.specs.declared.exprs.Expr.{Expr}
+use Rattle.cond.specs.declared.conds.Cond.{Cond}
+use Rattle.cond.specs.Eval as resolved
+use Rattle.assertion.specs.declared.forms.Form.{Form}
+use Rattle.assertion.specs.declared.assertions.Assertion.{Assertion}
+use Rattle.assertion.specs.Meaning.{State, rows_of, kept_rows, bad_roots, verdict_of, least_bad_of}
+use Rattle.syntax.specs.declared.trees.Condition.{Condition}
+use Rattle.syntax.specs.declared.trees.Expression.{Expression}
+use Rattle.statement_syntax.specs.declared.definitions.Attributes.{Attributes}
+use Rattle.statement_syntax.specs.declared.statements.Assigned.{Assigned}
+use Rattle.statement_syntax.specs.declared.statements.Assigned.TheVariants.{Null, To}
+use Rattle.statement_syntax.specs.declared.statements.Assignment.{Assignment}
+use Rattle.statement_syntax.specs.declared.statements.Which.{Which}
+use Rattle.statement_syntax.specs.declared.statements.Which.TheVariants.{All, Names}
+use Rattle.name_check.specs.Scopes.{Scope, named_in}
+use Rattle.name_check.specs.Names.{condition_fault}
+use Rattle.form_check.specs.Forms.{form_of}
+use Rattle.form_check.specs.Queries.{row_condition, row_expression}
+use Rattle.type_check.specs.Forms.{is_typed_form}
+use Rattle.type_check.specs.Widths.{is_bounded_form}
+use Rattle.assertcheck.specs.declared.deletes.Delete.{Delete}
+use Rattle.assertcheck.specs.declared.selects.Select.{Select}
+use Rattle.assertcheck.specs.declared.updates.Setting.{Setting}
+use Rattle.assertcheck.specs.declared.updates.Update.{Update}
+use Rattle.assertcheck.specs.Assertions.{are_at_odds, attributes_of, checked}
+use Rattle.assertcheck.specs.Statements.{delete_of, places_from, select_of}
+use Rattle.assertcheck.specs.Updates.{update_of}
+use Rattle.meaning.specs.Class.{IsInClass}
+use Rattle.meaning.specs.Meaning.{Reference, References, truth, valued, passes, with_rows, table_of}
+use Rattle.meaning.specs.Meaning.{written_truth, written_bad_roots, written_least}
+
+-- a table as names see it, with rows at hand
+abbrev pub seen : Scope → List RowValues → Reference
+seen scope rows = record { table = scope; rows = rows }
+
+-- ---- rows
+
+-- a WHERE over the rows of one table has on each row the truth of its resolved condition, whatever stands around it; so
+-- it keeps the same rows
+abbrev pub KeepsRows : Type 0
+KeepsRows = (scope : Scope) (condition : Condition) (made : Cond) → row_condition scope condition ≡ Ok made
+    → (tables : Tables) (state : State) (row : RowValues) (outer : References)
+    → truth tables state condition (seen scope (row ∷ []) ∷ outer) ≡ resolved.truth row [] made
+
+-- an expression over the rows of one table has on each row the value of its resolved expression
+abbrev pub GivesValues : Type 0
+GivesValues = (scope : Scope) (expression : Expression) (made : Expr) → row_expression scope expression ≡ Ok made
+    → (tables : Tables) (state : State) (row : RowValues) (outer : References)
+    → (valued tables state expression).value (seen scope (row ∷ []) ∷ outer) ≡ resolved.answer row [] made
+
+-- ---- forms
+
+-- on every state a form is bad at the roots of what is written, true, false or unknown as it is, and its least bad root
+-- is that one's
+abbrev pub HasRootsOf : Tables → Condition → Form → Type 0
+HasRootsOf tables condition form = (state : State) (r : Root)
+    → Contains (written_bad_roots tables state condition) r ↔ Contains (bad_roots (layouts_of tables) form state) r
+
+abbrev pub HasTruthOf : Tables → Condition → Form → Type 0
+HasTruthOf tables condition form = (state : State)
+    → written_truth tables state condition ≡ verdict_of (layouts_of tables) form state
+
+abbrev pub HasLeastOf : Tables → Condition → Form → Type 0
+HasLeastOf tables condition form = (state : State)
+    → written_least tables state condition ≡ least_bad_of (layouts_of tables) form state
+
+-- so it is of the form that a condition has
+abbrev pub HasWrittenRoots : Type 0
+HasWrittenRoots = (tables : Tables) (condition : Condition) (form : Form)
+    → form_of tables condition ≡ Ok form → HasRootsOf tables condition form
+
+abbrev pub HasWrittenTruth : Type 0
+HasWrittenTruth = (tables : Tables) (condition : Condition) (form : Form)
+    → form_of tables condition ≡ Ok form → HasTruthOf tables condition form
+
+-- a condition has a form exactly where it is in the class
+abbrev pub HasFormInClass : Type 0
+HasFormInClass = (tables : Tables) (condition : Condition)
+    → ((form : Form) × (form_of tables condition ≡ Ok form)) ↔ IsInClass tables condition
+
+abbrev pub HasWrittenLeast : Type 0
+HasWrittenLeast = (tables : Tables) (condition : Condition) (form : Form)
+    → form_of tables condition ≡ Ok form → HasLeastOf tables condition form
+
+-- and it keeps its form where more tables come after those that it was given one over
+abbrev pub KeepsForm : Type 0
+KeepsForm = (tables more : Tables) (condition : Condition) (form : Form)
+    → form_of tables condition ≡ Ok form → form_of (tables ++ more) condition ≡ Ok form
+
+-- ---- assertions
+
+-- an assertion is the one that is written: it has the name and the attributes of its text, and on every state the bad
+-- roots, the truth and the least bad root of its condition
+pub record IsWritten (tables : Tables) (name : List ℕ) (condition : Condition) (attributes : Attributes)
+    (assertion : Assertion) : Type 0 where
+  pub named : assertion.name ≡ name
+  pub attributed : assertion.attributes ≡ attributes_of attributes
+  pub roots : HasRootsOf tables condition assertion.form
+  pub truth : HasTruthOf tables condition assertion.form
+  pub least : HasLeastOf tables condition assertion.form
+
+-- an assertion that is taken is the one that is written
+abbrev pub TakesWritten : Type 0
+TakesWritten = (tables : Tables) (name : List ℕ) (condition : Condition) (attributes : Attributes)
+    → (assertion : Assertion) → checked tables name condition attributes ≡ Ok assertion
+    → IsWritten tables name condition attributes assertion
+
+-- and it stays that where more tables are created after it
+abbrev pub StaysWritten : Type 0
+StaysWritten = (tables more : Tables) (name : List ℕ) (condition : Condition) (attributes : Attributes)
+    → (assertion : Assertion) → checked tables name condition attributes ≡ Ok assertion
+    → IsWritten (tables ++ more) name condition attributes assertion
+
+-- what may be taken: attributes without contradiction, known names, a condition of the class, and in its form values of
+-- one type compared and expressions with a bound
+pub record MayBeTaken (tables : Tables) (condition : Condition) (attributes : Attributes) : Type 0 where
+  pub agreed : IsFalse (are_at_odds attributes)
+  pub known : IsNone (condition_fault tables condition [])
+  pub shaped : IsInClass tables condition
+  pub typed : (form : Form) → form_of tables condition ≡ Ok form → IsTrue (is_typed_form (layouts_of tables) form)
+  pub bounded : (form : Form) → form_of tables condition ≡ Ok form → IsTrue (is_bounded_form form)
+
+-- exactly that is taken
+abbrev pub TakesExactly : Type 0
+TakesExactly = (tables : Tables) (name : List ℕ) (condition : Condition) (attributes : Attributes)
+    → ((assertion : Assertion) × (checked tables name condition attributes ≡ Ok assertion))
+    ↔ MayBeTaken tables condition attributes
+
+-- ---- statements
+
+-- the rows of a table for which a WHERE is true, as it is written
+abbrev pub where_rows : Tables → State → List ℕ → Option Condition → List RowValues
+where_rows tables state name condition =
+    let table = table_of tables state name None in
+    filter (λ row. passes (option_map (truth tables state) condition) (with_rows table (row ∷ []) [])) table.rows
+
+-- a DELETE, a SELECT and an UPDATE are of the rows that their WHERE says
+abbrev pub DeletesRows : Type 0
+DeletesRows = (tables : Tables) (name : List ℕ) (condition : Option Condition) (delete : Delete)
+    → delete_of tables name condition ≡ Ok delete
+    → (state : State) → where_rows tables state name condition ≡ kept_rows delete.kept (rows_of delete.table state)
+
+abbrev pub SelectsRows : Type 0
+SelectsRows = (tables : Tables) (columns : Which) (name : List ℕ) (condition : Option Condition) (select : Select)
+    → select_of tables columns name condition ≡ Ok select
+    → (state : State) → where_rows tables state name condition ≡ kept_rows select.kept (rows_of select.table state)
+
+abbrev pub UpdatesRows : Type 0
+UpdatesRows = (tables : Tables) (name : List ℕ) (sets : List Assignment) (condition : Option Condition)
+    → (update : Update)
+    → update_of tables name sets condition ≡ Ok update
+    → (state : State) → where_rows tables state name condition ≡ kept_rows update.kept (rows_of update.table state)
+
+-- two lists are as long as each other, and so is each pair of them
+abbrev pub Pairs : {X Y : Type 0} → (X → Y → Type 0) → List X → List Y → Type 0
+Pairs P [] [] = Unit {0}
+Pairs P [] (y ∷ ys) = ⊥
+Pairs P (x ∷ xs) [] = ⊥
+Pairs P (x ∷ xs) (y ∷ ys) = P x y × Pairs P xs ys
+
+-- a name is of the column at a place of a table
+abbrev pub IsPlaceOf : Scope → List ℕ → ℕ → Type 0
+IsPlaceOf scope name place = named_in name scope ≡ Some place
+
+-- the columns of a select list (7.9): those that are named, in their order, and for * all in the table's
+abbrev pub IsListOf : Scope → Which → List ℕ → Type 0
+IsListOf scope All places = places ≡ places_from 0 scope.layout.columns
+IsListOf scope (Names names) places = Pairs (IsPlaceOf scope) names places
+
+-- a SELECT lists the columns that are written
+abbrev pub ListsColumns : Type 0
+ListsColumns = (tables : Tables) (columns : Which) (name : List ℕ) (condition : Option Condition) (select : Select)
+    → select_of tables columns name condition ≡ Ok select
+    → (state : State) → IsListOf (table_of tables state name None).table columns select.columns
+
+-- the value that an UPDATE writes for a column of a row, over the row as it was (13.10)
+abbrev pub written_value : Tables → State → Reference → Assigned → RowValues → Value
+written_value tables state table Null row = value.Null
+written_value tables state table (To expression) row =
+    (valued tables state expression).value (with_rows table (row ∷ []) [])
+
+-- the value that it gives
+abbrev pub given_value : Option Expr → RowValues → Value
+given_value None row = value.Null
+given_value (Some made) row = resolved.answer row [] made
+
+-- a column gets what is assigned to its name
+pub record Gives (tables : Tables) (state : State) (table : Reference) (assignment : Assignment) (setting : Setting) :
+    Type 0 where
+  pub column : IsPlaceOf table.table assignment.column setting.column
+  pub value : (row : RowValues) → written_value tables state table assignment.value row ≡ given_value setting.value row
+
+-- an UPDATE gives the columns that are written the values that are written
+abbrev pub UpdatesColumns : Type 0
+UpdatesColumns = (tables : Tables) (name : List ℕ) (sets : List Assignment) (condition : Option Condition)
+    → (update : Update)
+    → update_of tables name sets condition ≡ Ok update
+    → (state : State) → Pairs (Gives tables state (table_of tables state name None)) sets update.sets

@@ -1,0 +1,46 @@
+//! What holds of the written meaning and the resolved one.
+
+ghost use Rattle.meaning.specs.Laws.{GivesValues, KeepsRows};
+ghost use Rattle.meaning.specs.Laws.{DeletesRows, ListsColumns, SelectsRows, UpdatesColumns, UpdatesRows};
+ghost use Rattle.meaning.specs.Laws.{HasFormInClass, HasWrittenLeast, HasWrittenRoots, HasWrittenTruth, KeepsForm};
+ghost use Rattle.meaning.specs.Laws.{StaysWritten, TakesExactly, TakesWritten};
+
+/// A condition over the rows of one table is true, false or unknown of a row as it is written, and an expression has
+/// its written value there.
+pub fn rows_are_as_written()
+    ensures conditions { KeepsRows }
+    ensures expressions { GivesValues }
+{}
+
+/// A DELETE, a SELECT and an UPDATE that are taken are of the rows for which their WHERE is true as it is written. A
+/// SELECT lists the columns that are written, and an UPDATE gives the columns that are written the written values.
+pub fn statements_keep_written_rows()
+    ensures delete { DeletesRows }
+    ensures select { SelectsRows }
+    ensures list { ListsColumns }
+    ensures update { UpdatesRows }
+    ensures columns { UpdatesColumns }
+{}
+
+/// A condition has a form exactly where it is by rows, by groups or single.
+pub fn class_has_forms()
+    ensures { HasFormInClass }
+{}
+
+/// An assertion that has a form is false at the roots that its text names, and true, false or unknown as its text is; its
+/// least bad root is that of its text. It keeps its form where more tables come after those that it was given one over.
+pub fn form_means_what_is_written()
+    ensures roots { HasWrittenRoots }
+    ensures truth { HasWrittenTruth }
+    ensures least { HasWrittenLeast }
+    ensures kept { KeepsForm }
+{}
+
+/// An assertion that is taken is the one that is written, and stays that where more tables are created. And exactly those
+/// are taken whose attributes don't contradict each other, whose names are known, and whose condition is of the class,
+/// typed and bounded.
+pub fn assertion_means_what_is_written()
+    ensures written { TakesWritten }
+    ensures later { StaysWritten }
+    ensures exact { TakesExactly }
+{}

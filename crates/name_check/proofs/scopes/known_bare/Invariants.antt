@@ -1,8 +1,0 @@
-use Rattle.std.proofs.Common.{◌≡◌, drop}
-use Rattle.name_check.specs.Scopes.{bare_fault}
-use Rattle.name_check.specs.Shown.{all_shown}
-use Rattle.name_check.proofs.scopes.known_bare.Given as goal
-
--- no scope so far had it
-abbrev pub invariant-loop-scope : goal.invariant-loop-scope
-invariant-loop-scope l = bare_fault l.name (all_shown (drop l.scope-index l.scopes)) ≡ bare_fault l.name (all_shown l.scopes)
