@@ -9,8 +9,8 @@ ghost use Rattle.leaf_parser.specs.Reads.{Reads};
 
 use crate::levels::{InnerOperand, Level};
 use leaf_parser::{
-    Counted, Cursor, NamedColumn, Part, Products, Repeated, Stop, Sums, column, joined, number, parens,
-    text,
+    Counted, Cursor, NamedColumn, Part, Products, Repeated, Stop, Sums, column, joined, number,
+    parens, text,
 };
 use sqlite_items::Boxed;
 use std::alloc::{AllocError, Global};
