@@ -6,13 +6,13 @@ ghost use Rattle.reading.specs.Reading as rd;
 ghost use Rattle.syntax.specs.Readers as reader;
 ghost use Rattle.condition_parser.specs.Inside.{inside};
 ghost use Rattle.condition_parser.specs.Nests.{Nests};
-ghost use Rattle.leaf_parser.specs.Reads.{Reads};
+ghost use Rattle.leaf_parser.specs.Reads.{Reads, IsAt};
 
-use crate::levels::Level;
-use leaf_parser::{Cursor, Stop, comparison_sign, truth};
+use crate::levels::{InnerExpression, InnerQuery, Level};
+use leaf_parser::{Cursor, Stop, comparison_sign, parens, parens_list, stopped, truth};
 use sqlite_items::Boxed;
 use std::alloc::{AllocError, Global};
-use syntax::{Condition, Expression, Found, Query, Want};
+use syntax::{Condition, Expression, Found, Want};
 use threeval::Truth;
 use token::Kind;
 
@@ -41,12 +41,6 @@ pub fn negation(alloc: Global, inner: Condition) -> Result<Condition, AllocError
     Ok(Condition::Not(Boxed::new(alloc, inner)?))
 }
 
-fn existence(alloc: Global, query: Query) -> Result<Condition, AllocError>
-    ensures { IfOk result (λ x. x ≡ Condition.Exists query) }
-{
-    Ok(Condition::Exists(Boxed::new(alloc, query)?))
-}
-
 fn is_truth(alloc: Global, left: Condition, value: Truth) -> Result<Condition, AllocError>
     ensures { IfOk result (λ x. x ≡ Condition.Is left value) }
 {
@@ -62,89 +56,106 @@ fn is_not_truth(alloc: Global, left: Condition, value: Truth) -> Result<Conditio
 fn plain_truth(alloc: Global, cursor: &mut Cursor<'_>, left: Condition) -> Result<Condition, Stop>
     ensures { Reads (rd.◌<$>◌ (Condition.Is left) reader.truth cursor.old) result cursor.new }
 {
-    let value = truth(cursor)?;
-    Ok(is_truth(alloc, left, value)?)
+    match truth(cursor) {
+        Ok(value) => Ok(is_truth(alloc, left, value)?),
+        Err(stop) => Err(stopped(stop, left)),
+    }
 }
 
 fn not_truth(alloc: Global, cursor: &mut Cursor<'_>, left: Condition) -> Result<Condition, Stop>
-    ensures { Reads (rd.◌>>◌ (rd.expect kinds.Not) (rd.◌<$>◌ (λ y. Condition.Not (Condition.Is left y)) reader.truth) cursor.old) result cursor.new }
+    ensures { Reads (rd.◌<$>◌ (λ y. Condition.Not (Condition.Is left y)) reader.truth cursor.old) result cursor.new }
 {
-    cursor.expect(Kind::Not)?;
-    let value = truth(cursor)?;
-    Ok(is_not_truth(alloc, left, value)?)
+    match truth(cursor) {
+        Ok(value) => Ok(is_not_truth(alloc, left, value)?),
+        Err(stop) => Err(stopped(stop, left)),
+    }
 }
 
 impl<F: Fn(Global, &mut Cursor<'_>, usize, Want) -> Result<Found, Stop>> Level<F> {
     /// `BETWEEN expr AND expr`. The AND is its own.
     #[tactic(auto, unfolding(syntax::specs::Readers::between))]
-    pub fn between(&self, cursor: &mut Cursor<'_>, left: Expression) -> Result<Condition, Stop>
-        requires { Nests self.now.depth (F.pre self.now.inner) (F.post self.now.inner) }
+    fn between(&self, cursor: &mut Cursor<'_>, left: Expression) -> Result<Condition, Stop>
+        requires nests { Nests self.now.depth (F.pre self.now.inner) (F.post self.now.inner) }
+        requires at { IsAt kinds.Between cursor.old }
         ensures { Reads (reader.between self.now.depth (inside self.now.depth) left cursor.old) result cursor.new }
     {
-        cursor.expect(Kind::Between)?;
-        let low = self.expr(cursor)?;
-        cursor.expect(Kind::And)?;
-        let high = self.expr(cursor)?;
-        Ok(Condition::Between(left, low, high))
+        cursor.take(Kind::Between);
+        let low = match self.expr(cursor) {
+            Ok(low) => low,
+            Err(stop) => return Err(stopped(stop, left)),
+        };
+        if let Err(stop) = cursor.expect(Kind::And) {
+            return Err(stopped(stop, (left, low)));
+        }
+        match self.expr(cursor) {
+            Ok(high) => Ok(Condition::Between(left, low, high)),
+            Err(stop) => Err(stopped(stop, (left, low))),
+        }
     }
 
     /// `IN "(" expr { "," expr } ")"`
     #[tactic(auto, unfolding(syntax::specs::Readers::listed))]
-    pub fn listed(&self, cursor: &mut Cursor<'_>, left: Expression) -> Result<Condition, Stop>
-        requires { Nests self.now.depth (F.pre self.now.inner) (F.post self.now.inner) }
+    fn listed(&self, cursor: &mut Cursor<'_>, left: Expression) -> Result<Condition, Stop>
+        requires nests { Nests self.now.depth (F.pre self.now.inner) (F.post self.now.inner) }
+        requires at { IsAt kinds.In cursor.old }
         ensures { Reads (reader.listed self.now.depth (inside self.now.depth) left cursor.old) result cursor.new }
     {
-        cursor.expect(Kind::In)?;
-        let items = self.parens_items(cursor)?;
-        Ok(Condition::In(left, items))
+        cursor.take(Kind::In);
+        match parens_list(self.alloc, &InnerExpression(self), cursor, self.depth) {
+            Ok(items) => Ok(Condition::In(left, items)),
+            Err(stop) => Err(stopped(stop, left)),
+        }
     }
 
     /// `BETWEEN .. | IN ..`
     #[tactic(auto, unfolding(syntax::specs::Readers::range_or_list))]
-    pub fn range_or_list(
-        &self,
-        cursor: &mut Cursor<'_>,
-        left: Expression,
-    ) -> Result<Condition, Stop>
+    fn range_or_list(&self, cursor: &mut Cursor<'_>, left: Expression) -> Result<Condition, Stop>
         requires { Nests self.now.depth (F.pre self.now.inner) (F.post self.now.inner) }
         ensures { Reads (reader.range_or_list self.now.depth (inside self.now.depth) left cursor.old) result cursor.new }
     {
         match cursor.peek() {
             Kind::Between => self.between(cursor, left),
             Kind::In => self.listed(cursor, left),
-            _ => Err(Stop::Syntax),
+            _ => Err(stopped(Stop::Syntax, left)),
         }
     }
 
     /// `[NOT] NULL`, behind IS.
     #[tactic(auto, unfolding(syntax::specs::Readers::null))]
-    pub fn null(&self, cursor: &mut Cursor<'_>, left: Expression) -> Result<Condition, Stop>
+    fn null(&self, cursor: &mut Cursor<'_>, left: Expression) -> Result<Condition, Stop>
         requires { Nests self.now.depth (F.pre self.now.inner) (F.post self.now.inner) }
         ensures { Reads (reader.null self.now.depth (inside self.now.depth) left cursor.old) result cursor.new }
     {
         match cursor.peek() {
             Kind::Null => {
-                cursor.expect(Kind::Null)?;
+                cursor.take(Kind::Null);
                 Ok(Condition::IsNull(left))
             }
             Kind::Not => {
-                cursor.expect(Kind::Not)?;
-                cursor.expect(Kind::Null)?;
-                Ok(negation(self.alloc, Condition::IsNull(left))?)
+                cursor.take(Kind::Not);
+                match cursor.expect(Kind::Null) {
+                    Ok(_) => Ok(negation(self.alloc, Condition::IsNull(left))?),
+                    Err(stop) => Err(stopped(stop, left)),
+                }
             }
-            _ => Err(Stop::Syntax),
+            _ => Err(stopped(Stop::Syntax, left)),
         }
     }
 
     /// `cmp expr`
     #[tactic(auto, unfolding(syntax::specs::Readers::compared))]
-    pub fn compared(&self, cursor: &mut Cursor<'_>, left: Expression) -> Result<Condition, Stop>
+    fn compared(&self, cursor: &mut Cursor<'_>, left: Expression) -> Result<Condition, Stop>
         requires { Nests self.now.depth (F.pre self.now.inner) (F.post self.now.inner) }
         ensures { Reads (reader.compared self.now.depth (inside self.now.depth) left cursor.old) result cursor.new }
     {
-        let sign = comparison_sign(cursor)?;
-        let right = self.expr(cursor)?;
-        Ok(Condition::Compare(left, sign, right))
+        let sign = match comparison_sign(cursor) {
+            Ok(sign) => sign,
+            Err(stop) => return Err(stopped(stop, left)),
+        };
+        match self.expr(cursor) {
+            Ok(right) => Ok(Condition::Compare(left, sign, right)),
+            Err(stop) => Err(stopped(stop, left)),
+        }
     }
 
     /// What makes a condition of an expression.
@@ -155,13 +166,12 @@ impl<F: Fn(Global, &mut Cursor<'_>, usize, Want) -> Result<Found, Stop>> Level<F
     {
         match cursor.peek() {
             Kind::Is => {
-                cursor.expect(Kind::Is)?;
+                cursor.take(Kind::Is);
                 self.null(cursor, left)
             }
             Kind::Not => {
-                cursor.expect(Kind::Not)?;
-                let inner = self.range_or_list(cursor, left)?;
-                Ok(negation(self.alloc, inner)?)
+                cursor.take(Kind::Not);
+                Ok(negation(self.alloc, self.range_or_list(cursor, left)?)?)
             }
             Kind::Between | Kind::In => self.range_or_list(cursor, left),
             _ => self.compared(cursor, left),
@@ -170,12 +180,15 @@ impl<F: Fn(Global, &mut Cursor<'_>, usize, Want) -> Result<Found, Stop>> Level<F
 
     /// `[NOT] (TRUE | FALSE | UNKNOWN)`, behind IS.
     #[tactic(auto, unfolding(syntax::specs::Readers::truth_after))]
-    pub fn truth_after(&self, cursor: &mut Cursor<'_>, left: Condition) -> Result<Condition, Stop>
+    fn truth_after(&self, cursor: &mut Cursor<'_>, left: Condition) -> Result<Condition, Stop>
         requires { Nests self.now.depth (F.pre self.now.inner) (F.post self.now.inner) }
         ensures { Reads (reader.truth_after self.now.depth (inside self.now.depth) left cursor.old) result cursor.new }
     {
         match cursor.peek() {
-            Kind::Not => not_truth(self.alloc, cursor, left),
+            Kind::Not => {
+                cursor.take(Kind::Not);
+                not_truth(self.alloc, cursor, left)
+            }
             _ => plain_truth(self.alloc, cursor, left),
         }
     }
@@ -188,7 +201,7 @@ impl<F: Fn(Global, &mut Cursor<'_>, usize, Want) -> Result<Found, Stop>> Level<F
     {
         match cursor.peek() {
             Kind::Is => {
-                cursor.expect(Kind::Is)?;
+                cursor.take(Kind::Is);
                 self.truth_after(cursor, left)
             }
             _ => Ok(left),
@@ -198,11 +211,11 @@ impl<F: Fn(Global, &mut Cursor<'_>, usize, Want) -> Result<Found, Stop>> Level<F
     /// `EXISTS "(" query ")"`
     #[tactic(auto, unfolding(syntax::specs::Readers::exists))]
     pub fn exists(&self, cursor: &mut Cursor<'_>) -> Result<Condition, Stop>
-        requires { Nests self.now.depth (F.pre self.now.inner) (F.post self.now.inner) }
+        requires nests { Nests self.now.depth (F.pre self.now.inner) (F.post self.now.inner) }
+        requires at { IsAt kinds.Exists cursor.old }
         ensures { Reads (reader.exists self.now.depth (inside self.now.depth) cursor.old) result cursor.new }
     {
-        cursor.expect(Kind::Exists)?;
-        let query = self.parens_query(cursor)?;
-        Ok(existence(self.alloc, query)?)
+        cursor.take(Kind::Exists);
+        Ok(Condition::Exists(parens(&InnerQuery(self), cursor, self.depth)?))
     }
 }

@@ -8,28 +8,77 @@ ghost use Rattle.condition_parser.specs.Nests.{Nests};
 ghost use Rattle.leaf_parser.specs.Reads.{Reads};
 
 use crate::comparisons::{begins_comparison, negation};
-use crate::levels::{Level, unwanted};
-use leaf_parser::{Cursor, Stop, and_of, one, or_of};
-use sqlite_items::Items;
+use crate::levels::{InnerTest, Level};
+use leaf_parser::{Ands, Cursor, Ors, Part, Repeated, Stop, joined, parens, stopped};
 use std::alloc::Global;
 use syntax::{Condition, Expression, Found, Want};
 use token::Kind;
 
-fn is_and(kind: Kind) -> bool
-    ensures { result ≡ reader.is_and kind }
-{
-    match kind {
-        Kind::And => true,
-        _ => false,
+/// `AND bfact`
+#[derive(Drop)]
+struct NextTest<'a, F>(&'a Level<F>);
+
+impl<'a, F: Fn(Global, &mut Cursor<'_>, usize, Want) -> Result<Found, Stop>> Part
+    for NextTest<'a, F> {
+    ghost use Rattle.syntax.specs.Readers as reader;
+    ghost use Rattle.condition_parser.specs.Inside.{inside};
+    ghost use Rattle.condition_parser.specs.Nests.{Nests};
+
+    type Tree = Condition;
+
+    ghost ready = { λ p. Nests p.0.now.depth (F.pre p.0.now.inner) (F.post p.0.now.inner) };
+
+    ghost reader = { λ p. reader.and_item p.0.now.depth (inside p.0.now.depth) };
+
+    #[tactic(auto, unfolding(syntax::specs::Readers::and_item))]
+    fn parse(&self, cursor: &mut Cursor<'_>) -> Result<Condition, Stop> {
+        cursor.expect(Kind::And)?;
+        self.0.bfact(cursor)
     }
 }
 
-fn is_or(kind: Kind) -> bool
-    ensures { result ≡ reader.is_or kind }
-{
-    match kind {
-        Kind::Or => true,
-        _ => false,
+impl<'a, F: Fn(Global, &mut Cursor<'_>, usize, Want) -> Result<Found, Stop>> Repeated
+    for NextTest<'a, F> {
+    ghost use Rattle.syntax.specs.Readers as reader;
+
+    ghost begins = { reader.is_and };
+
+    fn begins(&self, kind: Kind) -> bool {
+        matches!(kind, Kind::And)
+    }
+}
+
+/// `OR bterm`
+#[derive(Drop)]
+struct NextTerm<'a, F>(&'a Level<F>);
+
+impl<'a, F: Fn(Global, &mut Cursor<'_>, usize, Want) -> Result<Found, Stop>> Part
+    for NextTerm<'a, F> {
+    ghost use Rattle.syntax.specs.Readers as reader;
+    ghost use Rattle.condition_parser.specs.Inside.{inside};
+    ghost use Rattle.condition_parser.specs.Nests.{Nests};
+
+    type Tree = Condition;
+
+    ghost ready = { λ p. Nests p.0.now.depth (F.pre p.0.now.inner) (F.post p.0.now.inner) };
+
+    ghost reader = { λ p. reader.or_item p.0.now.depth (inside p.0.now.depth) };
+
+    #[tactic(auto, unfolding(syntax::specs::Readers::or_item))]
+    fn parse(&self, cursor: &mut Cursor<'_>) -> Result<Condition, Stop> {
+        cursor.expect(Kind::Or)?;
+        self.0.bterm(cursor)
+    }
+}
+
+impl<'a, F: Fn(Global, &mut Cursor<'_>, usize, Want) -> Result<Found, Stop>> Repeated
+    for NextTerm<'a, F> {
+    ghost use Rattle.syntax.specs.Readers as reader;
+
+    ghost begins = { reader.is_or };
+
+    fn begins(&self, kind: Kind) -> bool {
+        matches!(kind, Kind::Or)
     }
 }
 
@@ -41,7 +90,7 @@ impl<F: Fn(Global, &mut Cursor<'_>, usize, Want) -> Result<Found, Stop>> Level<F
         ensures { Reads (reader.first self.now.depth (inside self.now.depth) cursor.old) result cursor.new }
     {
         match cursor.peek() {
-            Kind::Open => self.parens_test(cursor),
+            Kind::Open => parens(&InnerTest(self), cursor, self.depth),
             Kind::Exists => Ok(Found::Condition(self.exists(cursor)?)),
             _ => Ok(Found::Expression(self.factor(cursor)?)),
         }
@@ -49,7 +98,7 @@ impl<F: Fn(Global, &mut Cursor<'_>, usize, Want) -> Result<Found, Stop>> Level<F
 
     /// `bprim [ IS [NOT] (TRUE | FALSE | UNKNOWN) ]`
     #[tactic(auto, unfolding(syntax::specs::Readers::btest))]
-    pub fn btest(&self, cursor: &mut Cursor<'_>) -> Result<Condition, Stop>
+    fn btest(&self, cursor: &mut Cursor<'_>) -> Result<Condition, Stop>
         requires { Nests self.now.depth (F.pre self.now.inner) (F.post self.now.inner) }
         ensures { Reads (reader.btest self.now.depth (inside self.now.depth) cursor.old) result cursor.new }
     {
@@ -60,68 +109,37 @@ impl<F: Fn(Global, &mut Cursor<'_>, usize, Want) -> Result<Found, Stop>> Level<F
                 let test = self.comparison(cursor, left)?;
                 self.is_after(cursor, test)
             }
-            Found::Query(x) => Err(unwanted(x)),
+            Found::Query(x) => Err(stopped(Stop::Syntax, x)),
         }
     }
 
     /// `[NOT] btest`
     #[tactic(auto, unfolding(syntax::specs::Readers::bfact))]
-    pub fn bfact(&self, cursor: &mut Cursor<'_>) -> Result<Condition, Stop>
+    fn bfact(&self, cursor: &mut Cursor<'_>) -> Result<Condition, Stop>
         requires { Nests self.now.depth (F.pre self.now.inner) (F.post self.now.inner) }
         ensures { Reads (reader.bfact self.now.depth (inside self.now.depth) cursor.old) result cursor.new }
     {
         match cursor.peek() {
             Kind::Not => {
-                cursor.expect(Kind::Not)?;
-                let inner = self.btest(cursor)?;
-                Ok(negation(self.alloc, inner)?)
+                cursor.take(Kind::Not);
+                Ok(negation(self.alloc, self.btest(cursor)?)?)
             }
             _ => self.btest(cursor),
         }
     }
 
-    /// `AND bfact`
-    #[tactic(auto, unfolding(syntax::specs::Readers::and_item))]
-    pub fn and_item(&self, cursor: &mut Cursor<'_>) -> Result<Condition, Stop>
-        requires { Nests self.now.depth (F.pre self.now.inner) (F.post self.now.inner) }
-        ensures { Reads (reader.and_item self.now.depth (inside self.now.depth) cursor.old) result cursor.new }
-    {
-        cursor.expect(Kind::And)?;
-        self.bfact(cursor)
-    }
-
-    /// `{ AND bfact }`, behind the parts found before.
-    #[tactic(auto, using(leaf_parser::proofs::Turns::many_stops, leaf_parser::proofs::Turns::many_goes, leaf_parser::proofs::Turns::many_over))]
-    pub fn ands(
-        &self,
-        cursor: &mut Cursor<'_>,
-        mut found: Items<Condition>,
-    ) -> Result<Items<Condition>, Stop>
-        requires { Nests self.now.depth (F.pre self.now.inner) (F.post self.now.inner) }
-        ensures { Reads (rd.all reader.is_and (reader.and_item self.now.depth (inside self.now.depth)) found cursor.old) result cursor.new }
-    {
-        for _turn in 0..cursor.left() {
-            if !is_and(cursor.peek()) {
-                return Ok(found);
-            }
-            found.push(self.and_item(cursor)?)?;
-        }
-        Ok(found)
-    }
-
     /// The bterm that begins with this bfact.
-    #[tactic(auto, unfolding(syntax::specs::Readers::and_after))]
-    pub fn and_after(&self, cursor: &mut Cursor<'_>, first: Condition) -> Result<Condition, Stop>
+    #[tactic(auto, unfolding(syntax::specs::Readers::and_after, syntax::specs::Grammar::and_of))]
+    fn and_after(&self, cursor: &mut Cursor<'_>, first: Condition) -> Result<Condition, Stop>
         requires { Nests self.now.depth (F.pre self.now.inner) (F.post self.now.inner) }
         ensures { Reads (reader.and_after self.now.depth (inside self.now.depth) first cursor.old) result cursor.new }
     {
-        let parts = self.ands(cursor, one(self.alloc, first)?)?;
-        Ok(and_of(self.alloc, parts)?)
+        joined::<NextTest<'_, F>, Ands>(self.alloc, &NextTest(self), cursor, first)
     }
 
     /// `bfact { AND bfact }`
     #[tactic(auto, unfolding(syntax::specs::Readers::bterm))]
-    pub fn bterm(&self, cursor: &mut Cursor<'_>) -> Result<Condition, Stop>
+    fn bterm(&self, cursor: &mut Cursor<'_>) -> Result<Condition, Stop>
         requires { Nests self.now.depth (F.pre self.now.inner) (F.post self.now.inner) }
         ensures { Reads (reader.bterm self.now.depth (inside self.now.depth) cursor.old) result cursor.new }
     {
@@ -129,48 +147,18 @@ impl<F: Fn(Global, &mut Cursor<'_>, usize, Want) -> Result<Found, Stop>> Level<F
         self.and_after(cursor, first)
     }
 
-    /// `OR bterm`
-    #[tactic(auto, unfolding(syntax::specs::Readers::or_item))]
-    pub fn or_item(&self, cursor: &mut Cursor<'_>) -> Result<Condition, Stop>
-        requires { Nests self.now.depth (F.pre self.now.inner) (F.post self.now.inner) }
-        ensures { Reads (reader.or_item self.now.depth (inside self.now.depth) cursor.old) result cursor.new }
-    {
-        cursor.expect(Kind::Or)?;
-        self.bterm(cursor)
-    }
-
-    /// `{ OR bterm }`, behind the parts found before.
-    #[tactic(auto, using(leaf_parser::proofs::Turns::many_stops, leaf_parser::proofs::Turns::many_goes, leaf_parser::proofs::Turns::many_over))]
-    pub fn ors(
-        &self,
-        cursor: &mut Cursor<'_>,
-        mut found: Items<Condition>,
-    ) -> Result<Items<Condition>, Stop>
-        requires { Nests self.now.depth (F.pre self.now.inner) (F.post self.now.inner) }
-        ensures { Reads (rd.all reader.is_or (reader.or_item self.now.depth (inside self.now.depth)) found cursor.old) result cursor.new }
-    {
-        for _turn in 0..cursor.left() {
-            if !is_or(cursor.peek()) {
-                return Ok(found);
-            }
-            found.push(self.or_item(cursor)?)?;
-        }
-        Ok(found)
-    }
-
     /// The condition that begins with this bterm.
-    #[tactic(auto, unfolding(syntax::specs::Readers::or_after))]
-    pub fn or_after(&self, cursor: &mut Cursor<'_>, first: Condition) -> Result<Condition, Stop>
+    #[tactic(auto, unfolding(syntax::specs::Readers::or_after, syntax::specs::Grammar::or_of))]
+    fn or_after(&self, cursor: &mut Cursor<'_>, first: Condition) -> Result<Condition, Stop>
         requires { Nests self.now.depth (F.pre self.now.inner) (F.post self.now.inner) }
         ensures { Reads (reader.or_after self.now.depth (inside self.now.depth) first cursor.old) result cursor.new }
     {
-        let parts = self.ors(cursor, one(self.alloc, first)?)?;
-        Ok(or_of(self.alloc, parts)?)
+        joined::<NextTerm<'_, F>, Ors>(self.alloc, &NextTerm(self), cursor, first)
     }
 
     /// The condition that begins with this bfact.
     #[tactic(auto, unfolding(syntax::specs::Readers::cond_after))]
-    pub fn cond_after(&self, cursor: &mut Cursor<'_>, first: Condition) -> Result<Condition, Stop>
+    fn cond_after(&self, cursor: &mut Cursor<'_>, first: Condition) -> Result<Condition, Stop>
         requires { Nests self.now.depth (F.pre self.now.inner) (F.post self.now.inner) }
         ensures { Reads (reader.cond_after self.now.depth (inside self.now.depth) first cursor.old) result cursor.new }
     {

@@ -6,8 +6,9 @@ ghost use Rattle.condition_parser.specs.Inside.{inside};
 ghost use Rattle.condition_parser.specs.Nests.{Nests};
 ghost use Rattle.leaf_parser.specs.Reads.{Reads};
 
-use crate::levels::{Level, unwanted};
-use leaf_parser::{Cursor, Stop, alias, group_by, name};
+use crate::levels::Level;
+use leaf_parser::{Cursor, Stop, alias, group_by, name, stopped};
+use sqlite_items::Boxed;
 use std::alloc::Global;
 use syntax::{ColumnName, Condition, Found, Listed, Query, Want};
 use token::Kind;
@@ -22,7 +23,7 @@ impl<F: Fn(Global, &mut Cursor<'_>, usize, Want) -> Result<Found, Stop>> Level<F
     {
         match cursor.peek() {
             Kind::Star => {
-                cursor.expect(Kind::Star)?;
+                cursor.take(Kind::Star);
                 Ok(Listed::Star)
             }
             _ => Ok(Listed::One(self.expr(cursor)?)),
@@ -63,44 +64,61 @@ impl<F: Fn(Global, &mut Cursor<'_>, usize, Want) -> Result<Found, Stop>> Level<F
         listed: Listed,
         table: Text,
         alias: Option<Text>,
-    ) -> Result<Query, Stop>
+    ) -> Result<Boxed<Query>, Stop>
         requires { Nests self.now.depth (F.pre self.now.inner) (F.post self.now.inner) }
         ensures { Reads (reader.query_rest self.now.depth (inside self.now.depth) listed table alias cursor.old) result cursor.new }
     {
-        let keeps = self.where_(cursor)?;
-        let group = group_by(self.alloc, cursor)?;
-        let having = self.having(cursor)?;
-        Ok(Query {
+        let keeps = match self.where_(cursor) {
+            Ok(keeps) => keeps,
+            Err(stop) => return Err(stopped(stop, (listed, table, alias))),
+        };
+        let group = match group_by(self.alloc, cursor) {
+            Ok(group) => group,
+            Err(stop) => return Err(stopped(stop, (listed, table, alias, keeps))),
+        };
+        let having = match self.having(cursor) {
+            Ok(having) => having,
+            Err(stop) => return Err(stopped(stop, (listed, table, alias, keeps, group))),
+        };
+        let query = Query {
             listed,
             table,
             alias,
             keeps,
             group,
             having,
-        })
+        };
+        Ok(Boxed::new(self.alloc, query)?)
     }
 
     /// What follows FROM.
     #[tactic(auto, unfolding(syntax::specs::Readers::query_from))]
-    pub fn query_from(&self, cursor: &mut Cursor<'_>, listed: Listed) -> Result<Query, Stop>
+    pub fn query_from(&self, cursor: &mut Cursor<'_>, listed: Listed) -> Result<Boxed<Query>, Stop>
         requires { Nests self.now.depth (F.pre self.now.inner) (F.post self.now.inner) }
         ensures { Reads (reader.query_from self.now.depth (inside self.now.depth) listed cursor.old) result cursor.new }
     {
-        let table = name(self.alloc, cursor)?;
-        let alias = alias(self.alloc, cursor)?;
-        self.query_rest(cursor, listed, table, alias)
+        let table = match name(self.alloc, cursor) {
+            Ok(table) => table,
+            Err(stop) => return Err(stopped(stop, listed)),
+        };
+        match alias(self.alloc, cursor) {
+            Ok(alias) => self.query_rest(cursor, listed, table, alias),
+            Err(stop) => Err(stopped(stop, (listed, table))),
+        }
     }
 
     /// `SELECT ("*" | expr) FROM name [ [AS] name ] [WHERE cond] [GROUP BY colref] [HAVING cond]`
     #[tactic(auto, unfolding(syntax::specs::Readers::query))]
-    pub fn query(&self, cursor: &mut Cursor<'_>) -> Result<Query, Stop>
+    pub fn query(&self, cursor: &mut Cursor<'_>) -> Result<Boxed<Query>, Stop>
         requires { Nests self.now.depth (F.pre self.now.inner) (F.post self.now.inner) }
         ensures { Reads (reader.query self.now.depth (inside self.now.depth) cursor.old) result cursor.new }
     {
         cursor.expect(Kind::Select)?;
         let listed = self.selected(cursor)?;
-        cursor.expect(Kind::From)?;
-        self.query_from(cursor, listed)
+        match cursor.expect(Kind::From) {
+            Ok(_) => self.query_from(cursor, listed),
+            Err(stop) => Err(stopped(stop, listed)),
+        }
     }
 
     /// A condition or an expression that begins with no NOT and no SELECT.
@@ -114,7 +132,7 @@ impl<F: Fn(Global, &mut Cursor<'_>, usize, Want) -> Result<Found, Stop>> Level<F
                 let left = self.expr_after(cursor, x)?;
                 self.any_after(cursor, left)
             }
-            Found::Query(x) => Err(unwanted(x)),
+            Found::Query(x) => Err(stopped(Stop::Syntax, x)),
         }
     }
 

@@ -3,8 +3,8 @@
 ghost use Rattle.syntax.specs.Readers as reader;
 ghost use Rattle.leaf_parser.specs.Reads.{Reads};
 
-use crate::levels::{Level, unwanted};
-use leaf_parser::{Cursor, Stop};
+use crate::levels::Level;
+use leaf_parser::{Cursor, Stop, stopped};
 use std::alloc::Global;
 use syntax::{Condition, Expression, Found, Want};
 
@@ -32,8 +32,8 @@ pub fn cond_at(alloc: Global, cursor: &mut Cursor<'_>, depth: usize) -> Result<C
 {
     match read(alloc, cursor, depth, Want::Condition)? {
         Found::Condition(x) => Ok(x),
-        Found::Expression(x) => Err(unwanted(x)),
-        Found::Query(x) => Err(unwanted(x)),
+        Found::Expression(x) => Err(stopped(Stop::Syntax, x)),
+        Found::Query(x) => Err(stopped(Stop::Syntax, x)),
     }
 }
 
@@ -44,7 +44,7 @@ pub fn expr_at(alloc: Global, cursor: &mut Cursor<'_>, depth: usize) -> Result<E
 {
     match read(alloc, cursor, depth, Want::Expression)? {
         Found::Expression(x) => Ok(x),
-        Found::Condition(x) => Err(unwanted(x)),
-        Found::Query(x) => Err(unwanted(x)),
+        Found::Condition(x) => Err(stopped(Stop::Syntax, x)),
+        Found::Query(x) => Err(stopped(Stop::Syntax, x)),
     }
 }

@@ -1,3 +1,4 @@
 pub mod Turns
 mod Small
 mod Merging
+mod Taking

@@ -4,7 +4,7 @@ use Rattle.token.specs.declared.kinds.Kind.{Kind}
 use Rattle.token.specs.declared.kinds.Kind.TheVariants as k
 use Rattle.leaf_parser.specs.declared.stops.Stop.TheVariants as stop
 use Rattle.reading.specs.Language.{Lexemes, kind_at}
-use Rattle.reading.specs.Reading.{Reader, Done, Fail, Deep, ◌>>=◌, ◌>>◌, pure, same_kind, expect, parens, many}
+use Rattle.reading.specs.Reading.{Reader, Outcome, and_then, Done, Fail, Deep, ◌>>=◌, ◌>>◌, pure, same_kind, expect, parens, many}
 use Rattle.leaf_parser.specs.Reads.{Stops, full_stop}
 
 pub many_stops : {A : Type 0} (goes_on : Kind → Bool) (item : Reader A) (n : ℕ) (found : List A) (ts : Lexemes) → goes_on (kind_at ts) ≡ false → many goes_on item n found ts ≡ (Done found, ts)
@@ -35,3 +35,13 @@ pub parens_some : {A : Type 0} (n : ℕ) (p : Reader A) → 0 < n → parens n p
 unfolding parens
 parens_some zero p some = absurd (omega arith)
 parens_some (suc n) p some = refl
+
+-- a turn that takes an item
+pub turn_taken : {A : Type 0} (goes_on : Kind → Bool) (item : Reader A) (n m : ℕ) (start : Outcome (List A)) (found more : List A) (x : A) (ts us : Lexemes) → start ≡ many goes_on item n found ts → goes_on (kind_at ts) ≡ true → n ≡ suc m → item ts ≡ (Done x, us) → more ≡ found ++ x ∷ [] → start ≡ many goes_on item m more us
+unfolding many
+turn_taken goes_on item n m start found more x ts us before goes turn took longer =
+    before
+    ∙ ap (λ k. many goes_on item k found ts) turn
+    ∙ ap (λ b. cond b (item >>= (λ y. many goes_on item m (found ++ y ∷ []))) (pure found) ts) goes
+    ∙ ap (λ o. and_then o.0 o.1 (λ y. many goes_on item m (found ++ y ∷ []))) took
+    ∙ ap (λ l. many goes_on item m l us) (sym longer)

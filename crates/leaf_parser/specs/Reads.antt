@@ -1,10 +1,10 @@
 -- What a function of the parser ensures: the reader's outcome, unless memory runs out.
-use Rattle.std.specs.Prelude.{◌≡◌, if◌then◌else◌, Result, Ok, Err}
+use Rattle.std.specs.Prelude.{◌≡◌, Bool, true, false, if◌then◌else◌, Result, Ok, Err}
 use Rattle.token.specs.declared.kinds.Kind.{Kind}
 use Rattle.token.specs.declared.kinds.Kind.TheVariants as k
 use Rattle.leaf_parser.specs.declared.stops.Stop.{Stop}
 use Rattle.leaf_parser.specs.declared.stops.Stop.TheVariants as stop
-use Rattle.reading.specs.Language.{Lexemes}
+use Rattle.reading.specs.Language.{Lexemes, kind_at}
 use Rattle.reading.specs.Reading.{same_kind, Outcome, Done, Fail, Deep}
 
 -- why the reader stopped, and where
@@ -21,3 +21,11 @@ Reads outcome (Err e) new = Stops outcome e new
 -- why no parenthesis may be opened
 abbrev pub full_stop : Kind → Stop
 full_stop kind = if same_kind kind k.Open then stop.Depth else stop.Syntax
+
+abbrev pub is_end : Kind → Bool
+is_end k.End = true
+is_end _ = false
+
+-- the next token is there, and is of this kind
+abbrev pub IsAt : Kind → Lexemes → Type 0
+IsAt kind ts = (is_end kind ≡ false) × (kind_at ts ≡ kind)

@@ -4,6 +4,7 @@ ghost use Rattle.syntax.specs.Readers as reader;
 ghost use Rattle.leaf_parser.specs.Reads.{Reads};
 
 use crate::cursors::{Cursor, Piece};
+use crate::loops::Part;
 use crate::names::{name, name_of};
 use crate::stops::Stop;
 use std::alloc::Global;
@@ -22,7 +23,7 @@ fn column_after(
     let name = name_of(alloc, first)?;
     match cursor.peek() {
         Kind::Dot => {
-            cursor.expect(Kind::Dot)?;
+            cursor.take(Kind::Dot);
             let second = cursor.expect(Kind::Name)?;
             Ok(ColumnName {
                 qualifier: Some(name),
@@ -50,7 +51,7 @@ pub fn alias(alloc: Global, cursor: &mut Cursor<'_>) -> Result<Option<Text>, Sto
 {
     match cursor.peek() {
         Kind::As => {
-            cursor.expect(Kind::As)?;
+            cursor.take(Kind::As);
             Ok(Some(name(alloc, cursor)?))
         }
         Kind::Name => Ok(Some(name(alloc, cursor)?)),
@@ -70,16 +71,45 @@ pub fn group_by(alloc: Global, cursor: &mut Cursor<'_>) -> Result<Option<ColumnN
     Ok(Some(column(alloc, cursor)?))
 }
 
-/// What stands in the parentheses of COUNT.
-#[tactic(auto, unfolding(syntax::specs::Readers::counted_inside))]
-pub fn counted_inside(alloc: Global, cursor: &mut Cursor<'_>) -> Result<Expression, Stop>
-    ensures { Reads (reader.counted_inside cursor.old) result cursor.new }
-{
-    match cursor.peek() {
-        Kind::Star => {
-            cursor.expect(Kind::Star)?;
-            Ok(Expression::CountRows)
+/// The name of a column, as what may stand in parentheses.
+#[derive(Drop)]
+pub struct NamedColumn(pub Global);
+
+impl Part for NamedColumn {
+    ghost use Rattle.syntax.specs.Readers as reader;
+
+    type Tree = ColumnName;
+
+    ghost ready = { λ _. Unit {0} };
+
+    ghost reader = { λ _. reader.column };
+
+    fn parse(&self, cursor: &mut Cursor<'_>) -> Result<ColumnName, Stop> {
+        column(self.0, cursor)
+    }
+}
+
+/// What stands in the parentheses of COUNT: `*`, or the name of a column.
+#[derive(Drop)]
+pub struct Counted(pub Global);
+
+impl Part for Counted {
+    ghost use Rattle.syntax.specs.Readers as reader;
+
+    type Tree = Expression;
+
+    ghost ready = { λ _. Unit {0} };
+
+    ghost reader = { λ _. reader.counted_inside };
+
+    #[tactic(auto, unfolding(syntax::specs::Readers::counted_inside))]
+    fn parse(&self, cursor: &mut Cursor<'_>) -> Result<Expression, Stop> {
+        match cursor.peek() {
+            Kind::Star => {
+                cursor.take(Kind::Star);
+                Ok(Expression::CountRows)
+            }
+            _ => Ok(Expression::Aggregate(Aggregate::Count, column(self.0, cursor)?)),
         }
-        _ => Ok(Expression::Aggregate(Aggregate::Count, column(alloc, cursor)?)),
     }
 }

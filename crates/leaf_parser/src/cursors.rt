@@ -4,7 +4,8 @@ ghost use Rattle.std.specs.Prelude.{◌≡◌, ◌↔◌, [], IsTrue, map, lengt
 ghost use Rattle.reading.specs.Language.{head, kind_at};
 ghost use Rattle.reading.specs.Reading as rd;
 ghost use Rattle.reading.specs.Lexemes.{lexeme, bytes_of, place};
-ghost use Rattle.leaf_parser.specs.Reads.{Reads};
+ghost use Rattle.reading.specs.Reading.{Done};
+ghost use Rattle.leaf_parser.specs.Reads.{Reads, IsAt};
 
 use crate::stops::Stop;
 use std::marker::Model;
@@ -153,5 +154,18 @@ impl<'a> Cursor<'a> {
         };
         self.rest = rest;
         Ok(piece_of(self.text, token))
+    }
+
+    /// Takes the next token, which is known to be of this kind.
+    #[tactic(auto, using(crate::proofs::Taking::at_none, crate::proofs::Taking::at_takes))]
+    pub fn take(&mut self, kind: Kind) -> Piece<'a>
+        requires { IsAt kind self.old }
+        ensures { rd.expect kind self.old ≡ (Done result, self.new) }
+    {
+        let Some((token, rest)) = self.rest.split_first() else {
+            unreachable!();
+        };
+        self.rest = rest;
+        piece_of(self.text, token)
     }
 }

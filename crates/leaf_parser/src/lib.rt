@@ -22,14 +22,16 @@
 
 mod columns;
 mod cursors;
+mod loops;
 mod names;
 mod parts;
 mod signs;
 mod stops;
 
-pub use columns::{alias, column, counted_inside, group_by};
+pub use columns::{Counted, NamedColumn, alias, column, group_by};
 pub use cursors::{Cursor, Piece};
-pub use names::{is_comma, name, number, one, signed_number, text, value_of};
-pub use parts::{and_of, or_of, product_of, sum_of};
+pub use loops::{Part, Repeated, followed, list, many, parens, parens_list};
+pub use names::{NamePart, name, number, signed_number, text, value_of};
+pub use parts::{Ands, Joint, Ors, Products, Sums, joined};
 pub use signs::{comparison_sign, truth};
-pub use stops::{Stop, full};
+pub use stops::{Stop, full, stopped};

@@ -10,6 +10,7 @@ ghost use Rattle.leaf_parser.specs.declared.stops.Stop.TheVariants.{Memory};
 ghost use Rattle.leaf_parser.specs.Reads.{Reads};
 
 use crate::cursors::{Cursor, Piece};
+use crate::loops::Part;
 use crate::stops::Stop;
 use sqlite_items::Items;
 use std::alloc::{AllocError, Global};
@@ -24,16 +25,6 @@ pub fn one<T: Drop>(alloc: Global, item: T) -> Result<Items<T>, AllocError>
     let mut all = Items::new(alloc);
     all.push(item)?;
     Ok(all)
-}
-
-/// Whether a list goes on.
-pub fn is_comma(kind: Kind) -> bool
-    ensures { result ≡ rd.is_comma kind }
-{
-    match kind {
-        Kind::Comma => true,
-        _ => false,
-    }
 }
 
 /// The value of a number's digits. A token that is no number may be taken for 0.
@@ -89,6 +80,24 @@ pub fn name(alloc: Global, cursor: &mut Cursor<'_>) -> Result<Text, Stop>
 {
     let piece = cursor.expect(Kind::Name)?;
     name_of(alloc, &piece)
+}
+
+/// A name, as a part of a list.
+#[derive(Drop)]
+pub struct NamePart(pub Global);
+
+impl Part for NamePart {
+    ghost use Rattle.syntax.specs.Readers as reader;
+
+    type Tree = Text;
+
+    ghost ready = { λ _. Unit {0} };
+
+    ghost reader = { λ _. reader.name };
+
+    fn parse(&self, cursor: &mut Cursor<'_>) -> Result<Text, Stop> {
+        name(self.0, cursor)
+    }
 }
 
 #[tactic(auto, unfolding(syntax::specs::Grammar::quoted))]

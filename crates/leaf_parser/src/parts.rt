@@ -1,12 +1,164 @@
 //! Lists of parts: a part of the same kind is merged into the list around it.
 
-ghost use Rattle.std.specs.Prelude.{◌≡◌, ◌++◌, reverse, IfOk, OnOk};
+ghost use Rattle.std.specs.Prelude.{◌≡◌, ◌++◌, [], ◌∷◌, false, reverse, IfOk, OnOk};
 ghost use Rattle.std.specs.List.{flat_map};
+ghost use Rattle.reading.specs.Reading as rd;
+ghost use Rattle.leaf_parser.specs.Reads.{Reads};
 ghost use Rattle.syntax.specs.Grammar as spec;
 
+use crate::cursors::Cursor;
+use crate::loops::{Repeated, many};
+use crate::names::one;
+use crate::stops::Stop;
 use sqlite_items::Items;
 use std::alloc::{AllocError, Global};
 use syntax::{Condition, Expression};
+
+/// How parts are joined to one tree. A part may be such a tree itself, since it may stand in
+/// parentheses: then its own parts stand for it.
+pub trait Joint<T> {
+    ghost use Rattle.std.specs.Prelude.{◌≡◌, [], ◌∷◌, ◌++◌, List, false, OnOk};
+
+    ghost parts: { T → List T };
+
+    ghost whole: { List T → T };
+
+    /// Whether this is such a tree itself.
+    fn is_joined(part: &T) -> bool
+        ensures { result ≡ false → parts part.now ≡ part.now ∷ [] };
+
+    /// Puts a part behind the others.
+    fn push(all: &mut Items<T>, part: T) -> Result<(), AllocError>
+        ensures { OnOk result (all.new ≡ all.old ++ parts part) };
+
+    /// The tree of these parts.
+    fn join(items: Items<T>) -> T
+        ensures { result ≡ whole items };
+}
+
+/// Products of factors.
+pub struct Products;
+
+impl Joint<Expression> for Products {
+    ghost use Rattle.syntax.specs.Grammar as spec;
+    ghost use Rattle.syntax.specs.declared.trees.Expression.TheVariants as e;
+
+    ghost parts = { spec.product_parts };
+
+    ghost whole = { e.Product };
+
+    #[tactic(auto, unfolding(syntax::specs::Grammar::product_parts))]
+    fn is_joined(part: &Expression) -> bool {
+        matches!(part, Expression::Product(_))
+    }
+
+    #[tactic(auto, unfolding(syntax::specs::Grammar::product_parts))]
+    fn push(all: &mut Items<Expression>, part: Expression) -> Result<(), AllocError> {
+        match part {
+            Expression::Product(inner) => all.append(inner),
+            other => all.push(other),
+        }
+    }
+
+    fn join(items: Items<Expression>) -> Expression
+        ensures { result ≡ Expression.Product items }
+    {
+        Expression::Product(items)
+    }
+}
+
+/// Sums of terms.
+pub struct Sums;
+
+impl Joint<Expression> for Sums {
+    ghost use Rattle.syntax.specs.Grammar as spec;
+    ghost use Rattle.syntax.specs.declared.trees.Expression.TheVariants as e;
+
+    ghost parts = { spec.sum_parts };
+
+    ghost whole = { e.Sum };
+
+    #[tactic(auto, unfolding(syntax::specs::Grammar::sum_parts))]
+    fn is_joined(part: &Expression) -> bool {
+        matches!(part, Expression::Sum(_))
+    }
+
+    #[tactic(auto, unfolding(syntax::specs::Grammar::sum_parts))]
+    fn push(all: &mut Items<Expression>, part: Expression) -> Result<(), AllocError> {
+        match part {
+            Expression::Sum(inner) => all.append(inner),
+            other => all.push(other),
+        }
+    }
+
+    fn join(items: Items<Expression>) -> Expression
+        ensures { result ≡ Expression.Sum items }
+    {
+        Expression::Sum(items)
+    }
+}
+
+/// Conditions joined by AND.
+pub struct Ands;
+
+impl Joint<Condition> for Ands {
+    ghost use Rattle.syntax.specs.Grammar as spec;
+    ghost use Rattle.syntax.specs.declared.trees.Condition.TheVariants as b;
+
+    ghost parts = { spec.and_parts };
+
+    ghost whole = { b.And };
+
+    #[tactic(auto, unfolding(syntax::specs::Grammar::and_parts))]
+    fn is_joined(part: &Condition) -> bool {
+        matches!(part, Condition::And(_))
+    }
+
+    #[tactic(auto, unfolding(syntax::specs::Grammar::and_parts))]
+    fn push(all: &mut Items<Condition>, part: Condition) -> Result<(), AllocError> {
+        match part {
+            Condition::And(inner) => all.append(inner),
+            other => all.push(other),
+        }
+    }
+
+    fn join(items: Items<Condition>) -> Condition
+        ensures { result ≡ Condition.And items }
+    {
+        Condition::And(items)
+    }
+}
+
+/// Conditions joined by OR.
+pub struct Ors;
+
+impl Joint<Condition> for Ors {
+    ghost use Rattle.syntax.specs.Grammar as spec;
+    ghost use Rattle.syntax.specs.declared.trees.Condition.TheVariants as b;
+
+    ghost parts = { spec.or_parts };
+
+    ghost whole = { b.Or };
+
+    #[tactic(auto, unfolding(syntax::specs::Grammar::or_parts))]
+    fn is_joined(part: &Condition) -> bool {
+        matches!(part, Condition::Or(_))
+    }
+
+    #[tactic(auto, unfolding(syntax::specs::Grammar::or_parts))]
+    fn push(all: &mut Items<Condition>, part: Condition) -> Result<(), AllocError> {
+        match part {
+            Condition::Or(inner) => all.append(inner),
+            other => all.push(other),
+        }
+    }
+
+    fn join(items: Items<Condition>) -> Condition
+        ensures { result ≡ Condition.Or items }
+    {
+        Condition::Or(items)
+    }
+}
 
 /// The items, the last first, so that they can be taken from their front.
 #[tactic(auto, using(crate::proofs::Merging::turn_step))]
@@ -20,130 +172,56 @@ fn reversed<T: Drop>(alloc: Global, mut items: Items<T>) -> Result<Items<T>, All
     Ok(turned)
 }
 
-#[tactic(auto, unfolding(syntax::specs::Grammar::product_parts))]
-fn push_product(all: &mut Items<Expression>, part: Expression) -> Result<(), AllocError>
-    ensures { OnOk result (all.new ≡ all.old ++ spec.product_parts part) }
-{
-    match part {
-        Expression::Product(inner) => all.append(inner),
-        other => all.push(other),
-    }
-}
-
 #[tactic(auto, using(crate::proofs::Merging::merge_step, crate::proofs::Merging::merge_start))]
-fn merged_product(alloc: Global, parts: Items<Expression>) -> Result<Items<Expression>, AllocError>
-    ensures { IfOk result (λ all. all ≡ flat_map spec.product_parts parts) }
+fn merged<T: Drop, J: Joint<T>>(alloc: Global, parts: Items<T>) -> Result<Items<T>, AllocError>
+    ensures { IfOk result (λ all. all ≡ flat_map J.parts parts) }
 {
     let mut rest = reversed(alloc, parts)?;
     let mut all = Items::new(alloc);
     'merge: while let Some(part) = rest.pop() {
-        push_product(&mut all, part)?;
+        J::push(&mut all, part)?;
     }
     Ok(all)
 }
 
-#[tactic(auto, unfolding(syntax::specs::Grammar::product_of))]
-pub fn product_of(alloc: Global, mut parts: Items<Expression>) -> Result<Expression, AllocError>
-    ensures { IfOk result (λ whole. whole ≡ spec.product_of parts) }
+/// Whether a part has to be merged.
+fn holds_joined<T, J: Joint<T>>(parts: &[T]) -> bool
+    ensures { result ≡ false → flat_map J.parts parts.now ≡ parts.now }
+{
+    for part in parts {
+        if J::is_joined(part) {
+            return true;
+        }
+    }
+    false
+}
+
+fn whole_of<T: Drop, J: Joint<T>>(alloc: Global, mut parts: Items<T>) -> Result<T, AllocError>
+    ensures { IfOk result (λ whole. whole ≡ spec.alone_or J.parts J.whole parts) }
 {
     if parts.len() == 1 {
         return Ok(parts.remove(0));
     }
-    Ok(Expression::Product(merged_product(alloc, parts)?))
+    if !holds_joined::<T, J>(parts.as_slice()) {
+        return Ok(J::join(parts));
+    }
+    Ok(J::join(merged::<T, J>(alloc, parts)?))
 }
 
-#[tactic(auto, unfolding(syntax::specs::Grammar::sum_parts))]
-fn push_sum(all: &mut Items<Expression>, part: Expression) -> Result<(), AllocError>
-    ensures { OnOk result (all.new ≡ all.old ++ spec.sum_parts part) }
+/// The tree of a part and of those that follow it. A part that none follows stands for itself.
+#[tactic(auto, using(crate::proofs::Turns::many_stops))]
+pub fn joined<P: Repeated, J: Joint<P::Tree>>(
+    alloc: Global,
+    part: &P,
+    cursor: &mut Cursor<'_>,
+    first: P::Tree,
+) -> Result<P::Tree, Stop>
+    requires { P.ready part.now }
+    ensures { Reads (rd.◌<$>◌ (spec.alone_or J.parts J.whole) (rd.all P.begins (P.reader part.now) (first ∷ [])) cursor.old) result cursor.new }
 {
-    match part {
-        Expression::Sum(inner) => all.append(inner),
-        other => all.push(other),
+    if !part.begins(cursor.peek()) {
+        return Ok(first);
     }
-}
-
-#[tactic(auto, using(crate::proofs::Merging::merge_step, crate::proofs::Merging::merge_start))]
-fn merged_sum(alloc: Global, parts: Items<Expression>) -> Result<Items<Expression>, AllocError>
-    ensures { IfOk result (λ all. all ≡ flat_map spec.sum_parts parts) }
-{
-    let mut rest = reversed(alloc, parts)?;
-    let mut all = Items::new(alloc);
-    'merge: while let Some(part) = rest.pop() {
-        push_sum(&mut all, part)?;
-    }
-    Ok(all)
-}
-
-#[tactic(auto, unfolding(syntax::specs::Grammar::sum_of))]
-pub fn sum_of(alloc: Global, mut parts: Items<Expression>) -> Result<Expression, AllocError>
-    ensures { IfOk result (λ whole. whole ≡ spec.sum_of parts) }
-{
-    if parts.len() == 1 {
-        return Ok(parts.remove(0));
-    }
-    Ok(Expression::Sum(merged_sum(alloc, parts)?))
-}
-
-#[tactic(auto, unfolding(syntax::specs::Grammar::and_parts))]
-fn push_and(all: &mut Items<Condition>, part: Condition) -> Result<(), AllocError>
-    ensures { OnOk result (all.new ≡ all.old ++ spec.and_parts part) }
-{
-    match part {
-        Condition::And(inner) => all.append(inner),
-        other => all.push(other),
-    }
-}
-
-#[tactic(auto, using(crate::proofs::Merging::merge_step, crate::proofs::Merging::merge_start))]
-fn merged_and(alloc: Global, parts: Items<Condition>) -> Result<Items<Condition>, AllocError>
-    ensures { IfOk result (λ all. all ≡ flat_map spec.and_parts parts) }
-{
-    let mut rest = reversed(alloc, parts)?;
-    let mut all = Items::new(alloc);
-    'merge: while let Some(part) = rest.pop() {
-        push_and(&mut all, part)?;
-    }
-    Ok(all)
-}
-
-#[tactic(auto, unfolding(syntax::specs::Grammar::and_of))]
-pub fn and_of(alloc: Global, mut parts: Items<Condition>) -> Result<Condition, AllocError>
-    ensures { IfOk result (λ whole. whole ≡ spec.and_of parts) }
-{
-    if parts.len() == 1 {
-        return Ok(parts.remove(0));
-    }
-    Ok(Condition::And(merged_and(alloc, parts)?))
-}
-
-#[tactic(auto, unfolding(syntax::specs::Grammar::or_parts))]
-fn push_or(all: &mut Items<Condition>, part: Condition) -> Result<(), AllocError>
-    ensures { OnOk result (all.new ≡ all.old ++ spec.or_parts part) }
-{
-    match part {
-        Condition::Or(inner) => all.append(inner),
-        other => all.push(other),
-    }
-}
-
-#[tactic(auto, using(crate::proofs::Merging::merge_step, crate::proofs::Merging::merge_start))]
-fn merged_or(alloc: Global, parts: Items<Condition>) -> Result<Items<Condition>, AllocError>
-    ensures { IfOk result (λ all. all ≡ flat_map spec.or_parts parts) }
-{
-    let mut rest = reversed(alloc, parts)?;
-    let mut all = Items::new(alloc);
-    'merge: while let Some(part) = rest.pop() {
-        push_or(&mut all, part)?;
-    }
-    Ok(all)
-}
-
-#[tactic(auto, unfolding(syntax::specs::Grammar::or_of))]
-pub fn or_of(alloc: Global, mut parts: Items<Condition>) -> Result<Condition, AllocError>
-    ensures { IfOk result (λ whole. whole ≡ spec.or_of parts) }
-{
-    if parts.len() == 1 {
-        return Ok(parts.remove(0));
-    }
-    Ok(Condition::Or(merged_or(alloc, parts)?))
+    let parts = many(part, cursor, one(alloc, first)?)?;
+    Ok(whole_of::<P::Tree, J>(alloc, parts)?)
 }

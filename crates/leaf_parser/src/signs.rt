@@ -16,27 +16,27 @@ pub fn comparison_sign(cursor: &mut Cursor<'_>) -> Result<Comparison, Stop>
 {
     match cursor.peek() {
         Kind::Equal => {
-            cursor.expect(Kind::Equal)?;
+            cursor.take(Kind::Equal);
             Ok(Comparison::Equal)
         }
         Kind::NotEqual => {
-            cursor.expect(Kind::NotEqual)?;
+            cursor.take(Kind::NotEqual);
             Ok(Comparison::NotEqual)
         }
         Kind::Less => {
-            cursor.expect(Kind::Less)?;
+            cursor.take(Kind::Less);
             Ok(Comparison::Less)
         }
         Kind::AtMost => {
-            cursor.expect(Kind::AtMost)?;
+            cursor.take(Kind::AtMost);
             Ok(Comparison::AtMost)
         }
         Kind::Greater => {
-            cursor.expect(Kind::Greater)?;
+            cursor.take(Kind::Greater);
             Ok(Comparison::Greater)
         }
         Kind::AtLeast => {
-            cursor.expect(Kind::AtLeast)?;
+            cursor.take(Kind::AtLeast);
             Ok(Comparison::AtLeast)
         }
         _ => Err(Stop::Syntax),
@@ -50,15 +50,15 @@ pub fn truth(cursor: &mut Cursor<'_>) -> Result<Truth, Stop>
 {
     match cursor.peek() {
         Kind::True => {
-            cursor.expect(Kind::True)?;
+            cursor.take(Kind::True);
             Ok(Truth::True)
         }
         Kind::False => {
-            cursor.expect(Kind::False)?;
+            cursor.take(Kind::False);
             Ok(Truth::False)
         }
         Kind::Unknown => {
-            cursor.expect(Kind::Unknown)?;
+            cursor.take(Kind::Unknown);
             Ok(Truth::Unknown)
         }
         _ => Err(Stop::Syntax),

@@ -52,3 +52,10 @@ pub fn full(cursor: &Cursor<'_>) -> Stop
         Stop::Syntax
     }
 }
+
+/// Why the parser stopped, once what it had read is let go.
+pub fn stopped<T: Drop>(stop: Stop, _read: T) -> Stop
+    ensures { result ≡ stop }
+{
+    stop
+}

@@ -28,11 +28,11 @@ fn deferrable(cursor: &mut Cursor<'_>) -> Result<bool, Stop>
 {
     match cursor.peek() {
         Kind::Deferrable => {
-            cursor.expect(Kind::Deferrable)?;
+            cursor.take(Kind::Deferrable);
             Ok(true)
         }
         Kind::Not => {
-            cursor.expect(Kind::Not)?;
+            cursor.take(Kind::Not);
             cursor.expect(Kind::Deferrable)?;
             Ok(false)
         }

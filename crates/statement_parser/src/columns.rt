@@ -8,8 +8,7 @@ ghost use Rattle.token.specs.declared.kinds.Kind.TheVariants as k;
 ghost use Rattle.reading.specs.Reading as rd;
 ghost use Rattle.leaf_parser.specs.Reads.{Reads};
 
-use crate::lists::followed;
-use leaf_parser::{Cursor, Piece, Stop, full, is_comma, name, one, value_of};
+use leaf_parser::{Cursor, Part, Piece, Stop, name, parens, parens_list, value_of};
 use sqlite_items::Items;
 use statement_syntax::{ColumnDefinition, Marks};
 use std::alloc::Global;
@@ -29,31 +28,31 @@ fn width_of(piece: &Piece<'_>) -> Option<u8>
 }
 
 /// `number`, in VARCHAR's parentheses.
-#[tactic(auto, using(crate::proofs::Widths::width_none, crate::proofs::Widths::width_not, crate::proofs::Widths::width_read, crate::proofs::Widths::width_stops))]
-fn width(cursor: &mut Cursor<'_>) -> Result<ColType, Stop>
-    ensures { Reads (rd.◌<$>◌ grammar.varchar_of (rd.expect_where k.Number grammar.is_width) cursor.old) result cursor.new }
-{
-    let Some(piece) = cursor.first() else {
-        return Err(Stop::Syntax);
-    };
-    let Some(width) = width_of(&piece) else {
-        return Err(Stop::Syntax);
-    };
-    cursor.expect(Kind::Number)?;
-    Ok(ColType::Varchar(width))
-}
+#[derive(Drop)]
+struct Width;
 
-/// `"(" number ")"`
-#[tactic(auto, using(leaf_parser::proofs::Turns::parens_none, leaf_parser::proofs::Turns::parens_some))]
-fn parens_width(cursor: &mut Cursor<'_>, depth: usize) -> Result<ColType, Stop>
-    ensures { Reads (rd.parens depth (rd.◌<$>◌ grammar.varchar_of (rd.expect_where k.Number grammar.is_width)) cursor.old) result cursor.new }
-{
-    if depth == 0 {
-        return Err(full(cursor));
+impl Part for Width {
+    ghost use Rattle.token.specs.declared.kinds.Kind.TheVariants as k;
+    ghost use Rattle.reading.specs.Reading as rd;
+    ghost use Rattle.statement_syntax.specs.SchemaGrammar as grammar;
+
+    type Tree = ColType;
+
+    ghost ready = { λ _. Unit {0} };
+
+    ghost reader = { λ _. rd.◌<$>◌ grammar.varchar_of (rd.expect_where k.Number grammar.is_width) };
+
+    #[tactic(auto, using(crate::proofs::Widths::width_none, crate::proofs::Widths::width_not, crate::proofs::Widths::width_read, crate::proofs::Widths::width_stops))]
+    fn parse(&self, cursor: &mut Cursor<'_>) -> Result<ColType, Stop> {
+        let Some(piece) = cursor.first() else {
+            return Err(Stop::Syntax);
+        };
+        let Some(width) = width_of(&piece) else {
+            return Err(Stop::Syntax);
+        };
+        cursor.expect(Kind::Number)?;
+        Ok(ColType::Varchar(width))
     }
-    cursor.expect(Kind::Open)?;
-    let found = width(cursor)?;
-    followed(cursor, Kind::Close, found)
 }
 
 /// `INTEGER | INT | VARCHAR "(" number ")"`
@@ -63,16 +62,16 @@ fn column_type(cursor: &mut Cursor<'_>, depth: usize) -> Result<ColType, Stop>
 {
     match cursor.peek() {
         Kind::Integer => {
-            cursor.expect(Kind::Integer)?;
+            cursor.take(Kind::Integer);
             Ok(ColType::Integer)
         }
         Kind::Int => {
-            cursor.expect(Kind::Int)?;
+            cursor.take(Kind::Int);
             Ok(ColType::Integer)
         }
         Kind::Varchar => {
-            cursor.expect(Kind::Varchar)?;
-            parens_width(cursor, depth)
+            cursor.take(Kind::Varchar);
+            parens(&Width, cursor, depth)
         }
         _ => Err(Stop::Syntax),
     }
@@ -137,64 +136,32 @@ fn marks(cursor: &mut Cursor<'_>) -> Result<Marks, Stop>
     }
 }
 
-/// `name type [ NOT NULL [PRIMARY KEY] | PRIMARY KEY [NOT NULL] ]`
-#[tactic(auto, unfolding(statement_syntax::specs::SchemaReaders::col))]
-fn column(alloc: Global, cursor: &mut Cursor<'_>, depth: usize) -> Result<ColumnDefinition, Stop>
-    ensures { Reads (reader.col depth cursor.old) result cursor.new }
-{
-    let name = name(alloc, cursor)?;
-    let kind = column_type(cursor, depth)?;
-    let marks = marks(cursor)?;
-    Ok(ColumnDefinition { name, kind, marks })
+/// `name type [ NOT NULL [PRIMARY KEY] | PRIMARY KEY [NOT NULL] ]`, where so many parentheses may be opened.
+#[derive(Drop)]
+struct Column {
+    alloc: Global,
+    depth: usize,
 }
 
-/// `"," col`
-#[tactic(auto, unfolding(reading::specs::Reading::list_item))]
-fn column_behind(
-    alloc: Global,
-    cursor: &mut Cursor<'_>,
-    depth: usize,
-) -> Result<ColumnDefinition, Stop>
-    ensures { Reads (rd.list_item (reader.col depth) cursor.old) result cursor.new }
-{
-    cursor.expect(Kind::Comma)?;
-    column(alloc, cursor, depth)
-}
+impl Part for Column {
+    ghost use Rattle.statement_syntax.specs.SchemaReaders as reader;
 
-/// `{ "," col }`, behind the columns found before.
-#[tactic(auto, using(leaf_parser::proofs::Turns::many_stops, leaf_parser::proofs::Turns::many_goes, leaf_parser::proofs::Turns::many_over))]
-fn more_columns(
-    alloc: Global,
-    cursor: &mut Cursor<'_>,
-    depth: usize,
-    mut found: Items<ColumnDefinition>,
-) -> Result<Items<ColumnDefinition>, Stop>
-    ensures { Reads (rd.all rd.is_comma (rd.list_item (reader.col depth)) found cursor.old) result cursor.new }
-{
-    for _turn in 0..cursor.left() {
-        if !is_comma(cursor.peek()) {
-            return Ok(found);
-        }
-        found.push(column_behind(alloc, cursor, depth)?)?;
+    type Tree = ColumnDefinition;
+
+    ghost ready = { λ _. Unit {0} };
+
+    ghost reader = { λ c. reader.col c.depth };
+
+    #[tactic(auto, unfolding(statement_syntax::specs::SchemaReaders::col))]
+    fn parse(&self, cursor: &mut Cursor<'_>) -> Result<ColumnDefinition, Stop> {
+        let name = name(self.alloc, cursor)?;
+        let kind = column_type(cursor, self.depth)?;
+        let marks = marks(cursor)?;
+        Ok(ColumnDefinition { name, kind, marks })
     }
-    Ok(found)
-}
-
-/// `col { "," col }`
-#[tactic(auto, unfolding(reading::specs::Reading::list))]
-fn columns(
-    alloc: Global,
-    cursor: &mut Cursor<'_>,
-    depth: usize,
-) -> Result<Items<ColumnDefinition>, Stop>
-    ensures { Reads (rd.list (reader.col depth) cursor.old) result cursor.new }
-{
-    let first = column(alloc, cursor, depth)?;
-    more_columns(alloc, cursor, depth, one(alloc, first)?)
 }
 
 /// `"(" col { "," col } ")"`
-#[tactic(auto, using(leaf_parser::proofs::Turns::parens_none, leaf_parser::proofs::Turns::parens_some))]
 pub fn parens_columns(
     alloc: Global,
     cursor: &mut Cursor<'_>,
@@ -202,10 +169,9 @@ pub fn parens_columns(
 ) -> Result<Items<ColumnDefinition>, Stop>
     ensures { Reads (rd.parens depth (rd.list (reader.col (depth - 1))) cursor.old) result cursor.new }
 {
-    if depth == 0 {
-        return Err(full(cursor));
-    }
-    cursor.expect(Kind::Open)?;
-    let found = columns(alloc, cursor, depth - 1)?;
-    followed(cursor, Kind::Close, found)
+    let column = Column {
+        alloc,
+        depth: depth.saturating_sub(1),
+    };
+    parens_list(alloc, &column, cursor, depth)
 }

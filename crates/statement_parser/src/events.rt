@@ -38,15 +38,15 @@ pub fn event_(alloc: Global, cursor: &mut Cursor<'_>, depth: usize) -> Result<Ev
 {
     match cursor.peek() {
         Kind::Begin => {
-            cursor.expect(Kind::Begin)?;
+            cursor.take(Kind::Begin);
             Ok(Event::Begin)
         }
         Kind::Commit => {
-            cursor.expect(Kind::Commit)?;
+            cursor.take(Kind::Commit);
             commit(cursor)
         }
         Kind::Rollback => {
-            cursor.expect(Kind::Rollback)?;
+            cursor.take(Kind::Rollback);
             rollback(cursor)
         }
         _ => Ok(Event::Run(stmt(alloc, cursor, depth)?)),

@@ -21,7 +21,6 @@ mod attributes;
 mod columns;
 mod events;
 mod inserts;
-mod lists;
 mod schemas;
 mod scripts;
 mod statements;

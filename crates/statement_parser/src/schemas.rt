@@ -10,9 +10,8 @@ ghost use Rattle.leaf_parser.specs.Reads.{Reads};
 use crate::attributes::attributes;
 use crate::columns::parens_columns;
 use crate::inserts::insert;
-use crate::lists::followed;
 use condition_parser::cond_at;
-use leaf_parser::{Cursor, Stop, full, name};
+use leaf_parser::{Cursor, Part, Repeated, Stop, followed, many, name, parens, stopped};
 use sqlite_items::Items;
 use statement_syntax::Definition;
 use std::alloc::Global;
@@ -30,17 +29,36 @@ fn table(alloc: Global, cursor: &mut Cursor<'_>, depth: usize) -> Result<Definit
     Ok(Definition::Table { name, columns })
 }
 
+/// A condition, where so many parentheses may be opened.
+#[derive(Drop)]
+struct Checked {
+    alloc: Global,
+    depth: usize,
+}
+
+impl Part for Checked {
+    ghost use Rattle.syntax.specs.Readers as condition;
+
+    type Tree = Condition;
+
+    ghost ready = { λ _. Unit {0} };
+
+    ghost reader = { λ c. condition.cond_at c.depth };
+
+    fn parse(&self, cursor: &mut Cursor<'_>) -> Result<Condition, Stop> {
+        cond_at(self.alloc, cursor, self.depth)
+    }
+}
+
 /// `"(" cond ")"`
-#[tactic(auto, using(leaf_parser::proofs::Turns::parens_none, leaf_parser::proofs::Turns::parens_some))]
 fn parens_condition(alloc: Global, cursor: &mut Cursor<'_>, depth: usize) -> Result<Condition, Stop>
     ensures { Reads (rd.parens depth (condition.cond_at (depth - 1)) cursor.old) result cursor.new }
 {
-    if depth == 0 {
-        return Err(full(cursor));
-    }
-    cursor.expect(Kind::Open)?;
-    let found = cond_at(alloc, cursor, depth - 1)?;
-    followed(cursor, Kind::Close, found)
+    let checked = Checked {
+        alloc,
+        depth: depth.saturating_sub(1),
+    };
+    parens(&checked, cursor, depth)
 }
 
 /// `ASSERTION name CHECK "(" cond ")" [attrs]`
@@ -52,12 +70,14 @@ fn assertion(alloc: Global, cursor: &mut Cursor<'_>, depth: usize) -> Result<Def
     let name = name(alloc, cursor)?;
     cursor.expect(Kind::Check)?;
     let condition = parens_condition(alloc, cursor, depth)?;
-    let attributes = attributes(cursor)?;
-    Ok(Definition::Assertion {
-        name,
-        condition,
-        attributes,
-    })
+    match attributes(cursor) {
+        Ok(attributes) => Ok(Definition::Assertion {
+            name,
+            condition,
+            attributes,
+        }),
+        Err(stop) => Err(stopped(stop, (name, condition))),
+    }
 }
 
 /// What follows CREATE.
@@ -79,53 +99,44 @@ fn definition(alloc: Global, cursor: &mut Cursor<'_>, depth: usize) -> Result<De
 {
     match cursor.peek() {
         Kind::Create => {
-            cursor.expect(Kind::Create)?;
+            cursor.take(Kind::Create);
             created(alloc, cursor, depth)
         }
         _ => Ok(Definition::Insert(insert(alloc, cursor, depth)?)),
     }
 }
 
-/// `def ";"`
-#[tactic(auto, unfolding(statement_syntax::specs::SchemaReaders::ended_def))]
-fn ended_definition(
+/// `def ";"`, where so many parentheses may be opened.
+#[derive(Drop)]
+struct EndedDefinition {
     alloc: Global,
-    cursor: &mut Cursor<'_>,
     depth: usize,
-) -> Result<Definition, Stop>
-    ensures { Reads (reader.ended_def depth cursor.old) result cursor.new }
-{
-    let found = definition(alloc, cursor, depth)?;
-    followed(cursor, Kind::Semicolon, found)
 }
 
-/// Whether another definition begins.
-fn starts_definition(kind: Kind) -> bool
-    ensures { result ≡ reader.starts_def kind }
-{
-    match kind {
-        Kind::Create | Kind::Insert => true,
-        _ => false,
+impl Part for EndedDefinition {
+    ghost use Rattle.statement_syntax.specs.SchemaReaders as reader;
+
+    type Tree = Definition;
+
+    ghost ready = { λ _. Unit {0} };
+
+    ghost reader = { λ d. reader.ended_def d.depth };
+
+    #[tactic(auto, unfolding(statement_syntax::specs::SchemaReaders::ended_def))]
+    fn parse(&self, cursor: &mut Cursor<'_>) -> Result<Definition, Stop> {
+        let found = definition(self.alloc, cursor, self.depth)?;
+        followed(cursor, Kind::Semicolon, found)
     }
 }
 
-/// `{ def ";" }`, behind the definitions found before.
-#[tactic(auto, using(leaf_parser::proofs::Turns::many_stops, leaf_parser::proofs::Turns::many_goes, leaf_parser::proofs::Turns::many_over))]
-fn more_definitions(
-    alloc: Global,
-    cursor: &mut Cursor<'_>,
-    depth: usize,
-    mut found: Items<Definition>,
-) -> Result<Items<Definition>, Stop>
-    ensures { Reads (rd.all reader.starts_def (reader.ended_def depth) found cursor.old) result cursor.new }
-{
-    for _turn in 0..cursor.left() {
-        if !starts_definition(cursor.peek()) {
-            return Ok(found);
-        }
-        found.push(ended_definition(alloc, cursor, depth)?)?;
+impl Repeated for EndedDefinition {
+    ghost use Rattle.statement_syntax.specs.SchemaReaders as reader;
+
+    ghost begins = { reader.starts_def };
+
+    fn begins(&self, kind: Kind) -> bool {
+        matches!(kind, Kind::Create | Kind::Insert)
     }
-    Ok(found)
 }
 
 /// `{ def ";" }`
@@ -137,5 +148,5 @@ pub fn definitions(
 ) -> Result<Items<Definition>, Stop>
     ensures { Reads (reader.defs depth cursor.old) result cursor.new }
 {
-    more_definitions(alloc, cursor, depth, Items::new(alloc))
+    many(&EndedDefinition { alloc, depth }, cursor, Items::new(alloc))
 }

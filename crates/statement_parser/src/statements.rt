@@ -5,10 +5,8 @@ ghost use Rattle.reading.specs.Reading as rd;
 ghost use Rattle.leaf_parser.specs.Reads.{Reads};
 
 use crate::inserts::insert;
-use crate::lists::names;
 use condition_parser::{cond_at, expr_at};
-use leaf_parser::{Cursor, Stop, is_comma, name, one};
-use sqlite_items::Items;
+use leaf_parser::{Cursor, NamePart, Part, Stop, list, name, stopped};
 use statement_syntax::{Assigned, Assignment, Mode, Statement, Which};
 use std::alloc::Global;
 use syntax::Condition;
@@ -21,11 +19,11 @@ pub fn when_(cursor: &mut Cursor<'_>) -> Result<Mode, Stop>
 {
     match cursor.peek() {
         Kind::Deferred => {
-            cursor.expect(Kind::Deferred)?;
+            cursor.take(Kind::Deferred);
             Ok(Mode::Deferred)
         }
         Kind::Immediate => {
-            cursor.expect(Kind::Immediate)?;
+            cursor.take(Kind::Immediate);
             Ok(Mode::Immediate)
         }
         _ => Err(Stop::Syntax),
@@ -39,10 +37,10 @@ fn constraints(alloc: Global, cursor: &mut Cursor<'_>) -> Result<Which, Stop>
 {
     match cursor.peek() {
         Kind::All => {
-            cursor.expect(Kind::All)?;
+            cursor.take(Kind::All);
             Ok(Which::All)
         }
-        _ => Ok(Which::Names(names(alloc, cursor)?)),
+        _ => Ok(Which::Names(list(alloc, &NamePart(alloc), cursor)?)),
     }
 }
 
@@ -53,10 +51,10 @@ fn selected(alloc: Global, cursor: &mut Cursor<'_>) -> Result<Which, Stop>
 {
     match cursor.peek() {
         Kind::Star => {
-            cursor.expect(Kind::Star)?;
+            cursor.take(Kind::Star);
             Ok(Which::All)
         }
-        _ => Ok(Which::Names(names(alloc, cursor)?)),
+        _ => Ok(Which::Names(list(alloc, &NamePart(alloc), cursor)?)),
     }
 }
 
@@ -101,67 +99,36 @@ fn assigned(alloc: Global, cursor: &mut Cursor<'_>, depth: usize) -> Result<Assi
 {
     match cursor.peek() {
         Kind::Null => {
-            cursor.expect(Kind::Null)?;
+            cursor.take(Kind::Null);
             Ok(Assigned::Null)
         }
         _ => Ok(Assigned::To(expr_at(alloc, cursor, depth)?)),
     }
 }
 
-/// `name "=" (NULL | expr)`
-#[tactic(auto, unfolding(statement_syntax::specs::Readers::assignment))]
-fn assignment(alloc: Global, cursor: &mut Cursor<'_>, depth: usize) -> Result<Assignment, Stop>
-    ensures { Reads (reader.assignment depth cursor.old) result cursor.new }
-{
-    let column = name(alloc, cursor)?;
-    cursor.expect(Kind::Equal)?;
-    let value = assigned(alloc, cursor, depth)?;
-    Ok(Assignment { column, value })
+/// `name "=" (NULL | expr)`, where so many parentheses may be opened.
+#[derive(Drop)]
+struct Assigning {
+    alloc: Global,
+    depth: usize,
 }
 
-/// `"," set`
-#[tactic(auto, unfolding(reading::specs::Reading::list_item))]
-fn assignment_behind(
-    alloc: Global,
-    cursor: &mut Cursor<'_>,
-    depth: usize,
-) -> Result<Assignment, Stop>
-    ensures { Reads (rd.list_item (reader.assignment depth) cursor.old) result cursor.new }
-{
-    cursor.expect(Kind::Comma)?;
-    assignment(alloc, cursor, depth)
-}
+impl Part for Assigning {
+    ghost use Rattle.statement_syntax.specs.Readers as reader;
 
-/// `{ "," set }`, behind those found before.
-#[tactic(auto, using(leaf_parser::proofs::Turns::many_stops, leaf_parser::proofs::Turns::many_goes, leaf_parser::proofs::Turns::many_over))]
-fn more_assignments(
-    alloc: Global,
-    cursor: &mut Cursor<'_>,
-    depth: usize,
-    mut found: Items<Assignment>,
-) -> Result<Items<Assignment>, Stop>
-    ensures { Reads (rd.all rd.is_comma (rd.list_item (reader.assignment depth)) found cursor.old) result cursor.new }
-{
-    for _turn in 0..cursor.left() {
-        if !is_comma(cursor.peek()) {
-            return Ok(found);
-        }
-        found.push(assignment_behind(alloc, cursor, depth)?)?;
+    type Tree = Assignment;
+
+    ghost ready = { λ _. Unit {0} };
+
+    ghost reader = { λ a. reader.assignment a.depth };
+
+    #[tactic(auto, unfolding(statement_syntax::specs::Readers::assignment))]
+    fn parse(&self, cursor: &mut Cursor<'_>) -> Result<Assignment, Stop> {
+        let column = name(self.alloc, cursor)?;
+        cursor.expect(Kind::Equal)?;
+        let value = assigned(self.alloc, cursor, self.depth)?;
+        Ok(Assignment { column, value })
     }
-    Ok(found)
-}
-
-/// `set { "," set }`
-#[tactic(auto, unfolding(reading::specs::Reading::list))]
-fn assignments(
-    alloc: Global,
-    cursor: &mut Cursor<'_>,
-    depth: usize,
-) -> Result<Items<Assignment>, Stop>
-    ensures { Reads (rd.list (reader.assignment depth) cursor.old) result cursor.new }
-{
-    let first = assignment(alloc, cursor, depth)?;
-    more_assignments(alloc, cursor, depth, one(alloc, first)?)
 }
 
 /// `UPDATE name SET set { "," set } [WHERE cond]`
@@ -172,9 +139,14 @@ fn update(alloc: Global, cursor: &mut Cursor<'_>, depth: usize) -> Result<Statem
     cursor.expect(Kind::Update)?;
     let table = name(alloc, cursor)?;
     cursor.expect(Kind::Set)?;
-    let sets = assignments(alloc, cursor, depth)?;
-    let keeps = where_(alloc, cursor, depth)?;
-    Ok(Statement::Update { table, sets, keeps })
+    let sets = match list(alloc, &Assigning { alloc, depth }, cursor) {
+        Ok(sets) => sets,
+        Err(stop) => return Err(stopped(stop, table)),
+    };
+    match where_(alloc, cursor, depth) {
+        Ok(keeps) => Ok(Statement::Update { table, sets, keeps }),
+        Err(stop) => Err(stopped(stop, (table, sets))),
+    }
 }
 
 /// `DELETE FROM name [WHERE cond]`

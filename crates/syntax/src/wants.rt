@@ -1,6 +1,7 @@
 //! What may stand in parentheses, and what is asked for there.
 
 use crate::trees::{Condition, Expression, Query};
+use sqlite_items::Boxed;
 
 /// What a reader is asked for. An operand is an expression, or a query that stands for its value.
 #[derive(Clone, Copy, Debug, PartialEq, Eq)]
@@ -17,5 +18,5 @@ pub enum Want {
 pub enum Found {
     Condition(Condition),
     Expression(Expression),
-    Query(Query),
+    Query(Boxed<Query>),
 }

@@ -1,0 +1,163 @@
+//! Parts that stand there again and again, in lists with commas and in parentheses.
+
+ghost use Rattle.std.specs.Prelude.{◌≡◌, ◌-◌};
+ghost use Rattle.reading.specs.Reading as rd;
+ghost use Rattle.leaf_parser.specs.Reads.{Reads};
+
+use crate::cursors::Cursor;
+use crate::names::one;
+use crate::stops::{Stop, full};
+use sqlite_items::Items;
+use std::alloc::Global;
+use token::Kind;
+
+/// A part of a text, as what parses it.
+pub trait Part {
+    ghost use Rattle.reading.specs.Reading.{Reader};
+
+    /// What is made of the part.
+    type Tree: Drop;
+
+    /// What the parser needs to be called.
+    ghost ready: { Self → Type 0 };
+
+    ghost reader: { Self → Reader Self.Tree };
+
+    fn parse(&self, cursor: &mut Cursor<'_>) -> Result<Self::Tree, Stop>
+        requires { ready self.now }
+        ensures { Reads (reader self.now cursor.old) result cursor.new };
+}
+
+/// A part that may stand there again and again, as long as the next token says so.
+pub trait Repeated: Part {
+    ghost use Rattle.std.specs.Prelude.{Bool};
+    ghost use Rattle.token.specs.declared.kinds.Kind.{Kind};
+
+    ghost begins: { Kind → Bool };
+
+    /// Whether a token of this kind begins one more.
+    fn begins(&self, kind: Kind) -> bool
+        ensures { result ≡ begins kind };
+}
+
+/// The parts that stand there, behind those found before.
+#[tactic(auto, using(crate::proofs::Turns::many_stops, crate::proofs::Turns::many_goes, crate::proofs::Turns::many_over))]
+pub fn many<P: Repeated>(
+    part: &P,
+    cursor: &mut Cursor<'_>,
+    mut found: Items<P::Tree>,
+) -> Result<Items<P::Tree>, Stop>
+    requires { P.ready part.now }
+    ensures { Reads (rd.all P.begins (P.reader part.now) found cursor.old) result cursor.new }
+{
+    for _turn in 0..cursor.left() {
+        if !part.begins(cursor.peek()) {
+            return Ok(found);
+        }
+        found.push(part.parse(cursor)?)?;
+    }
+    Ok(found)
+}
+
+/// A part behind a comma.
+#[derive(Drop)]
+struct Behind<'a, P>(&'a P);
+
+impl<'a, P: Part> Part for Behind<'a, P> {
+    ghost use Rattle.reading.specs.Reading as rd;
+
+    type Tree = P::Tree;
+
+    ghost ready = { λ b. P.ready b.0.now };
+
+    ghost reader = { λ b. rd.list_item (P.reader b.0.now) };
+
+    #[tactic(auto, unfolding(reading::specs::Reading::list_item))]
+    fn parse(&self, cursor: &mut Cursor<'_>) -> Result<P::Tree, Stop> {
+        cursor.expect(Kind::Comma)?;
+        self.0.parse(cursor)
+    }
+}
+
+impl<'a, P: Part> Repeated for Behind<'a, P> {
+    ghost use Rattle.reading.specs.Reading as rd;
+
+    ghost begins = { rd.is_comma };
+
+    fn begins(&self, kind: Kind) -> bool {
+        match kind {
+            Kind::Comma => true,
+            _ => false,
+        }
+    }
+}
+
+/// `part { "," part }`
+#[tactic(auto, unfolding(reading::specs::Reading::list))]
+pub fn list<P: Part>(
+    alloc: Global,
+    part: &P,
+    cursor: &mut Cursor<'_>,
+) -> Result<Items<P::Tree>, Stop>
+    requires { P.ready part.now }
+    ensures { Reads (rd.list (P.reader part.now) cursor.old) result cursor.new }
+{
+    let first = part.parse(cursor)?;
+    many(&Behind(part), cursor, one(alloc, first)?)
+}
+
+/// What was found, once a token of this kind stands behind it.
+pub fn followed<T: Drop>(cursor: &mut Cursor<'_>, kind: Kind, found: T) -> Result<T, Stop>
+    ensures { Reads (rd.◌>>◌ (rd.expect kind) (rd.pure found) cursor.old) result cursor.new }
+{
+    cursor.expect(kind)?;
+    Ok(found)
+}
+
+/// `"(" part ")"`, where so many parentheses may be opened.
+#[tactic(auto, using(crate::proofs::Turns::parens_none, crate::proofs::Turns::parens_some))]
+pub fn parens<P: Part>(part: &P, cursor: &mut Cursor<'_>, depth: usize) -> Result<P::Tree, Stop>
+    requires { P.ready part.now }
+    ensures { Reads (rd.parens depth (P.reader part.now) cursor.old) result cursor.new }
+{
+    if depth == 0 {
+        return Err(full(cursor));
+    }
+    cursor.expect(Kind::Open)?;
+    let found = part.parse(cursor)?;
+    followed(cursor, Kind::Close, found)
+}
+
+/// A list of parts.
+#[derive(Drop)]
+struct Listed<'a, P> {
+    alloc: Global,
+    part: &'a P,
+}
+
+impl<'a, P: Part> Part for Listed<'a, P> {
+    ghost use Rattle.reading.specs.Reading as rd;
+
+    type Tree = Items<P::Tree>;
+
+    ghost ready = { λ l. P.ready l.part.now };
+
+    ghost reader = { λ l. rd.list (P.reader l.part.now) };
+
+    fn parse(&self, cursor: &mut Cursor<'_>) -> Result<Items<P::Tree>, Stop> {
+        list(self.alloc, self.part, cursor)
+    }
+}
+
+/// `"(" part { "," part } ")"`, where so many parentheses may be opened.
+pub fn parens_list<P: Part>(
+    alloc: Global,
+    part: &P,
+    cursor: &mut Cursor<'_>,
+    depth: usize,
+) -> Result<Items<P::Tree>, Stop>
+    requires { P.ready part.now }
+    ensures { Reads (rd.parens depth (rd.list (P.reader part.now)) cursor.old) result cursor.new }
+{
+    parens(&Listed { alloc, part }, cursor, depth)
+}

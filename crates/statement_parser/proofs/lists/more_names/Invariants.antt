@@ -1,8 +1,0 @@
-use Rattle.std.proofs.Common.{◌≡◌, ◌-◌}
-use Rattle.reading.specs.Reading.{all, many, is_comma, list_item}
-use Rattle.syntax.specs.Readers as q
-use Rattle.statement_syntax.specs.Readers as reader
-use Rattle.statement_parser.proofs.lists.more_names.Given as goal
-
-abbrev pub invariant-loop-turn : goal.invariant-loop-turn
-invariant-loop-turn l = all is_comma (list_item q.name) l.fn.found l.fn.cursor ≡ many is_comma (list_item q.name) (l._turn-end - l._turn) l.found l.cursor
