@@ -1,0 +1,5 @@
+mod Orders
+mod Trees
+mod Added
+mod Descents
+mod Shaped
