@@ -30,10 +30,12 @@
 #![tactic(auto)]
 
 mod changes;
+mod entries;
 mod nodes;
 mod pages;
 mod search;
 
+pub use entries::Entries;
 pub use pages::Pages;
 
 #[cfg(test)]

@@ -11,6 +11,7 @@ ghost use Rattle.value.specs.ValueOrder.{value_cmp};
 ghost use Rattle.value.specs.declared.refusals.Refusal.TheVariants.{NoMemory};
 
 use crate::changes::push_new;
+use crate::entries::Entries;
 use crate::nodes::{Node, inner, leaf};
 use std::alloc::Global;
 use std::fmt;
@@ -78,11 +79,19 @@ impl<V> Pages<V> {
     pub fn page_from(&self, at: usize) -> &[Arc<(Value, V)>]
         ensures some { at < length self.now → 0 < length result.now }
         ensures entries { map arc_value result.now ≡ take (length result.now) (drop at self.now) }
+        ensures short { length self.now < 2 ^ 63 }
     {
         match &self.root {
             Some(root) if at < root.count() => root.page_from(at),
             Some(_) | None => &[],
         }
+    }
+
+    /// The entries in the order of their keys, one after the other. It takes no memory.
+    pub fn iter(&self) -> Entries<'_, V>
+        ensures { result ≡ self.now }
+    {
+        Entries::new(self)
     }
 
     /// What stands at a key. It takes no memory.
