@@ -1,0 +1,2 @@
+mod KeyedRows
+pub mod LastRows

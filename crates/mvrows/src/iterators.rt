@@ -1,0 +1,50 @@
+//! The rows of a version, one after the other.
+
+ghost use Rattle.std.specs.Prelude.{◌≡◌};
+ghost use Rattle.std.specs.Iterator.{YieldsFirstRef, item_count};
+ghost use Rattle.mvrows.specs.Keyed.{rows_of};
+
+use pages::{Entries, Pages};
+use std::marker::Model;
+use table::Row;
+
+/// The rows of a version that are still to come, in the order of their keys. It takes no memory.
+#[derive(Drop)]
+pub struct RowIter<'a> {
+    entries: Entries<'a, Row>,
+}
+
+impl<'a> Model for RowIter<'a> {
+    ghost use Rattle.table.specs.Rows.{RowValues};
+    ghost use Rattle.std.specs.Prelude.{List};
+
+    ghost Value = { List RowValues };
+
+    ghost use Rattle.mvrows.specs.Keyed.{rows_of};
+
+    ghost view = { λ left. rows_of left.entries };
+}
+
+impl<'a> RowIter<'a> {
+    /// All rows of a version.
+    pub(crate) fn new(pages: &'a Pages<Row>) -> RowIter<'a>
+        ensures { result ≡ rows_of pages.now }
+    {
+        RowIter {
+            entries: pages.iter(),
+        }
+    }
+}
+
+impl<'a> Iterator for RowIter<'a> {
+    type Item = &'a Row;
+
+    ghost next_gives = { YieldsFirstRef (λ left. left) };
+
+    ghost remaining = { item_count (λ left. left) };
+
+    fn next(&mut self) -> Option<&'a Row> {
+        let entry = self.entries.next()?;
+        Some(&entry.1)
+    }
+}

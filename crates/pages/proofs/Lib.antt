@@ -1,0 +1,6 @@
+mod Orders
+mod Trees
+mod Walks
+mod Added
+mod Descents
+mod Shaped
