@@ -25,6 +25,8 @@
 //! [`replay_into`]: replay::replay_into
 #![tactic(auto)]
 
+#[cfg(test)]
+mod class_tests;
 mod program;
 mod replay;
 #[cfg(test)]

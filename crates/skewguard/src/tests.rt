@@ -53,7 +53,7 @@ fn prints(
 }
 
 /// What is printed for these definitions over the tables above.
-fn prints_over_tables(
+pub fn prints_over_tables(
     rt: &(impl Abort + Alloc<A = Global>),
     more: &str,
     script: &str,
