@@ -7,7 +7,7 @@ use Rattle.delta.specs.Views.{Shown}
 use Rattle.statement_syntax.specs.declared.statements.Statement.{Statement}
 use Rattle.statement_syntax.specs.declared.statements.Event.TheVariants.{Commit, Run}
 use Rattle.commit.specs.declared.sessions.Standing.{Standing}
-use Rattle.answer.specs.declared.Answer.TheVariants.{Begun, Committed, Refused}
+use Rattle.answer.specs.declared.answers.Answer.TheVariants.{Begun, Committed, Refused}
 use Rattle.txn.specs.Statements.{executed}
 use Rattle.commit.specs.Sessions.{accepted_turn, begin_turn, decided_turn, ended_turn, replied_turn, turn}
 use Rattle.commit.specs.Transactions.{answer_of, left_by, answers_alone, state_alone, answers, led_to, begun_events, commit_answer, refused_alone}

@@ -6,8 +6,8 @@ use Rattle.table.specs.Rows.{layouts_of}
 use Rattle.statement_syntax.specs.declared.statements.Statement.{Statement}
 use Rattle.statement_syntax.specs.declared.statements.Event.{Event}
 use Rattle.statement_syntax.specs.declared.statements.Event.TheVariants as event
-use Rattle.answer.specs.declared.Answer.{Answer}
-use Rattle.answer.specs.declared.Answer.TheVariants.{Begun, Replied, Committed, RolledBack, Refused}
+use Rattle.answer.specs.declared.answers.Answer.{Answer}
+use Rattle.answer.specs.declared.answers.Answer.TheVariants.{Begun, Replied, Committed, RolledBack, Refused}
 use Rattle.delta.specs.Views.{Shown}
 use Rattle.txn.specs.Checks.{first_false}
 use Rattle.txn.specs.Statements.{Done, executed, violation}

@@ -5,8 +5,8 @@ use Rattle.value.specs.declared.refusals.Refusal.TheVariants.{EpochFull}
 use Rattle.statement_syntax.specs.declared.statements.Statement.{Statement}
 use Rattle.statement_syntax.specs.declared.statements.Event.{Event}
 use Rattle.statement_syntax.specs.declared.statements.Event.TheVariants.{Begin, Run}
-use Rattle.answer.specs.declared.Answer.{Answer}
-use Rattle.answer.specs.declared.Answer.TheVariants.{Replied, Committed, Refused}
+use Rattle.answer.specs.declared.answers.Answer.{Answer}
+use Rattle.answer.specs.declared.answers.Answer.TheVariants.{Replied, Committed, Refused}
 use Rattle.delta.specs.Views.{Shown}
 use Rattle.txn.specs.Statements.{Done, executed}
 use Rattle.commit.specs.declared.sessions.Standing.{Standing}

@@ -3,7 +3,7 @@
 ghost use Rattle.std.specs.Prelude.{◌≡◌, ℕ, List, ◌∷◌, None, Some};
 ghost use Rattle.statement_syntax.specs.declared.statements.Statement.{Statement};
 ghost use Rattle.commit.specs.declared.sessions.Standing.{Standing};
-ghost use Rattle.answer.specs.declared.Answer.TheVariants.{Begun};
+ghost use Rattle.answer.specs.declared.answers.Answer.TheVariants.{Begun};
 ghost use Rattle.statement_syntax.specs.declared.statements.Event.TheVariants.{Commit};
 ghost use Rattle.commit.specs.Sessions.{turn};
 ghost use Rattle.commit.specs.Transactions.{answers, answers_alone, begun_events, commit_answer, led_to, refused_alone, state_alone};

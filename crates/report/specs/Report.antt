@@ -1,5 +1,5 @@
 -- The lines of the report: a line for each event's answer, and one for a transaction that was left open.
-use Rattle.std.specs.Prelude.{ℕ, ◌==◌, Bool, true, false, List, [], ◌∷◌, ◌++◌, codes, decimal, if◌then◌else◌}
+use Rattle.std.specs.Prelude.{ℕ, ◌==◌, Bool, true, false, List, [], ◌∷◌, ◌++◌, length, codes, decimal, if◌then◌else◌}
 use Rattle.std.specs.Fmt.{signed_decimal}
 use Rattle.value.specs.declared.values.Value.{Value}
 use Rattle.value.specs.declared.values.Value.TheVariants.{Null, Int, Text}
@@ -13,10 +13,11 @@ use Rattle.value.specs.declared.refusals.Refusal.{Refusal}
 use Rattle.value.specs.declared.refusals.Refusal.TheVariants as refusal
 use Rattle.threeval.specs.declared.Truth.{Truth}
 use Rattle.threeval.specs.declared.Truth.TheVariants.{True, False, Unknown}
-use Rattle.answer.specs.declared.Reply.{Reply}
-use Rattle.answer.specs.declared.Reply.TheVariants.{Inserted, Deleted, Verdict}
-use Rattle.answer.specs.declared.Answer.{Answer}
-use Rattle.answer.specs.declared.Answer.TheVariants.{Begun, Replied, Committed, RolledBack, Refused}
+use Rattle.table.specs.Rows.{RowValues}
+use Rattle.answer.specs.declared.answers.Reply.{Reply}
+use Rattle.answer.specs.declared.answers.Reply.TheVariants.{Inserted, Updated, Deleted, Rows, ModesSet, Verdict}
+use Rattle.answer.specs.declared.answers.Answer.{Answer}
+use Rattle.answer.specs.declared.answers.Answer.TheVariants.{Begun, Replied, Committed, RolledBack, Refused}
 use Rattle.statement_syntax.specs.declared.statements.Statement.TheVariants as statement
 use Rattle.statement_syntax.specs.declared.statements.Event.{Event}
 use Rattle.statement_syntax.specs.declared.statements.Event.TheVariants as event
@@ -99,9 +100,26 @@ abbrev pub asked_name : Event → List ℕ
 asked_name (event.Run (statement.Verdict name)) = name
 asked_name _ = []
 
+-- the values of a row behind its first, each behind a comma and a space
+abbrev pub further_values : RowValues → List ℕ
+further_values [] = []
+further_values (v ∷ row) = (codes ", " ++ value_text v) ++ further_values row
+
+abbrev pub row_text : RowValues → List ℕ
+row_text [] = []
+row_text (v ∷ row) = value_text v ++ further_values row
+
+-- a line for each row, behind the line before it
+abbrev pub row_lines : List RowValues → List ℕ
+row_lines [] = []
+row_lines (row ∷ rows) = (codes "\n  " ++ row_text row) ++ row_lines rows
+
 abbrev pub reply_text : Event → Reply → List ℕ
 reply_text event Inserted = codes "INSERT 1"
+reply_text event (Updated n) = codes "UPDATE " ++ decimal n
 reply_text event (Deleted n) = codes "DELETE " ++ decimal n
+reply_text event (Rows rows) = (codes "SELECT " ++ decimal (length rows)) ++ row_lines rows
+reply_text event ModesSet = codes "SET CONSTRAINTS"
 reply_text event (Verdict truth) = codes "VERDICT " ++ asked_name event ++ codes " " ++ truth_text truth
 
 abbrev pub answer_text : Event → Answer → List ℕ

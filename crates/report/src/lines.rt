@@ -1,13 +1,14 @@
 //! The lines of the report as they grow. A public call is one line; the private ones put a piece of a line behind what is there.
 
 ghost use Rattle.std.specs.Prelude.{◌≡◌, ◌++◌, List, ℕ, [], OnOk, codes, decimal};
-ghost use Rattle.report.specs.Report.{doubled, quoted_byte, value_text, root_text, party_text, excess_text, violated_text, fault_text, reply_text, answer_text, answer_line, left_open_line, refusal_line, asked_name};
+ghost use Rattle.report.specs.Report.{doubled, quoted_byte, value_text, root_text, party_text, excess_text, violated_text, fault_text, further_values, row_text, row_lines, reply_text, answer_text, answer_line, left_open_line, refusal_line, asked_name};
 
 use answer::{Answer, Reply};
 use itoa::Buffer;
 use statement_syntax::{Event, Statement, Step};
 use std::alloc::{AllocError, Global};
 use std::marker::Model;
+use table::Row;
 use value::{Excess, Party, Refusal, Root, Text, Value};
 
 /// Lines as they grow, in a contract the list of their bytes. A call that finds no memory answers `AllocError`. After it
@@ -78,7 +79,7 @@ impl Report {
     {
         match answer {
             Answer::Begun(commits) => self.numbered("BEGIN ", *commits),
-            Answer::Replied(reply) => self.reply(event, *reply),
+            Answer::Replied(reply) => self.reply(event, reply),
             Answer::Committed(number) => self.numbered("COMMIT ", *number),
             Answer::RolledBack => self.word("ROLLBACK"),
             Answer::Refused(refusal) => {
@@ -88,12 +89,18 @@ impl Report {
         }
     }
 
-    fn reply(&mut self, event: &Event, reply: Reply) -> Result<(), AllocError>
-        ensures { OnOk result (self.new ≡ self.old ++ reply_text event.now reply) }
+    fn reply(&mut self, event: &Event, reply: &Reply) -> Result<(), AllocError>
+        ensures { OnOk result (self.new ≡ self.old ++ reply_text event.now reply.now) }
     {
         match reply {
             Reply::Inserted => self.word("INSERT 1"),
-            Reply::Deleted(count) => self.numbered("DELETE ", count),
+            Reply::Updated(count) => self.numbered("UPDATE ", *count),
+            Reply::Deleted(count) => self.numbered("DELETE ", *count),
+            Reply::Rows(rows) => {
+                self.numbered("SELECT ", rows.len() as u64)?;
+                self.rows(rows.as_slice())
+            }
+            Reply::ModesSet => self.word("SET CONSTRAINTS"),
             Reply::Verdict(truth) => {
                 self.word("VERDICT ")?;
                 self.asked(event)?;
@@ -101,6 +108,40 @@ impl Report {
                 self.word(truth.name())
             }
         }
+    }
+
+    /// A line for each row, behind the line before it.
+    fn rows(&mut self, rows: &[Row]) -> Result<(), AllocError>
+        ensures { OnOk result (self.new ≡ self.old ++ row_lines rows.now) }
+    {
+        for row in rows {
+            self.word("\n  ")?;
+            self.row(row.values())?;
+        }
+        Ok(())
+    }
+
+    fn row(&mut self, values: &[Value]) -> Result<(), AllocError>
+        ensures { OnOk result (self.new ≡ self.old ++ row_text values.now) }
+    {
+        match values.split_first() {
+            None => Ok(()),
+            Some((first, others)) => {
+                self.value(first)?;
+                self.further_values(others)
+            }
+        }
+    }
+
+    /// The values behind the first, each behind a comma and a space.
+    fn further_values(&mut self, values: &[Value]) -> Result<(), AllocError>
+        ensures { OnOk result (self.new ≡ self.old ++ further_values values.now) }
+    {
+        for value in values {
+            self.word(", ")?;
+            self.value(value)?;
+        }
+        Ok(())
     }
 
     /// The name that a VERDICT asks for; another event asks for none.

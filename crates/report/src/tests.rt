@@ -2,10 +2,12 @@
 
 use super::Report;
 use answer::{Answer, Reply};
+use sqlite_items::Items;
 use statement_syntax::{Event, Statement, Step};
 use std::alloc::{AllocError, Global};
 use std::process::Abort;
 use std::test::Fail;
+use table::Row;
 use threeval::Truth;
 use value::{Excess, Party, Refusal, Root, Text, Value};
 
@@ -90,6 +92,8 @@ fn rollback_prints(rt: HostRuntime) -> Result<(), Fail> {
 fn replies_print(rt: HostRuntime) -> Result<(), Fail> {
     for (reply, want) in [
         (Reply::Inserted, "B: INSERT 1\n"),
+        (Reply::Updated(3), "B: UPDATE 3\n"),
+        (Reply::ModesSet, "B: SET CONSTRAINTS\n"),
         (Reply::Deleted(0), "B: DELETE 0\n"),
         (Reply::Deleted(20), "B: DELETE 20\n"),
         (Reply::Verdict(Truth::True), "B: VERDICT R TRUE\n"),
@@ -266,4 +270,39 @@ fn conflicts_print(rt: HostRuntime) -> Result<(), Fail> {
         &dangerous,
         "DEFS: REFUSED 13 40001 READER 1 PIVOT THIS WRITER 2\n",
     )
+}
+
+/// A row of a number, a text and NULL.
+fn mixed(alloc: Global, number: i64) -> Result<Row, Refusal> {
+    let text = Value::Text(Text::from_str(alloc, "O'HARA")?);
+    let mut values = Vec::new(alloc);
+    values.push(Value::Int(number))?;
+    values.push(text)?;
+    values.push(Value::Null)?;
+    Ok(Row::new(values))
+}
+
+/// The reply of two rows.
+fn two_rows(alloc: Global) -> Result<Answer, Refusal> {
+    let mut rows = Vec::new(alloc);
+    rows.push(mixed(alloc, 1)?)?;
+    rows.push(mixed(alloc, -2)?)?;
+    Ok(Answer::Replied(Reply::Rows(Items::from_vec(rows))))
+}
+
+#[test]
+fn rows_stand_below_their_count(rt: HostRuntime) -> Result<(), Fail> {
+    let two = two_rows(rt.alloc())?;
+    answers(
+        &rt,
+        question(rt.alloc())?,
+        &two,
+        "B: SELECT 2\n  1, 'O''HARA', NULL\n  -2, 'O''HARA', NULL\n",
+    )
+}
+
+#[test]
+fn no_rows_are_their_count_alone(rt: HostRuntime) -> Result<(), Fail> {
+    let none = Answer::Replied(Reply::Rows(Items::new(rt.alloc())));
+    answers(&rt, question(rt.alloc())?, &none, "B: SELECT 0\n")
 }

@@ -15,8 +15,8 @@ use Rattle.assertion.specs.Meaning.{State, rows_of, verdict_of}
 use Rattle.value.specs.Results.{and_then, found, unless}
 use Rattle.assertcheck.specs.Statements.{delete_of}
 use Rattle.changes.specs.Insertions.{inserted}
-use Rattle.answer.specs.declared.Reply.{Reply}
-use Rattle.answer.specs.declared.Reply.TheVariants.{Inserted, Deleted, Verdict}
+use Rattle.answer.specs.declared.answers.Reply.{Reply}
+use Rattle.answer.specs.declared.answers.Reply.TheVariants.{Inserted, Deleted, Verdict}
 use Rattle.delta.specs.Views.{Shown}
 use Rattle.txn.specs.declared.checks.FalseAssertion.{FalseAssertion}
 use Rattle.txn.specs.Checks.{first_false}

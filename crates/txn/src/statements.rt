@@ -3,7 +3,7 @@
 ghost use Rattle.std.specs.Prelude.{◌≡◌, ◌≢◌, ◌<◌, length, IfOk, IfErr, Ok, Err, Some, unwrap_or};
 ghost use Rattle.value.specs.declared.refusals.Refusal.TheVariants.{NoMemory};
 ghost use Rattle.table.specs.Rows.{layouts_of};
-ghost use Rattle.answer.specs.declared.Reply.TheVariants as reply;
+ghost use Rattle.answer.specs.declared.answers.Reply.TheVariants as reply;
 ghost use Rattle.txn.specs.Statements.{admitted, asked, deleted, executed, verdict_named};
 ghost use Rattle.changes.specs.Insertions.{inserted};
 

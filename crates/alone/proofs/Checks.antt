@@ -1,0 +1,210 @@
+-- A check finds the same violation on two states that moved alike and hold the same rows under the keys that it reads.
+use Rattle.std.proofs.Common.{◌≡◌, ℕ, Bool, true, false, cond, List, [], ◌∷◌, ◌++◌, Option, Some, None, refl, sym, ap, ◌∙◌, subst, inl, inr, map, filter}
+use Rattle.std.specs.Prelude.{◌||◌}
+use Rattle.std.specs.Cmp.{IsTotalOrder}
+use Rattle.std.specs.Ordering.{is_gt, ordering_reverse}
+use Rattle.std.specs.declared.cmp.Ordering.{Ordering}
+use Rattle.std.specs.declared.cmp.Ordering.TheVariants.{Less, Equal, Greater}
+use Rattle.std.proofs.lemmas.Bool.{cases_Bool, both_ways}
+use Rattle.std.proofs.lemmas.Map.Lookups.{CmpEqualImpliesEq}
+use Rattle.value.specs.declared.values.Root.{Root}
+use Rattle.value.specs.declared.refusals.Refusal.{Refusal}
+use Rattle.value.specs.ValueOrder.{root_cmp}
+use Rattle.value.specs.Ordered.{least, lesser}
+use Rattle.value.proofs.OrderedLists.{has, has-itself, has-least, least-below}
+use Rattle.value.proofs.ValueOrders.{root_cmp_total, root_exact}
+use Rattle.table.specs.Rows.{RowValues, Layout}
+use Rattle.assertion.specs.declared.assertions.Assertion.{Assertion}
+use Rattle.assertion.specs.declared.forms.Form.{Form}
+use Rattle.assertion.specs.Meaning.{State, bad_roots, least_bad_of}
+use Rattle.assertion.specs.Candidates.{candidates, candidates_of}
+use Rattle.assertion.specs.Roots.{is_bad_root, IsOrdered}
+use Rattle.assertion.proofs.ListLemmas.{has-contains, contains-has}
+use Rattle.assertion.proofs.BadRoots.{has-bad}
+use Rattle.siread.specs.declared.keys.Place.{Place}
+use Rattle.siread.specs.declared.keys.LockKey.{LockKey}
+use Rattle.siread.specs.Keys.{holds, touches, seen, AlikeUnder}
+use Rattle.alone.specs.States.{row_in, IsState, change_between, net_change}
+use Rattle.alone.specs.Checks.{keys_for, check_keys, refusal_at, violation, checks_read}
+use Rattle.std.specs.List.{zip}
+use Rattle.modes.specs.Modes.{Immediates, immediate_ones, is_named, modes_with}
+use Rattle.alone.proofs.Lists.{Each}
+use Rattle.alone.proofs.Members.{in_left, in_right, in_flat}
+use Rattle.alone.proofs.Nets.{Alike, net_same, net_all}
+use Rattle.alone.proofs.Forms.{needs, root_same, touched_root, needs_read}
+
+-- neither is above the other
+level : (c d : Ordering) → d ≡ ordering_reverse c → is_gt c ≡ false → is_gt d ≡ false → c ≡ Equal
+level Less d e g h = let no : is_gt Greater ≡ false = ap is_gt (sym e) ∙ h in cc
+level Equal d e g h = refl
+level Greater d e g h = cc
+
+-- lists with the same members have the same least
+least_same : {K : Type 0} {R : K → K → Ordering} (o : IsTotalOrder R) → CmpEqualImpliesEq R → (xs ys : List K) → ((k : K) → has R k xs ≡ has R k ys) → least R xs ≡ least R ys
+least_same o exact [] [] h = refl
+least_same o exact [] (y ∷ ys) h = let e : false ≡ true = h y ∙ has-itself o y ys in cc
+least_same o exact (x ∷ xs) [] h = let e : true ≡ false = sym (has-itself o x xs) ∙ h x in cc
+least_same {K} {R} o exact (x ∷ xs) (y ∷ ys) h =
+    let m : K = lesser R x (least R xs) in
+    let n : K = lesser R y (least R ys) in
+    let low : is_gt (R m n) ≡ false = least-below o x xs n (h n ∙ has-least o y ys) in
+    let high : is_gt (R n m) ≡ false = least-below o y ys m (sym (h m) ∙ has-least o x xs) in
+    ap Some (exact m n (level (R m n) (R n m) (o.antisymm n m) low high))
+
+none_in : (xs : List Root) → least root_cmp xs ≡ None → (r : Root) → has root_cmp r xs ≡ false
+none_in [] h r = refl
+none_in (x ∷ xs) h r = cc
+
+module _ (layouts : List Layout) where
+  abbrev pub Under : List LockKey → State → State → Type 0
+  Under keys one other = AlikeUnder (row_in layouts) keys one other
+
+  pub under_left : (xs ys : List LockKey) (one other : State) → Under (xs ++ ys) one other → Under xs one other
+  under_left xs ys one other h key m = h key (in_left xs ys key m)
+
+  pub under_right : (xs ys : List LockKey) (one other : State) → Under (xs ++ ys) one other → Under ys one other
+  under_right xs ys one other h key m = h key (in_right xs ys key m)
+
+  -- no assertion of the list is false on the state
+  abbrev pub AreQuiet : State → List Assertion → Type 0
+  AreQuiet state assertions = Each (λ a. least_bad_of layouts a.form state ≡ None) assertions
+
+  none_first : (name : List ℕ) (o : Option Root) (rest : Option Refusal) → refusal_at name o rest ≡ None → (o ≡ None) × (rest ≡ None)
+  none_first name None rest h = (refl, h)
+  none_first name (Some root) rest h = let no : ⊥ = cc in absurd no
+
+  pub quiet_from : (assertions : List Assertion) (state : State) → violation layouts assertions state ≡ None → AreQuiet state assertions
+  quiet_from [] state h = tt
+  quiet_from (a ∷ rest) state h =
+      let both = none_first a.name (least_bad_of layouts a.form state) (violation layouts rest state) h in
+      (both.0, quiet_from rest state both.1)
+
+  not_bad : (form : Form) (state : State) → IsOrdered layouts state → least_bad_of layouts form state ≡ None → (r : Root) → is_bad_root layouts form state r ≡ false
+  not_bad form state f h r = sym (has-bad layouts form state f r) ∙ none_in (bad_roots layouts form state) h r
+
+  -- a place at which a change between two states doesn't touch a key
+  untouched : (key : LockKey) (place : Place) (old new : Option RowValues) → holds key place old || holds key place new ≡ false → seen key place old ≡ seen key place new
+  untouched key place old new h = ap (λ b. cond b old None) (first_off (holds key place old) (holds key place new) h) ∙ sym (ap (λ b. cond b new None) (second_off (holds key place old) (holds key place new) h))
+    where
+      first_off : (a b : Bool) → a || b ≡ false → a ≡ false
+      first_off true b h = cc
+      first_off false b h = refl
+
+      second_off : (a b : Bool) → a || b ≡ false → b ≡ false
+      second_off true b h = cc
+      second_off false b h = h
+
+  -- a root that is no candidate of the net change stays as it was
+  pub others_stay : (form : Form) (before after : State) → IsState layouts before → IsState layouts after → (r : Root) → has root_cmp r (candidates_of (net_change layouts before after) form) ≡ false
+      → is_bad_root layouts form before r ≡ is_bad_root layouts form after r
+  others_stay form before after f g r none = root_same layouts before after f.ordered g.ordered form r same
+    where
+      same : Under (needs form r) before after
+      same key m p = elim (net_all layouts before after f g p) [
+        | inl still ↦ ap (seen key p) still
+        | inr listed ↦ elim (cases_Bool (touches (change_between layouts before after p) key)) [
+          | inl hit ↦ absurd (both_ways (has root_cmp r (candidates_of (net_change layouts before after) form)) none (has-contains root_cmp_total (candidates_of (net_change layouts before after) form) r
+              (in_flat (λ change. candidates change form) (net_change layouts before after) (change_between layouts before after p) r listed (touched_root form (change_between layouts before after p) r key m hit))))
+          | inr miss ↦ untouched key p (row_in layouts before p) (row_in layouts after p) miss
+        ]
+      ]
+
+  -- whether a root is bad, after two pairs of states moved alike
+  bad_same : (form : Form) (b w b' w' : State) → IsState layouts b → IsState layouts w → IsState layouts b' → IsState layouts w' → Alike layouts b b' w w'
+      → least_bad_of layouts form b ≡ None → least_bad_of layouts form b' ≡ None → Under (check_keys form (net_change layouts b w)) w w' → (r : Root) → is_bad_root layouts form w r ≡ is_bad_root layouts form w' r
+  bad_same form b w b' w' fb fw fb' fw' alike q q' under r = elim (cases_Bool (has root_cmp r (candidates_of (net_change layouts b w) form))) [
+    | inl candidate ↦ root_same layouts w w' fw.ordered fw'.ordered form r (λ key m. under key (in_flat (keys_for form) (candidates_of (net_change layouts b w) form) r key (contains-has root_exact (candidates_of (net_change layouts b w) form) r candidate) (needs_read form r key m)))
+    | inr none ↦
+        sym (others_stay form b w fb fw r none)
+        ∙ not_bad form b fb.ordered q r ∙ sym (not_bad form b' fb'.ordered q' r)
+        ∙ others_stay form b' w' fb' fw' r (ap (λ changes. has root_cmp r (candidates_of changes form)) (sym (net_same layouts b b' w w' alike)) ∙ none)
+  ]
+
+  pub check_same : (assertions : List Assertion) (b w b' w' : State) → IsState layouts b → IsState layouts w → IsState layouts b' → IsState layouts w' → Alike layouts b b' w w'
+      → AreQuiet b assertions → AreQuiet b' assertions → Under (checks_read assertions (net_change layouts b w)) w w' → violation layouts assertions w ≡ violation layouts assertions w'
+  check_same [] b w b' w' fb fw fb' fw' alike q q' under = refl
+  check_same (a ∷ rest) b w b' w' fb fw fb' fw' alike q q' under =
+      let bad : (r : Root) → is_bad_root layouts a.form w r ≡ is_bad_root layouts a.form w' r
+      = bad_same a.form b w b' w' fb fw fb' fw' alike q.0 q'.0 (under_left (check_keys a.form (net_change layouts b w)) (checks_read rest (net_change layouts b w)) w w' under) in
+      let least : least_bad_of layouts a.form w ≡ least_bad_of layouts a.form w' =
+      least_same root_cmp_total root_exact (bad_roots layouts a.form w) (bad_roots layouts a.form w') (λ r. has-bad layouts a.form w fw.ordered r ∙ bad r ∙ sym (has-bad layouts a.form w' fw'.ordered r)) in
+      let more : violation layouts rest w ≡ violation layouts rest w' =
+      check_same rest b w b' w' fb fw fb' fw' alike q.1 q'.1 (under_right (check_keys a.form (net_change layouts b w)) (checks_read rest (net_change layouts b w)) w w' under) in
+      λ i. refusal_at a.name (least i) (more i)
+
+  -- those of a name among some are not false
+  abbrev pub AreQuietOf : (List ℕ → Bool) → State → List Assertion → Type 0
+  AreQuietOf chosen state assertions = Each (λ a. chosen a.name ≡ true → least_bad_of layouts a.form state ≡ None) assertions
+
+  pub quiet_of : (chosen : List ℕ → Bool) (state : State) (assertions : List Assertion) → AreQuiet state (filter (λ a. chosen a.name) assertions) → AreQuietOf chosen state assertions
+  quiet_of chosen state [] h = tt
+  quiet_of chosen state (a ∷ rest) h = elim (cases_Bool (chosen a.name)) [
+    | inl on ↦
+        let all : AreQuiet state (a ∷ filter (λ a. chosen a.name) rest) = subst (λ b. AreQuiet state (cond b (a ∷ filter (λ a. chosen a.name) rest) (filter (λ a. chosen a.name) rest))) on h in
+        (λ e. all.0, quiet_of chosen state rest all.1)
+    | inr off ↦
+        let all : AreQuiet state (filter (λ a. chosen a.name) rest) = subst (λ b. AreQuiet state (cond b (a ∷ filter (λ a. chosen a.name) rest) (filter (λ a. chosen a.name) rest))) off h in
+        (λ e. cc, quiet_of chosen state rest all)
+  ]
+
+  -- of assertions beside their modes, those that are immediate are not false
+  abbrev pub AreQuietBeside : State → List (Assertion × Bool) → Type 0
+  AreQuietBeside state pairs = Each (λ p. p.1 ≡ true → least_bad_of layouts p.0.form state ≡ None) pairs
+
+  abbrev pub AreQuietIn : Immediates → State → List Assertion → Type 0
+  AreQuietIn modes state assertions = AreQuietBeside state (zip assertions modes)
+
+  abbrev ones : List (Assertion × Bool) → List Assertion
+  ones pairs = map (λ p. p.0) (filter (λ p. p.1) pairs)
+
+  quiet_beside : (state : State) (pairs : List (Assertion × Bool)) → AreQuietBeside state pairs → AreQuiet state (ones pairs)
+  quiet_beside state [] h = tt
+  quiet_beside state (p ∷ rest) h = go (quiet_beside state rest h.1) p.1 refl
+    where
+      go : AreQuiet state (ones rest) → (b : Bool) → p.1 ≡ b → AreQuiet state (map (λ p. p.0) (cond b (p ∷ filter (λ p. p.1) rest) (filter (λ p. p.1) rest)))
+      go more true e = (h.0 e, more)
+      go more false e = more
+
+  beside_quiet : (state : State) (pairs : List (Assertion × Bool)) → AreQuiet state (ones pairs) → AreQuietBeside state pairs
+  beside_quiet state [] h = tt
+  beside_quiet state (p ∷ rest) h = elim (cases_Bool p.1) [
+    | inl on ↦
+        let all : AreQuiet state (p.0 ∷ ones rest) = subst (λ b. AreQuiet state (map (λ p. p.0) (cond b (p ∷ filter (λ p. p.1) rest) (filter (λ p. p.1) rest)))) on h in
+        (λ e. all.0, beside_quiet state rest all.1)
+    | inr off ↦
+        let all : AreQuiet state (ones rest) = subst (λ b. AreQuiet state (map (λ p. p.0) (cond b (p ∷ filter (λ p. p.1) rest) (filter (λ p. p.1) rest)))) off h in
+        (λ e. cc, beside_quiet state rest all)
+  ]
+
+  pub quiet_ones : (modes : Immediates) (state : State) (assertions : List Assertion) → AreQuietIn modes state assertions → AreQuiet state (immediate_ones modes assertions)
+  quiet_ones modes state assertions h = quiet_beside state (zip assertions modes) h
+
+  pub ones_quiet : (modes : Immediates) (state : State) (assertions : List Assertion) → AreQuiet state (immediate_ones modes assertions) → AreQuietIn modes state assertions
+  ones_quiet modes state assertions h = beside_quiet state (zip assertions modes) h
+
+  -- whatever the modes, where none is false
+  pub quiet_in : (modes : Immediates) (state : State) (assertions : List Assertion) → AreQuiet state assertions → AreQuietIn modes state assertions
+  quiet_in modes state [] h = tt
+  quiet_in [] state (a ∷ rest) h = tt
+  quiet_in (m ∷ ms) state (a ∷ rest) h = (λ e. h.0, quiet_in ms state rest h.1)
+
+  -- and after the modes of some names are set
+  pub quiet_deferred : (names : List (List ℕ)) (modes : Immediates) (state : State) (assertions : List Assertion) → AreQuietIn modes state assertions
+      → AreQuietIn (modes_with names false assertions modes) state assertions
+  quiet_deferred names modes state [] h = tt
+  quiet_deferred names [] state (a ∷ rest) h = tt
+  quiet_deferred names (m ∷ ms) state (a ∷ rest) h = (λ e. h.0 (unset (is_named names a.name) m e), quiet_deferred names ms state rest h.1)
+    where
+      unset : (b c : Bool) → cond b false c ≡ true → c ≡ true
+      unset true c h = cc
+      unset false c h = h
+
+  pub quiet_immediate : (names : List (List ℕ)) (modes : Immediates) (state : State) (assertions : List Assertion) → AreQuietIn modes state assertions
+      → AreQuietOf (is_named names) state assertions → AreQuietIn (modes_with names true assertions modes) state assertions
+  quiet_immediate names modes state [] h p = tt
+  quiet_immediate names [] state (a ∷ rest) h p = tt
+  quiet_immediate names (m ∷ ms) state (a ∷ rest) h p = ((λ e. either (is_named names a.name) refl e), quiet_immediate names ms state rest h.1 p.1)
+    where
+      either : (b : Bool) → is_named names a.name ≡ b → cond (is_named names a.name) true m ≡ true → least_bad_of layouts a.form state ≡ None
+      either true e g = p.0 e
+      either false e g = h.0 (sym (ap (λ b. cond b true m) e) ∙ g)

@@ -1,0 +1,347 @@
+-- The agreement law, by induction over the trace, and that an accepted transaction leaves a sound state.
+use Rattle.std.proofs.Common.{◌≡◌, ◌≤◌, ℕ, Bool, true, false, cond, List, [], ◌∷◌, ◌++◌, Option, Some, None, Result, Ok, Err, length, map, filter, refl, sym, ap, ◌∙◌, subst, inl, inr}
+use Rattle.std.specs.Prelude.{Contains, slice_index_or}
+use Rattle.std.proofs.lemmas.Bool.{cases_lt}
+use Rattle.value.specs.declared.refusals.Refusal.{Refusal}
+use Rattle.value.specs.declared.refusals.Refusal.TheVariants.{KeyUpdate}
+use Rattle.table.specs.declared.rows.Change.{Change}
+use Rattle.table.specs.Rows.{Layout, layouts_of, names_of}
+use Rattle.table.specs.Faults.{row_refusal}
+use Rattle.cond.specs.declared.conds.Cond.{Cond}
+use Rattle.assertion.specs.declared.assertions.Assertion.{Assertion}
+use Rattle.assertion.specs.Meaning.{State, key_of, least_bad_of}
+use Rattle.assertion.specs.Roots.{state_after_all}
+use Rattle.assertcheck.specs.declared.inserts.NewRow.{NewRow}
+use Rattle.assertcheck.specs.declared.updates.Setting.{Setting}
+use Rattle.value.specs.Results.{unless}
+use Rattle.siread.specs.declared.keys.Place.{Place}
+use Rattle.siread.specs.declared.keys.LockKey.{LockKey}
+use Rattle.siread.specs.declared.keys.LockKey.TheVariants.{Row as OneRow, Table as WholeTable}
+use Rattle.siread.specs.Keys.{SameUnder, place_of}
+use Rattle.alone.specs.States.{row_in, IsState, net_change}
+use Rattle.alone.specs.Reads.{where_key}
+use Rattle.alone.specs.Checks.{tables_in, violation, checks_read}
+use Rattle.alone.specs.declared.statements.Resolved.{Resolved}
+use Rattle.alone.specs.declared.statements.Resolved.TheVariants.{Refused as Refuse, Insert, Update, Delete, Select, SetModes, Verdict}
+use Rattle.answer.specs.declared.answers.Reply.{Reply}
+use Rattle.answer.specs.declared.answers.Reply.TheVariants.{Rows, ModesSet, Verdict as Truthful, Updated}
+use Rattle.alone.specs.Statements.{Effect, columns_of, place_in, found_rows, inserted_at, insert_effect, update_fault, renewal, update_effect, delete_effect, sets_key, listed}
+use Rattle.assertion.specs.Declarations.{Declared, layouts_in}
+use Rattle.modes.specs.Modes.{Immediates, is_immediate, is_named, modes_with, assertion_of, initial_modes, immediate_ones, named_ones}
+use Rattle.alone.specs.Alone.{Standing, Step, refused_step, unless_violated, effected, verdict_step, modes_step, unless_key, key_name, stepped, Run, ran, run_on, transaction, transaction_keys, IsSound}
+use Rattle.alone.proofs.Lists.{each_filter, in_head, in_tail}
+use Rattle.alone.proofs.Members.{in_map}
+use Rattle.alone.proofs.Stores.{one_same, all_fit}
+use Rattle.alone.proofs.Nets.{Alike, alike_start, alike_under, alike_put, net_same, net_exact, put_net}
+use Rattle.alone.proofs.Forms.{verdict_same}
+use Rattle.alone.proofs.Wheres.{found_same}
+use Rattle.alone.proofs.Checks.{Under, under_left, under_right, AreQuiet, quiet_from, check_same, AreQuietIn, quiet_of, quiet_ones, ones_quiet, quiet_in, quiet_deferred, quiet_immediate}
+use Rattle.alone.proofs.Effects.{IsDoable, delete_doable, update_doable, insert_doable, insert_nothing}
+
+reads_are : (fault : Option Refusal) (reply : Reply) (before after : Standing) (reads : List LockKey) → (unless_violated fault reply before after reads).reads ≡ reads
+reads_are None reply before after reads = refl
+reads_are (Some fault) reply before after reads = refl
+
+module _ (declared : Declared) (s o : State) (sound : IsSound declared s) (sound' : IsSound declared o) where
+  abbrev lays : List Layout
+  lays = layouts_of declared.tables
+
+  abbrev all : List Assertion
+  all = declared.assertions
+
+  -- two transactions, begun on the two states, stand alike
+  pub record Together (modes : Immediates) (u v : State) : Type 0 where
+    pub alike : Alike lays s o u v
+    pub fit : IsState lays u
+    pub fit' : IsState lays v
+    pub quiet : AreQuietIn lays modes u all
+    pub quiet' : AreQuietIn lays modes v all
+
+  abbrev AreTogether : Standing → Standing → Type 0
+  AreTogether one other = (one.modes ≡ other.modes) × Together one.modes one.view other.view
+
+  -- two steps answer and read the same, and leave both alike
+  pub record AreSame (p q : Step) : Type 0 where
+    pub reply : p.reply ≡ q.reply
+    pub reads : p.reads ≡ q.reads
+    pub after : AreTogether p.after q.after
+
+  -- the same fault, or none
+  same_unless : (fault fault' : Option Refusal) (reply : Reply) (one other one' other' : Standing) (reads reads' : List LockKey) → fault ≡ fault' → reads ≡ reads' → AreTogether one other
+      → (fault ≡ None → fault' ≡ None → AreTogether one' other') → AreSame (unless_violated fault reply one one' reads) (unless_violated fault' reply other other' reads')
+  same_unless None None reply one other one' other' reads reads' e r before after = record { reply = refl; reads = r; after = after refl refl }
+  same_unless (Some f) (Some g) reply one other one' other' reads reads' e r before after =
+      let is : f ≡ g = cc in
+      record { reply = ap Err is; reads = r; after = before }
+  same_unless None (Some g) reply one other one' other' reads reads' e r before after = let no : ⊥ = cc in absurd no
+  same_unless (Some f) None reply one other one' other' reads reads' e r before after = let no : ⊥ = cc in absurd no
+
+  -- the same changes leave states alike whatever they were alike to
+  record Moves (u v : State) (changes : List Change) : Type 0 where
+    fit : IsState lays (state_after_all lays changes u)
+    fit' : IsState lays (state_after_all lays changes v)
+    alike : (one other : State) → Alike lays one other u v → Alike lays one other (state_after_all lays changes u) (state_after_all lays changes v)
+
+  module _ (m : Immediates) (u v : State) (t : Together m u v) where
+    abbrev at_u : Standing
+    at_u = record { view = u; modes = m }
+
+    abbrev at_v : Standing
+    at_v = record { view = v; modes = m }
+
+    same_refusal : (refusal : Refusal) (reads : List LockKey) → AreSame (refused_step at_u refusal reads) (refused_step at_v refusal reads)
+    same_refusal refusal reads = record { reply = refl; reads = refl; after = (refl, t) }
+
+    does_same : (read : LockKey) (effect : Effect) → Moves u v effect.changes
+        → Under lays (read ∷ checks_read (immediate_ones m all) (net_change lays u (state_after_all lays effect.changes u))) s o
+        → AreSame (effected declared at_u read (Ok effect)) (effected declared at_v read (Ok effect))
+    does_same read effect moves under =
+        let u' : State = state_after_all lays effect.changes u in
+        let v' : State = state_after_all lays effect.changes v in
+        let moved : Alike lays s o u' v' = moves.alike s o t.alike in
+        let stepwise : Alike lays u v u' v' = moves.alike u v (alike_start lays u v) in
+        let net : net_change lays u u' ≡ net_change lays v v' = net_same lays u v u' v' stepwise in
+        let fault : violation lays (immediate_ones m all) u' ≡ violation lays (immediate_ones m all) v' =
+        check_same lays (immediate_ones m all) u u' v v' t.fit moves.fit t.fit' moves.fit' stepwise (quiet_ones lays m u all t.quiet) (quiet_ones lays m v all t.quiet')
+        (λ key c. alike_under lays s o u' v' moved key (under key (in_tail read (checks_read (immediate_ones m all) (net_change lays u u')) key c)))
+        in
+        same_unless (violation lays (immediate_ones m all) u') (violation lays (immediate_ones m all) v') effect.reply at_u at_v (record { view = u'; modes = m }) (record { view = v'; modes = m })
+        (read ∷ checks_read (immediate_ones m all) (net_change lays u u')) (read ∷ checks_read (immediate_ones m all) (net_change lays v v')) fault
+        (ap (λ changes. read ∷ checks_read (immediate_ones m all) changes) net) (refl, t)
+        (λ none none'. (
+          refl,
+          record {
+            alike = moved;
+            fit = moves.fit;
+            fit' = moves.fit';
+            quiet = ones_quiet lays m u' all (quiet_from lays (immediate_ones m all) u' none);
+            quiet' = ones_quiet lays m v' all (quiet_from lays (immediate_ones m all) v' none');
+          },
+        ))
+
+    effect_same : (read : LockKey) (effect : Result Effect Refusal) → ((e : Effect) → effect ≡ Ok e → Moves u v e.changes) → Under lays (effected declared at_u read effect).reads s o
+        → AreSame (effected declared at_u read effect) (effected declared at_v read effect)
+    effect_same read (Err refusal) moves under = same_refusal refusal (read ∷ [])
+    effect_same read (Ok effect) moves under =
+        does_same read effect (moves effect refl)
+        (subst (λ keys. Under lays keys s o) (reads_are (violation lays (immediate_ones m all) (state_after_all lays effect.changes u)) effect.reply at_u (record { view = state_after_all lays effect.changes u; modes = m }) (read ∷ checks_read (immediate_ones m all) (net_change lays u (state_after_all lays effect.changes u)))) under)
+
+    has_read : (read : LockKey) (effect : Result Effect Refusal) → Contains (effected declared at_u read effect).reads read
+    has_read read (Err refusal) = in_head read []
+    has_read read (Ok effect) =
+        let checks : List LockKey = checks_read (immediate_ones m all) (net_change lays u (state_after_all lays effect.changes u)) in
+        subst (λ keys. Contains keys read) (sym (reads_are (violation lays (immediate_ones m all) (state_after_all lays effect.changes u)) effect.reply at_u (record { view = state_after_all lays effect.changes u; modes = m }) (read ∷ checks)))
+        (in_head read checks)
+
+    -- the effects on the two states, which are the same where the read key has the same rows
+    effects_same : (read : LockKey) (effect effect' : Result Effect Refusal) → (SameUnder (row_in lays) read u v → effect ≡ effect')
+        → ((e : Effect) → effect ≡ Ok e → effect' ≡ Ok e → Moves u v e.changes)
+        → Under lays (effected declared at_u read effect).reads s o
+        → AreSame (effected declared at_u read effect) (effected declared at_v read effect')
+    effects_same read effect effect' same moves under =
+        let e : effect ≡ effect' = same (alike_under lays s o u v t.alike read (under read (has_read read effect))) in
+        subst (λ x. AreSame (effected declared at_u read effect) (effected declared at_v read x)) e
+        (effect_same read effect (λ f h. moves f h (sym e ∙ h)) under)
+
+    doable_moves : (e : Effect) → IsDoable lays e u → IsDoable lays e v → Moves u v e.changes
+    doable_moves e d d' = record {
+      fit = all_fit lays e.changes u t.fit d.puts;
+      fit' = all_fit lays e.changes v t.fit' d.puts;
+      alike = λ one other a. alike_put lays one other u v e.changes t.fit t.fit' d.puts a d.exact d'.exact;
+    }
+
+    still_moves : (changes : List Change) → state_after_all lays changes u ≡ u → state_after_all lays changes v ≡ v → Moves u v changes
+    still_moves changes e e' = record {
+      fit = subst (IsState lays) (sym e) t.fit;
+      fit' = subst (IsState lays) (sym e') t.fit';
+      alike = λ one other a. subst (λ x. Alike lays one other x (state_after_all lays changes v)) (sym e) (subst (λ y. Alike lays one other u y) (sym e') a);
+    }
+
+    insert_same : (new : NewRow) → Under lays (stepped declared s at_u (Insert new)).reads s o → AreSame (stepped declared s at_u (Insert new)) (stepped declared o at_v (Insert new))
+    insert_same new under =
+        let place : Place = place_in lays new in
+        let fault : Option Refusal = row_refusal (columns_of new.table lays) new.row in
+        let name : List ℕ = slice_index_or (names_of declared.tables) new.table [] in
+        effects_same (OneRow place) (insert_effect declared.tables new u) (insert_effect declared.tables new v)
+        (λ h. ap (λ o. unless fault (inserted_at name place new.row o)) (one_same lays u v t.fit.ordered t.fit'.ordered place h))
+        (λ e h h'. elim (cases_lt new.table (length lays)) [
+          | inl there ↦ doable_moves e (insert_doable lays u name place new.row fault there refl e h) (insert_doable lays v name place new.row fault there refl e h')
+          | inr out ↦ still_moves e.changes
+              (insert_nothing lays u name place new.row fault (subst (λ n. n ≤ new.table) (sym t.fit.long) out) e h)
+              (insert_nothing lays v name place new.row fault (subst (λ n. n ≤ new.table) (sym t.fit'.long) out) e h')
+        ]) under
+
+    is_ok : (fault : Option Refusal) (e f : Effect) → unless fault (Ok e) ≡ Ok f → e ≡ f
+    is_ok None e f h = cc
+    is_ok (Some fault) e f h = cc
+
+    update_same : (table : ℕ) (sets : List Setting) (kept : Cond) → sets_key (key_of table lays) sets ≡ false
+        → Under lays (effected declared at_u (where_key table (key_of table lays) kept) (update_effect (columns_of table lays) table (key_of table lays) sets (found_rows u table kept))).reads s o
+        → AreSame (effected declared at_u (where_key table (key_of table lays) kept) (update_effect (columns_of table lays) table (key_of table lays) sets (found_rows u table kept)))
+        (effected declared at_v (where_key table (key_of table lays) kept) (update_effect (columns_of table lays) table (key_of table lays) sets (found_rows v table kept)))
+    update_same table sets kept leaves under =
+        let does : State → Effect = λ w. record { reply = Updated (length (found_rows w table kept)); changes = map (renewal table (key_of table lays) sets) (found_rows w table kept) } in
+        effects_same (where_key table (key_of table lays) kept)
+        (update_effect (columns_of table lays) table (key_of table lays) sets (found_rows u table kept)) (update_effect (columns_of table lays) table (key_of table lays) sets (found_rows v table kept))
+        (λ h. ap (update_effect (columns_of table lays) table (key_of table lays) sets) (found_same lays u v t.fit.ordered t.fit'.ordered table kept h))
+        (λ e h h'. doable_moves e
+        (subst (λ e. IsDoable lays e u) (is_ok (update_fault (columns_of table lays) sets (found_rows u table kept)) (does u) e h) (update_doable lays u t.fit table sets kept leaves))
+        (subst (λ e. IsDoable lays e v) (is_ok (update_fault (columns_of table lays) sets (found_rows v table kept)) (does v) e h') (update_doable lays v t.fit' table sets kept leaves)))
+        under
+
+    delete_same : (table : ℕ) (kept : Cond)
+        → Under lays (effected declared at_u (where_key table (key_of table lays) kept) (Ok (delete_effect table (key_of table lays) (found_rows u table kept)))).reads s o
+        → AreSame (effected declared at_u (where_key table (key_of table lays) kept) (Ok (delete_effect table (key_of table lays) (found_rows u table kept))))
+        (effected declared at_v (where_key table (key_of table lays) kept) (Ok (delete_effect table (key_of table lays) (found_rows v table kept))))
+    delete_same table kept under =
+        let does : State → Effect = λ w. delete_effect table (key_of table lays) (found_rows w table kept) in
+        effects_same (where_key table (key_of table lays) kept) (Ok (does u)) (Ok (does v))
+        (λ h. ap (λ rows. Ok (delete_effect table (key_of table lays) rows)) (found_same lays u v t.fit.ordered t.fit'.ordered table kept h))
+        (λ e h h'. doable_moves e
+        (subst (λ e. IsDoable lays e u) (is_ok None (does u) e h) (delete_doable lays u t.fit table kept))
+        (subst (λ e. IsDoable lays e v) (is_ok None (does v) e h') (delete_doable lays v t.fit' table kept)))
+        under
+
+    asked_same : (name : List ℕ) (a : Option Assertion) → Under lays (verdict_step declared a name at_u).reads s o → AreSame (verdict_step declared a name at_u) (verdict_step declared a name at_v)
+    asked_same name None under = record { reply = refl; reads = refl; after = (refl, t) }
+    asked_same name (Some a) under = record {
+      reply = ap (λ truth. Ok (Truthful truth)) (verdict_same lays u v t.fit.ordered t.fit'.ordered a.form (λ table c. alike_under lays s o u v t.alike (WholeTable table) (under (WholeTable table) (in_map WholeTable (tables_in a.form) table c))));
+      reads = refl;
+      after = (refl, t);
+    }
+
+    -- SET CONSTRAINTS
+    sound_quiet : (chosen : List ℕ → Bool) (state : State) → IsSound declared state → AreQuiet lays state (filter (λ a. chosen a.name) all)
+    sound_quiet chosen state fine = each_filter (λ a. least_bad_of lays a.form state ≡ None) (λ a. chosen a.name) all (quiet_from lays all state fine.good)
+
+    modes_same : (names : List (List ℕ)) (immediate : Bool) → Under lays (modes_step declared s names immediate at_u).reads s o → AreSame (modes_step declared s names immediate at_u) (modes_step declared o names immediate at_v)
+    modes_same names false under = record {
+      reply = refl;
+      reads = refl;
+      after = (
+        refl,
+        record { alike = t.alike; fit = t.fit; fit' = t.fit'; quiet = quiet_deferred lays names m u all t.quiet; quiet' = quiet_deferred lays names m v all t.quiet' },
+      );
+    }
+    modes_same names true under =
+        let net : net_change lays s u ≡ net_change lays o v = net_same lays s o u v t.alike in
+        let now : Standing = record { view = u; modes = modes_with names true all m } in
+        let keys : Under lays (checks_read (named_ones names all) (net_change lays s u)) s o =
+        subst (λ keys. Under lays keys s o) (reads_are (violation lays (named_ones names all) u) ModesSet at_u now (checks_read (named_ones names all) (net_change lays s u))) under
+        in
+        let fault : violation lays (named_ones names all) u ≡ violation lays (named_ones names all) v =
+        check_same lays (named_ones names all) s u o v sound.fit t.fit sound'.fit t.fit' t.alike (sound_quiet (is_named names) s sound) (sound_quiet (is_named names) o sound')
+        (λ key c. alike_under lays s o u v t.alike key (keys key c))
+        in
+        same_unless (violation lays (named_ones names all) u) (violation lays (named_ones names all) v) ModesSet at_u at_v now (record { view = v; modes = modes_with names true all m })
+        (checks_read (named_ones names all) (net_change lays s u)) (checks_read (named_ones names all) (net_change lays o v)) fault
+        (ap (checks_read (named_ones names all)) net) (refl, t)
+        (λ none none'. (
+          refl,
+          record {
+            alike = t.alike;
+            fit = t.fit;
+            fit' = t.fit';
+            quiet = quiet_immediate lays names m u all t.quiet (quiet_of lays (is_named names) u all (quiet_from lays (named_ones names all) u none));
+            quiet' = quiet_immediate lays names m v all t.quiet' (quiet_of lays (is_named names) v all (quiet_from lays (named_ones names all) v none'));
+          },
+        ))
+
+    -- one statement
+    statement_same : (statement : Resolved) → Under lays (stepped declared s at_u statement).reads s o → AreSame (stepped declared s at_u statement) (stepped declared o at_v statement)
+    statement_same (Refuse refusal) under = same_refusal refusal []
+    statement_same (Insert new) under = insert_same new under
+    statement_same (Update x) under = go (sets_key (key_of x.table lays) x.sets) refl under
+      where
+        step : Standing → Step
+        step now = effected declared now (where_key x.table (key_of x.table lays) x.kept) (update_effect (columns_of x.table lays) x.table (key_of x.table lays) x.sets (found_rows now.view x.table x.kept))
+
+        fault : Refusal
+        fault = KeyUpdate (key_name lays x.table)
+
+        go : (b : Bool) → sets_key (key_of x.table lays) x.sets ≡ b → Under lays (unless_key b fault at_u (step at_u)).reads s o → AreSame (unless_key b fault at_u (step at_u)) (unless_key b fault at_v (step at_v))
+        go true e under = same_refusal fault []
+        go false leaves under = update_same x.table x.sets x.kept leaves under
+    statement_same (Delete x) under = delete_same x.table x.kept under
+    statement_same (Select x) under =
+        let read : LockKey = where_key x.table (key_of x.table lays) x.kept in
+        record {
+          reply = ap (λ rows. Ok (Rows (listed x.columns rows))) (found_same lays u v t.fit.ordered t.fit'.ordered x.table x.kept (alike_under lays s o u v t.alike read (under read (in_head read []))));
+          reads = refl;
+          after = (refl, t);
+        }
+    statement_same (SetModes names mode) under = modes_same names (is_immediate mode) under
+    statement_same (Verdict name) under = asked_same name (assertion_of name all) under
+
+  step_same : (one other : Standing) → AreTogether one other → (statement : Resolved) → Under lays (stepped declared s one statement).reads s o → AreSame (stepped declared s one statement) (stepped declared o other statement)
+  step_same one other t statement under =
+      subst (λ modes. AreSame (stepped declared s one statement) (stepped declared o (record { view = other.view; modes = modes }) statement)) t.0
+      (statement_same one.modes one.view other.view t.1 statement under)
+
+  -- two runs answer and read the same, and end alike
+  pub record RunAlike (p q : Run) : Type 0 where
+    pub replies : p.replies ≡ q.replies
+    pub reads : p.reads ≡ q.reads
+    pub final : AreTogether p.final q.final
+
+  pub ran_same : (trace : List Resolved) → (one other : Standing) → AreTogether one other → Under lays (ran declared s one trace).reads s o → RunAlike (ran declared s one trace) (ran declared o other trace)
+  ran_same [] one other t under = record { replies = refl; reads = refl; final = t }
+  ran_same (statement ∷ rest) one other t under =
+      let p : Step = stepped declared s one statement in
+      let q : Step = stepped declared o other statement in
+      let step : AreSame p q = step_same one other t statement (under_left lays p.reads (ran declared s p.after rest).reads s o under) in
+      let more : RunAlike (ran declared s p.after rest) (ran declared o q.after rest) = ran_same rest p.after q.after step.after (under_right lays p.reads (ran declared s p.after rest).reads s o under) in
+      record {
+        replies = λ i. step.reply i ∷ more.replies i;
+        reads = λ i. step.reads i ++ more.reads i;
+        final = more.final;
+      }
+
+  begun : AreTogether (record { view = s; modes = initial_modes all }) (record { view = o; modes = initial_modes all })
+  begun = (
+    refl,
+    record {
+      alike = alike_start lays s o;
+      fit = sound.fit;
+      fit' = sound'.fit;
+      quiet = quiet_in lays (initial_modes all) s all (quiet_from lays all s sound.good);
+      quiet' = quiet_in lays (initial_modes all) o all (quiet_from lays all o sound'.good);
+    },
+  )
+
+  module _ (trace : List Resolved) (under : Under lays (transaction_keys declared trace s) s o) where
+    abbrev end : State → State
+    end w = (run_on declared trace w).final.view
+
+    run_alike : RunAlike (run_on declared trace s) (run_on declared trace o)
+    run_alike = ran_same trace (record { view = s; modes = initial_modes all }) (record { view = o; modes = initial_modes all }) begun
+        (under_left lays (run_on declared trace s).reads (checks_read all (net_change lays s (end s))) s o under)
+
+    net_alike : net_change lays s (end s) ≡ net_change lays o (end o)
+    net_alike = net_same lays s o (end s) (end o) run_alike.final.1.alike
+
+    refused_alike : violation lays all (end s) ≡ violation lays all (end o)
+    refused_alike =
+        let ended = run_alike.final.1 in
+        check_same lays all s (end s) o (end o) sound.fit ended.fit sound'.fit ended.fit' ended.alike (quiet_from lays all s sound.good) (quiet_from lays all o sound'.good)
+        (λ key c. alike_under lays s o (end s) (end o) ended.alike key (under_right lays (run_on declared trace s).reads (checks_read all (net_change lays s (end s))) s o under key c))
+
+    pub outcome_same : transaction declared trace o ≡ transaction declared trace s
+    outcome_same = sym (λ i. record { replies = run_alike.replies i; changes = net_alike i; refused = refused_alike i })
+
+    pub keys_same : transaction_keys declared trace o ≡ transaction_keys declared trace s
+    keys_same = sym (λ i. run_alike.reads i ++ checks_read all (net_alike i))
+
+    pub final_fit : IsState lays (run_on declared trace s).final.view
+    final_fit = run_alike.final.1.fit
+
+-- an accepted transaction leaves a sound state
+pub leaves_sound : (declared : Declared) (trace : List Resolved) (s : State) → IsSound declared s → (transaction declared trace s).refused ≡ None
+    → IsSound declared (state_after_all (layouts_in declared) (transaction declared trace s).changes s)
+leaves_sound declared trace s sound accepted =
+    let fit : IsState (layouts_in declared) (run_on declared trace s).final.view = final_fit declared s s sound sound trace (λ key c place. refl) in
+    subst (IsSound declared) (sym (put_net (layouts_in declared) s (run_on declared trace s).final.view sound.fit fit)) (record { fit = fit; good = accepted })
+
+-- a change has the old row that stands in the snapshot's state
+pub change_exact : (declared : Declared) (trace : List Resolved) (s : State) (change : Change) → Contains (transaction declared trace s).changes change → row_in (layouts_in declared) s (place_of change) ≡ change.old
+change_exact declared trace s change m = sym (ap (λ c. c.old) (net_exact (layouts_in declared) s (run_on declared trace s).final.view change m).0)

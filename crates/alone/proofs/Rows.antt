@@ -1,0 +1,49 @@
+-- Small transactions, computed by the definitions. A condition doesn't compute here, since its fold opens in its own crate alone.
+use Rattle.std.proofs.Common.{◌≡◌, ℕ, pos, true, false, [], ◌∷◌, Some, None, Ok, Err, refl}
+use Rattle.value.specs.declared.values.Value.TheVariants.{Int}
+use Rattle.value.specs.declared.values.ColType.TheVariants.{Integer}
+use Rattle.value.specs.declared.refusals.Refusal.TheVariants.{DuplicateKey, OutsideClass}
+use Rattle.table.specs.declared.schemas.Column.{Column}
+use Rattle.table.specs.Rows.{RowValues, Tables}
+use Rattle.assertion.specs.Meaning.{State}
+use Rattle.siread.specs.declared.keys.LockKey.TheVariants.{Row as OneRow}
+use Rattle.alone.specs.States.{net_change}
+use Rattle.assertion.specs.Declarations.{Declared}
+use Rattle.statement_syntax.specs.declared.statements.Mode.TheVariants.{Deferred}
+use Rattle.alone.specs.declared.statements.Resolved.TheVariants.{Refused as Refuse, Insert, SetModes}
+use Rattle.answer.specs.declared.answers.Reply.TheVariants.{Inserted}
+use Rattle.alone.specs.Alone.{transaction, transaction_keys}
+
+-- accounts: an id, an owner and a balance
+abbrev column_named : ℕ → Column
+column_named letter = record { name = letter ∷ []; kind = Integer; nullable = true; is_key = false }
+
+abbrev accounts : Tables
+accounts = (65 ∷ [], record { columns = column_named 73 ∷ column_named 79 ∷ column_named 66 ∷ []; key = 0 }) ∷ []
+
+abbrev plain : Declared
+plain = record { tables = accounts; assertions = [] }
+
+abbrev row : ℕ → ℕ → ℕ → RowValues
+row id owner balance = Int (pos id) ∷ Int (pos owner) ∷ Int (pos balance) ∷ []
+
+abbrev start : State
+start = (row 1 7 100 ∷ row 2 7 50 ∷ []) ∷ []
+
+-- a new row, and one at a key that is taken
+put_twice : (transaction plain (Insert (record { table = 0; row = row 3 8 5 }) ∷ Insert (record { table = 0; row = row 1 8 5 }) ∷ []) start).replies ≡ Ok Inserted ∷ Err (DuplicateKey (65 ∷ []) (Int (pos 1))) ∷ []
+unfolding net_change
+put_twice = refl
+
+put_change : (transaction plain (Insert (record { table = 0; row = row 3 8 5 }) ∷ []) start).changes ≡ record { table = 0; key = Int (pos 3); old = None; new = Some (row 3 8 5) } ∷ []
+unfolding net_change
+put_change = refl
+
+put_reads : transaction_keys plain (Insert (record { table = 0; row = row 3 8 5 }) ∷ []) start ≡ OneRow (record { table = 0; key = Int (pos 3) }) ∷ []
+unfolding net_change
+put_reads = refl
+
+-- where SET CONSTRAINTS and a refused statement stand between, the view stays
+nothing_done : (transaction plain (Refuse OutsideClass ∷ SetModes [] Deferred ∷ Insert (record { table = 0; row = row 1 8 5 }) ∷ []) start).changes ≡ []
+unfolding net_change
+nothing_done = refl

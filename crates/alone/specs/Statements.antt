@@ -1,0 +1,105 @@
+-- Statements with their names found, and what each does alone to the rows of a state.
+use Rattle.std.specs.Prelude.{ℕ, Bool, true, false, ◌==◌, List, [], ◌∷◌, length, map, Option, Some, None, Result, Ok, Err, slice_get, slice_index_or, slice_set, if◌then◌else◌}
+use Rattle.std.specs.List.{list_any}
+use Rattle.value.specs.declared.values.Value.{Value}
+use Rattle.value.specs.declared.values.Value.TheVariants.{Null}
+use Rattle.value.specs.declared.values.ColType.TheVariants.{Integer}
+use Rattle.value.specs.declared.refusals.Refusal.{Refusal}
+use Rattle.value.specs.declared.refusals.Refusal.TheVariants.{DuplicateKey, TypeMismatch}
+use Rattle.table.specs.declared.schemas.Column.{Column}
+use Rattle.table.specs.declared.rows.Change.{Change}
+use Rattle.table.specs.Rows.{RowValues, Layout, Tables, value_in, layouts_of, names_of}
+use Rattle.table.specs.Faults.{fault_in, first_of, is_typed, row_refusal}
+use Rattle.cond.specs.declared.exprs.Expr.{Expr}
+use Rattle.cond.specs.declared.conds.Cond.{Cond}
+use Rattle.cond.specs.Eval.{answer}
+use Rattle.assertion.specs.Meaning.{State, rows_of, key_of, kept_rows}
+use Rattle.assertcheck.specs.declared.inserts.NewRow.{NewRow}
+use Rattle.assertcheck.specs.declared.updates.Setting.{Setting}
+use Rattle.answer.specs.declared.answers.Reply.{Reply}
+use Rattle.answer.specs.declared.answers.Reply.TheVariants.{Inserted, Updated, Deleted}
+use Rattle.value.specs.Results.{unless}
+use Rattle.siread.specs.declared.keys.Place.{Place}
+use Rattle.alone.specs.States.{row_in}
+
+-- what a statement does to the rows
+pub record Effect : Type 0 where
+  pub reply : Reply
+  pub changes : List Change
+
+abbrev pub columns_of : ℕ → List Layout → List Column
+columns_of table layouts = (slice_index_or layouts table (record { columns = []; key = 0 })).columns
+
+-- the place at which a new row is to stand
+abbrev pub place_in : List Layout → NewRow → Place
+place_in layouts new = record { table = new.table; key = value_in (key_of new.table layouts) new.row }
+
+-- the row comes to stand at its key, if none stands there
+abbrev pub inserted_at : List ℕ → Place → RowValues → Option RowValues → Result Effect Refusal
+inserted_at name place row None = Ok (record { reply = Inserted; changes = record { table = place.table; key = place.key; old = None; new = Some row } ∷ [] })
+inserted_at name place row (Some other) = Err (DuplicateKey name place.key)
+
+-- INSERT: types, NULLs and ranges by columns, and then the key
+abbrev pub insert_effect : Tables → NewRow → State → Result Effect Refusal
+insert_effect tables new state =
+    unless (row_refusal (columns_of new.table (layouts_of tables)) new.row)
+    (inserted_at (slice_index_or (names_of tables) new.table []) (place_in (layouts_of tables) new) new.row (row_in (layouts_of tables) state (place_in (layouts_of tables) new)))
+
+abbrev pub removal : (table key : ℕ) → RowValues → Change
+removal table key row = record { table = table; key = value_in key row; old = Some row; new = None }
+
+-- DELETE of the rows that its condition keeps
+abbrev pub delete_effect : (table key : ℕ) → List RowValues → Effect
+delete_effect table key rows = record { reply = Deleted (length rows); changes = map (removal table key) rows }
+
+abbrev pub no_column : Column
+no_column = record { name = []; kind = Integer; nullable = true; is_key = false }
+
+-- what a column gets: NULL, or an expression over the row as it was
+abbrev pub given_value : RowValues → Option Expr → Value
+given_value old None = Null
+given_value old (Some value) = answer old [] value
+
+-- what is wrong with a value that is given to a column: its type, which a checked UPDATE has right, and then NULL or its range
+abbrev pub given_fault : Option Column → Value → Option Refusal
+given_fault None v = None
+given_fault (Some column) v = if is_typed column.kind v then fault_in column v else Some TypeMismatch
+
+-- the first fault of what a row is given, as the assignments are written
+abbrev pub settings_fault : List Column → List Setting → RowValues → Option Refusal
+settings_fault columns [] old = None
+settings_fault columns (setting ∷ rest) old =
+    first_of (given_fault (slice_get columns setting.column) (given_value old setting.value)) (settings_fault columns rest old)
+
+-- and of some rows, row by row
+abbrev pub update_fault : List Column → List Setting → List RowValues → Option Refusal
+update_fault columns sets [] = None
+update_fault columns sets (row ∷ rest) = first_of (settings_fault columns sets row) (update_fault columns sets rest)
+
+-- the row with what it is given, each value evaluated on the row as it was
+abbrev pub updated : List Setting → RowValues → RowValues → RowValues
+updated [] old row = row
+updated (setting ∷ rest) old row = updated rest old (slice_set row setting.column (given_value old setting.value))
+
+abbrev pub renewal : (table key : ℕ) → List Setting → RowValues → Change
+renewal table key sets row = record { table = table; key = value_in key row; old = Some row; new = Some (updated sets row row) }
+
+-- UPDATE of the rows that its condition keeps
+abbrev pub update_effect : List Column → (table key : ℕ) → List Setting → List RowValues → Result Effect Refusal
+update_effect columns table key sets rows =
+    unless (update_fault columns sets rows) (Ok (record { reply = Updated (length rows); changes = map (renewal table key sets) rows }))
+
+-- whether the key is given a value; a checked UPDATE doesn't do that
+abbrev pub sets_key : ℕ → List Setting → Bool
+sets_key key sets = list_any (λ setting. setting.column == key) sets
+
+-- what a SELECT lists of some rows
+abbrev pub listed_row : List ℕ → RowValues → RowValues
+listed_row columns row = map (λ column. value_in column row) columns
+
+abbrev pub listed : List ℕ → List RowValues → List RowValues
+listed columns rows = map (listed_row columns) rows
+
+-- the rows of a table that a condition keeps, in key order
+abbrev pub found_rows : State → ℕ → Cond → List RowValues
+found_rows state table kept = kept_rows kept (rows_of table state)

@@ -1,0 +1,24 @@
+//! Statements with their names found.
+
+use assertcheck::{Delete, NewRow, Select, Update};
+use sqlite_items::Items;
+use statement_syntax::Mode;
+use value::{Refusal, Text};
+
+/// A statement with its names found, as a transaction's trace holds it: it can be run again on other rows. One that was refused
+/// for its names, shape, types or width, or for a mode that it may not set, is just that refusal.
+#[derive(Debug, Drop)]
+pub enum Resolved {
+    Refused(Refusal),
+    Insert(NewRow),
+    Update(Update),
+    Delete(Delete),
+    Select(Select),
+    /// SET CONSTRAINTS, with the names of the assertions that it means.
+    SetModes {
+        names: Items<Text>,
+        mode: Mode,
+    },
+    /// VERDICT, with a name that may be no assertion's.
+    Verdict(Text),
+}

@@ -1,0 +1,39 @@
+//! Replies to statements, and answers to events.
+
+use sqlite_items::Items;
+use table::Row;
+use threeval::Truth;
+use value::Refusal;
+
+/// What a statement did.
+#[derive(Debug, Drop)]
+pub enum Reply {
+    /// INSERT: the row was put in.
+    Inserted,
+    /// UPDATE: its condition kept so many rows. One that is set to what it held is counted too.
+    Updated(u64),
+    /// DELETE: so many rows were taken out.
+    Deleted(u64),
+    /// SELECT: the listed values of each row that its condition kept, in key order.
+    Rows(Items<Row>),
+    /// SET CONSTRAINTS: the modes were set.
+    ModesSet,
+    /// VERDICT: the truth of the assertion on the transaction's own tables.
+    Verdict(Truth),
+}
+
+/// The answer to an event.
+#[derive(Debug, Drop)]
+pub enum Answer {
+    /// A transaction began on the tables that so many commits left.
+    Begun(u64),
+    /// The statement was run.
+    Replied(Reply),
+    /// The transaction is the commit with this number.
+    Committed(u64),
+    /// The transaction was ended, and nothing of it kept.
+    RolledBack,
+    /// The event was refused. A COMMIT refused as violated, as a write conflict, as dangerous or by a full epoch has ended
+    /// its transaction, and the committed tables are as before; after any other refusal nothing has changed.
+    Refused(Refusal),
+}

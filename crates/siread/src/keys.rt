@@ -1,0 +1,78 @@
+//! Places of rows, keys of reads, and the changes that touch a key.
+
+ghost use Rattle.std.specs.Prelude.{◌≡◌};
+ghost use Rattle.table.specs.Rows.{value_in};
+ghost use Rattle.siread.specs.Keys.{holds, is_under, same_value, touches};
+
+use table::{Change, Row};
+use value::{Value, order};
+
+/// Where a row stands: its table, by the table's place in the order of creation, and its key there.
+#[derive(Debug, Drop)]
+pub struct Place {
+    pub table: usize,
+    pub key: Value,
+}
+
+/// What a transaction reads.
+#[derive(Debug, Drop)]
+pub enum LockKey {
+    /// One row, also where none stands there.
+    Row(Place),
+    /// The rows of a table that have this value, which may be NULL, in a column.
+    Column {
+        table: usize,
+        column: usize,
+        value: Value,
+    },
+    /// All rows of a table.
+    Table(usize),
+}
+
+/// Whether a change touches a key: its old or its new row is one of those that the key means. It takes no memory.
+pub fn touches(change: &Change, key: &LockKey) -> bool
+    ensures { result ≡ touches change.now key.now }
+{
+    holds(key, change, &change.old) || holds(key, change, &change.new)
+}
+
+/// Whether a row that stands where the change does, if there is one, is under the key.
+fn holds(key: &LockKey, change: &Change, row: &Option<Row>) -> bool
+    ensures { result ≡ holds key.now (record { table = change.now.table; key = change.now.key }) row.now }
+{
+    match row {
+        None => false,
+        Some(row) => is_under(key, change.table, &change.key, row),
+    }
+}
+
+/// Whether a row is one of those that the key means.
+fn is_under(key: &LockKey, at: usize, under: &Value, row: &Row) -> bool
+    ensures { result ≡ is_under key.now (record { table = at; key = under.now }) row.now }
+{
+    match key {
+        LockKey::Row(place) => place.table == at && is_same(&place.key, under),
+        LockKey::Column {
+            table,
+            column,
+            value,
+        } => *table == at && has(row, *column, value),
+        LockKey::Table(table) => *table == at,
+    }
+}
+
+fn is_same(a: &Value, b: &Value) -> bool
+    ensures { result ≡ same_value a.now b.now }
+{
+    order(a, b).is_eq()
+}
+
+/// Whether a row has this value in a column. Past its last column a row has NULL.
+fn has(row: &Row, column: usize, value: &Value) -> bool
+    ensures { result ≡ same_value value.now (value_in column row.now) }
+{
+    match row.values().get(column) {
+        Some(found) => is_same(value, found),
+        None => is_same(value, &Value::Null),
+    }
+}

@@ -1,0 +1,20 @@
+//! What a transaction reads, and which changes touch it.
+//!
+//! A serializable snapshot engine notes what each transaction read, under keys that outlive the read and block nobody (SIREAD
+//! locks: Cahill, Röhm and Fekete 2008). Here a key is one row of a table, whether it is there or not; the rows with
+//! one value in a column; or a whole table. A change of a row *touches* the key of the row itself, the keys of the values that its
+//! old or its new row has in a column, and the key of its table. What a transaction finds under its keys is all that it
+//! knows of the tables, so one whose keys nobody touched would be answered the same on the tables after the change.
+//!
+//! NULL is a value like others here: rows that have NULL in a column are under that column's key for NULL, as GROUP BY puts
+//! them into one group (ISO/IEC 9075:1992, group by clause).
+//!
+//! The definitions are in `specs/Keys`.
+#![tactic(auto)]
+
+mod keys;
+
+pub use keys::{LockKey, Place, touches};
+
+#[cfg(test)]
+mod tests;
