@@ -11,7 +11,7 @@ use Rattle.name_check.specs.Scopes.{Scope}
 use Rattle.name_check.specs.Names.{condition_fault}
 use Rattle.value.specs.Results.{and_then, found, provided, unless}
 use Rattle.form_check.specs.Queries.{Source, source_of, row_condition}
-use Rattle.type_check.specs.Types.{is_typed}
+use Rattle.type_check.specs.Types.{is_typed_condition}
 
 -- the table of a statement; no alias is written there
 abbrev pub target_of : Tables → List ℕ → Result Source Refusal
@@ -19,7 +19,7 @@ target_of tables name = found name (source_of tables name None)
 
 -- a condition of rows, if it is typed and its expressions are bounded
 abbrev pub sound_condition : Scope → Cond → Result Cond Refusal
-sound_condition scope made = provided (is_typed scope.layout.columns [] made) TypeMismatch (provided (is_bounded [] made) TooWide (Ok made))
+sound_condition scope made = provided (is_typed_condition scope.layout.columns [] made) TypeMismatch (provided (is_bounded [] made) TooWide (Ok made))
 
 -- WHERE of a statement: names, the shape, types and widths; a missing one keeps every row
 abbrev pub where_of : Tables → Scope → Option Condition → Result Cond Refusal

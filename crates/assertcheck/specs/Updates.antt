@@ -17,7 +17,7 @@ use Rattle.name_check.specs.Names.{condition_fault, expression_fault}
 use Rattle.value.specs.Results.{and_then, provided, unless}
 use Rattle.form_check.specs.Queries.{Source, row_expression, row_filter}
 use Rattle.type_check.specs.declared.data_types.DataType.{DataType}
-use Rattle.type_check.specs.Types.{are_comparable, column_type, expression_type, is_typed}
+use Rattle.type_check.specs.Types.{are_comparable, column_type, expression_type, is_typed_condition}
 use Rattle.assertcheck.specs.declared.updates.Setting.{Setting}
 use Rattle.assertcheck.specs.declared.updates.Update.{Update}
 use Rattle.assertcheck.specs.Conditions.{target_of}
@@ -89,7 +89,7 @@ IsBoundedSetting setting = IfSome setting.value (λ value. IsSome (bound_of [] v
 -- the UPDATE, if all its expressions and its condition are typed, and then if all are bounded
 abbrev pub sound_update : List Column → Update → Result Update Refusal
 sound_update columns update =
-    provided (list_all (fits columns) update.sets && is_typed columns [] update.kept) TypeMismatch (
+    provided (list_all (fits columns) update.sets && is_typed_condition columns [] update.kept) TypeMismatch (
     provided (list_all is_bounded_setting update.sets && is_bounded [] update.kept) TooWide (
     Ok update))
 

@@ -26,7 +26,7 @@ use Rattle.value.specs.Results.{and_then, each, found, provided, unless}
 use Rattle.form_check.specs.Forms.{form_of}
 use Rattle.form_check.specs.Queries.{Source, source_of, row_condition, row_expression, row_filter}
 use Rattle.type_check.specs.Forms.{is_typed_form}
-use Rattle.type_check.specs.Types.{is_typed}
+use Rattle.type_check.specs.Types.{is_typed_condition}
 use Rattle.type_check.specs.Widths.{is_bounded_form}
 use Rattle.assertcheck.specs.declared.deletes.Delete.{Delete}
 use Rattle.assertcheck.specs.declared.selects.Select.{Select}
@@ -152,7 +152,7 @@ where_filter tables scope None kept e = e
 where_filter tables scope (Some condition) kept e =
     let (made, (is, more)) = and_then_ok (row_condition scope condition) (sound_condition scope) kept (unless_ok (condition_fault tables condition (scope ∷ [])) (and_then (row_condition scope condition) (sound_condition scope)) kept e) in
     let bounded : Result Cond Refusal = provided (is_bounded [] made) TooWide (Ok made) in
-    let same = provided_ok (is_bounded [] made) TooWide (Ok made) kept (provided_ok (is_typed scope.layout.columns [] made) TypeMismatch bounded kept more) in
+    let same = provided_ok (is_bounded [] made) TooWide (Ok made) kept (provided_ok (is_typed_condition scope.layout.columns [] made) TypeMismatch bounded kept more) in
     is ∙ same
 
 -- the rows that a resolved WHERE keeps of its table
@@ -241,7 +241,7 @@ updates tables name sets condition update e =
     let (kept, (keeps, sound)) = and_then_ok (row_filter target.scope condition) (λ kept. sound_update target.scope.layout.columns (make target settings kept)) update last in
     let made = make target settings kept in
     let bounded : Result Update Refusal = provided (list_all is_bounded_setting settings && is_bounded [] kept) TooWide (Ok made) in
-    let same = provided_ok (list_all is_bounded_setting settings && is_bounded [] kept) TooWide (Ok made) update (provided_ok (list_all (fits target.scope.layout.columns) settings && is_typed target.scope.layout.columns [] kept) TypeMismatch bounded update sound) in
+    let same = provided_ok (list_all is_bounded_setting settings && is_bounded [] kept) TooWide (Ok made) update (provided_ok (list_all (fits target.scope.layout.columns) settings && is_typed_condition target.scope.layout.columns [] kept) TypeMismatch bounded update sound) in
     record { target = target; found = found_ok name (source_of tables name None) target is; columns = columns; assigned = are; settings = settings; set = set; kept = kept; keeps = keeps; made = ok_same made update same }
 
 pub UpdatesRows-law : law.UpdatesRows

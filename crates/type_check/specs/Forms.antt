@@ -9,7 +9,7 @@ use Rattle.assertion.specs.declared.plain_queries.Plain.{Plain}
 use Rattle.assertion.specs.declared.forms.Form.{Form}
 use Rattle.assertion.specs.declared.forms.Form.TheVariants.{ByRow, ByGroup, Single}
 use Rattle.type_check.specs.declared.data_types.DataType.{DataType}
-use Rattle.type_check.specs.Types.{column_type, are_comparable, aggregate_type, is_typed}
+use Rattle.type_check.specs.Types.{column_type, are_comparable, aggregate_type, is_typed_condition}
 
 -- the columns of a table, if there is one
 abbrev pub columns_in : Option Layout → List Column
@@ -30,11 +30,11 @@ group_columns columns group = option_to_list (slice_get columns group)
 
 -- what a subquery of its own gives, if its WHERE is typed
 abbrev pub plain_type : List Layout → Plain → Option DataType
-plain_type layouts q = if is_typed (columns_of layouts q.table) [] q.kept then aggregate_type (columns_of layouts q.table) q.aggregate else None
+plain_type layouts q = if is_typed_condition (columns_of layouts q.table) [] q.kept then aggregate_type (columns_of layouts q.table) q.aggregate else None
 
 -- what a subquery of a row gives, if its WHERE is typed and its link compares the key with a column of the key's type
 abbrev pub linked_type : List Layout → Option DataType → Linked → Option DataType
-linked_type layouts key q = if is_typed (columns_of layouts q.table) [] q.kept && are_comparable key (column_type (columns_of layouts q.table) q.link)
+linked_type layouts key q = if is_typed_condition (columns_of layouts q.table) [] q.kept && are_comparable key (column_type (columns_of layouts q.table) q.link)
     then aggregate_type (columns_of layouts q.table) q.aggregate else None
 
 -- the types of a list, if each is there
@@ -46,11 +46,11 @@ all_types (Some t ∷ rest) = option_map (λ ts. t ∷ ts) (all_types rest)
 -- whether a condition is typed over slots of these types, each of which has to be there
 abbrev pub is_typed_over : List Column → Option (List DataType) → Cond → Bool
 is_typed_over columns None condition = false
-is_typed_over columns (Some slots) condition = is_typed columns slots condition
+is_typed_over columns (Some slots) condition = is_typed_condition columns slots condition
 
 -- whether each condition of a form is typed over what it sees, with each of its subqueries or aggregates
 abbrev pub is_typed_form : List Layout → Form → Bool
 is_typed_form layouts (ByRow table condition queries) = is_typed_over (columns_of layouts table) (all_types (map (linked_type layouts (key_type layouts table)) queries)) condition
-is_typed_form layouts (ByGroup table kept group having aggregates) = is_typed (columns_of layouts table) [] kept
+is_typed_form layouts (ByGroup table kept group having aggregates) = is_typed_condition (columns_of layouts table) [] kept
     && is_typed_over (group_columns (columns_of layouts table) group) (all_types (map (aggregate_type (columns_of layouts table)) aggregates)) having
 is_typed_form layouts (Single condition queries) = is_typed_over [] (all_types (map (plain_type layouts) queries)) condition

@@ -92,5 +92,5 @@ typed_step columns slots (Cond-F.And parts) = all_true parts
 typed_step columns slots (Cond-F.Or parts) = all_true parts
 
 -- whether each comparison of a condition is between values of one type, and each expression has a type
-abbrev pub is_typed : List Column → List DataType → Cond → Bool
-is_typed columns slots = fold-Cond Bool (typed_step columns slots)
+abbrev pub is_typed_condition : List Column → List DataType → Cond → Bool
+is_typed_condition columns slots = fold-Cond Bool (typed_step columns slots)

@@ -1,7 +1,7 @@
 //! The types of expressions, and which conditions are typed.
 
 ghost use Rattle.std.specs.Prelude.{◌≡◌, slice_get};
-ghost use Rattle.type_check.specs.Types.{expression_type as expression_type_of, is_typed as is_typed_of};
+ghost use Rattle.type_check.specs.Types.{expression_type as expression_type_of, is_typed_condition as is_typed_of};
 
 use crate::data_types::{DataType, are_comparable, column_type, is_number, literal_type};
 use cond::{Cond, Expr};
