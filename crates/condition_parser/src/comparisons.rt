@@ -35,25 +35,43 @@ pub fn begins_comparison(kind: Kind) -> bool
     }
 }
 
-pub fn negation(alloc: Global, inner: Condition) -> Result<Condition, AllocError>
+pub fn negation(alloc: Global, inner: Boxed<Condition>) -> Result<Boxed<Condition>, AllocError>
     ensures { IfOk result (λ x. x ≡ Condition.Not inner) }
 {
-    Ok(Condition::Not(Boxed::new(alloc, inner)?))
+    Boxed::new(alloc, Condition::Not(inner))
 }
 
-fn is_truth(alloc: Global, left: Condition, value: Truth) -> Result<Condition, AllocError>
+fn is_truth(
+    alloc: Global,
+    left: Boxed<Condition>,
+    value: Truth,
+) -> Result<Boxed<Condition>, AllocError>
     ensures { IfOk result (λ x. x ≡ Condition.Is left value) }
 {
-    Ok(Condition::Is(Boxed::new(alloc, left)?, value))
+    Boxed::new(alloc, Condition::Is(left, value))
 }
 
-fn is_not_truth(alloc: Global, left: Condition, value: Truth) -> Result<Condition, AllocError>
+fn is_not_truth(
+    alloc: Global,
+    left: Boxed<Condition>,
+    value: Truth,
+) -> Result<Boxed<Condition>, AllocError>
     ensures { IfOk result (λ x. x ≡ Condition.Not (Condition.Is left value)) }
 {
     negation(alloc, is_truth(alloc, left, value)?)
 }
 
-fn plain_truth(alloc: Global, cursor: &mut Cursor<'_>, left: Condition) -> Result<Condition, Stop>
+fn is_not_null(alloc: Global, left: Expression) -> Result<Boxed<Condition>, AllocError>
+    ensures { IfOk result (λ x. x ≡ Condition.Not (Condition.IsNull left)) }
+{
+    negation(alloc, Boxed::new(alloc, Condition::IsNull(left))?)
+}
+
+fn plain_truth(
+    alloc: Global,
+    cursor: &mut Cursor<'_>,
+    left: Boxed<Condition>,
+) -> Result<Boxed<Condition>, Stop>
     ensures { Reads (rd.◌<$>◌ (Condition.Is left) reader.truth cursor.old) result cursor.new }
 {
     match truth(cursor) {
@@ -62,7 +80,11 @@ fn plain_truth(alloc: Global, cursor: &mut Cursor<'_>, left: Condition) -> Resul
     }
 }
 
-fn not_truth(alloc: Global, cursor: &mut Cursor<'_>, left: Condition) -> Result<Condition, Stop>
+fn not_truth(
+    alloc: Global,
+    cursor: &mut Cursor<'_>,
+    left: Boxed<Condition>,
+) -> Result<Boxed<Condition>, Stop>
     ensures { Reads (rd.◌<$>◌ (λ y. Condition.Not (Condition.Is left y)) reader.truth cursor.old) result cursor.new }
 {
     match truth(cursor) {
@@ -74,7 +96,7 @@ fn not_truth(alloc: Global, cursor: &mut Cursor<'_>, left: Condition) -> Result<
 impl<F: Fn(Global, &mut Cursor<'_>, usize, Want) -> Result<Found, Stop>> Level<F> {
     /// `BETWEEN expr AND expr`. The AND is its own.
     #[tactic(auto, unfolding(syntax::specs::Readers::between))]
-    fn between(&self, cursor: &mut Cursor<'_>, left: Expression) -> Result<Condition, Stop>
+    fn between(&self, cursor: &mut Cursor<'_>, left: Expression) -> Result<Boxed<Condition>, Stop>
         requires nests { Nests self.now.depth (F.pre self.now.inner) (F.post self.now.inner) }
         requires at { IsAt kinds.Between cursor.old }
         ensures { Reads (reader.between self.now.depth (inside self.now.depth) left cursor.old) result cursor.new }
@@ -88,28 +110,32 @@ impl<F: Fn(Global, &mut Cursor<'_>, usize, Want) -> Result<Found, Stop>> Level<F
             return Err(stopped(stop, (left, low)));
         }
         match self.expr(cursor) {
-            Ok(high) => Ok(Condition::Between(left, low, high)),
+            Ok(high) => Ok(Boxed::new(self.alloc, Condition::Between(left, low, high))?),
             Err(stop) => Err(stopped(stop, (left, low))),
         }
     }
 
     /// `IN "(" expr { "," expr } ")"`
     #[tactic(auto, unfolding(syntax::specs::Readers::listed))]
-    fn listed(&self, cursor: &mut Cursor<'_>, left: Expression) -> Result<Condition, Stop>
+    fn listed(&self, cursor: &mut Cursor<'_>, left: Expression) -> Result<Boxed<Condition>, Stop>
         requires nests { Nests self.now.depth (F.pre self.now.inner) (F.post self.now.inner) }
         requires at { IsAt kinds.In cursor.old }
         ensures { Reads (reader.listed self.now.depth (inside self.now.depth) left cursor.old) result cursor.new }
     {
         cursor.take(Kind::In);
         match parens_list(self.alloc, &InnerExpression(self), cursor, self.depth) {
-            Ok(items) => Ok(Condition::In(left, items)),
+            Ok(items) => Ok(Boxed::new(self.alloc, Condition::In(left, items))?),
             Err(stop) => Err(stopped(stop, left)),
         }
     }
 
     /// `BETWEEN .. | IN ..`
     #[tactic(auto, unfolding(syntax::specs::Readers::range_or_list))]
-    fn range_or_list(&self, cursor: &mut Cursor<'_>, left: Expression) -> Result<Condition, Stop>
+    fn range_or_list(
+        &self,
+        cursor: &mut Cursor<'_>,
+        left: Expression,
+    ) -> Result<Boxed<Condition>, Stop>
         requires { Nests self.now.depth (F.pre self.now.inner) (F.post self.now.inner) }
         ensures { Reads (reader.range_or_list self.now.depth (inside self.now.depth) left cursor.old) result cursor.new }
     {
@@ -122,19 +148,19 @@ impl<F: Fn(Global, &mut Cursor<'_>, usize, Want) -> Result<Found, Stop>> Level<F
 
     /// `[NOT] NULL`, behind IS.
     #[tactic(auto, unfolding(syntax::specs::Readers::null))]
-    fn null(&self, cursor: &mut Cursor<'_>, left: Expression) -> Result<Condition, Stop>
+    fn null(&self, cursor: &mut Cursor<'_>, left: Expression) -> Result<Boxed<Condition>, Stop>
         requires { Nests self.now.depth (F.pre self.now.inner) (F.post self.now.inner) }
         ensures { Reads (reader.null self.now.depth (inside self.now.depth) left cursor.old) result cursor.new }
     {
         match cursor.peek() {
             Kind::Null => {
                 cursor.take(Kind::Null);
-                Ok(Condition::IsNull(left))
+                Ok(Boxed::new(self.alloc, Condition::IsNull(left))?)
             }
             Kind::Not => {
                 cursor.take(Kind::Not);
                 match cursor.expect(Kind::Null) {
-                    Ok(_) => Ok(negation(self.alloc, Condition::IsNull(left))?),
+                    Ok(_) => Ok(is_not_null(self.alloc, left)?),
                     Err(stop) => Err(stopped(stop, left)),
                 }
             }
@@ -144,7 +170,7 @@ impl<F: Fn(Global, &mut Cursor<'_>, usize, Want) -> Result<Found, Stop>> Level<F
 
     /// `cmp expr`
     #[tactic(auto, unfolding(syntax::specs::Readers::compared))]
-    fn compared(&self, cursor: &mut Cursor<'_>, left: Expression) -> Result<Condition, Stop>
+    fn compared(&self, cursor: &mut Cursor<'_>, left: Expression) -> Result<Boxed<Condition>, Stop>
         requires { Nests self.now.depth (F.pre self.now.inner) (F.post self.now.inner) }
         ensures { Reads (reader.compared self.now.depth (inside self.now.depth) left cursor.old) result cursor.new }
     {
@@ -153,14 +179,18 @@ impl<F: Fn(Global, &mut Cursor<'_>, usize, Want) -> Result<Found, Stop>> Level<F
             Err(stop) => return Err(stopped(stop, left)),
         };
         match self.expr(cursor) {
-            Ok(right) => Ok(Condition::Compare(left, sign, right)),
+            Ok(right) => Ok(Boxed::new(self.alloc, Condition::Compare(left, sign, right))?),
             Err(stop) => Err(stopped(stop, left)),
         }
     }
 
     /// What makes a condition of an expression.
     #[tactic(auto, unfolding(syntax::specs::Readers::comparison))]
-    pub fn comparison(&self, cursor: &mut Cursor<'_>, left: Expression) -> Result<Condition, Stop>
+    pub fn comparison(
+        &self,
+        cursor: &mut Cursor<'_>,
+        left: Expression,
+    ) -> Result<Boxed<Condition>, Stop>
         requires { Nests self.now.depth (F.pre self.now.inner) (F.post self.now.inner) }
         ensures { Reads (reader.comparison self.now.depth (inside self.now.depth) left cursor.old) result cursor.new }
     {
@@ -180,7 +210,11 @@ impl<F: Fn(Global, &mut Cursor<'_>, usize, Want) -> Result<Found, Stop>> Level<F
 
     /// `[NOT] (TRUE | FALSE | UNKNOWN)`, behind IS.
     #[tactic(auto, unfolding(syntax::specs::Readers::truth_after))]
-    fn truth_after(&self, cursor: &mut Cursor<'_>, left: Condition) -> Result<Condition, Stop>
+    fn truth_after(
+        &self,
+        cursor: &mut Cursor<'_>,
+        left: Boxed<Condition>,
+    ) -> Result<Boxed<Condition>, Stop>
         requires { Nests self.now.depth (F.pre self.now.inner) (F.post self.now.inner) }
         ensures { Reads (reader.truth_after self.now.depth (inside self.now.depth) left cursor.old) result cursor.new }
     {
@@ -195,7 +229,11 @@ impl<F: Fn(Global, &mut Cursor<'_>, usize, Want) -> Result<Found, Stop>> Level<F
 
     /// `[ IS [NOT] (TRUE | FALSE | UNKNOWN) ]`
     #[tactic(auto, unfolding(syntax::specs::Readers::is_after))]
-    pub fn is_after(&self, cursor: &mut Cursor<'_>, left: Condition) -> Result<Condition, Stop>
+    pub fn is_after(
+        &self,
+        cursor: &mut Cursor<'_>,
+        left: Boxed<Condition>,
+    ) -> Result<Boxed<Condition>, Stop>
         requires { Nests self.now.depth (F.pre self.now.inner) (F.post self.now.inner) }
         ensures { Reads (reader.is_after self.now.depth (inside self.now.depth) left cursor.old) result cursor.new }
     {
@@ -210,12 +248,13 @@ impl<F: Fn(Global, &mut Cursor<'_>, usize, Want) -> Result<Found, Stop>> Level<F
 
     /// `EXISTS "(" query ")"`
     #[tactic(auto, unfolding(syntax::specs::Readers::exists))]
-    pub fn exists(&self, cursor: &mut Cursor<'_>) -> Result<Condition, Stop>
+    pub fn exists(&self, cursor: &mut Cursor<'_>) -> Result<Boxed<Condition>, Stop>
         requires nests { Nests self.now.depth (F.pre self.now.inner) (F.post self.now.inner) }
         requires at { IsAt kinds.Exists cursor.old }
         ensures { Reads (reader.exists self.now.depth (inside self.now.depth) cursor.old) result cursor.new }
     {
         cursor.take(Kind::Exists);
-        Ok(Condition::Exists(parens(&InnerQuery(self), cursor, self.depth)?))
+        let query = parens(&InnerQuery(self), cursor, self.depth)?;
+        Ok(Boxed::new(self.alloc, Condition::Exists(query))?)
     }
 }

@@ -9,7 +9,8 @@ ghost use Rattle.leaf_parser.specs.Reads.{Reads};
 
 use crate::comparisons::{begins_comparison, negation};
 use crate::levels::{InnerTest, Level};
-use leaf_parser::{Ands, Cursor, Ors, Part, Repeated, Stop, joined, parens, stopped};
+use leaf_parser::{Ands, Cursor, Ors, Part, Repeated, Stop, joined_boxed, parens, stopped};
+use sqlite_items::Boxed;
 use std::alloc::Global;
 use syntax::{Condition, Expression, Found, Want};
 use token::Kind;
@@ -33,7 +34,7 @@ impl<'a, F: Fn(Global, &mut Cursor<'_>, usize, Want) -> Result<Found, Stop>> Par
     #[tactic(auto, unfolding(syntax::specs::Readers::and_item))]
     fn parse(&self, cursor: &mut Cursor<'_>) -> Result<Condition, Stop> {
         cursor.expect(Kind::And)?;
-        self.0.bfact(cursor)
+        Ok(self.0.bfact(cursor)?.into_inner())
     }
 }
 
@@ -67,7 +68,7 @@ impl<'a, F: Fn(Global, &mut Cursor<'_>, usize, Want) -> Result<Found, Stop>> Par
     #[tactic(auto, unfolding(syntax::specs::Readers::or_item))]
     fn parse(&self, cursor: &mut Cursor<'_>) -> Result<Condition, Stop> {
         cursor.expect(Kind::Or)?;
-        self.0.bterm(cursor)
+        Ok(self.0.bterm(cursor)?.into_inner())
     }
 }
 
@@ -98,7 +99,7 @@ impl<F: Fn(Global, &mut Cursor<'_>, usize, Want) -> Result<Found, Stop>> Level<F
 
     /// `bprim [ IS [NOT] (TRUE | FALSE | UNKNOWN) ]`
     #[tactic(auto, unfolding(syntax::specs::Readers::btest))]
-    fn btest(&self, cursor: &mut Cursor<'_>) -> Result<Condition, Stop>
+    fn btest(&self, cursor: &mut Cursor<'_>) -> Result<Boxed<Condition>, Stop>
         requires { Nests self.now.depth (F.pre self.now.inner) (F.post self.now.inner) }
         ensures { Reads (reader.btest self.now.depth (inside self.now.depth) cursor.old) result cursor.new }
     {
@@ -115,7 +116,7 @@ impl<F: Fn(Global, &mut Cursor<'_>, usize, Want) -> Result<Found, Stop>> Level<F
 
     /// `[NOT] btest`
     #[tactic(auto, unfolding(syntax::specs::Readers::bfact))]
-    fn bfact(&self, cursor: &mut Cursor<'_>) -> Result<Condition, Stop>
+    fn bfact(&self, cursor: &mut Cursor<'_>) -> Result<Boxed<Condition>, Stop>
         requires { Nests self.now.depth (F.pre self.now.inner) (F.post self.now.inner) }
         ensures { Reads (reader.bfact self.now.depth (inside self.now.depth) cursor.old) result cursor.new }
     {
@@ -130,16 +131,20 @@ impl<F: Fn(Global, &mut Cursor<'_>, usize, Want) -> Result<Found, Stop>> Level<F
 
     /// The bterm that begins with this bfact.
     #[tactic(auto, unfolding(syntax::specs::Readers::and_after, syntax::specs::Grammar::and_of))]
-    fn and_after(&self, cursor: &mut Cursor<'_>, first: Condition) -> Result<Condition, Stop>
+    fn and_after(
+        &self,
+        cursor: &mut Cursor<'_>,
+        first: Boxed<Condition>,
+    ) -> Result<Boxed<Condition>, Stop>
         requires { Nests self.now.depth (F.pre self.now.inner) (F.post self.now.inner) }
         ensures { Reads (reader.and_after self.now.depth (inside self.now.depth) first cursor.old) result cursor.new }
     {
-        joined::<NextTest<'_, F>, Ands>(self.alloc, &NextTest(self), cursor, first)
+        joined_boxed::<NextTest<'_, F>, Ands>(self.alloc, &NextTest(self), cursor, first)
     }
 
     /// `bfact { AND bfact }`
     #[tactic(auto, unfolding(syntax::specs::Readers::bterm))]
-    fn bterm(&self, cursor: &mut Cursor<'_>) -> Result<Condition, Stop>
+    fn bterm(&self, cursor: &mut Cursor<'_>) -> Result<Boxed<Condition>, Stop>
         requires { Nests self.now.depth (F.pre self.now.inner) (F.post self.now.inner) }
         ensures { Reads (reader.bterm self.now.depth (inside self.now.depth) cursor.old) result cursor.new }
     {
@@ -149,16 +154,24 @@ impl<F: Fn(Global, &mut Cursor<'_>, usize, Want) -> Result<Found, Stop>> Level<F
 
     /// The condition that begins with this bterm.
     #[tactic(auto, unfolding(syntax::specs::Readers::or_after, syntax::specs::Grammar::or_of))]
-    fn or_after(&self, cursor: &mut Cursor<'_>, first: Condition) -> Result<Condition, Stop>
+    fn or_after(
+        &self,
+        cursor: &mut Cursor<'_>,
+        first: Boxed<Condition>,
+    ) -> Result<Boxed<Condition>, Stop>
         requires { Nests self.now.depth (F.pre self.now.inner) (F.post self.now.inner) }
         ensures { Reads (reader.or_after self.now.depth (inside self.now.depth) first cursor.old) result cursor.new }
     {
-        joined::<NextTerm<'_, F>, Ors>(self.alloc, &NextTerm(self), cursor, first)
+        joined_boxed::<NextTerm<'_, F>, Ors>(self.alloc, &NextTerm(self), cursor, first)
     }
 
     /// The condition that begins with this bfact.
     #[tactic(auto, unfolding(syntax::specs::Readers::cond_after))]
-    fn cond_after(&self, cursor: &mut Cursor<'_>, first: Condition) -> Result<Condition, Stop>
+    fn cond_after(
+        &self,
+        cursor: &mut Cursor<'_>,
+        first: Boxed<Condition>,
+    ) -> Result<Boxed<Condition>, Stop>
         requires { Nests self.now.depth (F.pre self.now.inner) (F.post self.now.inner) }
         ensures { Reads (reader.cond_after self.now.depth (inside self.now.depth) first cursor.old) result cursor.new }
     {
@@ -168,7 +181,7 @@ impl<F: Fn(Global, &mut Cursor<'_>, usize, Want) -> Result<Found, Stop>> Level<F
 
     /// `bterm { OR bterm }`
     #[tactic(auto, unfolding(syntax::specs::Readers::condition))]
-    pub fn condition(&self, cursor: &mut Cursor<'_>) -> Result<Condition, Stop>
+    pub fn condition(&self, cursor: &mut Cursor<'_>) -> Result<Boxed<Condition>, Stop>
         requires { Nests self.now.depth (F.pre self.now.inner) (F.post self.now.inner) }
         ensures { Reads (reader.condition self.now.depth (inside self.now.depth) cursor.old) result cursor.new }
     {
@@ -180,7 +193,7 @@ impl<F: Fn(Global, &mut Cursor<'_>, usize, Want) -> Result<Found, Stop>> Level<F
     pub fn rest_of_condition(
         &self,
         cursor: &mut Cursor<'_>,
-        first: Condition,
+        first: Boxed<Condition>,
     ) -> Result<Found, Stop>
         requires { Nests self.now.depth (F.pre self.now.inner) (F.post self.now.inner) }
         ensures { Reads (rd.◌<$>◌ Found.Condition (rd.◌>>=◌ (reader.is_after self.now.depth (inside self.now.depth) first) (reader.cond_after self.now.depth (inside self.now.depth))) cursor.old) result cursor.new }

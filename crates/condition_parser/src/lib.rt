@@ -16,6 +16,8 @@
 //! says how the text goes on: behind a condition comes IS, AND or OR, behind an expression an
 //! operator or a comparison. That is the only choice which the next token does not make.
 //!
+//! Conditions and queries go from rule to rule in a box, since they are large and the rules are many.
+//!
 //! [`cond_at`] and [`expr_at`] read a condition and an expression, where so many parentheses may be
 //! opened.
 #![tactic(auto)]

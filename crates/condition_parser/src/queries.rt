@@ -40,7 +40,7 @@ impl<F: Fn(Global, &mut Cursor<'_>, usize, Want) -> Result<Found, Stop>> Level<F
             return Ok(None);
         }
         cursor.expect(Kind::Where)?;
-        Ok(Some(self.condition(cursor)?))
+        Ok(Some(self.condition(cursor)?.into_inner()))
     }
 
     /// `[HAVING cond]`
@@ -53,7 +53,7 @@ impl<F: Fn(Global, &mut Cursor<'_>, usize, Want) -> Result<Found, Stop>> Level<F
             return Ok(None);
         }
         cursor.expect(Kind::Having)?;
-        Ok(Some(self.condition(cursor)?))
+        Ok(Some(self.condition(cursor)?.into_inner()))
     }
 
     /// What follows the table of a query and its alias.

@@ -31,7 +31,7 @@ pub fn cond_at(alloc: Global, cursor: &mut Cursor<'_>, depth: usize) -> Result<C
     ensures { Reads (reader.cond_at depth cursor.old) result cursor.new }
 {
     match read(alloc, cursor, depth, Want::Condition)? {
-        Found::Condition(x) => Ok(x),
+        Found::Condition(x) => Ok(x.into_inner()),
         Found::Expression(x) => Err(stopped(Stop::Syntax, x)),
         Found::Query(x) => Err(stopped(Stop::Syntax, x)),
     }

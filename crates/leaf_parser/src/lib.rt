@@ -15,9 +15,15 @@
 //! tree keeps its name or its text.
 //!
 //! What stands here has no parentheses: names and columns, numbers with their signs, texts, the
-//! signs of comparisons, and the lists of parts, in which a part of the same kind is merged into the
-//! list around it. `proofs/Turns.antt` has the laws by which loops and parentheses of the crates
-//! above meet their readers.
+//! signs of comparisons. And what every layer above needs stands here once, over the trait [`Part`] of
+//! what parses a part: [`many`] parts one behind the other, a [`list`] with commas, [`parens`] around
+//! a part, and [`joined`], the tree of a list of parts, in which a part of the same kind is merged into
+//! the list around it ([`Joint`]). `proofs/Turns.antt` has the laws by which loops and parentheses meet
+//! their readers.
+//!
+//! A token whose kind was looked at is taken by [`Cursor::take`], which cannot fail. Where the parser
+//! stops, what it had read is let go by [`stopped`]: a type parameter hides how large it is, and a `?`
+//! in its place would be proved field by field.
 #![tactic(auto)]
 
 mod columns;
@@ -32,6 +38,6 @@ pub use columns::{Counted, NamedColumn, alias, column, group_by};
 pub use cursors::{Cursor, Piece};
 pub use loops::{Part, Repeated, followed, list, many, parens, parens_list};
 pub use names::{NamePart, name, number, signed_number, text, value_of};
-pub use parts::{Ands, Joint, Ors, Products, Sums, joined};
+pub use parts::{Ands, Joint, Ors, Products, Sums, joined, joined_boxed};
 pub use signs::{comparison_sign, truth};
 pub use stops::{Stop, full, stopped};

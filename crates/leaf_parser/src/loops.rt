@@ -103,7 +103,7 @@ pub fn list<P: Part>(
     ensures { Reads (rd.list (P.reader part.now) cursor.old) result cursor.new }
 {
     let first = part.parse(cursor)?;
-    many(&Behind(part), cursor, one(alloc, first)?)
+    many(&Behind(part), cursor, one(alloc, first, 4)?)
 }
 
 /// What was found, once a token of this kind stands behind it.

@@ -18,13 +18,13 @@ use syntax::Expression;
 use token::{Kind, name_bytes, number_value, text_bytes};
 use value::Text;
 
-/// A list of one item.
-pub fn one<T: Drop>(alloc: Global, item: T) -> Result<Items<T>, AllocError>
+/// A list of one item, with room for so many.
+pub fn one<T: Drop>(alloc: Global, item: T, room: usize) -> Result<Items<T>, AllocError>
     ensures { IfOk result (λ all. all ≡ item ∷ []) }
 {
-    let mut all = Items::new(alloc);
+    let mut all = Vec::with_capacity(alloc, room)?;
     all.push(item)?;
-    Ok(all)
+    Ok(Items::from_vec(all))
 }
 
 /// The value of a number's digits. A token that is no number may be taken for 0.

@@ -10,7 +10,7 @@ use crate::cursors::Cursor;
 use crate::loops::{Repeated, many};
 use crate::names::one;
 use crate::stops::Stop;
-use sqlite_items::Items;
+use sqlite_items::{Boxed, Items};
 use std::alloc::{AllocError, Global};
 use syntax::{Condition, Expression};
 
@@ -222,6 +222,24 @@ pub fn joined<P: Repeated, J: Joint<P::Tree>>(
     if !part.begins(cursor.peek()) {
         return Ok(first);
     }
-    let parts = many(part, cursor, one(alloc, first)?)?;
+    let parts = many(part, cursor, one(alloc, first, 2)?)?;
     Ok(whole_of::<P::Tree, J>(alloc, parts)?)
+}
+
+/// The same of a first part in a box.
+#[tactic(auto, using(crate::proofs::Turns::many_stops))]
+pub fn joined_boxed<P: Repeated, J: Joint<P::Tree>>(
+    alloc: Global,
+    part: &P,
+    cursor: &mut Cursor<'_>,
+    first: Boxed<P::Tree>,
+) -> Result<Boxed<P::Tree>, Stop>
+    requires { P.ready part.now }
+    ensures { Reads (rd.◌<$>◌ (spec.alone_or J.parts J.whole) (rd.all P.begins (P.reader part.now) (first ∷ [])) cursor.old) result cursor.new }
+{
+    if !part.begins(cursor.peek()) {
+        return Ok(first);
+    }
+    let whole = joined::<P, J>(alloc, part, cursor, first.into_inner())?;
+    Ok(Boxed::new(alloc, whole)?)
 }

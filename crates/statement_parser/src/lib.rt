@@ -9,9 +9,9 @@
 //! counts: those round lists of names, constants and columns, of VARCHAR and of CHECK too. Where none
 //! may be opened, a `(` stops the parser by `Stop::Depth`, and any other token by `Stop::Syntax`.
 //!
-//! Lists are read by loops, of as many turns as there are tokens at most: an item takes at least one.
-//! A loop goes on by the kind of the next token, a comma, or the first word of a definition, or a
-//! name for a step of a script.
+//! Lists, loops and parentheses are those of `leaf_parser`: what stands in them is a `Part` here. A loop
+//! goes on by the kind of the next token, a comma, or the first word of a definition, or a name for a
+//! step of a script.
 //!
 //! [`definitions`], [`event_`] and [`script`] are for the layer that reads whole texts: none of them
 //! asks whether anything stands behind what it has read.

@@ -16,7 +16,7 @@ pub enum Want {
 /// What stands in parentheses is a condition, an expression or a query.
 #[derive(Drop)]
 pub enum Found {
-    Condition(Condition),
+    Condition(Boxed<Condition>),
     Expression(Expression),
     Query(Boxed<Query>),
 }

@@ -82,75 +82,99 @@ pub enum Kind {
     Work,
 }
 
-/// The reserved words, in upper case. The list is this project's choice: SQL-92 reserves more.
-pub(crate) const RESERVED: [(&[u8], Kind); 50] = [
+// The reserved words in upper case, by their length. The list is this project's choice: SQL-92 reserves more.
+
+pub(crate) const WORDS_OF_2: [(&[u8], Kind); 5] = [
+    (b"AS", Kind::As),
+    (b"BY", Kind::By),
+    (b"IN", Kind::In),
+    (b"IS", Kind::Is),
+    (b"OR", Kind::Or),
+];
+
+pub(crate) const WORDS_OF_3: [(&[u8], Kind); 9] = [
     (b"ALL", Kind::All),
     (b"AND", Kind::And),
-    (b"AS", Kind::As),
-    (b"ASSERTION", Kind::Assertion),
-    (b"BEGIN", Kind::Begin),
-    (b"BETWEEN", Kind::Between),
-    (b"BY", Kind::By),
-    (b"CHECK", Kind::Check),
-    (b"COMMIT", Kind::Commit),
-    (b"CONSTRAINTS", Kind::Constraints),
-    (b"COUNT", Kind::Count),
-    (b"CREATE", Kind::Create),
-    (b"DEFERRABLE", Kind::Deferrable),
-    (b"DEFERRED", Kind::Deferred),
-    (b"DELETE", Kind::Delete),
-    (b"EXISTS", Kind::Exists),
-    (b"FALSE", Kind::False),
-    (b"FROM", Kind::From),
-    (b"GROUP", Kind::Group),
-    (b"HAVING", Kind::Having),
-    (b"IMMEDIATE", Kind::Immediate),
-    (b"IN", Kind::In),
-    (b"INITIALLY", Kind::Initially),
-    (b"INSERT", Kind::Insert),
     (b"INT", Kind::Int),
-    (b"INTEGER", Kind::Integer),
-    (b"INTO", Kind::Into),
-    (b"IS", Kind::Is),
     (b"KEY", Kind::Key),
     (b"MAX", Kind::Max),
     (b"MIN", Kind::Min),
     (b"NOT", Kind::Not),
-    (b"NULL", Kind::Null),
-    (b"ONLY", Kind::Only),
-    (b"OR", Kind::Or),
-    (b"PRIMARY", Kind::Primary),
-    (b"READ", Kind::Read),
-    (b"ROLLBACK", Kind::Rollback),
-    (b"SELECT", Kind::Select),
     (b"SET", Kind::Set),
     (b"SUM", Kind::Sum),
-    (b"TABLE", Kind::Table),
+];
+
+pub(crate) const WORDS_OF_4: [(&[u8], Kind); 7] = [
+    (b"FROM", Kind::From),
+    (b"INTO", Kind::Into),
+    (b"NULL", Kind::Null),
+    (b"ONLY", Kind::Only),
+    (b"READ", Kind::Read),
     (b"TRUE", Kind::True),
-    (b"UNKNOWN", Kind::Unknown),
-    (b"UPDATE", Kind::Update),
-    (b"VALUES", Kind::Values),
-    (b"VARCHAR", Kind::Varchar),
-    (b"VERDICT", Kind::Verdict),
-    (b"WHERE", Kind::Where),
     (b"WORK", Kind::Work),
 ];
 
-/// The marks, each before the marks that begin it.
+pub(crate) const WORDS_OF_5: [(&[u8], Kind); 7] = [
+    (b"BEGIN", Kind::Begin),
+    (b"CHECK", Kind::Check),
+    (b"COUNT", Kind::Count),
+    (b"FALSE", Kind::False),
+    (b"GROUP", Kind::Group),
+    (b"TABLE", Kind::Table),
+    (b"WHERE", Kind::Where),
+];
+
+pub(crate) const WORDS_OF_6: [(&[u8], Kind); 9] = [
+    (b"COMMIT", Kind::Commit),
+    (b"CREATE", Kind::Create),
+    (b"DELETE", Kind::Delete),
+    (b"EXISTS", Kind::Exists),
+    (b"HAVING", Kind::Having),
+    (b"INSERT", Kind::Insert),
+    (b"SELECT", Kind::Select),
+    (b"UPDATE", Kind::Update),
+    (b"VALUES", Kind::Values),
+];
+
+pub(crate) const WORDS_OF_7: [(&[u8], Kind); 6] = [
+    (b"BETWEEN", Kind::Between),
+    (b"INTEGER", Kind::Integer),
+    (b"PRIMARY", Kind::Primary),
+    (b"UNKNOWN", Kind::Unknown),
+    (b"VARCHAR", Kind::Varchar),
+    (b"VERDICT", Kind::Verdict),
+];
+
+pub(crate) const WORDS_OF_8: [(&[u8], Kind); 2] = [
+    (b"DEFERRED", Kind::Deferred),
+    (b"ROLLBACK", Kind::Rollback),
+];
+
+pub(crate) const WORDS_OF_9: [(&[u8], Kind); 3] = [
+    (b"ASSERTION", Kind::Assertion),
+    (b"IMMEDIATE", Kind::Immediate),
+    (b"INITIALLY", Kind::Initially),
+];
+
+pub(crate) const WORDS_OF_10: [(&[u8], Kind); 1] = [(b"DEFERRABLE", Kind::Deferrable)];
+
+pub(crate) const WORDS_OF_11: [(&[u8], Kind); 1] = [(b"CONSTRAINTS", Kind::Constraints)];
+
+/// The marks, the longest first, and then the frequent ones.
 pub(crate) const MARKS: [(&[u8], Kind); 15] = [
     (b"<>", Kind::NotEqual),
     (b"<=", Kind::AtMost),
     (b">=", Kind::AtLeast),
-    (b"<", Kind::Less),
-    (b">", Kind::Greater),
+    (b",", Kind::Comma),
+    (b"=", Kind::Equal),
     (b"(", Kind::Open),
     (b")", Kind::Close),
-    (b",", Kind::Comma),
+    (b".", Kind::Dot),
     (b";", Kind::Semicolon),
     (b":", Kind::Colon),
-    (b".", Kind::Dot),
     (b"*", Kind::Star),
     (b"+", Kind::Plus),
     (b"-", Kind::Minus),
-    (b"=", Kind::Equal),
+    (b"<", Kind::Less),
+    (b">", Kind::Greater),
 ];

@@ -15,10 +15,10 @@ pub fn name_bytes(alloc: Global, spelling: &[u8]) -> Result<Vec<u8>, Refusal>
     ensures only_memory { IsOkUnless result NoMemory }
     ensures upper { IfOk result (λ name. name.items ≡ name_of spelling.now) }
 {
-    let name: Vec<u8> = spelling
-        .iter()
-        .map(|b| b.to_ascii_uppercase())
-        .collect(alloc)?;
+    let mut name = Vec::with_capacity(alloc, spelling.len())?;
+    for b in spelling {
+        name.push(b.to_ascii_uppercase())?;
+    }
     Ok(name)
 }
 
@@ -35,7 +35,7 @@ fn undouble(alloc: Global, bytes: &[u8]) -> Result<Vec<u8>, Refusal>
     ensures only_memory { IsOkUnless result NoMemory }
     ensures once { IfOk result (λ text. text.items ≡ undoubled false bytes.now) }
 {
-    let mut text = Vec::new(alloc);
+    let mut text = Vec::with_capacity(alloc, bytes.len())?;
     let mut second = false;
     for b in bytes {
         if second && *b == b'\'' {

@@ -8,7 +8,10 @@ ghost use Rattle.token.specs.Bytes as byte;
 ghost use Rattle.token.specs.Spellings as spelling;
 ghost use Rattle.token.specs.Lexer as spec;
 
-use crate::kinds::{Kind, RESERVED};
+use crate::kinds::{
+    Kind, WORDS_OF_2, WORDS_OF_3, WORDS_OF_4, WORDS_OF_5, WORDS_OF_6, WORDS_OF_7, WORDS_OF_8,
+    WORDS_OF_9, WORDS_OF_10, WORDS_OF_11,
+};
 
 /// SQL-92's limit of an identifier.
 const MOST_WORD_BYTES: usize = 128;
@@ -67,12 +70,24 @@ fn find_word(words: &[(&[u8], Kind)], word: &[u8]) -> Kind
     Kind::Name
 }
 
-/// The kind of a word.
-#[tactic(auto, unfolding(crate::specs::Spellings::word_kind))]
+/// The kind of a word, which is looked for among the reserved words of its length.
+#[tactic(auto, using(crate::proofs::Lengths::kind_of_no_length))]
 fn word_kind(word: &[u8]) -> Kind
     ensures { result ≡ spelling.word_kind word.now }
 {
-    find_word(&RESERVED, word)
+    match word.len() {
+        2 => find_word(&WORDS_OF_2, word),
+        3 => find_word(&WORDS_OF_3, word),
+        4 => find_word(&WORDS_OF_4, word),
+        5 => find_word(&WORDS_OF_5, word),
+        6 => find_word(&WORDS_OF_6, word),
+        7 => find_word(&WORDS_OF_7, word),
+        8 => find_word(&WORDS_OF_8, word),
+        9 => find_word(&WORDS_OF_9, word),
+        10 => find_word(&WORDS_OF_10, word),
+        11 => find_word(&WORDS_OF_11, word),
+        _ => Kind::Name,
+    }
 }
 
 /// The word at the front, which begins with a letter.
