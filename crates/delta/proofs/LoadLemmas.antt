@@ -7,42 +7,13 @@ use Rattle.std.proofs.lemmas.List.{get_or_default, get_or-set_same, get_or-set_o
 use Rattle.std.proofs.lemmas.List.Elements.{All-head, All-tail, All-take}
 use Rattle.value.specs.declared.values.Value.{Value}
 use Rattle.value.specs.ValueOrder.{value_cmp}
-use Rattle.value.specs.Ordered.{by_order, AreAbove, IsAscending, at, put}
-use Rattle.value.proofs.ValueOrders.{value_cmp_total}
+use Rattle.mvrows.proofs.LastRows.{at-last, put-last, ascending-take}
 use Rattle.table.specs.declared.rows.Change.{Change}
 use Rattle.table.specs.Rows.{RowValues, Layout, Tables, FitsColumns, IsTable, value_in}
 use Rattle.assertion.specs.declared.assertions.Assertion.{Assertion}
 use Rattle.assertion.specs.Meaning.{State, rows_of}
 use Rattle.assertion.specs.Roots.{IsChangeOf, state_after}
 use Rattle.delta.specs.Views.{Shown, IsFitting, layout_at}
-
-module _ (key : RowValues → Value) where
-  last_above : (k : Value) (xs : List RowValues) (x : RowValues) → AreAbove value_cmp key k (xs ++ x ∷ []) → value_cmp k (key x) ≡ Less
-  last_above k [] x a = a.0
-  last_above k (y ∷ xs) x a = last_above k xs x a.1
-
-  -- the last key is above the first
-  below_last : (y : RowValues) (xs : List RowValues) (x : RowValues) → IsAscending value_cmp key ((y ∷ xs) ++ x ∷ []) → value_cmp (key x) (key y) ≡ Greater
-  below_last y xs x s = value_cmp_total.antisymm (key x) (key y) ∙ ap ordering_reverse (last_above (key y) xs x s.0)
-
-  -- nothing stands under a key that is above all, and what is put there comes last
-  at-last : (xs : List RowValues) (x : RowValues) → IsAscending value_cmp key (xs ++ x ∷ []) → at value_cmp key (key x) xs ≡ None
-  at-last [] x s = refl
-  at-last (y ∷ xs) x s = ap (λ c. by_order c None (Some y) (at value_cmp key (key x) xs)) (below_last y xs x s) ∙ at-last xs x s.1
-
-  put-last : (xs : List RowValues) (x : RowValues) → IsAscending value_cmp key (xs ++ x ∷ []) → put value_cmp key (key x) (Some x) xs ≡ xs ++ x ∷ []
-  put-last [] x s = refl
-  put-last (y ∷ xs) x s = ap (λ c. by_order c (x ∷ y ∷ xs) (x ∷ xs) (y ∷ put value_cmp key (key x) (Some x) xs)) (below_last y xs x s) ∙ ap (λ ys. y ∷ ys) (put-last xs x s.1)
-
-  above-take : (k : Value) (n : ℕ) (xs : List RowValues) → AreAbove value_cmp key k xs → AreAbove value_cmp key k (take n xs)
-  above-take k zero xs a = tt
-  above-take k (suc n) [] a = tt
-  above-take k (suc n) (x ∷ xs) a = (a.0, above-take k n xs a.1)
-
-  ascending-take : (n : ℕ) (xs : List RowValues) → IsAscending value_cmp key xs → IsAscending value_cmp key (take n xs)
-  ascending-take zero xs s = tt
-  ascending-take (suc n) [] s = tt
-  ascending-take (suc n) (x ∷ xs) s = (above-take (key x) n xs s.0, ascending-take n xs s.1)
 
 last_of : (P : RowValues → Type 0) (xs : List RowValues) (x : RowValues) → All P (xs ++ x ∷ []) → P x
 last_of P [] x a = All-head P x [] a

@@ -83,7 +83,7 @@ impl View {
         ensures filled { IfOk result (λ view. view ≡ record self { state = slice_set self.state table rows.now }) }
     {
         let mut view = self;
-        for row in rows.as_slice() {
+        for row in rows.iter() {
             view = view.with_row(table, row)?;
         }
         Ok(view)

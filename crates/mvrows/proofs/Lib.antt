@@ -1,2 +1,3 @@
 mod KeyedRows
 pub mod LastRows
+pub mod Walked
