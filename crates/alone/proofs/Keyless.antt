@@ -13,7 +13,6 @@ use Rattle.statement_syntax.specs.declared.statements.Assignment.{Assignment}
 use Rattle.cond.specs.Bounds.{is_bounded}
 use Rattle.assertion.specs.Meaning.{key_of}
 use Rattle.name_check.specs.Scopes.{Scope}
-
 use Rattle.form_check.specs.Queries.{Source, sourced, source_of, row_filter}
 use Rattle.type_check.specs.Types.{is_typed}
 use Rattle.assertcheck.specs.declared.updates.Setting.{Setting}

@@ -15,10 +15,7 @@ pub enum Resolved {
     Delete(Delete),
     Select(Select),
     /// SET CONSTRAINTS, with the names of the assertions that it means.
-    SetModes {
-        names: Items<Text>,
-        mode: Mode,
-    },
+    SetModes { names: Items<Text>, mode: Mode },
     /// VERDICT, with a name that may be no assertion's.
     Verdict(Text),
 }

@@ -24,16 +24,15 @@ use Rattle.txn.specs.Statements.{count_kept, others}
 pub all_small : (layout : Layout) (rows : List RowValues) → IsTable layout rows → All IsSmallRow rows
 all_small layout rows table = All-weaker (FitsColumns layout.columns) IsSmallRow (IsSmallRow-fits layout.columns) rows table.fitting
 
--- one row further: it is counted if the condition keeps it
-pub counted : (kept : Cond) (rows : List RowValues) (i : ℕ) (row : RowValues) (n : ℕ) → i < length rows → row ≡ get_or rows i row → keeps row [] kept ≡ true
-    → n ≡ count_kept kept (take i rows) → n + 1 ≡ count_kept kept (take (i + 1) rows)
-counted kept rows i row n within is kept_it so_far =
-    ap (λ m. m + 1) so_far ∙ sym (count_by_more_yes (λ r. keeps r [] kept) rows i row within (ap (λ r. keeps r [] kept) (sym is) ∙ kept_it))
-
-pub passed_over : (kept : Cond) (rows : List RowValues) (i : ℕ) (row : RowValues) (n : ℕ) → i < length rows → row ≡ get_or rows i row → keeps row [] kept ≡ false
-    → n ≡ count_kept kept (take i rows) → n ≡ count_kept kept (take (i + 1) rows)
-passed_over kept rows i row n within is left_it so_far =
-    so_far ∙ sym (count_by_more_no (λ r. keeps r [] kept) rows i row within (ap (λ r. keeps r [] kept) (sym is) ∙ left_it))
+-- the rows that it keeps and the others are all rows
+pub kept_and_others : (kept : Cond) (rows : List RowValues) → count_kept kept rows + length (others kept rows) ≡ length rows
+kept_and_others kept [] = refl
+kept_and_others kept (row ∷ rest) = go (keeps row [] kept) (kept_and_others kept rest)
+  where
+    go : (b : Bool) → count_kept kept rest + length (others kept rest) ≡ length rest
+        → cond b (suc (count_kept kept rest)) (count_kept kept rest) + length (cond (not b) (row ∷ others kept rest) (others kept rest)) ≡ suc (length rest)
+    go true h = omega (arith, h)
+    go false h = omega (arith, h)
 
 -- a list round the item at a place
 pub round : {X : Type 0} (xs : List X) (i : ℕ) (x : X) → i < length xs → x ≡ get_or xs i x → drop i xs ≡ x ∷ drop (i + 1) xs

@@ -1,6 +1,6 @@
 //! Rows that are taken out.
 
-ghost use Rattle.std.specs.Prelude.{◌≡◌, ◌<◌, [], length, All, IfOk, IsOkUnless, IsTrue, Some, None, slice_set, if◌then◌else◌};
+ghost use Rattle.std.specs.Prelude.{◌≡◌, ◌<◌, [], length, IfOk, IsOkUnless, IsTrue, Some, None, slice_set, if◌then◌else◌};
 ghost use Rattle.value.specs.declared.refusals.Refusal.TheVariants.{NoMemory};
 ghost use Rattle.table.specs.Rows.{layouts_of, put_row, row_at};
 ghost use Rattle.cond.specs.Bounds.{IsSmallRow, is_bounded};
@@ -14,21 +14,6 @@ use delta::View;
 use std::alloc::Global;
 use table::{Change, Row};
 use value::{Refusal, Value};
-
-/// How many of the rows a condition keeps.
-pub fn kept_count(alloc: Global, rows: &[Row], kept: &Cond) -> u64
-    requires bounded { IsTrue (is_bounded [] kept.now) }
-    requires small { All IsSmallRow rows.now }
-    ensures { result ≡ count_kept kept.now rows.now }
-{
-    let mut count = 0u64;
-    for row in rows {
-        if is_kept(alloc, kept, row) {
-            count += 1;
-        }
-    }
-    count
-}
 
 /// Whether a condition keeps a row.
 fn is_kept(alloc: Global, kept: &Cond, row: &Row) -> bool
@@ -47,8 +32,9 @@ pub fn without(alloc: Global, view: &View, table: usize, kept: &Cond) -> Result<
     ensures rest { IfOk result (λ after. after ≡ without view.now table kept.now) }
 {
     let key = schema(view, table).key();
+    let rows = view.rows(table);
     let mut left = view.copy()?;
-    for row in view.rows(table).as_slice() {
+    for row in rows.iter() {
         left = without_kept(alloc, left, table, kept, row.value(key), row)?;
     }
     Ok(left)
@@ -79,4 +65,15 @@ fn without_kept(
         old: Some(row.copy()?),
         new: None,
     })
+}
+
+/// How many rows were taken out of a table of which those are left that a condition doesn't keep.
+pub fn count_taken(before: &View, after: &View, table: usize, _kept: &Cond) -> u64
+    requires table_in { table < length before.now.tables }
+    requires rest { after.now ≡ without before.now table _kept.now }
+    ensures { result ≡ count_kept _kept.now (rows_of table before.now.state) }
+{
+    let all = before.rows(table).len();
+    let left = after.rows(table).len();
+    (all - left) as u64
 }

@@ -8,7 +8,7 @@ ghost use Rattle.txn.specs.Statements.{admitted, asked, deleted, executed, verdi
 ghost use Rattle.changes.specs.Insertions.{inserted};
 
 use crate::checks::first_false;
-use crate::deletions::{kept_count, without};
+use crate::deletions::{count_taken, without};
 use crate::tables::schema;
 use answer::Reply;
 use assertcheck::{NewRow, check_delete, check_insert};
@@ -97,8 +97,9 @@ fn deleted(
     ensures refused { IfErr result (λ refusal. refusal ≢ NoMemory → deleted view.now table.now condition.now ≡ Err refusal) }
 {
     let delete = check_delete(alloc, view.catalog(), table, condition)?;
-    let count = kept_count(alloc, view.rows(delete.table).as_slice(), &delete.kept);
-    Ok((count, without(alloc, view, delete.table, &delete.kept)?))
+    let after = without(alloc, view, delete.table, &delete.kept)?;
+    let count = count_taken(view, &after, delete.table, &delete.kept);
+    Ok((count, after))
 }
 
 /// The truth of the first assertion of this name.
