@@ -1,6 +1,6 @@
 -- What stands at a key, and a change, are the same with the keys kept beside the rows.
 use Rattle.std.proofs.Common.{◌≡◌, ℕ, zero, suc, ◌+◌, ◌<◌, List, [], ◌∷◌, ◌++◌, take, drop, length, map, Option, Some, None, refl, sym, ◌∙◌, ap, arith, option_map, subst, ◌≤◌, slice_index_or, Global}
-use Rattle.std.proofs.lemmas.List.{map-append, drop_more, take_more}
+use Rattle.std.proofs.lemmas.List.{drop_more, take_more}
 use Rattle.std.specs.Arc.{arc_value}
 use Rattle.std.specs.declared.sync.Arc.{Arc}
 use Rattle.std.specs.Prelude.{option_to_list}

@@ -1,6 +1,6 @@
 //! The rows of a version, one after the other.
 
-ghost use Rattle.std.specs.Prelude.{◌≡◌};
+ghost use Rattle.std.specs.Prelude.{◌≡◌, ◌<◌, ◌^◌, length};
 ghost use Rattle.std.specs.Iterator.{YieldsFirstRef, item_count};
 ghost use Rattle.mvrows.specs.Keyed.{rows_of};
 
@@ -28,7 +28,8 @@ impl<'a> Model for RowIter<'a> {
 impl<'a> RowIter<'a> {
     /// All rows of a version.
     pub(crate) fn new(pages: &'a Pages<Row>) -> RowIter<'a>
-        ensures { result ≡ rows_of pages.now }
+        ensures rest { result ≡ rows_of pages.now }
+        ensures short { length (rows_of pages.now) < 2 ^ 63 }
     {
         RowIter {
             entries: pages.iter(),

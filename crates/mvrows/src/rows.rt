@@ -60,7 +60,8 @@ impl Rows {
 
     /// The rows in the order of their keys, one after the other. It takes no memory.
     pub fn iter(&self) -> RowIter<'_>
-        ensures { result ≡ self.now }
+        ensures rest { result ≡ self.now }
+        ensures short { length self.now < 2 ^ 63 }
     {
         RowIter::new(&self.pages)
     }

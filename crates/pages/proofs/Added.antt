@@ -1,6 +1,6 @@
 -- Nodes that are added behind others.
-use Rattle.std.proofs.lemmas.List.{append-nil, length-append, length-drop, take-append-drop, map-append, take-map}
-use Rattle.std.proofs.Common.{◌≡◌, ℕ, ◌+◌, ◌-◌, ◌≤◌, List, [], ◌∷◌, ◌++◌, take, drop, length, map, Option, Some, None, option_to_list, refl, sym, ◌∙◌, ap, arith, append_assoc, subst, Global}
+use Rattle.std.proofs.lemmas.List.{length-append, length-drop, take-append-drop, map-append, take-map}
+use Rattle.std.proofs.Common.{◌≡◌, ℕ, ◌-◌, ◌≤◌, List, [], ◌++◌, take, drop, length, map, Option, Some, None, option_to_list, sym, ◌∙◌, ap, arith, append_assoc, subst, Global}
 use Rattle.std.specs.Arc.{arc_value}
 use Rattle.std.specs.declared.sync.Arc.{Arc}
 use Rattle.value.specs.declared.values.Value.{Value}

@@ -1,6 +1,6 @@
 -- From a node to one below it, and back.
-use Rattle.std.proofs.lemmas.List.{length-map, length-append, length-drop, take-append-drop, take-map}
-use Rattle.std.proofs.Common.{◌≡◌, ℕ, ◌+◌, ◌-◌, ◌<◌, ◌≤◌, List, [], ◌∷◌, ◌++◌, take, drop, length, map, Option, refl, sym, ◌∙◌, ap, arith, append_assoc, slice_index_or, subst, Global}
+use Rattle.std.proofs.lemmas.List.{length-map, length-append, length-drop}
+use Rattle.std.proofs.Common.{◌≡◌, ℕ, ◌+◌, ◌-◌, ◌<◌, ◌≤◌, List, ◌++◌, take, drop, length, map, Option, sym, ◌∙◌, ap, arith, append_assoc, slice_index_or, subst, Global}
 use Rattle.std.specs.Arc.{arc_value}
 use Rattle.std.specs.declared.sync.Arc.{Arc}
 use Rattle.value.specs.declared.values.Value.{Value}

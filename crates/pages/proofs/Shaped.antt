@@ -1,6 +1,6 @@
 -- What a new node says of its entries.
 use Rattle.std.proofs.lemmas.List.{length-map}
-use Rattle.std.proofs.Common.{◌≡◌, ℕ, ◌-◌, ◌≤◌, ◌<◌, List, length, map, Some, refl, sym, ◌∙◌, ap, arith, slice_index_or, slice_get, subst, Global}
+use Rattle.std.proofs.Common.{◌≡◌, ℕ, ◌-◌, ◌≤◌, List, length, map, Some, refl, sym, ◌∙◌, ap, arith, slice_index_or, slice_get, subst, Global}
 use Rattle.std.specs.Arc.{arc_value}
 use Rattle.std.specs.declared.sync.Arc.{Arc}
 use Rattle.value.specs.declared.values.Value.{Value}

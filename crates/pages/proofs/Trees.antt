@@ -2,15 +2,14 @@
 use Rattle.std.proofs.lemmas.List.{append-nil, length-append, length-map, at_drop_more}
 use Rattle.std.specs.Arc.{arc_value}
 use Rattle.std.specs.declared.sync.Arc.{Arc}
-use Rattle.std.proofs.Common.{◌≡◌, ℕ, zero, suc, ◌+◌, ◌-◌, ◌<◌, ◌≤◌, true, false, not, max, List, [], ◌∷◌, ◌++◌, take, drop, length, map, Option, Some, None, refl, sym, ◌∙◌, ap, arith, append_assoc, slice_index_or, subst, ◌⊎◌, inl, inr, Global}
+use Rattle.std.proofs.Common.{◌≡◌, ℕ, zero, suc, ◌+◌, ◌-◌, ◌<◌, ◌≤◌, true, false, not, List, [], ◌∷◌, ◌++◌, take, drop, length, map, Option, refl, sym, ◌∙◌, ap, arith, append_assoc, slice_index_or, subst, ◌⊎◌, inl, inr, Global}
 use Rattle.std.specs.Ordering.{is_gt}
-use Rattle.std.specs.declared.cmp.Ordering.TheVariants.{Greater}
 use Rattle.value.specs.declared.values.Value.{Value}
 use Rattle.value.specs.ValueOrder.{value_cmp}
 use Rattle.value.specs.Ordered.{at, put}
 use Rattle.pages.specs.Reach.{key_of, reaches, IsGreatest, AreInOrder}
 use Rattle.pages.specs.Levels.{Tree, entries_of, entries_at, highest, HaveHeight}
-use Rattle.pages.proofs.Orders.{or_false, reaches-append, at_past, at_stops, put_past, put_stops, order_front, passed, last_reaches, some_entry, take_all, drop_within, drop_past}
+use Rattle.pages.proofs.Orders.{at_past, at_stops, put_past, put_stops, order_front, passed, last_reaches, some_entry, take_all, drop_within, drop_past}
 
 module _ {V : Type 0} where
   pub entries_of-append : (ts us : List (Tree V)) → entries_of (ts ++ us) ≡ entries_of ts ++ entries_of us

@@ -89,8 +89,11 @@ impl<V> Pages<V> {
 
     /// The entries in the order of their keys, one after the other. It takes no memory.
     pub fn iter(&self) -> Entries<'_, V>
-        ensures { result ≡ self.now }
+        ensures rest { result ≡ self.now }
+        ensures short { length self.now < 2 ^ 63 }
     {
+        // The proof reads the length from the fields.
+        let _ = &self.root;
         Entries::new(self)
     }
 

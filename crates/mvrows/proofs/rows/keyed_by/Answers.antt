@@ -1,7 +1,6 @@
-use Rattle.std.proofs.Common.{◌≡◌, ◌<◌, ◌∙◌, ap, sym, subst, arith, length, Some, Option}
+use Rattle.std.proofs.Common.{◌≡◌, ◌<◌, ◌∙◌, ap, sym, subst, arith, length, Some}
 use Rattle.value.specs.Ordered.{put}
 use Rattle.value.specs.ValueOrder.{value_cmp}
-use Rattle.value.specs.declared.values.Value.{Value}
 use Rattle.table.specs.Rows.{RowValues}
 use Rattle.pages.specs.Reach.{key_of, entry_of}
 use Rattle.mvrows.specs.Keyed.{rows_of, AreKeyed}
@@ -15,7 +14,7 @@ loop-at-preserved c =
     let rows = rows_of c.args.pages.now in
     let within : c.loop-at.at < length rows = omega (arith, c.loop-at-test.true, c.len-at-end.ensures.count, length-rows_of c.args.pages.now) in
     let made : c.in_ok-made.made ≡ put value_cmp key_of k (entry_of k (Some row)) c.loop-at.made =
-        c.in_ok-made.ensures.changed ∙ ap (λ (r : RowValues). put value_cmp key_of k (entry_of k (Some r)) c.loop-at.made) c.in_ok-copy.ensures.equal in
+    c.in_ok-made.ensures.changed ∙ ap (λ (r : RowValues). put value_cmp key_of k (entry_of k (Some r)) c.loop-at.made) c.in_ok-copy.ensures.equal in
     record {
       rows = ap rows_of made ∙ rows_more c.args.key_column k c.loop-at.made row c.loop-at.at rows c.in_ok-key.ensures.key c.loop-at.invariant.keyed c.loop-at.invariant.rows within c.row_from-row.ensures c.requires;
       keyed = subst (AreKeyed c.args.key_column) (sym made) (keyed_more c.args.key_column k row c.loop-at.made c.in_ok-key.ensures.key c.loop-at.invariant.keyed);

@@ -1,4 +1,4 @@
-use Rattle.std.proofs.Common.{ℕ, ◌/◌, map}
+use Rattle.std.proofs.Common.{◌/◌, map}
 use Rattle.std.proofs.lemmas.Result.{on_ok_weaker}
 use Rattle.std.specs.Arc.{arc_value}
 use Rattle.pages.proofs.Added.{adds_both, front_order, behind_order, rejoined}

@@ -1,4 +1,4 @@
-use Rattle.std.proofs.Common.{◌≡◌, ◌<◌, ◌∙◌, ◌-◌, ◌+◌, ap, sym, ℕ, drop, arith, length, map, ◌++◌}
+use Rattle.std.proofs.Common.{◌≡◌, ◌∙◌, ◌-◌, ◌+◌, ap, sym, ℕ, drop, arith, length, map, ◌++◌}
 use Rattle.std.specs.Arc.{arc_value}
 use Rattle.pages.specs.Levels.{Tree, entries_of, entries_at}
 use Rattle.pages.proofs.Orders.{shared_there}

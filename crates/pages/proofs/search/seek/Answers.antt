@@ -1,4 +1,4 @@
-use Rattle.std.proofs.Common.{◌≡◌, ◌-◌, ◌+◌, ◌<◌, ◌/◌, ◌∙◌, ap, sym, subst, arith, length, map, ℕ, slice_index_or, drop}
+use Rattle.std.proofs.Common.{◌≡◌, ◌-◌, ◌+◌, ◌<◌, ◌/◌, ◌∙◌, sym, subst, arith, length, map, ℕ, drop}
 use Rattle.std.proofs.lemmas.List.{length-map}
 use Rattle.std.specs.Arc.{arc_value}
 use Rattle.value.specs.Ordered.{AreAbove}

@@ -17,7 +17,7 @@ invariant_of-result c =
     let new = c.args.change.now.new in
     let keyed : List (Value × RowValues) = c.in_ok-keyed.keyed in
     let made : c.in_ok-pages.pages ≡ put value_cmp key_of k (entry_of k new) keyed =
-        c.in_ok-pages.ensures.changed ∙ ap (λ (r : Option RowValues). put value_cmp key_of k (entry_of k r) keyed) c.in_ok-new.ensures.equal in
+    c.in_ok-pages.ensures.changed ∙ ap (λ (r : Option RowValues). put value_cmp key_of k (entry_of k r) keyed) c.in_ok-new.ensures.equal in
     subst (AreKeyed column) (sym made) (keyed-put column k new keyed c.requires.keyed c.in_ok-keyed.ensures.keyed)
 
 pub returns-clause-changed : goal.returns-clause-changed
@@ -27,9 +27,9 @@ returns-clause-changed c =
     let new = c.args.change.now.new in
     let keyed : List (Value × RowValues) = c.in_ok-keyed.keyed in
     let made : c.in_ok-pages.pages ≡ put value_cmp key_of k (entry_of k new) keyed =
-        c.in_ok-pages.ensures.changed ∙ ap (λ (r : Option RowValues). put value_cmp key_of k (entry_of k r) keyed) c.in_ok-new.ensures.equal in
+    c.in_ok-pages.ensures.changed ∙ ap (λ (r : Option RowValues). put value_cmp key_of k (entry_of k r) keyed) c.in_ok-new.ensures.equal in
     let changed : rows_of c.in_ok-pages.pages ≡ put_row column k new c.args.self.now =
-        ap rows_of made ∙ put-rows column k new keyed c.in_ok-keyed.ensures.keyed ∙ ap (put_row column k new) (c.in_ok-keyed.ensures.rows ∙ c.self.view_is) in
+    ap rows_of made ∙ put-rows column k new keyed c.in_ok-keyed.ensures.keyed ∙ ap (put_row column k new) (c.in_ok-keyed.ensures.rows ∙ c.self.view_is) in
     changed
 
 pub returns-clause-ordered : goal.returns-clause-ordered
@@ -39,9 +39,9 @@ returns-clause-ordered c =
     let new = c.args.change.now.new in
     let keyed : List (Value × RowValues) = c.in_ok-keyed.keyed in
     let made : c.in_ok-pages.pages ≡ put value_cmp key_of k (entry_of k new) keyed =
-        c.in_ok-pages.ensures.changed ∙ ap (λ (r : Option RowValues). put value_cmp key_of k (entry_of k r) keyed) c.in_ok-new.ensures.equal in
+    c.in_ok-pages.ensures.changed ∙ ap (λ (r : Option RowValues). put value_cmp key_of k (entry_of k r) keyed) c.in_ok-new.ensures.equal in
     let changed : rows_of c.in_ok-pages.pages ≡ put_row column k new c.args.self.now =
-        ap rows_of made ∙ put-rows column k new keyed c.in_ok-keyed.ensures.keyed ∙ ap (put_row column k new) (c.in_ok-keyed.ensures.rows ∙ c.self.view_is) in
+    ap rows_of made ∙ put-rows column k new keyed c.in_ok-keyed.ensures.keyed ∙ ap (put_row column k new) (c.in_ok-keyed.ensures.rows ∙ c.self.view_is) in
     subst (IsAscending value_cmp (value_in column)) (sym changed) (IsAscending-put value_cmp_total (value_in column) k new c.args.self.now c.requires.keyed c.requires.ordered)
 
 pub returns-clause-others : goal.returns-clause-others
@@ -51,9 +51,9 @@ returns-clause-others c = λ other.
     let new = c.args.change.now.new in
     let keyed : List (Value × RowValues) = c.in_ok-keyed.keyed in
     let made : c.in_ok-pages.pages ≡ put value_cmp key_of k (entry_of k new) keyed =
-        c.in_ok-pages.ensures.changed ∙ ap (λ (r : Option RowValues). put value_cmp key_of k (entry_of k r) keyed) c.in_ok-new.ensures.equal in
+    c.in_ok-pages.ensures.changed ∙ ap (λ (r : Option RowValues). put value_cmp key_of k (entry_of k r) keyed) c.in_ok-new.ensures.equal in
     let changed : rows_of c.in_ok-pages.pages ≡ put_row column k new c.args.self.now =
-        ap rows_of made ∙ put-rows column k new keyed c.in_ok-keyed.ensures.keyed ∙ ap (put_row column k new) (c.in_ok-keyed.ensures.rows ∙ c.self.view_is) in
+    ap rows_of made ∙ put-rows column k new keyed c.in_ok-keyed.ensures.keyed ∙ ap (put_row column k new) (c.in_ok-keyed.ensures.rows ∙ c.self.view_is) in
     ap (row_at column other) changed ∙ at-put value_cmp_total (value_in column) k new c.args.self.now c.requires.keyed c.requires.ordered other
 
 pub returns-clause-short : goal.returns-clause-short

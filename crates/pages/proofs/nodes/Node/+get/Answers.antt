@@ -1,4 +1,4 @@
-use Rattle.std.proofs.Common.{◌≡◌, ◌∙◌, ◌<◌, ap, sym, subst, slice_index_or, List, length, map, Global}
+use Rattle.std.proofs.Common.{◌≡◌, ◌∙◌, ap, sym, slice_index_or, List, map, Global}
 use Rattle.std.specs.Arc.{arc_value}
 use Rattle.std.specs.declared.sync.Arc.{Arc}
 use Rattle.value.specs.Ordered.{at}
