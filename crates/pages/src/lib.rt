@@ -11,10 +11,11 @@
 //! - `Pages::get` is the value under a key, if there is one.
 //! - `Pages::with` is the map after one change: under the key stands the new value, or none, and nothing else is another
 //!   than before.
-//! - `Pages::page_from` lends the entries in order, from any place on, as many as stand together.
+//! - `Pages::iter` lends the entries in order, one after the other, and `Pages::page_from` from any place on, as many as
+//!   stand together.
 //! - `Pages::copy` is an equal map, which shares everything.
 //!
-//! What the layer above may rest on: `get`, `len` and `page_from` take no memory; a new map is the old one with that
+//! What the layer above may rest on: `get`, `len`, `iter` and `page_from` take no memory; a new map is the old one with that
 //! change and no other, or memory ran out; its keys ascend. No call has a premise.
 //!
 //! Inside it is a B+-tree (Bayer and McCreight, "Organization and Maintenance of Large Ordered Indexes", 1972; Comer,
