@@ -6,11 +6,7 @@ use std::process::Abort;
 use std::test::Fail;
 
 /// An assertion of this condition is refused with this line, or taken in where there is none.
-fn answers(
-    rt: &(impl Abort + Alloc<A = Global>),
-    condition: &str,
-    line: &str,
-) -> Result<(), Fail> {
+fn answers(rt: &(impl Abort + Alloc<A = Global>), condition: &str, line: &str) -> Result<(), Fail> {
     let assertion = format!(in rt.alloc(); "CREATE ASSERTION A CHECK ({condition});")?;
     prints_over_tables(rt, assertion.as_str(), "", line)
 }

@@ -1,12 +1,12 @@
 -- Rows of a table that are taken out one by one.
-use Rattle.std.proofs.Common.{◌≡◌, ◌∙◌, ap, sym, refl, ℕ, suc, ◌+◌, ◌<◌, Bool, true, false, not, cond, List, [], ◌∷◌, ◌++◌, length, get_or, take, drop, Some, None, subst, append_assoc, add-one, arith}
+use Rattle.std.proofs.Common.{◌≡◌, ◌∙◌, ap, sym, refl, ℕ, suc, ◌+◌, ◌<◌, Bool, true, false, not, cond, List, [], ◌∷◌, filter, ◌++◌, length, get_or, take, drop, Some, None, subst, append_assoc, add-one, arith}
 use Rattle.std.specs.Prelude.{All, slice_set}
 use Rattle.std.specs.Ordering.{ordering_reverse}
 use Rattle.std.specs.declared.cmp.Ordering.TheVariants.{Less, Equal, Greater}
 use Rattle.std.proofs.Math.Seq.{drop-cons}
 use Rattle.std.proofs.lemmas.List.{take-append-drop, take_more, get_or-set_same, set-set}
 use Rattle.std.proofs.lemmas.List.Elements.{All-get_or, All-weaker}
-use Rattle.std.proofs.lemmas.List.Sums.{count_by_more_no, count_by_more_yes}
+use Rattle.std.proofs.lemmas.List.Sums.{length-filter}
 use Rattle.value.specs.declared.values.Value.{Value}
 use Rattle.value.specs.ValueOrder.{value_cmp}
 use Rattle.value.specs.Ordered.{by_order, IsAscending, AreAbove}
@@ -18,6 +18,7 @@ use Rattle.cond.specs.Bounds.{IsSmallRow}
 use Rattle.cond.specs.Eval.{keeps}
 use Rattle.cond.proofs.SmallRows.{IsSmallRow-fits}
 use Rattle.assertion.specs.Meaning.{State, rows_of}
+use Rattle.delta.specs.Views.{Shown}
 use Rattle.txn.specs.Statements.{count_kept, others}
 
 -- a row of a table has only small numbers
@@ -25,14 +26,17 @@ pub all_small : (layout : Layout) (rows : List RowValues) → IsTable layout row
 all_small layout rows table = All-weaker (FitsColumns layout.columns) IsSmallRow (IsSmallRow-fits layout.columns) rows table.fitting
 
 -- the rows that it keeps and the others are all rows
-pub kept_and_others : (kept : Cond) (rows : List RowValues) → count_kept kept rows + length (others kept rows) ≡ length rows
-kept_and_others kept [] = refl
-kept_and_others kept (row ∷ rest) = go (keeps row [] kept) (kept_and_others kept rest)
+both : (kept : Cond) (rows : List RowValues) → length (filter (λ row. keeps row [] kept) rows) + length (others kept rows) ≡ length rows
+both kept [] = omega arith
+both kept (row ∷ rest) = go (keeps row [] kept) (both kept rest)
   where
-    go : (b : Bool) → count_kept kept rest + length (others kept rest) ≡ length rest
-        → cond b (suc (count_kept kept rest)) (count_kept kept rest) + length (cond (not b) (row ∷ others kept rest) (others kept rest)) ≡ suc (length rest)
+    go : (b : Bool) → length (filter (λ row. keeps row [] kept) rest) + length (others kept rest) ≡ length rest
+        → length (cond b (row ∷ filter (λ row. keeps row [] kept) rest) (filter (λ row. keeps row [] kept) rest)) + length (cond (not b) (row ∷ others kept rest) (others kept rest)) ≡ suc (length rest)
     go true h = omega (arith, h)
     go false h = omega (arith, h)
+
+pub kept_and_others : (kept : Cond) (rows : List RowValues) → count_kept kept rows + length (others kept rows) ≡ length rows
+kept_and_others kept rows = ap (λ n. n + length (others kept rows)) (sym (length-filter (λ row. keeps row [] kept) rows)) ∙ both kept rows
 
 -- a list round the item at a place
 pub round : {X : Type 0} (xs : List X) (i : ℕ) (x : X) → i < length xs → x ≡ get_or xs i x → drop i xs ≡ x ∷ drop (i + 1) xs
@@ -94,7 +98,7 @@ module _ (kept : Cond) (key : ℕ) where
       ] ∙ sym split
 
 -- a table of a state, set twice: the last is there
-rows_set : (state : State) (t : ℕ) (rows : List RowValues) → t < length state → rows_of t (slice_set state t rows) ≡ rows
+pub rows_set : (state : State) (t : ℕ) (rows : List RowValues) → t < length state → rows_of t (slice_set state t rows) ≡ rows
 rows_set state t rows h = get_or-set_same state t rows [] h
 
 -- a table that was set, and is or isn't set again by what stands in it
@@ -149,3 +153,7 @@ module _ (kept : Cond) (layout : Layout) (rows : List RowValues) (table : IsTabl
   -- and only small numbers
   pub small : IsSmallRow row
   small = IsSmallRow-fits layout.columns row (subst (FitsColumns layout.columns) (sym is) (All-get_or (FitsColumns layout.columns) rows i row within table.fitting))
+
+-- the tables when it is the turn of a row: of those before it the ones that the condition doesn't keep are left, and all behind them
+abbrev pub left_when : Shown → ℕ → Cond → ℕ → Shown
+left_when view table kept n = record view { state = slice_set view.state table (others kept (take n (rows_of table view.state)) ++ drop n (rows_of table view.state)) }

@@ -69,7 +69,7 @@ fn without_kept(
 
 /// How many rows were taken out of a table of which those are left that a condition doesn't keep.
 pub fn count_taken(before: &View, after: &View, table: usize, _kept: &Cond) -> u64
-    requires table_in { table < length before.now.tables }
+    requires table_in { table < length before.now.state }
     requires rest { after.now ≡ without before.now table _kept.now }
     ensures { result ≡ count_kept _kept.now (rows_of table before.now.state) }
 {
