@@ -14,7 +14,7 @@ use Rattle.cond.specs.Bounds.{is_bounded}
 use Rattle.assertion.specs.Meaning.{key_of}
 use Rattle.name_check.specs.Scopes.{Scope}
 use Rattle.form_check.specs.Queries.{Source, sourced, source_of, row_filter}
-use Rattle.type_check.specs.Types.{is_typed}
+use Rattle.type_check.specs.Types.{is_typed_condition}
 use Rattle.assertcheck.specs.declared.updates.Setting.{Setting}
 use Rattle.assertcheck.specs.declared.updates.Update.{Update}
 use Rattle.value.specs.Results.{and_then, found, provided, unless}
@@ -115,7 +115,7 @@ checked_keyless tables name sets condition u h =
     let kept = both_ok (row_filter target.0.scope condition) (λ kept. sound_update target.0.scope.layout.columns (record { table = target.0.table; sets = settings.0; kept = kept })) u settings.1.1 in
     let made : Update = record { table = target.0.table; sets = settings.0; kept = kept.0 } in
     let columns = target.0.scope.layout.columns in
-    let inner : provided (list_all is_bounded_setting made.sets && is_bounded [] made.kept) TooWide (Ok made) ≡ Ok u = provided_ok (list_all (fits columns) made.sets && is_typed columns [] made.kept) TypeMismatch (provided (list_all is_bounded_setting made.sets && is_bounded [] made.kept) TooWide (Ok made)) u kept.1.1 in
+    let inner : provided (list_all is_bounded_setting made.sets && is_bounded [] made.kept) TooWide (Ok made) ≡ Ok u = provided_ok (list_all (fits columns) made.sets && is_typed_condition columns [] made.kept) TypeMismatch (provided (list_all is_bounded_setting made.sets && is_bounded [] made.kept) TooWide (Ok made)) u kept.1.1 in
     let is : made ≡ u = ok_is made u (provided_ok (list_all is_bounded_setting made.sets && is_bounded [] made.kept) TooWide (Ok made) u inner) in
     let keyless : sets_key target.0.scope.layout.key settings.0 ≡ false = settings_keyless target.0.scope target.0.scope.layout.key places.0 sets settings.0 settings.1.0 (places_not_key target.0.scope.layout [] sets places.0 places.1.0 tt) in
     subst (λ (x : Update). sets_key (key_of x.table (layouts_of tables)) x.sets ≡ false) is (ap (λ k. sets_key k settings.0) (sym (target_key tables name target.0 target.1.0)) ∙ keyless)
