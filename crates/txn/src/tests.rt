@@ -150,6 +150,7 @@ fn word(answer: &Result<Done, Refusal>) -> &'static str {
             Reply::Deleted(1) => "one deleted",
             Reply::Deleted(_) => "some deleted",
             Reply::Verdict(truth) => truth.name(),
+            Reply::Updated(_) | Reply::Rows(_) | Reply::ModesSet => "not run yet",
         },
         Err(
             Refusal::Violated {
