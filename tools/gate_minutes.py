@@ -56,7 +56,8 @@ def watch(is_running, top):
         for pid in filter(str.isdigit, os.listdir("/proc")):
             # (a process keeps its number and its label; a number that is used again is of another start)
             key = (pid, start_of(pid))
-            if key not in labels:
+            if not labels.get(key):
+                # (asked again while there is none: a process that was just made has its parent's command line)
                 labels[key] = label(pid, top)
             if labels[key]:
                 seconds[key] = max(seconds.get(key, 0.0), used(pid))
