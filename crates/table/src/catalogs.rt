@@ -69,6 +69,16 @@ impl Catalog {
         }
     }
 
+    /// The name of the table at this place in the order of creation.
+    pub fn name(&self, table: usize) -> Option<&Text>
+        ensures { option_copied result ≡ slice_get (names_of self.now) table }
+    {
+        match self.tables.get_index(table) {
+            Some((name, _)) => Some(name),
+            None => None,
+        }
+    }
+
     /// Puts a table behind the others. NameTaken where the name is there already, and the catalog is then, as after
     /// any error, what it was.
     pub fn add(&mut self, name: Text, schema: Schema) -> Result<(), Refusal>

@@ -86,6 +86,8 @@ fn tables_are_found_by_name(rt: HostRuntime) -> Result<(), Fail> {
     assert_eq!(rt; catalog.position(&name), Some(1));
     assert!(rt; catalog.get(&name).is_some());
     assert_eq!(rt; catalog.at(1).map(|schema| schema.key()), Some(1));
+    assert!(rt; catalog.name(1).is_some_and(|second| *second == name));
+    assert!(rt; catalog.name(2).is_none());
     assert!(rt; catalog.add(name, Schema::new(columns(alloc)?, 0)).is_err());
     assert_eq!(rt; catalog.len(), 2);
     Ok(())

@@ -1,6 +1,6 @@
 //! Every refusal of every crate.
 
-ghost use Rattle.std.specs.Prelude.{◌≡◌};
+ghost use Rattle.std.specs.Prelude.{◌≡◌, IfOk, IsOkUnless};
 ghost use Rattle.value.specs.declared.refusals.Refusal.TheVariants.{NoMemory};
 
 use crate::texts::Text;
@@ -152,6 +152,74 @@ pub enum Refusal {
     /// There are as many sessions as the limit.
     #[error("there are too many sessions")]
     TooManySessions,
+}
+
+impl Refusal {
+    /// A refusal equal to this one. NoMemory is the only error.
+    pub fn copy(&self) -> Result<Refusal, Refusal>
+        ensures only_memory { IsOkUnless result NoMemory }
+        ensures equal { IfOk result (λ copy. copy ≡ self.now) }
+    {
+        let copy = match self {
+            Refusal::NoMemory => Refusal::NoMemory,
+            Refusal::Syntax { at } => Refusal::Syntax { at: *at },
+            Refusal::UnknownName { name } => Refusal::UnknownName { name: name.copy()? },
+            Refusal::NameTaken { name } => Refusal::NameTaken { name: name.copy()? },
+            Refusal::TypeMismatch => Refusal::TypeMismatch,
+            Refusal::NullNotAllowed { column } => Refusal::NullNotAllowed {
+                column: column.copy()?,
+            },
+            Refusal::DuplicateKey { table, key } => Refusal::DuplicateKey {
+                table: table.copy()?,
+                key: key.copy()?,
+            },
+            Refusal::KeyUpdate { column } => Refusal::KeyUpdate {
+                column: column.copy()?,
+            },
+            Refusal::OutOfRange { column, excess } => Refusal::OutOfRange {
+                column: column.copy()?,
+                excess: *excess,
+            },
+            Refusal::Violated { assertion, group } => Refusal::Violated {
+                assertion: assertion.copy()?,
+                group: group.copy()?,
+            },
+            Refusal::NotDeferrable { assertion } => Refusal::NotDeferrable {
+                assertion: assertion.copy()?,
+            },
+            Refusal::WriteConflict { table, key, by } => Refusal::WriteConflict {
+                table: table.copy()?,
+                key: key.copy()?,
+                by: *by,
+            },
+            Refusal::Dangerous {
+                reader,
+                pivot,
+                writer,
+            } => Refusal::Dangerous {
+                reader: *reader,
+                pivot: *pivot,
+                writer: *writer,
+            },
+            Refusal::NoTransaction => Refusal::NoTransaction,
+            Refusal::TransactionOpen => Refusal::TransactionOpen,
+            Refusal::Stranger => Refusal::Stranger,
+            Refusal::EpochFull => Refusal::EpochFull,
+            Refusal::TooWide => Refusal::TooWide,
+            Refusal::TooDeep { at } => Refusal::TooDeep { at: *at },
+            Refusal::OutsideClass => Refusal::OutsideClass,
+            Refusal::FalseAtCreation { assertion, group } => Refusal::FalseAtCreation {
+                assertion: assertion.copy()?,
+                group: group.copy()?,
+            },
+            Refusal::AttributeClash { assertion } => Refusal::AttributeClash {
+                assertion: assertion.copy()?,
+            },
+            Refusal::ReadOnlyTransaction => Refusal::ReadOnlyTransaction,
+            Refusal::TooManySessions => Refusal::TooManySessions,
+        };
+        Ok(copy)
+    }
 }
 
 impl From<AllocError> for Refusal {

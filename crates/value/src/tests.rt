@@ -106,3 +106,25 @@ fn refusals_print_their_parts(rt: HostRuntime) -> Result<(), Fail> {
     );
     Ok(())
 }
+
+/// The text of a refusal's copy.
+fn copied(alloc: Global, refusal: Refusal) -> Result<bool, Refusal> {
+    let copy = refusal.copy()?;
+    let texts = (
+        format!(in alloc; "{refusal}")?,
+        format!(in alloc; "{copy}")?,
+    );
+    Ok(texts.0 == texts.1)
+}
+
+#[test]
+fn refusals_are_copied(rt: HostRuntime) -> Result<(), Fail> {
+    let alloc = rt.alloc();
+    let cover = Text::from_str(alloc, "COVER")?;
+    let violated = Refusal::Violated {
+        assertion: cover,
+        group: Root::Of(Value::Int(7)),
+    };
+    assert!(rt; copied(alloc, violated)?);
+    Ok(())
+}
