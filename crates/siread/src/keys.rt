@@ -1,21 +1,23 @@
 //! Places of rows, keys of reads, and the changes that touch a key.
 
-ghost use Rattle.std.specs.Prelude.{◌≡◌};
+ghost use Rattle.std.specs.Prelude.{◌≡◌, IfOk, IsOkUnless};
+ghost use Rattle.value.specs.declared.refusals.Refusal.TheVariants.{NoMemory};
 ghost use Rattle.table.specs.Rows.{value_in};
 ghost use Rattle.siread.specs.Keys.{holds, is_under, same_value, touches};
 
 use table::{Change, Row};
-use value::{Value, order};
+use value::{Refusal, Value, order};
 
-/// Where a row stands: its table, by the table's place in the order of creation, and its key there.
-#[derive(Debug, Drop)]
+/// Where a row stands: its table, by the table's place in the order of creation, and its key there. In order by
+/// table, and then by key.
+#[derive(Debug, Drop, PartialEq, Eq, PartialOrd, Ord)]
 pub struct Place {
     pub table: usize,
     pub key: Value,
 }
 
-/// What a transaction reads.
-#[derive(Debug, Drop)]
+/// What a transaction reads. In order the rows stand before the columns, and those before the tables.
+#[derive(Debug, Drop, PartialEq, Eq, PartialOrd, Ord)]
 pub enum LockKey {
     /// One row, also where none stands there.
     Row(Place),
@@ -27,6 +29,31 @@ pub enum LockKey {
     },
     /// All rows of a table.
     Table(usize),
+}
+
+impl LockKey {
+    /// A key equal to this one. NoMemory is the only error.
+    pub fn copy(&self) -> Result<LockKey, Refusal>
+        ensures only_memory { IsOkUnless result NoMemory }
+        ensures equal { IfOk result (λ copy. copy ≡ self.now) }
+    {
+        match self {
+            LockKey::Row(place) => Ok(LockKey::Row(Place {
+                table: place.table,
+                key: place.key.copy()?,
+            })),
+            LockKey::Column {
+                table,
+                column,
+                value,
+            } => Ok(LockKey::Column {
+                table: *table,
+                column: *column,
+                value: value.copy()?,
+            }),
+            LockKey::Table(table) => Ok(LockKey::Table(*table)),
+        }
+    }
 }
 
 /// Whether a change touches a key: its old or its new row is one of those that the key means. It takes no memory.

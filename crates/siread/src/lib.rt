@@ -1,20 +1,27 @@
 //! What a transaction reads, and which changes touch it.
 //!
-//! A serializable snapshot engine notes what each transaction read, under keys that outlive the read and block nobody (SIREAD
-//! locks: Cahill, Röhm and Fekete 2008). Here a key is one row of a table, whether it is there or not; the rows with
-//! one value in a column; or a whole table. A change of a row *touches* the key of the row itself, the keys of the values that its
-//! old or its new row has in a column, and the key of its table. What a transaction finds under its keys is all that it
-//! knows of the tables, so one whose keys nobody touched would be answered the same on the tables after the change.
+//! A serializable snapshot engine notes what each transaction read, under keys that outlive the read and block nobody
+//! (SIREAD locks: Cahill, Röhm and Fekete 2008). Here a key is one row of a table, whether it is there or not; the
+//! rows with one value in a column; or a whole table. A change of a row *touches* the key of the row itself, the keys
+//! of the values that its old or its new row has in a column, and the key of its table. What a transaction finds
+//! under its keys is all that it knows of the tables, so one whose keys nobody touched would be answered the same on
+//! the tables after the change.
 //!
-//! NULL is a value like others here: rows that have NULL in a column are under that column's key for NULL, as GROUP BY puts
-//! them into one group (ISO/IEC 9075:1992, group by clause).
+//! NULL is a value like others here: rows that have NULL in a column are under that column's key for NULL, as GROUP
+//! BY puts them into one group (ISO/IEC 9075:1992, group by clause).
 //!
-//! The definitions are in `specs/Keys`.
+//! A [`LockTable`] keeps for each key the numbers of the commits that read it. It is changed in place, and a look-up
+//! costs no more than the depth of a map. Readers that no running transaction overlaps are trimmed.
+//!
+//! The definitions are in `specs/Keys` and `specs/Locks`.
 #![tactic(auto)]
 
 mod keys;
+mod locks;
+mod readers;
 
 pub use keys::{LockKey, Place, touches};
+pub use locks::LockTable;
 
 #[cfg(test)]
 mod tests;

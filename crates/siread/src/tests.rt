@@ -54,3 +54,30 @@ fn rows_and_tables_are_touched(rt: HostRuntime) -> Result<(), Fail> {
     assert!(rt; !touches(&change, &LockKey::Table(0)));
     Ok(())
 }
+
+#[test]
+fn readers_are_kept_by_key(rt: HostRuntime) -> Result<(), Fail> {
+    let mut locks = LockTable::new(rt.alloc());
+    locks.put(1, &[second_column(Value::Null), LockKey::Table(0)])?;
+    locks.put(2, &[LockKey::Table(0), LockKey::Table(0)])?;
+    assert!(rt; locks.readers(&LockKey::Table(0)) == [1, 2].as_slice());
+    assert!(rt; locks.readers(&second_column(Value::Null)) == [1].as_slice());
+    assert!(rt; locks.readers(&second_column(Value::Int(1))).is_empty());
+    assert!(rt; locks.len() == 3);
+    Ok(())
+}
+
+#[test]
+fn readers_are_taken_back_and_trimmed(rt: HostRuntime) -> Result<(), Fail> {
+    let mut locks = LockTable::new(rt.alloc());
+    locks.put(1, &[LockKey::Table(0)])?;
+    locks.put(2, &[LockKey::Table(0), LockKey::Table(1)])?;
+    locks.put(3, &[LockKey::Table(0)])?;
+    locks.take_back(3, &[LockKey::Table(0)]);
+    assert!(rt; locks.readers(&LockKey::Table(0)) == [1, 2].as_slice());
+    locks.trim_below(1);
+    assert!(rt; locks.readers(&LockKey::Table(0)) == [2].as_slice());
+    locks.trim_below(2);
+    assert!(rt; locks.len() == 0);
+    Ok(())
+}

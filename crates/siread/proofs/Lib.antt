@@ -1,0 +1,5 @@
+pub mod KeyOrder
+pub mod Lookups
+pub mod Steps
+pub mod Trims
+pub mod Counts

@@ -1,0 +1,98 @@
+//! The readers of one key.
+
+ghost use Rattle.std.specs.Prelude.{◌≡◌, [], ◌∷◌, ◌++◌, length, filter, nat_lt, not, IfOk, IsOkUnless, OnOk, OnErr};
+ghost use Rattle.siread.specs.Readers.{ends_in, is_none, left_out, with_last};
+ghost use Rattle.value.specs.declared.refusals.Refusal.TheVariants.{NoMemory};
+
+use std::alloc::Global;
+use std::marker::Model;
+use value::Refusal;
+
+/// The numbers of those who read one key.
+#[derive(Debug, Drop)]
+pub struct Readers {
+    numbers: Vec<u64>,
+}
+
+impl Model for Readers {
+    ghost use Rattle.std.specs.Prelude.{ℕ, List};
+
+    ghost Value = { List ℕ };
+
+    ghost view = { λ readers. readers.numbers.items };
+}
+
+impl Readers {
+    /// One reader. NoMemory is the only error.
+    pub fn one(alloc: Global, number: u64) -> Result<Readers, Refusal>
+        ensures only_memory { IsOkUnless result NoMemory }
+        ensures one { IfOk result (λ readers. readers ≡ number ∷ []) }
+    {
+        let mut numbers = Vec::new(alloc);
+        numbers.push(number)?;
+        Ok(Readers { numbers })
+    }
+
+    /// Puts a number last, unless it stands there. NoMemory is the only error, and leaves them as they were.
+    pub fn put_last(&mut self, number: u64) -> Result<(), Refusal>
+        ensures only_memory { IsOkUnless result NoMemory }
+        ensures put { OnOk result (self.new ≡ with_last number self.old) }
+        ensures unchanged { OnErr result (self.new ≡ self.old) }
+    {
+        if self.ends_in(number) {
+            return Ok(());
+        }
+        self.numbers.push(number)?;
+        Ok(())
+    }
+
+    fn ends_in(&self, number: u64) -> bool
+        ensures { result ≡ ends_in number self.now }
+    {
+        match self.numbers.last() {
+            None => false,
+            Some(last) => *last == number,
+        }
+    }
+
+    /// Takes a number out.
+    pub fn leave_out(&mut self, number: u64)
+        ensures { self.new ≡ left_out number self.old }
+    {
+        self.numbers.retain(|reader| *reader != number);
+    }
+
+    /// Keeps the numbers above this one alone.
+    pub fn keep_above(&mut self, number: u64)
+        ensures { self.new ≡ filter (nat_lt number) self.old }
+    {
+        self.numbers.retain(|reader| number < *reader);
+    }
+
+    /// The same, and whether some are left.
+    pub fn keeps_some_above(&mut self, number: u64) -> bool
+        ensures kept { self.new ≡ filter (nat_lt number) self.old }
+        ensures some { result ≡ not (is_none self.new) }
+    {
+        self.keep_above(number);
+        !self.is_empty()
+    }
+
+    pub fn is_empty(&self) -> bool
+        ensures { result ≡ is_none self.now }
+    {
+        self.numbers.is_empty()
+    }
+
+    pub fn len(&self) -> usize
+        ensures { result ≡ length self.now }
+    {
+        self.numbers.len()
+    }
+
+    pub fn as_slice(&self) -> &[u64]
+        ensures { result.now ≡ self.now }
+    {
+        self.numbers.as_slice()
+    }
+}
