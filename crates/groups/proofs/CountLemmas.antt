@@ -1,18 +1,20 @@
 -- The multiset as a value comes or goes.
 use Rattle.std.proofs.Common.{◌≡◌, ℕ, ◌+◌, ◌-◌, ◌<◌, ◌^◌, Bool, true, false, cond, List, Option, Some, None, refl, sym, ◌∙◌, ap, arith}
-use Rattle.std.specs.Prelude.{◌==◌, ◌&&◌, All, if◌then◌else◌}
+use Rattle.std.specs.Prelude.{◌==◌, ◌&&◌, All, map, if◌then◌else◌, unwrap_or}
+use Rattle.std.specs.Option.{option_map}
 use Rattle.std.proofs.Math.Nat.{min-eq_left}
 use Rattle.std.proofs.lemmas.Bool.Decides.{nat_tests}
 use Rattle.std.specs.Ordering.{eq_by_cmp}
 use Rattle.value.specs.declared.values.Value.{Value}
 use Rattle.value.specs.declared.values.Value.TheVariants.{Null, Int, Text}
 use Rattle.value.specs.ValueOrder.{value_cmp}
-use Rattle.value.specs.Ordered.{IsAscending, at, HasKey, HoldsOf}
+use Rattle.value.specs.Ordered.{IsAscending, at, put, HasKey, HoldsOf}
 use Rattle.value.proofs.ValueOrders.{value_cmp_total, value_exact}
 use Rattle.value.proofs.OrderedLists.{at-put, IsAscending-put, All-put, equal_from}
 use Rattle.table.specs.Aggregates.{is_there}
-use Rattle.groups.specs.declared.counts.Count.{Count}
-use Rattle.groups.specs.Counts.{value_of, count_in, count_at, kept_count, put_count, one_up, counts_more, counts_less}
+use Rattle.pages.specs.Reach.{key_of, value_of as number_of, entry_of}
+use Rattle.groups.proofs.Carried.{at-made, put-made}
+use Rattle.groups.specs.Counts.{Count, count_from, value_of, count_in, count_at, kept_count, put_count, one_up, counts_more, counts_less}
 
 kept-key : (v : Value) (n : ℕ) → HasKey value_cmp value_of v (kept_count v n)
 kept-key v n = elim (n == 0) as (λ b. HasKey value_cmp value_of v (if b then None else Some (record { value = v; count = n }))) [ true ↦ tt | false ↦ refl ]
@@ -88,3 +90,18 @@ pub counts_less-positive : (x : Value) (cs : List Count) → All (λ (c : Count)
 counts_less-positive Null cs h = h
 counts_less-positive (Int n) cs h = put_count-positive (Int n) (count_at (Int n) cs - 1) cs h
 counts_less-positive (Text t) cs h = put_count-positive (Text t) (count_at (Text t) cs - 1) cs h
+
+-- the number that is kept for a value, and the counts after one is kept
+pub count_at-kept : (v : Value) (es : List (Value × ℕ)) → unwrap_or (option_map number_of (at value_cmp key_of v es)) 0 ≡ count_at v (map count_from es)
+count_at-kept v es = kept (at value_cmp key_of v es) ∙ ap count_in (at-made count_from value_of (λ e. refl) v es)
+  where
+    kept : (o : Option (Value × ℕ)) → unwrap_or (option_map number_of o) 0 ≡ count_in (option_map count_from o)
+    kept None = refl
+    kept (Some e) = refl
+
+pub put_count-kept : (v : Value) (n : ℕ) (es : List (Value × ℕ)) → map count_from (put value_cmp key_of v (entry_of v (if n == 0 then None else Some n)) es) ≡ put_count v n (map count_from es)
+put_count-kept v n es = put-made count_from value_of (λ e. refl) v (if n == 0 then None else Some n) es ∙ ap (λ o. put value_cmp value_of v o (map count_from es)) (kept (n == 0))
+  where
+    kept : (b : Bool) → option_map (λ m. count_from (v, m)) (if b then None else Some n) ≡ (if b then None else Some (record { value = v; count = n }))
+    kept true = refl
+    kept false = refl

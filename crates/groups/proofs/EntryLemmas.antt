@@ -1,19 +1,20 @@
 -- The totals of groups stay right as a row comes or goes.
-use Rattle.std.proofs.Common.{◌≡◌, ℕ, ◌<◌, suc, Bool, true, false, cond, List, [], ◌∷◌, Option, Some, None, length, refl, sym, subst, arith}
+use Rattle.std.proofs.Common.{◌≡◌, ℕ, ◌<◌, suc, Bool, true, false, cond, List, [], ◌∷◌, Option, Some, None, length, map, refl, sym, ◌∙◌, ap, subst, arith}
 use Rattle.std.specs.Prelude.{◌==◌, if◌then◌else◌, unwrap_or}
 use Rattle.std.specs.Option.{option_map}
 use Rattle.std.proofs.lemmas.Bool.Decides.{nat_tests}
 use Rattle.std.specs.Ordering.{eq_by_cmp}
 use Rattle.value.specs.declared.values.Value.{Value}
 use Rattle.value.specs.ValueOrder.{value_cmp}
-use Rattle.value.specs.Ordered.{HasKey}
+use Rattle.value.specs.Ordered.{HasKey, at, put}
 use Rattle.value.proofs.ValueOrders.{value_cmp_total, value_exact}
 use Rattle.value.proofs.OrderedLists.{at-put, IsAscending-put, equal_from}
-use Rattle.groups.specs.declared.entries.Entry.{Entry}
+use Rattle.pages.specs.Reach.{key_of, value_of as kept_value, entry_of}
 use Rattle.groups.specs.declared.members.Member.{Member}
 use Rattle.groups.specs.Figures.{Figures}
 use Rattle.groups.specs.Steps.{nothing, one_more, one_less, put_entry, kept_total, figures_at, entries_more, entries_less}
-use Rattle.groups.specs.Totals.{Entries, Members, group_in, entry_at, total_at, IsTotalOf, IsEntryOf, AreTotalsOf, HaveOneMore, AreWithin, IsChange}
+use Rattle.groups.specs.Totals.{Entry, Entries, Members, entry_from, group_in, entry_at, total_at, IsTotalOf, IsEntryOf, AreTotalsOf, HaveOneMore, AreWithin, IsChange}
+use Rattle.groups.proofs.Carried.{at-made, put-made}
 use Rattle.groups.proofs.MemberLemmas.{within_fewer}
 use Rattle.groups.proofs.TotalLemmas.{IsTotalOf-more, IsTotalOf-less, IsTotalOf-none}
 
@@ -97,3 +98,18 @@ come-right (Some m) between after es h k w = AreTotalsOf-more m between after es
 pub AreTotalsOf-change : (add remove : Option Member) (before after : Members) (es : Entries) → IsChange add remove before after → AreTotalsOf before es → AreWithin after → AreTotalsOf after (entries_with add (entries_without remove es))
 AreTotalsOf-change add remove before after es c k w =
     come-right add c.between after (entries_without remove es) c.come (gone-right remove c.between before es c.gone k (within_fewer add c.between after c.come w)) w
+
+-- the total that is kept for a group, and the entries after one is kept
+pub total_at-kept : (g : Value) (es : List (Value × Figures)) → option_map kept_value (at value_cmp key_of g es) ≡ total_at g (map entry_from es)
+total_at-kept g es = kept (at value_cmp key_of g es) ∙ ap total_in (at-made entry_from group_in (λ e. refl) g es)
+  where
+    kept : (o : Option (Value × Figures)) → option_map kept_value o ≡ total_in (option_map entry_from o)
+    kept None = refl
+    kept (Some e) = refl
+
+pub put_entry-kept : (g : Value) (t : Figures) (es : List (Value × Figures)) → map entry_from (put value_cmp key_of g (entry_of g (if t.rows == 0 then None else Some t)) es) ≡ put_entry g (kept_total g t) (map entry_from es)
+put_entry-kept g t es = put-made entry_from group_in (λ e. refl) g (if t.rows == 0 then None else Some t) es ∙ ap (λ o. put_entry g o (map entry_from es)) (kept (t.rows == 0))
+  where
+    kept : (b : Bool) → option_map (λ u. entry_from (g, u)) (if b then None else Some t) ≡ (if b then None else Some (record { group = g; total = t }))
+    kept true = refl
+    kept false = refl

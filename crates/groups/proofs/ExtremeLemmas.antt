@@ -12,8 +12,8 @@ use Rattle.value.specs.Ordered.{by_order, AreAbove, IsAscending, at, HoldsOf, le
 use Rattle.value.proofs.ValueOrders.{value_cmp_total, value_exact}
 use Rattle.value.proofs.OrderedLists.{has, first, least-first, All-at}
 use Rattle.table.specs.Aggregates.{is_there}
-use Rattle.groups.specs.declared.counts.Count.{Count as Counted}
-use Rattle.groups.specs.Counts.{value_of, count_in, first_value, last_value}
+use Rattle.pages.specs.Reach.{key_of}
+use Rattle.groups.specs.Counts.{Count as Counted, count_from, value_of, count_in, first_value, last_value}
 use Rattle.groups.specs.Figures.{Figures}
 use Rattle.groups.specs.Totals.{IsTotalOf}
 use Rattle.groups.proofs.Greatest.{last, least-last}
@@ -83,12 +83,35 @@ least-right vs t k = sym (least-first value_cmp_total value_exact (map value_of 
 pub greatest-right : (vs : List Value) (t : Figures) → IsTotalOf vs t → last_value t.values ≡ least (λ v w. value_cmp w v) (filter is_there vs)
 greatest-right vs t k = sym (least-last value_cmp_total value_exact (map value_of t.values) (filter is_there vs) (ascending-keys t.values k.in_order) (same_members vs t k) ∙ last-keys t.values)
 
--- the last of a list, as `last` gives it
-pub last-value : (cs : List Counted) (c : Counted) → Some c ≡ slice_get cs (length cs - 1) → last_value cs ≡ Some c.value
-last-value [] c e = cc
-last-value (d ∷ []) c e = ap (λ o. option_map value_of o) (sym e)
-last-value (d ∷ f ∷ cs) c e =
-    let n : length (d ∷ f ∷ cs) - 1 ≡ suc (length cs) = omega arith in
-    let m : length (f ∷ cs) - 1 ≡ length cs = omega arith in
-    let here : slice_get (d ∷ f ∷ cs) (suc (length cs)) ≡ slice_get (f ∷ cs) (length cs) = refl in
-    last-value (f ∷ cs) c (e ∙ ap (slice_get (d ∷ f ∷ cs)) n ∙ here ∙ sym (ap (slice_get (f ∷ cs)) m))
+-- the first and the last of what is kept
+abbrev no_entry : Option (Value × ℕ)
+no_entry = None
+
+abbrev no_value : Option Value
+no_value = None
+
+pub first-key : (es : List (Value × ℕ)) (e : Value × ℕ) → Some e ≡ slice_get es 0 → Some e.0 ≡ first_value (map count_from es)
+first-key [] e h = cc
+first-key (f ∷ es) e h = ap (λ o. option_map key_of o) h
+
+pub first-none : (es : List (Value × ℕ)) → no_entry ≡ slice_get es 0 → no_value ≡ first_value (map count_from es)
+first-none [] h = refl
+first-none (f ∷ es) h = cc
+
+pub last-key : (es : List (Value × ℕ)) (e : Value × ℕ) → Some e ≡ slice_get es (length es - 1) → Some e.0 ≡ last_value (map count_from es)
+last-key [] e h = cc
+last-key (f ∷ []) e h = ap (λ o. option_map key_of o) h
+last-key (f ∷ g ∷ es) e h =
+    let n : length (f ∷ g ∷ es) - 1 ≡ suc (length es) = omega arith in
+    let m : length (g ∷ es) - 1 ≡ length es = omega arith in
+    let here : slice_get (f ∷ g ∷ es) (suc (length es)) ≡ slice_get (g ∷ es) (length es) = refl in
+    last-key (g ∷ es) e (h ∙ ap (slice_get (f ∷ g ∷ es)) n ∙ here ∙ sym (ap (slice_get (g ∷ es)) m))
+
+pub last-none : (es : List (Value × ℕ)) → no_entry ≡ slice_get es (length es - 1) → no_value ≡ last_value (map count_from es)
+last-none [] h = refl
+last-none (f ∷ []) h = cc
+last-none (f ∷ g ∷ es) h =
+    let n : length (f ∷ g ∷ es) - 1 ≡ suc (length es) = omega arith in
+    let m : length (g ∷ es) - 1 ≡ length es = omega arith in
+    let here : slice_get (f ∷ g ∷ es) (suc (length es)) ≡ slice_get (g ∷ es) (length es) = refl in
+    last-none (g ∷ es) (h ∙ ap (slice_get (f ∷ g ∷ es)) n ∙ here ∙ sym (ap (slice_get (g ∷ es)) m))

@@ -1,4 +1,5 @@
 pub mod AnswerLemmas
+pub mod Carried
 pub mod CountLemmas
 pub mod EntryLemmas
 pub mod ExtremeLemmas

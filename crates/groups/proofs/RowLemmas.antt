@@ -1,5 +1,5 @@
 -- The groups of a table's rows change by the row that goes and the row that comes, and are within bounds where the rows are.
-use Rattle.std.proofs.Common.{◌≡◌, ℕ, zero, suc, ◌<◌, ◌≤◌, ◌^◌, Bool, true, false, cond, List, [], ◌∷◌, ◌++◌, Option, Some, None, map, length, refl, sym, ◌∙◌, ap, arith}
+use Rattle.std.proofs.Common.{◌≡◌, ℕ, zero, suc, ◌<◌, ◌≤◌, ◌^◌, Bool, true, false, cond, List, [], ◌∷◌, ◌++◌, Option, Some, None, map, length, refl, sym, ◌∙◌, ap, arith, append-nil}
 use Rattle.std.specs.Prelude.{All}
 use Rattle.std.specs.Option.{option_map}
 use Rattle.std.proofs.lemmas.List.{length-map, map-append}
@@ -104,6 +104,14 @@ module _ (place : RowValues → Option Value) (value : RowValues → Value) wher
         };
         elsewhere = λ v other. same v (ap (is_placed v) e ∙ other);
       }
+
+  -- one row more behind the others
+  pub members_added : (row : RowValues) (rows : List RowValues) → IsChange (member_of place value (Some row)) None (shown rows) (shown (rows ++ row ∷ []))
+  members_added row rows = record {
+    between = shown rows;
+    gone = λ v. refl;
+    come = member_more row rows (rows ++ row ∷ []) (record { front = rows; back = []; without = sym (append-nil rows); with_it = refl });
+  }
 
   module _ (column : ℕ) (key : Value) (rows : List RowValues) where
     gone : (o : Option RowValues) → row_at column key rows ≡ o → HaveOneMore (member_of place value o) (shown (put_row column key None rows)) (shown rows)

@@ -11,8 +11,7 @@ use Rattle.value.specs.declared.values.Value.{Value}
 use Rattle.value.specs.declared.values.Value.TheVariants.{Null, Int, Text}
 use Rattle.value.specs.ValueOrder.{value_cmp}
 use Rattle.table.specs.Aggregates.{is_there, number_of, sum_of}
-use Rattle.groups.specs.declared.counts.Count.{Count}
-use Rattle.groups.specs.Counts.{count_at, one_up}
+use Rattle.groups.specs.Counts.{Count, count_at, one_up}
 use Rattle.groups.specs.Figures.{Figures}
 use Rattle.groups.specs.Steps.{nothing, there_of, one_more, one_less}
 use Rattle.groups.specs.Totals.{IsTotalOf, IsOneMore, IsWithin}

@@ -4,7 +4,15 @@ use Rattle.value.specs.declared.values.Value.{Value}
 use Rattle.value.specs.declared.values.Value.TheVariants.{Null, Int, Text}
 use Rattle.value.specs.ValueOrder.{value_cmp}
 use Rattle.value.specs.Ordered as ordered
-use Rattle.groups.specs.declared.counts.Count.{Count}
+
+-- a value and how often it stands, which is never 0
+pub record Count : Type 0 where
+  pub value : Value
+  pub count : ℕ
+
+-- a value that a number is kept under
+abbrev pub count_from : Value × ℕ → Count
+count_from kept = record { value = kept.0; count = kept.1 }
 
 abbrev pub value_of : Count → Value
 value_of count = count.value

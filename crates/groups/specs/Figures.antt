@@ -1,6 +1,6 @@
 -- What contracts see of a total.
 use Rattle.std.specs.Prelude.{ℕ, ℤ, List}
-use Rattle.groups.specs.declared.counts.Count.{Count}
+use Rattle.groups.specs.Counts.{Count}
 
 -- how many rows there are, and of a column's values that are not NULL how many, their sum, and how often each stands
 pub record Figures : Type 0 where

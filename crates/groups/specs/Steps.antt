@@ -6,11 +6,10 @@ use Rattle.value.specs.declared.values.Value.TheVariants.{Null, Int, Text}
 use Rattle.value.specs.ValueOrder.{value_cmp}
 use Rattle.value.specs.Ordered as ordered
 use Rattle.table.specs.Aggregates.{number_of}
-use Rattle.groups.specs.declared.entries.Entry.{Entry}
 use Rattle.groups.specs.declared.members.Member.{Member}
 use Rattle.groups.specs.Counts.{one_up, counts_more, counts_less}
 use Rattle.groups.specs.Figures.{Figures}
-use Rattle.groups.specs.Totals.{Entries, group_in, total_at}
+use Rattle.groups.specs.Totals.{Entry, Entries, group_in, total_at}
 
 -- the total of no rows
 abbrev pub nothing : Figures

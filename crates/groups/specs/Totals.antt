@@ -7,10 +7,8 @@ use Rattle.value.specs.ValueOrder.{value_cmp}
 use Rattle.value.specs.Ordered as ordered
 use Rattle.table.specs.Aggregates.{is_there, sum_of}
 use Rattle.cond.specs.Slots.{magnitude}
-use Rattle.groups.specs.declared.counts.Count.{Count}
-use Rattle.groups.specs.declared.entries.Entry.{Entry}
 use Rattle.groups.specs.declared.members.Member.{Member}
-use Rattle.groups.specs.Counts.{value_of, count_at}
+use Rattle.groups.specs.Counts.{Count, value_of, count_at}
 use Rattle.groups.specs.Figures.{Figures}
 
 -- the total of a list of values, one for each row: how many rows, how many values are not NULL, their sum, and how often each stands
@@ -21,6 +19,15 @@ pub record IsTotalOf (vs : List Value) (t : Figures) : Type 0 where
   pub in_order : ordered.IsAscending value_cmp value_of t.values
   pub positive : All (λ (c : Count). 0 < c.count) t.values
   pub counts : (v : Value) → count_at v t.values ≡ count_by (λ w. is_there w && eq_by_cmp value_cmp v w) vs
+
+-- a group and its total
+pub record Entry : Type 0 where
+  pub group : Value
+  pub total : Figures
+
+-- a group that a total is kept under
+abbrev pub entry_from : Value × Figures → Entry
+entry_from kept = record { group = kept.0; total = kept.1 }
 
 -- the totals of groups, in the order of the groups
 abbrev pub Entries : Type 0

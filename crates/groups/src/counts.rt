@@ -1,50 +1,28 @@
 //! A multiset of values: each with how often it stands, in order.
 
-ghost use Rattle.std.specs.Prelude.{◌≡◌, [], IfOk, IsOkUnless};
+ghost use Rattle.std.specs.Prelude.{◌≡◌, ◌==◌, [], None, Some, IfOk, IsOkUnless, if◌then◌else◌};
 ghost use Rattle.std.specs.Option.{option_copied};
-ghost use Rattle.groups.specs.Counts.{count_at, kept_count, put_count, counts_more, counts_less, first_value, last_value};
+ghost use Rattle.groups.specs.Counts.{count_at, put_count, counts_more, counts_less, first_value, last_value};
 ghost use Rattle.value.specs.declared.refusals.Refusal.TheVariants.{NoMemory};
 
-use crate::ordered::{Keyed, copies, find, with_item};
+use pages::Pages;
 use std::alloc::Global;
 use std::marker::Model;
 use value::{Refusal, Value};
 
-/// A value and how often it stands, which is never 0.
-#[derive(Debug, Drop)]
-pub struct Count {
-    pub value: Value,
-    pub count: u64,
-}
-
-impl Keyed for Count {
-    ghost key_of = { λ count. count.value };
-
-    fn key(&self) -> &Value {
-        &self.value
-    }
-
-    fn copy(&self) -> Result<Count, Refusal> {
-        Ok(Count {
-            value: self.value.copy()?,
-            count: self.count,
-        })
-    }
-}
-
 /// A multiset of values that are not NULL, in the order of the values.
 #[derive(Debug, Drop)]
 pub struct Counts {
-    counts: Vec<Count>,
+    pages: Pages<u64>,
 }
 
 impl Model for Counts {
-    ghost use Rattle.std.specs.Prelude.{List};
-    ghost use Rattle.groups.specs.declared.counts.Count.{Count as counted};
+    ghost use Rattle.std.specs.Prelude.{List, map};
+    ghost use Rattle.groups.specs.Counts.{Count, count_from};
 
-    ghost Value = { List counted };
+    ghost Value = { List Count };
 
-    ghost view = { λ c. c.counts.items };
+    ghost view = { λ c. map count_from c.pages };
 }
 
 impl Counts {
@@ -53,7 +31,7 @@ impl Counts {
         ensures { result ≡ [] }
     {
         Counts {
-            counts: Vec::new(alloc),
+            pages: Pages::new(alloc),
         }
     }
 
@@ -65,7 +43,7 @@ impl Counts {
         match value {
             Value::Null => self.copy(),
             Value::Int(_) | Value::Text(_) => {
-                self.with(value, count_of(&self.counts, value).saturating_add(1))
+                self.with(value, self.count(value).saturating_add(1))
             }
         }
     }
@@ -78,9 +56,16 @@ impl Counts {
         match value {
             Value::Null => self.copy(),
             Value::Int(_) | Value::Text(_) => {
-                self.with(value, count_of(&self.counts, value).saturating_sub(1))
+                self.with(value, self.count(value).saturating_sub(1))
             }
         }
+    }
+
+    /// How often a value stands.
+    fn count(&self, value: &Value) -> u64
+        ensures { result ≡ count_at value.now self.now }
+    {
+        self.pages.get(value).copied().unwrap_or(0)
     }
 
     /// The values with this one so often.
@@ -88,10 +73,8 @@ impl Counts {
         ensures only_memory { IsOkUnless result NoMemory }
         ensures changed { IfOk result (λ counts. counts ≡ put_count value.now number self.now) }
     {
-        let alloc = *self.counts.allocator();
-        let new = kept_count(value, number)?;
         Ok(Counts {
-            counts: with_item(alloc, &self.counts, value, &new)?,
+            pages: self.pages.with(value, kept(number))?,
         })
     }
 
@@ -99,8 +82,8 @@ impl Counts {
     pub fn least(&self) -> Option<&Value>
         ensures { option_copied result ≡ first_value self.now }
     {
-        match self.counts.first() {
-            Some(count) => Some(&count.value),
+        match self.pages.first() {
+            Some(entry) => Some(&entry.0),
             None => None,
         }
     }
@@ -109,43 +92,26 @@ impl Counts {
     pub fn greatest(&self) -> Option<&Value>
         ensures { option_copied result ≡ last_value self.now }
     {
-        match self.counts.last() {
-            Some(count) => Some(&count.value),
+        match self.pages.last() {
+            Some(entry) => Some(&entry.0),
             None => None,
         }
     }
 
-    /// A multiset equal to this one.
+    /// A multiset equal to this one, which shares all with it.
     pub fn copy(&self) -> Result<Counts, Refusal>
         ensures only_memory { IsOkUnless result NoMemory }
         ensures equal { IfOk result (λ copy. copy ≡ self.now) }
     {
         Ok(Counts {
-            counts: copies(*self.counts.allocator(), &self.counts)?,
+            pages: self.pages.copy()?,
         })
     }
 }
 
-/// How often a value stands.
-fn count_of(counts: &[Count], value: &Value) -> u64
-    ensures { result ≡ count_at value.now counts.now }
+/// What is kept for a value that stands so often: nothing where it doesn't.
+fn kept(number: u64) -> Option<u64>
+    ensures { result ≡ (if number == 0 then None else Some number) }
 {
-    match find(counts, value) {
-        Some(count) => count.count,
-        None => 0,
-    }
-}
-
-/// A value with how often it stands; none where it doesn't.
-fn kept_count(value: &Value, number: u64) -> Result<Option<Count>, Refusal>
-    ensures only_memory { IsOkUnless result NoMemory }
-    ensures kept { IfOk result (λ count. count ≡ kept_count value.now number) }
-{
-    if number == 0 {
-        return Ok(None);
-    }
-    Ok(Some(Count {
-        value: value.copy()?,
-        count: number,
-    }))
+    if number == 0 { None } else { Some(number) }
 }

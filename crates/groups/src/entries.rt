@@ -1,6 +1,6 @@
 //! The total of each group.
 
-ghost use Rattle.std.specs.Prelude.{◌≡◌, [], List, map, IfOk, IsOkUnless};
+ghost use Rattle.std.specs.Prelude.{◌≡◌, ◌==◌, [], None, Some, List, map, IfOk, IsOkUnless, if◌then◌else◌};
 ghost use Rattle.std.specs.Option.{option_copied};
 ghost use Rattle.value.specs.declared.refusals.Refusal.TheVariants.{NoMemory};
 ghost use Rattle.value.specs.declared.values.Value.{Value as values};
@@ -12,48 +12,27 @@ ghost use Rattle.groups.specs.Steps.{put_entry, kept_total, figures_at, entries_
 ghost use Rattle.groups.specs.Totals.{Members, total_at, IsEntryOf, AreTotalsOf, AreWithin, IsWithin, IsChange};
 
 use crate::members::Member;
-use crate::ordered::{Keyed, copies, find, with_item};
 use crate::totals::Total;
 use cond::SlotValue;
+use pages::Pages;
 use std::alloc::Global;
 use std::marker::Model;
 use table::Aggregate;
 use value::{Refusal, Value};
 
-/// A group's value and its total.
-#[derive(Debug, Drop)]
-pub struct Entry {
-    pub group: Value,
-    pub total: Total,
-}
-
-impl Keyed for Entry {
-    ghost key_of = { λ entry. entry.group };
-
-    fn key(&self) -> &Value {
-        &self.group
-    }
-
-    fn copy(&self) -> Result<Entry, Refusal> {
-        Ok(Entry {
-            group: self.group.copy()?,
-            total: self.total.copy()?,
-        })
-    }
-}
-
 /// The total of each group that has a row, in the order of the groups.
 #[derive(Debug, Drop)]
 pub struct Totals {
-    entries: Vec<Entry>,
+    pages: Pages<Total>,
 }
 
 impl Model for Totals {
-    ghost use Rattle.groups.specs.Totals.{Entries};
+    ghost use Rattle.std.specs.Prelude.{map};
+    ghost use Rattle.groups.specs.Totals.{Entries, entry_from};
 
     ghost Value = { Entries };
 
-    ghost view = { λ t. t.entries.items };
+    ghost view = { λ t. map entry_from t.pages };
 }
 
 impl Totals {
@@ -63,7 +42,7 @@ impl Totals {
         ensures totals { AreTotalsOf (λ group. []) result }
     {
         Totals {
-            entries: Vec::new(alloc),
+            pages: Pages::new(alloc),
         }
     }
 
@@ -73,10 +52,7 @@ impl Totals {
         // It is that of the group's rows, and a group without rows has none.
         ensures entry { (members : Members) → AreTotalsOf members self.now → IsEntryOf (members group.now) (option_copied result) }
     {
-        match find(&self.entries, group) {
-            Some(entry) => Some(&entry.total),
-            None => None,
-        }
+        self.pages.get(group)
     }
 
     /// What a set function gives of a group's rows, also where it has none. MIN or MAX of texts copies one, and nothing
@@ -93,7 +69,7 @@ impl Totals {
     {
         match self.get(group) {
             Some(total) => total.answer(aggregate),
-            None => Total::new(*self.entries.allocator()).answer(aggregate),
+            None => Total::new(self.pages.allocator()).answer(aggregate),
         }
     }
 
@@ -120,7 +96,7 @@ impl Totals {
     {
         let total = match self.get(&member.group) {
             Some(total) => total.more(&member.value)?,
-            None => Total::new(*self.entries.allocator()).more(&member.value)?,
+            None => Total::new(self.pages.allocator()).more(&member.value)?,
         };
         self.put(&member.group, total)
     }
@@ -132,7 +108,7 @@ impl Totals {
     {
         let total = match self.get(&member.group) {
             Some(total) => total.less(&member.value)?,
-            None => Total::new(*self.entries.allocator()).less(&member.value)?,
+            None => Total::new(self.pages.allocator()).less(&member.value)?,
         };
         self.put(&member.group, total)
     }
@@ -142,34 +118,28 @@ impl Totals {
         ensures only_memory { IsOkUnless result NoMemory }
         ensures put { IfOk result (λ totals. totals ≡ put_entry group.now (kept_total group.now total) self.now) }
     {
-        let alloc = *self.entries.allocator();
-        let new = kept_entry(group, total)?;
         Ok(Totals {
-            entries: with_item(alloc, &self.entries, group, &new)?,
+            pages: self.pages.with(group, kept(total))?,
         })
     }
 
-    /// Totals equal to these.
+    /// Totals equal to these, which share all with them.
     pub fn copy(&self) -> Result<Totals, Refusal>
         ensures only_memory { IsOkUnless result NoMemory }
         ensures equal { IfOk result (λ copy. copy ≡ self.now) }
     {
         Ok(Totals {
-            entries: copies(*self.entries.allocator(), &self.entries)?,
+            pages: self.pages.copy()?,
         })
     }
 }
 
-/// A group's entry; none where its total is of no rows.
-fn kept_entry(group: &Value, total: Total) -> Result<Option<Entry>, Refusal>
-    ensures only_memory { IsOkUnless result NoMemory }
-    ensures kept { IfOk result (λ new. new ≡ kept_total group.now total) }
+/// What is kept for a group: its total, and nothing where that is of no rows.
+fn kept(total: Total) -> Option<Total>
+    ensures { result ≡ (if total.rows == 0 then None else Some total) }
 {
     if total.is_empty() {
-        return Ok(None);
+        return None;
     }
-    Ok(Some(Entry {
-        group: group.copy()?,
-        total,
-    }))
+    Some(total)
 }

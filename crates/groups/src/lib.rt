@@ -30,14 +30,14 @@
 //! set function looks at), and for the functions inside `Counts` (the multiset) and `Steps` (one row more or less). The
 //! set functions themselves are `table/specs/Aggregates`.
 //!
-//! Totals and multisets are sorted lists here, copied whole at each change: the plainest form that has this contract.
+//! Totals stand under their groups in `pages::Pages`, and so do the values of a multiset, each with its number: a change
+//! makes the paths to one group and to one value anew, and shares the rest.
 #![tactic(auto)]
 
 mod counts;
 mod entries;
 mod laws;
 mod members;
-mod ordered;
 mod totals;
 
 pub use entries::Totals;

@@ -8,15 +8,16 @@
 //! Contracts see a map as the plain list of its entries, each a key and its value, in the order of the keys (NULL, then
 //! numbers, then texts). Each key stands once.
 //!
-//! - `Pages::get` is the value under a key, if there is one.
+//! - `Pages::get` is the value under a key, if there is one, and `Pages::first` and `Pages::last` are the entries of the least
+//!   and of the greatest key.
 //! - `Pages::with` is the map after one change: under the key stands the new value, or none, and nothing else is another
 //!   than before.
 //! - `Pages::iter` lends the entries in order, one after the other, and `Pages::page_from` from any place on, as many as
 //!   stand together.
 //! - `Pages::copy` is an equal map, which shares everything.
 //!
-//! What the layer above may rest on: `get`, `len`, `iter` and `page_from` take no memory; a new map is the old one with that
-//! change and no other, or memory ran out; its keys ascend. No call has a premise.
+//! What the layer above may rest on: whatever only looks takes no memory; a new map is the old one with that change and no
+//! other, or memory ran out; its keys ascend. No call has a premise.
 //!
 //! Inside it is a B+-tree (Bayer and McCreight, "Organization and Maintenance of Large Ordered Indexes", 1972; Comer,
 //! "The Ubiquitous B-Tree", 1979) with path copying. Its leaves are *pages* of 1 to 64 entries and its inner nodes have 1

@@ -1,6 +1,6 @@
 //! The map.
 
-ghost use Rattle.std.specs.Prelude.{◌≡◌, ◌<◌, ◌≤◌, ◌^◌, [], length, map, take, drop, IfOk, IsOkUnless, option_map, option_to_list};
+ghost use Rattle.std.specs.Prelude.{◌≡◌, ◌<◌, ◌≤◌, ◌^◌, [], length, map, take, drop, IfOk, IsOkUnless, option_map, option_to_list, slice_get, ◌-◌};
 ghost use Rattle.std.specs.Option.{option_copied};
 ghost use Rattle.std.specs.Arc.{arc_value};
 ghost use Rattle.pages.specs.Levels.{Tree, entries_of, highest, HaveHeight};
@@ -97,6 +97,20 @@ impl<V> Pages<V> {
         Entries::new(self)
     }
 
+    /// The entry of the least key, if there is one. It takes no memory.
+    pub fn first(&self) -> Option<&(Value, V)>
+        ensures { option_copied result ≡ slice_get self.now 0 }
+    {
+        first_of(self.page_from(0))
+    }
+
+    /// The entry of the greatest key, if there is one. It takes no memory.
+    pub fn last(&self) -> Option<&(Value, V)>
+        ensures { option_copied result ≡ slice_get self.now (length self.now - 1) }
+    {
+        first_of(self.page_from(self.len().saturating_sub(1)))
+    }
+
     /// What stands at a key. It takes no memory.
     pub fn get(&self, key: &Value) -> Option<&V>
         ensures value { option_copied result ≡ option_map value_of (at value_cmp key_of key.now self.now) }
@@ -140,6 +154,16 @@ impl<V: Drop> Pages<V> {
         let new = new_entry(alloc, key, value)?;
         let root = next_root(alloc, &self.root, key, &new)?;
         with_root(alloc, root)
+    }
+}
+
+/// The first entry of a page, if there is one.
+fn first_of<V>(page: &[Arc<(Value, V)>]) -> Option<&(Value, V)>
+    ensures { option_copied result ≡ slice_get (map arc_value page.now) 0 }
+{
+    match page.first() {
+        Some(entry) => Some(entry),
+        None => None,
     }
 }
 

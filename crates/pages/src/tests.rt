@@ -149,6 +149,23 @@ fn an_emptied_map_begins_again(rt: HostRuntime) -> Result<(), Fail> {
     Ok(())
 }
 
+/// The first and the last number of a map.
+fn ends(pages: &Pages<i64>) -> (Option<i64>, Option<i64>) {
+    (
+        pages.first().map(|entry| entry.1),
+        pages.last().map(|entry| entry.1),
+    )
+}
+
+#[test]
+fn a_map_has_a_first_and_a_last_entry(rt: HostRuntime) -> Result<(), Fail> {
+    let alloc = rt.alloc();
+    assert_eq!(rt; ends(&Pages::new(alloc)), (None, None));
+    assert_eq!(rt; ends(&counted(alloc, 1, true)?), (Some(1), Some(1)));
+    assert_eq!(rt; ends(&counted(alloc, 300, false)?), (Some(1), Some(300)));
+    Ok(())
+}
+
 /// A text as a key.
 fn text(alloc: Global, text: &str) -> Result<Value, Refusal> {
     Ok(Value::Text(Text::from_str(alloc, text)?))

@@ -9,13 +9,13 @@ use Rattle.table.specs.Rows.{RowValues, value_in, row_at, put_row}
 use Rattle.cond.specs.Bounds.{IsSmallRow}
 use Rattle.assertion.specs.Meaning.{State, rows_of}
 use Rattle.assertion.specs.Roots.{IsChangeOf, state_after}
-use Rattle.roots.specs.Kept.{IsSmallState, IsEmptyState}
+use Rattle.roots.specs.Kept.{IsSmallState}
 
 -- one table without rows
 abbrev pub nothing : State
 nothing = [] ∷ []
 
-pub is-empty : IsEmptyState nothing
+is-empty : (t : ℕ) → rows_of t nothing ≡ []
 is-empty zero = refl
 is-empty (suc n) = refl
 

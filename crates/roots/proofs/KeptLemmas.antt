@@ -15,7 +15,7 @@ use Rattle.groups.specs.Totals.{Entries, AreTotalsOf, AreWithin, IsChange}
 use Rattle.groups.proofs.EntryLemmas.{AreTotalsOf-along}
 use Rattle.groups.proofs.RowLemmas.{members_change, members_within}
 use Rattle.roots.specs.Summaries.{Summary, place, value_by, members}
-use Rattle.roots.specs.Kept.{AreSoFar, IsSmallState, IsEmptyState}
+use Rattle.roots.specs.Kept.{AreSoFar, IsSmallState}
 
 test_true : (a b : ℕ) → a ≡ b → (a == b) ≡ true
 test_true a b e = grind (arith, nat_tests)
@@ -29,10 +29,6 @@ members-within state s k = elim s.column as (λ column. AreWithin (members_of (p
   | None ↦ members_within (place s.grouped) CountRows (rows_of s.grouped.table state) (k.short s.grouped.table) (k.small s.grouped.table)
   | Some c ↦ members_within (place s.grouped) (Count c) (rows_of s.grouped.table state) (k.short s.grouped.table) (k.small s.grouped.table)
 ]
-
--- where no table has a row, the totals of nothing are those of the groups
-pub totals-none : (state : State) (s : Summary) (es : Entries) → IsEmptyState state → AreTotalsOf (λ v. []) es → AreTotalsOf (members state s) es
-totals-none state s es e k = AreTotalsOf-along (λ v. []) (members state s) es (λ v. ap (λ rows. members_of (place s.grouped) (value_by s.column) rows v) (e s.grouped.table)) k
 
 module _ (layouts : List Layout) (change : Change) (state : State) (is : IsChangeOf layouts change state) where
   -- the groups of the changed table change by the old and the new row

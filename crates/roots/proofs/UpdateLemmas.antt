@@ -22,7 +22,7 @@ use Rattle.assertion.specs.Meaning.{State, key_of, kept_rows}
 use Rattle.assertion.specs.Roots.{is_bad_group, is_bad_row, is_bad_root, is_among, AreBad, IsOrdered, IsChangeOf, state_after}
 use Rattle.assertion.proofs.KeptTruth.{kept_truth}
 use Rattle.roots.specs.Bad.{IsRowOf, put_root, is_touched, AreUpdated}
-use Rattle.roots.specs.Kept.{IsSmallRoot, IsEmptyState}
+use Rattle.roots.specs.Kept.{IsSmallRoot}
 
 -- the roots after one is put in or taken out
 is_among-put : (q : Root) (b : Bool) (rs : List Root) → IsAscending root_cmp (λ k. k) rs → (r : Root) → is_among r (put_root q b rs) ≡ cond (eq_by_cmp root_cmp r q) b (is_among r rs)
@@ -48,7 +48,7 @@ is_touched-push r (p ∷ qs) q =
     or_true true = refl
     or_true false = refl
 
-is_touched-has : (r : Root) (qs : List Root) → is_touched r qs ≡ has root_cmp r qs
+pub is_touched-has : (r : Root) (qs : List Root) → is_touched r qs ≡ has root_cmp r qs
 is_touched-has r [] = refl
 is_touched-has r (q ∷ qs) = ap (λ b. eq_by_cmp root_cmp r q || b) (is_touched-has r qs)
 
@@ -84,12 +84,12 @@ AreBad-after layouts change state after form bad made is asc now old u = record 
     case r false e = old.exact r ∙ sym (ap (λ s. is_bad_root layouts form s r) now ∙ kept_truth layouts change state is asc form r (sym (is_touched-has r (candidates change form)) ∙ e))
 
 -- the candidates by groups are values of the rows
-column_small : (row : RowValues) (c : ℕ) → IsSmallRow row → magnitude (value_in c row) ≤ 10 ^ 15
+pub column_small : (row : RowValues) (c : ℕ) → IsSmallRow row → magnitude (value_in c row) ≤ 10 ^ 15
 column_small [] c h = omega arith
 column_small (v ∷ vs) zero h = All-head (λ v. magnitude v ≤ 10 ^ 15) v vs h
 column_small (v ∷ vs) (suc c) h = column_small vs c (All-tail (λ v. magnitude v ≤ 10 ^ 15) v vs h)
 
-groups_small : (g : ℕ) (form : Form) (rows : List RowValues) → ((row : RowValues) → IsSmallRow row → IsSmallRoot form (Of (value_in g row))) → All IsSmallRow rows → All (IsSmallRoot form) (group_candidates g rows)
+pub groups_small : (g : ℕ) (form : Form) (rows : List RowValues) → ((row : RowValues) → IsSmallRow row → IsSmallRoot form (Of (value_in g row))) → All IsSmallRow rows → All (IsSmallRoot form) (group_candidates g rows)
 groups_small g form [] f h = All-nil (IsSmallRoot form)
 groups_small g form (row ∷ rows) f h = All-cons (IsSmallRoot form) (Of (value_in g row)) (group_candidates g rows) (f row (All-head IsSmallRow row rows h)) (groups_small g form rows f (All-tail IsSmallRow row rows h))
 
@@ -107,30 +107,6 @@ candidates_small change (ByGroup table kept group having aggregates) old new =
       | true ↦ groups_small group (ByGroup table kept group having aggregates) (touched change) (λ row h. column_small row group h) (touched_small change.old change.new old new)
       | false ↦ All-nil (IsSmallRoot (ByGroup table kept group having aggregates))
     ]
-
--- no form asks for a row of the whole, or for a row of any root but its own
-pub no-row-of-all : (layouts : List Layout) (form : Form) (state : State) (row : Option RowValues) → IsRowOf layouts form state Whole row
-no-row-of-all layouts (ByRow table c queries) state row = tt
-no-row-of-all layouts (ByGroup table kept group having aggregates) state row = tt
-no-row-of-all layouts (Single c queries) state row = tt
-
--- where no table has a row, the whole alone can be bad
-none_of : (layouts : List Layout) (form : Form) (state : State) (v : Value) → IsEmptyState state → is_bad_root layouts form state (Of v) ≡ false
-none_of layouts (ByRow table c queries) state v e = ap (λ rows. is_bad_row state c queries v (row_at (key_of table layouts) v rows)) (e table)
-none_of layouts (ByGroup table kept group having aggregates) state v e = ap (λ rows. is_bad_group (kept_rows kept rows) group having aggregates v) (e table)
-none_of layouts (Single c queries) state v e = refl
-
-pub AreBad-start : (layouts : List Layout) (form : Form) (state : State) (b : Bool) (made : List Root) → IsEmptyState state → b ≡ is_bad_root layouts form state Whole → made ≡ put_root Whole b [] → AreBad layouts form state made
-AreBad-start layouts form state true made e is m = record { in_order = rw m (tt, tt); exact = λ r. ap (is_among r) m ∙ case r }
-  where
-    case : (r : Root) → is_among r (Whole ∷ []) ≡ is_bad_root layouts form state r
-    case Whole = is
-    case (Of v) = sym (none_of layouts form state v e)
-AreBad-start layouts form state false made e is m = record { in_order = rw m tt; exact = λ r. ap (is_among r) m ∙ case r }
-  where
-    case : (r : Root) → false ≡ is_bad_root layouts form state r
-    case Whole = is
-    case (Of v) = sym (none_of layouts form state v e)
 
 -- the whole is no group
 pub all_small : (form : Form) → IsSmallRoot form Whole

@@ -13,6 +13,7 @@ use Rattle.cond.specs.declared.conds.Cond.{Cond}
 use Rattle.cond.specs.Eval.{truth, keeps}
 use Rattle.assertion.specs.declared.forms.Form.{Form}
 use Rattle.assertion.specs.declared.forms.Form.TheVariants.{ByRow, ByGroup, Single}
+use Rattle.assertion.specs.Candidates.{group_candidates}
 use Rattle.assertion.specs.Meaning.{State, rows_of, key_of}
 use Rattle.assertion.specs.Roots.{is_bad_root, is_among}
 use Rattle.roots.specs.Summaries.{Summary, members}
@@ -45,6 +46,12 @@ whole_truth state queries condition = truth [] (answers state queries Null) cond
 -- the roots with this one in or out
 abbrev pub put_root : Root → Bool → List Root → List Root
 put_root root is_in = ordered.put root_cmp (λ k. k) root (if is_in then Some root else None)
+
+-- the roots that rows name: the keys of the root table, the groups of the table, or the whole
+abbrev pub named_roots : List Layout → Form → State → List Root
+named_roots layouts (ByRow table condition queries) state = group_candidates (key_of table layouts) (rows_of table state)
+named_roots layouts (ByGroup table kept group having aggregates) state = group_candidates group (rows_of table state)
+named_roots layouts (Single condition queries) state = All ∷ []
 
 -- whether a root is one of these
 abbrev pub is_touched : Root → List Root → Bool

@@ -30,10 +30,6 @@ pub record AreOfTables (form : Form) (entries : List Entries) : Type 0 where
   pub small : IsSmallState state
   pub kept : AreKept state form entries
 
--- no table has a row
-abbrev pub IsEmptyState : State → Type 0
-IsEmptyState state = (table : ℕ) → rows_of table state ≡ []
-
 -- a root that is a group is no larger a number than a column's
 abbrev pub IsSmallRoot : Form → Root → Type 0
 IsSmallRoot (ByRow table condition queries) root = Unit {0}

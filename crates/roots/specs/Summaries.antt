@@ -49,9 +49,13 @@ abbrev pub value_by : Option ℕ → RowValues → Value
 value_by None row = Null
 value_by (Some column) row = value_in column row
 
--- each group with the values of its rows
+-- each group of these rows with the values of its rows
+abbrev pub row_members : Summary → List RowValues → Members
+row_members summary rows = members_of (place summary.grouped) (value_by summary.column) rows
+
+-- each group of its table with the values of its rows
 abbrev pub members : State → Summary → Members
-members state summary = members_of (place summary.grouped) (value_by summary.column) (rows_of summary.grouped.table state)
+members state summary = row_members summary (rows_of summary.grouped.table state)
 
 -- the column under a set function; COUNT(*) has none
 abbrev pub column_of : Aggregate → Option ℕ

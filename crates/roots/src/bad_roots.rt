@@ -19,6 +19,7 @@ ghost use Rattle.roots.specs.Kept.{AreKept, AreOfTables, IsSmallRoot};
 ghost use Rattle.roots.specs.Summaries.{Summary, summaries_of};
 
 use crate::answers::{count_of, slots};
+use crate::lists::BadRoots;
 use assertion::Form;
 use cond::{Cond, eval, keeps};
 use groups::Totals;
@@ -59,7 +60,12 @@ pub fn is_bad(
 
 /// The truth of an assertion. By rows and by groups it is whether there is a bad root, and `bad` are the bad roots; of a
 /// single condition it is the condition's, which can be unknown, and `bad` isn't looked at.
-pub fn truth_of(alloc: Global, form: &Form, kept: &[Totals], bad: &[Root]) -> Result<Truth, Refusal>
+pub fn truth_of(
+    alloc: Global,
+    form: &Form,
+    kept: &[Totals],
+    bad: &BadRoots,
+) -> Result<Truth, Refusal>
     requires bounded { IsBounded form.now }
     requires kept { AreOfTables form.now kept.now }
     ensures only_memory { IsOkUnless result NoMemory }
@@ -73,13 +79,12 @@ pub fn truth_of(alloc: Global, form: &Form, kept: &[Totals], bad: &[Root]) -> Re
 }
 
 /// Whether there is no bad root.
-fn truth_by_roots(bad: &[Root]) -> Truth
+fn truth_by_roots(bad: &BadRoots) -> Truth
     ensures { result ≡ truth_of_roots bad.now }
 {
-    if bad.is_empty() {
-        Truth::True
-    } else {
-        Truth::False
+    match bad.first() {
+        None => Truth::True,
+        Some(_) => Truth::False,
     }
 }
 

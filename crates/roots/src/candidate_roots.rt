@@ -3,6 +3,7 @@
 ghost use Rattle.std.specs.Prelude.{◌≡◌, ◌++◌, flat_map, IfOk, OnOk, IsOkUnless, option_to_list};
 ghost use Rattle.value.specs.declared.refusals.Refusal.TheVariants.{NoMemory};
 ghost use Rattle.assertion.specs.Candidates.{candidates as candidates_by, candidates_of, group_candidates, is_named as is_named_of, link_candidates, query_candidates, touched};
+ghost use Rattle.roots.specs.Over.{is_linked as is_linked_of, is_over as is_over_of};
 
 use crate::columns::value_at;
 use assertion::{Form, Linked, Plain};
@@ -104,4 +105,32 @@ fn is_named(queries: &[Plain], table: usize) -> bool
         }
     }
     false
+}
+
+/// Whether one of the linked subqueries is over the table.
+fn is_linked(queries: &[Linked], table: usize) -> bool
+    ensures { result ≡ is_linked_of table queries.now }
+{
+    for query in queries {
+        if query.table == table {
+            return true;
+        }
+    }
+    false
+}
+
+/// Whether an assertion is over a table, by its outer query or by a subquery. A change of another table has no candidates,
+/// and what is kept for the assertion stays right.
+pub fn is_over(form: &Form, table: usize) -> bool
+    ensures { result ≡ is_over_of table form.now }
+{
+    match form {
+        Form::ByRow {
+            table: of,
+            queries,
+            ..
+        } => *of == table || is_linked(queries.as_slice(), table),
+        Form::ByGroup { table: of, .. } => *of == table,
+        Form::Single { queries, .. } => is_named(queries.as_slice(), table),
+    }
 }

@@ -1,6 +1,6 @@
 //! The rows of a table in groups.
 
-ghost use Rattle.std.specs.Prelude.{◌≡◌, [], IfOk, IsOkUnless};
+ghost use Rattle.std.specs.Prelude.{◌≡◌, [], Some, IfOk, IsOkUnless};
 ghost use Rattle.value.specs.declared.refusals.Refusal.TheVariants.{NoMemory};
 ghost use Rattle.value.specs.Ordered.{HoldsOf};
 ghost use Rattle.cond.specs.Bounds.{IsSmallRow};
@@ -50,13 +50,28 @@ pub fn member(
 {
     match row {
         None => Ok(None),
-        Some(row) => match place(alloc, grouped, row)? {
-            None => Ok(None),
-            Some(group) => Ok(Some(Member {
-                group,
-                value: counted_by(row, column)?,
-            })),
-        },
+        Some(row) => member_of_row(alloc, grouped, column, row),
+    }
+}
+
+/// What a row is to its group, if it goes to one.
+pub fn member_of_row(
+    alloc: Global,
+    grouped: GroupedTable,
+    column: Option<usize>,
+    row: &Row,
+) -> Result<Option<Member>, Refusal>
+    requires bounded { IsBoundedOver [] grouped.kept.now }
+    requires small { IsSmallRow row.now }
+    ensures only_memory { IsOkUnless result NoMemory }
+    ensures member { IfOk result (λ member. member ≡ member_of (place_of (shown_table grouped.entry)) (value_by column) (Some row.now)) }
+{
+    match place(alloc, grouped, row)? {
+        None => Ok(None),
+        Some(group) => Ok(Some(Member {
+            group,
+            value: counted_by(row, column)?,
+        })),
     }
 }
 

@@ -1,37 +1,87 @@
-//! The kept totals of a form, at the start and after a change.
+//! The kept totals of a form, of tables and after a change.
 
-ghost use Rattle.std.specs.Prelude.{◌≡◌, ◌≢◌, [], List, length, IfOk, IsOkUnless};
+ghost use Rattle.std.specs.Prelude.{◌≡◌, ◌≢◌, ◌<◌, ◌^◌, ◌++◌, ◌∷◌, [], All, List, length, IfOk, IsOkUnless};
 ghost use Rattle.value.specs.declared.refusals.Refusal.TheVariants.{NoMemory};
 ghost use Rattle.value.specs.Ordered.{HoldsOf};
-ghost use Rattle.table.specs.Rows.{Layout};
+ghost use Rattle.table.specs.Rows.{Layout, RowValues};
 ghost use Rattle.cond.specs.Bounds.{IsSmallRow};
 ghost use Rattle.assertion.specs.Bounded.{IsBounded, IsBoundedOver};
 ghost use Rattle.assertion.specs.Meaning.{State};
 ghost use Rattle.assertion.specs.Roots.{IsChangeOf, state_after};
-ghost use Rattle.groups.specs.Totals.{AreTotalsOf};
-ghost use Rattle.roots.specs.Kept.{AreKept, IsEmptyState, IsSmallState};
+ghost use Rattle.groups.specs.Totals.{AreTotalsOf, AreWithin};
+ghost use Rattle.roots.specs.Kept.{AreKept, IsSmallState};
 ghost use Rattle.roots.specs.Shown.{shown};
-ghost use Rattle.roots.specs.Summaries.{members, summaries_of};
+ghost use Rattle.roots.specs.Summaries.{members, row_members, summaries_of};
 
-use crate::grouped::member;
+use crate::grouped::{member, member_of_row};
 use crate::summaries::{Summary, columns, summary_count, summary_of};
 use assertion::Form;
 use groups::Totals;
+use mvrows::Rows;
 use std::alloc::Global;
-use table::Change;
+use table::{Change, Row};
 use value::Refusal;
 
-/// The totals to keep for a form while no table has a row.
-pub fn totals_at_start(alloc: Global, form: &Form) -> Result<Vec<Totals>, Refusal>
+/// The totals to keep for a form on these tables. Each is made in one pass over the rows of its table.
+pub fn totals_of(alloc: Global, form: &Form, tables: &[Rows]) -> Result<Vec<Totals>, Refusal>
+    requires bounded { IsBounded form.now }
+    requires small { IsSmallState tables.now }
     ensures only_memory { IsOkUnless result NoMemory }
-    ensures kept { IfOk result (λ kept. (state : State) → IsEmptyState state → AreKept state form.now kept.items) }
+    ensures kept { IfOk result (λ kept. AreKept tables.now form.now kept.items) }
 {
     let columns = columns(alloc, form)?;
-    let mut kept = Vec::new(alloc);
+    let mut made = Vec::new(alloc);
     for index in 0..summary_count(form, &columns) {
-        kept.push(Totals::new(alloc))?;
+        let summary = summary_of(form, &columns, index);
+        made.push(total_of(alloc, summary, tables)?)?;
     }
-    Ok(kept)
+    Ok(made)
+}
+
+/// The totals of one summary.
+fn total_of(alloc: Global, summary: Summary, tables: &[Rows]) -> Result<Totals, Refusal>
+    requires bounded { IsBoundedOver [] summary.grouped.kept.now }
+    requires small { IsSmallState tables.now }
+    ensures only_memory { IsOkUnless result NoMemory }
+    ensures kept { IfOk result (AreTotalsOf (members tables.now (shown summary.entry))) }
+{
+    match tables.get(summary.grouped.table) {
+        Some(rows) => total_of_rows(alloc, summary, rows),
+        None => Ok(Totals::new(alloc)),
+    }
+}
+
+/// The totals of one summary over these rows.
+fn total_of_rows(alloc: Global, summary: Summary, rows: &Rows) -> Result<Totals, Refusal>
+    requires bounded { IsBoundedOver [] summary.grouped.kept.now }
+    requires small { All IsSmallRow rows.now }
+    requires short { length rows.now < 2 ^ 63 }
+    ensures only_memory { IsOkUnless result NoMemory }
+    ensures kept { IfOk result (AreTotalsOf (row_members (shown summary.entry) rows.now)) }
+{
+    let mut made = Totals::new(alloc);
+    for row in rows.iter() {
+        made = total_with(alloc, summary, &made, row)?;
+    }
+    Ok(made)
+}
+
+/// The totals of one summary with one row more.
+fn total_with(
+    alloc: Global,
+    summary: Summary,
+    totals: &Totals,
+    row: &Row,
+) -> Result<Totals, Refusal>
+    requires bounded { IsBoundedOver [] summary.grouped.kept.now }
+    requires small { IsSmallRow row.now }
+    ensures only_memory { IsOkUnless result NoMemory }
+    ensures kept { IfOk result (λ made. (rows : List RowValues) → AreWithin (row_members (shown summary.entry) (rows ++ row.now ∷ []))
+        → AreTotalsOf (row_members (shown summary.entry) rows) totals.now
+        → AreTotalsOf (row_members (shown summary.entry) (rows ++ row.now ∷ [])) made) }
+{
+    let add = member_of_row(alloc, summary.grouped, summary.column, row)?;
+    totals.with(&add, &None)
 }
 
 /// The totals to keep after a change: those of the tables with it, where the old ones are those of the tables before.

@@ -15,13 +15,17 @@
 //! A slot of the form's condition is thus a set function and the place of the kept totals that answer it.
 //!
 //! - [`candidates`] are the roots that changes can turn, in order; every other root keeps its truth.
-//! - [`totals_at_start`] and [`totals_after`] are the kept totals while no table has a row, and after a change. A row
+//! - [`totals_of`] and [`totals_after`] are the kept totals of tables, made in one pass, and after a change. A row
 //!   that moves leaves its old group, and a group without rows has no entry. The tables are not handed in: whatever
 //!   tables the old totals are of, the new ones are of those with the change.
 //! - [`is_bad`] is whether the assertion is false at one root, from the row under that key, where the form is by rows, and
 //!   the kept totals.
-//! - [`bad_at_start`] and [`bad_after`] are the bad roots, in order. After a change its candidates are evaluated and no other
-//!   root is: one that turned bad is put in, one that was mended is taken out, and the rest stays.
+//! - [`bad_of`] and [`bad_after`] are the bad roots, in order, as a [`BadRoots`], of which every version stays whole. Of tables
+//!   only the roots that rows name are evaluated, since no other can be bad.
+//!   After a change its candidates are evaluated and no other root is: one that turned bad is put in, one that was mended is
+//!   taken out, and the rest stays.
+//! - [`is_over`] is whether an assertion is over a table. A change of another one has no candidates, and what is kept stays
+//!   right as it is.
 //! - [`truth_of`] is the assertion's truth: by rows and by groups whether there is a bad root, of a single condition
 //!   its truth, which can be unknown and is then not bad.
 //!
@@ -32,7 +36,7 @@
 //!
 //! The definitions are in `specs/`: `Summaries` (of what totals are kept), `Kept` (kept totals of tables, and bounds),
 //! `Answers` (the queries of the slots, and from which totals each is answered), `Bad` (rows of roots, and lists of bad
-//! roots) and `Shown` (what is lent from a form). Truth, bad roots and candidates are those of `assertion`.
+//! roots), `Listed` (how such a list is kept), `Over` (the tables of an assertion) and `Shown` (what is lent from a form). Truth, bad roots and candidates are those of `assertion`.
 #![tactic(auto)]
 
 mod answers;
@@ -41,13 +45,15 @@ mod candidate_roots;
 mod columns;
 mod grouped;
 mod kept;
+mod lists;
 mod summaries;
 mod updates;
 
 pub use bad_roots::{is_bad, truth_of};
-pub use candidate_roots::candidates;
-pub use kept::{totals_after, totals_at_start};
-pub use updates::{bad_after, bad_at_start};
+pub use candidate_roots::{candidates, is_over};
+pub use kept::{totals_after, totals_of};
+pub use lists::BadRoots;
+pub use updates::{bad_after, bad_of};
 
 #[cfg(test)]
 mod tests;

@@ -1,40 +1,110 @@
-//! The kept bad roots of a form, at the start and after a change.
+//! The kept bad roots of a form, of tables and after a change.
 
-ghost use Rattle.std.specs.Prelude.{◌≡◌, ◌++◌, [], All, List, IfOk, OnOk, IsOkUnless};
+ghost use Rattle.std.specs.Prelude.{◌≡◌, All, IfOk, IsOkUnless};
 ghost use Rattle.std.specs.Option.{option_copied};
 ghost use Rattle.value.specs.Ordered as ordered;
 ghost use Rattle.value.specs.ValueOrder.{root_cmp};
 ghost use Rattle.value.specs.declared.refusals.Refusal.TheVariants.{NoMemory};
-ghost use Rattle.table.specs.Rows.{Layout, row_at};
+ghost use Rattle.table.specs.Rows.{row_at};
 ghost use Rattle.cond.specs.Bounds.{IsSmallRow};
 ghost use Rattle.assertion.specs.Bounded.{IsBounded};
+ghost use Rattle.assertion.specs.Candidates.{group_candidates};
 ghost use Rattle.assertion.specs.Meaning.{State, key_of, rows_of};
 ghost use Rattle.assertion.specs.Roots.{AreBad, IsChangeOf, IsOrdered, state_after};
-ghost use Rattle.roots.specs.Bad.{AreUpdated, IsRowOf, put_root};
-ghost use Rattle.roots.specs.Kept.{AreKept, AreOfTables, IsEmptyState, IsSmallRoot, IsSmallState};
+ghost use Rattle.roots.specs.Bad.{AreUpdated, IsRowOf, named_roots as named_roots_of};
+ghost use Rattle.roots.specs.Kept.{AreKept, IsSmallRoot, IsSmallState};
 
 use crate::bad_roots::is_bad;
 use crate::candidate_roots::push_candidates;
+use crate::columns::value_at;
+use crate::lists::BadRoots;
 use assertion::Form;
 use groups::Totals;
 use mvrows::Rows;
 use std::alloc::Global;
-use std::cmp::Ordering;
 use table::{Change, Row, Schema};
-use value::{Refusal, Root, Value, order_roots};
+use value::{Refusal, Root, Value};
 
-/// The bad roots while no table has a row, by the totals to keep then.
-pub fn bad_at_start(alloc: Global, form: &Form, kept: &[Totals]) -> Result<Vec<Root>, Refusal>
+/// The bad roots of these tables, in order, by their kept totals. Only roots that a row names are looked at, since no other
+/// can be bad.
+pub fn bad_of(
+    alloc: Global,
+    schemas: &[Schema],
+    tables: &[Rows],
+    form: &Form,
+    kept: &[Totals],
+) -> Result<BadRoots, Refusal>
     requires bounded { IsBounded form.now }
-    requires kept { AreOfTables form.now kept.now }
+    requires small { IsSmallState tables.now }
+    requires kept { AreKept tables.now form.now kept.now }
     ensures only_memory { IsOkUnless result NoMemory }
-    ensures bad { IfOk result (λ bad. (layouts : List Layout) (state : State) → IsEmptyState state
-        → AreKept state form.now kept.now → AreBad layouts form.now state bad.items) }
+    ensures bad { IfOk result (AreBad schemas.now form.now tables.now) }
 {
-    let is_in = is_bad(alloc, form, None, kept, &Root::All)?;
-    let mut bad = Vec::new(alloc);
-    push_root(&mut bad, &Root::All, is_in)?;
-    Ok(bad)
+    let named = named_roots(alloc, schemas, tables, form)?;
+    let none = BadRoots::new(alloc);
+    updated(alloc, schemas, tables, form, kept, &none, &named)
+}
+
+/// The roots that rows name, and the whole of a single condition.
+fn named_roots(
+    alloc: Global,
+    schemas: &[Schema],
+    tables: &[Rows],
+    form: &Form,
+) -> Result<Vec<Root>, Refusal>
+    ensures only_memory { IsOkUnless result NoMemory }
+    ensures named { IfOk result (λ roots. roots.items ≡ named_roots_of schemas.now form.now tables.now) }
+{
+    match form {
+        Form::ByRow { table, .. } => {
+            roots_in_table(alloc, tables, *table, key_column(schemas, *table))
+        }
+        Form::ByGroup { table, group, .. } => roots_in_table(alloc, tables, *table, *group),
+        Form::Single { .. } => {
+            let mut roots = Vec::new(alloc);
+            roots.push(Root::All)?;
+            Ok(roots)
+        }
+    }
+}
+
+/// What a column of a table holds in each of its rows, as roots.
+fn roots_in_table(
+    alloc: Global,
+    tables: &[Rows],
+    table: usize,
+    column: usize,
+) -> Result<Vec<Root>, Refusal>
+    ensures only_memory { IsOkUnless result NoMemory }
+    ensures roots { IfOk result (λ roots. roots.items ≡ group_candidates column (rows_of table tables.now)) }
+{
+    match tables.get(table) {
+        Some(rows) => roots_in_rows(alloc, rows, column),
+        None => Ok(Vec::new(alloc)),
+    }
+}
+
+/// What a column holds in each row, as roots.
+fn roots_in_rows(alloc: Global, rows: &Rows, column: usize) -> Result<Vec<Root>, Refusal>
+    ensures only_memory { IsOkUnless result NoMemory }
+    ensures roots { IfOk result (λ roots. roots.items ≡ group_candidates column rows.now) }
+{
+    let mut roots = Vec::new(alloc);
+    for row in rows.iter() {
+        let value = value_at(row, column)?;
+        roots.push(Root::Of(value))?;
+    }
+    Ok(roots)
+}
+
+/// The place of a table's key column.
+fn key_column(schemas: &[Schema], table: usize) -> usize
+    ensures { result ≡ key_of table schemas.now }
+{
+    match schemas.get(table) {
+        Some(schema) => schema.key(),
+        None => 0,
+    }
 }
 
 /// The bad roots after a change, in order: `tables` and `kept` are those after it, `bad` the bad roots before. Only the
@@ -45,9 +115,9 @@ pub fn bad_after(
     tables: &[Rows],
     form: &Form,
     kept: &[Totals],
-    bad: &[Root],
+    bad: &BadRoots,
     change: &Change,
-) -> Result<Vec<Root>, Refusal>
+) -> Result<BadRoots, Refusal>
     requires bounded { IsBounded form.now }
     requires small { IsSmallState tables.now }
     requires old_small { ordered.HoldsOf IsSmallRow change.now.old }
@@ -56,7 +126,7 @@ pub fn bad_after(
     ensures only_memory { IsOkUnless result NoMemory }
     ensures bad { IfOk result (λ made. (before : State) → IsOrdered schemas.now before → IsChangeOf schemas.now change.now before
         → tables.now ≡ state_after schemas.now change.now before → AreBad schemas.now form.now before bad.now
-        → AreBad schemas.now form.now tables.now made.items) }
+        → AreBad schemas.now form.now tables.now made) }
 {
     let mut touched = Vec::new(alloc);
     push_candidates(&mut touched, form, change)?;
@@ -70,22 +140,22 @@ fn updated(
     tables: &[Rows],
     form: &Form,
     kept: &[Totals],
-    bad: &[Root],
+    bad: &BadRoots,
     touched: &[Root],
-) -> Result<Vec<Root>, Refusal>
+) -> Result<BadRoots, Refusal>
     requires bounded { IsBounded form.now }
     requires small { IsSmallState tables.now }
     requires roots_small { All (IsSmallRoot form.now) touched.now }
     requires kept { AreKept tables.now form.now kept.now }
     ensures only_memory { IsOkUnless result NoMemory }
     ensures updated { IfOk result (λ made. ordered.IsAscending root_cmp (λ k. k) bad.now
-        → AreUpdated schemas.now form.now tables.now touched.now bad.now made.items) }
+        → AreUpdated schemas.now form.now tables.now touched.now bad.now made) }
 {
-    let mut made = copy_roots(alloc, bad)?;
+    let mut made = bad.copy()?;
     for root in touched {
         let row = row_of(schemas, tables, form, root);
         let is_in = is_bad(alloc, form, row, kept, root)?;
-        made = with_root(alloc, &made, root, is_in)?;
+        made = made.with(root, is_in)?;
     }
     Ok(made)
 }
@@ -111,66 +181,8 @@ fn row_under<'a>(
 ) -> Option<&'a Row>
     ensures { option_copied result ≡ row_at (key_of table schemas.now) key.now (rows_of table tables.now) }
 {
-    let key_column = match schemas.get(table) {
-        Some(schema) => schema.key(),
-        None => 0,
-    };
     match tables.get(table) {
-        Some(rows) => rows.get(key_column, key),
+        Some(rows) => rows.get(key_column(schemas, table), key),
         None => None,
     }
-}
-
-/// Roots equal to these.
-fn copy_roots(alloc: Global, roots: &[Root]) -> Result<Vec<Root>, Refusal>
-    ensures only_memory { IsOkUnless result NoMemory }
-    ensures equal { IfOk result (λ made. made.items ≡ roots.now) }
-{
-    let mut made = Vec::new(alloc);
-    for root in roots {
-        made.push(root.copy()?)?;
-    }
-    Ok(made)
-}
-
-/// Roots in order with this one in or out.
-fn with_root(alloc: Global, roots: &[Root], root: &Root, is_in: bool) -> Result<Vec<Root>, Refusal>
-    ensures only_memory { IsOkUnless result NoMemory }
-    ensures changed { IfOk result (λ made. made.items ≡ put_root root.now is_in roots.now) }
-{
-    let mut made = Vec::new(alloc);
-    let mut placed = false;
-    for item in roots {
-        if placed {
-            made.push(item.copy()?)?;
-            continue;
-        }
-        match order_roots(root, item) {
-            Ordering::Less => {
-                push_root(&mut made, root, is_in)?;
-                made.push(item.copy()?)?;
-                placed = true;
-            }
-            Ordering::Equal => {
-                push_root(&mut made, root, is_in)?;
-                placed = true;
-            }
-            Ordering::Greater => made.push(item.copy()?)?,
-        }
-    }
-    if !placed {
-        push_root(&mut made, root, is_in)?;
-    }
-    Ok(made)
-}
-
-/// Puts a root that is in behind the others.
-fn push_root(roots: &mut Vec<Root>, root: &Root, is_in: bool) -> Result<(), Refusal>
-    ensures only_memory { IsOkUnless result NoMemory }
-    ensures pushed { OnOk result (roots.new.items ≡ roots.old.items ++ put_root root.now is_in []) }
-{
-    if is_in {
-        roots.push(root.copy()?)?;
-    }
-    Ok(())
 }

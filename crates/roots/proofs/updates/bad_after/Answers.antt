@@ -1,4 +1,4 @@
-use Rattle.std.proofs.Common.{◌∙◌, ap, subst, sym, ◌++◌, List, Vec, Global}
+use Rattle.std.proofs.Common.{◌∙◌, ap, subst, sym, ◌++◌, List}
 use Rattle.std.specs.Prelude.{All}
 use Rattle.std.proofs.lemmas.Result.{IfOk-weaker}
 use Rattle.value.specs.declared.values.Root.{Root}
@@ -17,7 +17,7 @@ pub returns-clause-bad : goal.returns-clause-bad
 returns-clause-bad c =
     let e = c.deref.ensures.value ∙ c.in_ok-push_candidates.ensures.pushed ∙ ap (λ (rs : List Root). rs ++ candidates c.args.change.now c.args.form.now) c.new-touched.ensures.items in
     IfOk-weaker c.updated.result _ _
-    (λ (made : Vec Root Global) h. λ before asc is now old.
-    AreBad-after c.args.schemas.now c.args.change.now before c.args.tables.now c.args.form.now c.args.bad.now made.items is asc now old
-    (subst (λ (rs : List Root). AreUpdated c.args.schemas.now c.args.form.now c.args.tables.now rs c.args.bad.now made.items) e (h old.in_order)))
+    (λ (made : List Root) h. λ before asc is now old.
+    AreBad-after c.args.schemas.now c.args.change.now before c.args.tables.now c.args.form.now c.args.bad.now made is asc now old
+    (subst (λ (rs : List Root). AreUpdated c.args.schemas.now c.args.form.now c.args.tables.now rs c.args.bad.now made) e (h old.in_order)))
     c.updated.ensures.updated

@@ -1,5 +1,3 @@
-use Rattle.std.proofs.Common.{◌∙◌, ap}
-use Rattle.roots.specs.Bad.{put_root}
 use Rattle.roots.proofs.UpdateLemmas.{AreUpdated-more}
 use Rattle.roots.proofs.updates.updated.Goals as goal
 
@@ -8,5 +6,5 @@ is_bad-requires-clause-kept c = record { state = c.args.tables.now; small = c.re
 
 pub loop-root-preserved : goal.loop-root-preserved
 loop-root-preserved c = λ asc.
-    AreUpdated-more c.args.schemas.now c.args.form.now c.args.tables.now c.args.bad.now c.args.touched.now c.loop-root.root-index c.root-item.result c.in_ok-is_in.is_in c.loop-root.made.items c.in_ok-made-2.made.items
-    c.loop-root-test.true c.root-item.is (c.in_ok-is_in.ensures.bad c.args.schemas.now c.args.tables.now c.requires.kept c.row_of-row.ensures.row) (c.in_ok-made-2.ensures.changed ∙ ap (put_root c.root-item.result c.in_ok-is_in.is_in) c.deref.ensures.value) (c.loop-root.invariant asc)
+    AreUpdated-more c.args.schemas.now c.args.form.now c.args.tables.now c.args.bad.now c.args.touched.now c.loop-root.root-index c.root-item.result c.in_ok-is_in.is_in c.loop-root.made c.in_ok-made-2.made
+    c.loop-root-test.true c.root-item.is (c.in_ok-is_in.ensures.bad c.args.schemas.now c.args.tables.now c.requires.kept c.row_of-row.ensures.row) c.in_ok-made-2.ensures.changed (c.loop-root.invariant asc)

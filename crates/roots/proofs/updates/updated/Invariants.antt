@@ -6,4 +6,4 @@ use Rattle.roots.proofs.updates.updated.Given as goal
 
 -- the touched roots so far are in or out
 abbrev pub invariant-loop-root : goal.invariant-loop-root
-invariant-loop-root l = IsAscending root_cmp (λ k. k) l.bad → AreUpdated l.schemas l.form l.tables (take l.root-index l.touched) l.bad l.made.items
+invariant-loop-root l = IsAscending root_cmp (λ k. k) l.bad → AreUpdated l.schemas l.form l.tables (take l.root-index l.touched) l.bad l.made

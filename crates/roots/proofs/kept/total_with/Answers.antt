@@ -1,0 +1,16 @@
+use Rattle.std.proofs.lemmas.Result.{IfOk-weaker}
+use Rattle.std.proofs.Common.{List, [], ◌∷◌, ◌++◌}
+use Rattle.groups.specs.Totals.{Entries}
+use Rattle.groups.proofs.RowLemmas.{members_added}
+use Rattle.roots.specs.Shown.{shown}
+use Rattle.roots.specs.Summaries.{place, value_by, row_members}
+use Rattle.roots.proofs.kept.total_with.Goals as goal
+
+pub returns-clause-kept : goal.returns-clause-kept
+returns-clause-kept c =
+    let s = shown c.args.summary in
+    let row = c.args.row.now in
+    IfOk-weaker c.with.result _ _
+    (λ (made : Entries) h. λ rows within totals.
+    h (row_members s rows) (row_members s (rows ++ row ∷ [])) (rw c.in_ok-add.ensures.member (members_added (place s.grouped) (value_by s.column) row rows)) totals within)
+    c.with.ensures.totals

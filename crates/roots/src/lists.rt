@@ -1,0 +1,150 @@
+//! Roots in order, of which every version stays whole.
+
+ghost use Rattle.std.specs.Prelude.{◌≡◌, [], None, Some, IfOk, IsOkUnless, if◌then◌else◌, slice_get};
+ghost use Rattle.std.specs.Option.{option_copied};
+ghost use Rattle.pages.specs.Reach.{key_of, entry_of};
+ghost use Rattle.value.specs.Ordered.{put};
+ghost use Rattle.value.specs.ValueOrder.{value_cmp};
+ghost use Rattle.value.specs.declared.refusals.Refusal.TheVariants.{NoMemory};
+ghost use Rattle.value.specs.declared.values.Root.TheVariants.{All, Of};
+ghost use Rattle.roots.specs.Bad.{put_root};
+ghost use Rattle.roots.specs.Listed.{AreUnder};
+
+use pages::Pages;
+use std::alloc::Global;
+use std::marker::Model;
+use value::{Refusal, Root, Value};
+
+/// Bad roots in order, each once. A change makes a new list, which shares all but the changed path.
+#[derive(Debug, Drop)]
+pub struct BadRoots {
+    /// The whole, if it is one of them.
+    whole: Option<Root>,
+    /// The others, each under its value.
+    values: Pages<Root>,
+}
+
+impl Model for BadRoots {
+    ghost use Rattle.std.specs.Prelude.{List};
+    ghost use Rattle.value.specs.declared.values.Root.{Root as roots};
+    ghost use Rattle.roots.specs.Listed.{roots_in, AreInPlace};
+
+    ghost Value = { List roots };
+
+    ghost view = { λ bad. roots_in bad.whole bad.values };
+
+    ghost invariant = { λ bad. AreInPlace bad.whole bad.values };
+}
+
+impl BadRoots {
+    /// No roots. It takes no memory.
+    pub fn new(alloc: Global) -> BadRoots
+        ensures { result ≡ [] }
+    {
+        BadRoots {
+            whole: None,
+            values: Pages::new(alloc),
+        }
+    }
+
+    /// The least of the roots, if there is one. It takes no memory.
+    pub fn first(&self) -> Option<&Root>
+        ensures { option_copied result ≡ slice_get self.now 0 }
+    {
+        match &self.whole {
+            Some(root) => Some(root),
+            None => match self.values.first() {
+                Some(entry) => Some(&entry.1),
+                None => None,
+            },
+        }
+    }
+
+    /// The roots with this one in or out. These stay as they are, also where the answer is NoMemory.
+    pub fn with(&self, root: &Root, is_in: bool) -> Result<BadRoots, Refusal>
+        ensures only_memory { IsOkUnless result NoMemory }
+        ensures changed { IfOk result (λ made. made ≡ put_root root.now is_in self.now) }
+    {
+        match root {
+            Root::All => self.with_whole(is_in),
+            Root::Of(value) => self.with_value(value, is_in),
+        }
+    }
+
+    /// The roots with the whole in or out.
+    fn with_whole(&self, is_in: bool) -> Result<BadRoots, Refusal>
+        ensures only_memory { IsOkUnless result NoMemory }
+        ensures changed { IfOk result (λ made. made ≡ put_root All is_in self.now) }
+    {
+        Ok(BadRoots {
+            whole: the_whole(is_in),
+            values: self.values.copy()?,
+        })
+    }
+
+    /// The roots with the root of a value in or out.
+    fn with_value(&self, value: &Value, is_in: bool) -> Result<BadRoots, Refusal>
+        ensures only_memory { IsOkUnless result NoMemory }
+        ensures changed { IfOk result (λ made. made ≡ put_root (Of value.now) is_in self.now) }
+    {
+        let whole = copy_of(&self.whole)?;
+        Ok(BadRoots {
+            whole,
+            values: with_value(&self.values, value, is_in)?,
+        })
+    }
+
+    /// Roots equal to these, which share all with them.
+    pub fn copy(&self) -> Result<BadRoots, Refusal>
+        ensures only_memory { IsOkUnless result NoMemory }
+        ensures equal { IfOk result (λ copy. copy ≡ self.now) }
+    {
+        Ok(BadRoots {
+            whole: copy_of(&self.whole)?,
+            values: self.values.copy()?,
+        })
+    }
+}
+
+/// The whole, if it is in.
+fn the_whole(is_in: bool) -> Option<Root>
+    ensures { result ≡ (if is_in then Some All else None) }
+{
+    if is_in { Some(Root::All) } else { None }
+}
+
+/// A root equal to this one, if there is one.
+fn copy_of(root: &Option<Root>) -> Result<Option<Root>, Refusal>
+    ensures only_memory { IsOkUnless result NoMemory }
+    ensures equal { IfOk result (λ copy. copy ≡ root.now) }
+{
+    match root {
+        Some(root) => Ok(Some(root.copy()?)),
+        None => Ok(None),
+    }
+}
+
+/// What is kept with the root of a value in or out; where it is so already, the same is shared.
+fn with_value(values: &Pages<Root>, value: &Value, is_in: bool) -> Result<Pages<Root>, Refusal>
+    requires { AreUnder values.now }
+    ensures only_memory { IsOkUnless result NoMemory }
+    ensures changed { IfOk result (λ made. made
+        ≡ put value_cmp key_of value.now (entry_of value.now (if is_in then Some (Of value.now) else None)) values.now) }
+{
+    if values.get(value).is_some() == is_in {
+        return values.copy();
+    }
+    values.with(value, root_of(value, is_in)?)
+}
+
+/// The root of a value, if it is in.
+fn root_of(value: &Value, is_in: bool) -> Result<Option<Root>, Refusal>
+    ensures only_memory { IsOkUnless result NoMemory }
+    ensures root { IfOk result (λ root. root ≡ (if is_in then Some (Of value.now) else None)) }
+{
+    if is_in {
+        Ok(Some(Root::Of(value.copy()?)))
+    } else {
+        Ok(None)
+    }
+}
