@@ -1,9 +1,12 @@
 -- What is kept is right one by one.
-use Rattle.std.proofs.Common.{◌≡◌, ℕ, ◌+◌, ◌<◌, Bool, true, false, cond, List, [], ◌∷◌, ◌++◌, Some, None, map, length, get_or, refl, sym, ◌∙◌, ap, subst, arith, ◌⊎◌, ⊎_elim, length-append}
+use Rattle.std.proofs.Common.{◌≡◌, ℕ, ◌+◌, ◌<◌, Bool, true, false, cond, Global, List, [], ◌∷◌, ◌++◌, Some, None, map, length, get_or, refl, sym, ◌∙◌, ap, subst, arith, ◌⊎◌, ⊎_elim, length-append}
 use Rattle.std.specs.Prelude.{IfSome, nat_lt, position}
 use Rattle.std.specs.List.{position_or_len}
 use Rattle.std.proofs.lemmas.Bool.Decides.{nat_tests}
-use Rattle.std.proofs.lemmas.List.{get_or_append_left, get_or_default, get_or-map, length-map, same_lists}
+use Rattle.std.proofs.lemmas.List.{get_or_append_left, get_or_default, get_or-map as get_or-mapped, length-map, map-append, same_lists}
+use Rattle.std.proofs.Math.ListN.{get_or-map}
+use Rattle.std.specs.Arc.{arc_value}
+use Rattle.std.specs.declared.sync.Arc.{Arc}
 use Rattle.threeval.specs.Truths.{is_of}
 use Rattle.threeval.specs.declared.Truth.TheVariants.{False}
 use Rattle.roots.proofs.AnswerLemmas.{item_in}
@@ -12,21 +15,15 @@ use Rattle.table.specs.Rows.{Layout}
 use Rattle.assertion.specs.declared.assertions.Assertion.{Assertion}
 use Rattle.assertion.specs.declared.forms.Form.{Form}
 use Rattle.assertion.specs.Meaning.{State, verdict_of}
-use Rattle.assertion.specs.Roots.{AreBad, IsChangeOf, state_after}
+use Rattle.assertion.specs.Roots.{IsOrdered, IsChangeOf, state_after}
 use Rattle.table.specs.declared.rows.Change.{Change}
 use Rattle.groups.specs.Totals.{Entries}
 use Rattle.roots.specs.Kept.{AreKept, IsSmallState}
-use Rattle.delta.proofs.TableLemmas.{good_small}
+use Rattle.roots.specs.Over.{is_over}
+use Rattle.roots.proofs.ElsewhereLemmas.{kept-elsewhere, bad-elsewhere, verdict-elsewhere}
+use Rattle.delta.proofs.TableLemmas.{good_order, good_small}
 use Rattle.delta.specs.declared.watches.Watch.{Watch}
 use Rattle.delta.specs.Kept.{IsWatched, IsWatchedBefore, AreWatched}
-
--- a watch with the same parts is as right
-pub IsWatched-same : (layouts : List Layout) (state : State) (form : Form) (w x : Watch) → x.totals.items ≡ w.totals.items → x.bad.items ≡ w.bad.items → x.truth ≡ w.truth → IsWatched layouts state form w → IsWatched layouts state form x
-IsWatched-same layouts state form w x e f g k = record {
-  kept = subst (AreKept state form) (sym e) k.kept;
-  bad = subst (AreBad layouts form state) (sym f) k.bad;
-  truth = g ∙ k.truth;
-}
 
 -- no watch
 pub AreWatched-none : (layouts : List Layout) (state : State) (forms : List Assertion) → AreWatched layouts state forms 0 []
@@ -63,6 +60,30 @@ watched_at layouts state forms n ws i a w k h e f = subst (λ (s : Assertion). I
 pub watched_for : (layouts : List Layout) (state : State) (forms : List Assertion) (n : ℕ) (ws : List Watch) (i : ℕ) (w : Watch) → AreWatched layouts state forms n ws → i < n → w ≡ get_or ws i w → (d : Assertion) → IsWatched layouts state (get_or forms i d).form w
 watched_for layouts state forms n ws i w k h f d = subst (λ (x : Watch). IsWatched layouts state (get_or forms i d).form x) (sym f) (k.right i h d w)
 
+-- the watch at a place where watches are shared
+pub shared_at : (ws : List (Arc Watch Global)) (i : ℕ) (w : Arc Watch Global) → w ≡ get_or ws i w → arc_value w ≡ get_or (map arc_value ws) i (arc_value w)
+shared_at ws i w e = ap arc_value e ∙ sym (get_or-map arc_value ws i w)
+
+pub watched_here : (layouts : List Layout) (state : State) (forms : List Assertion) (n : ℕ) (ws : List (Arc Watch Global)) (i : ℕ) (x : Arc Watch Global) (w : Watch) → AreWatched layouts state forms n (map arc_value ws) → i < n → x ≡ get_or ws i x → w ≡ arc_value x
+    → (d : Assertion) → IsWatched layouts state (get_or forms i d).form w
+watched_here layouts state forms n ws i x w k h e f d = subst (λ (v : Watch). IsWatched layouts state (get_or forms i d).form v) (sym f) (watched_for layouts state forms n (map arc_value ws) i (arc_value x) k h (shared_at ws i x e) d)
+
+-- one more of them
+pub shared_more : (ws more : List (Arc Watch Global)) (w : Arc Watch Global) → more ≡ ws ++ w ∷ [] → map arc_value more ≡ map arc_value ws ++ arc_value w ∷ []
+shared_more ws more w e = ap (map arc_value) e ∙ map-append arc_value ws (w ∷ [])
+
+-- a watch stays right through a change of a table that its assertion isn't over
+pub watched-elsewhere : (layouts : List Layout) (form : Form) (change : Change) (after : State) (w : Watch) → IsWatchedBefore layouts form change after w → is_over change.table form ≡ false → IsWatched layouts after form w
+watched-elsewhere layouts form change after w b h =
+    let was : State = b.before in
+    let before : IsOrdered layouts was = good_order layouts was b.step.good in
+    let now : IsOrdered layouts (state_after layouts change was) = subst (IsOrdered layouts) b.step.changed (good_order layouts after b.step.good_after) in
+    subst (λ (s : State). IsWatched layouts s form w) (sym b.step.changed) (record {
+      kept = kept-elsewhere layouts change was b.step.is form w.totals.items h b.watched.kept;
+      bad = bad-elsewhere layouts change was b.step.is form w.bad before h b.watched.bad;
+      truth = b.watched.truth ∙ verdict-elsewhere layouts change was b.step.is form w.bad before now h b.watched.bad;
+    })
+
 -- the kept totals after a change are those of the tables after it
 pub kept_after : (layouts : List Layout) (form : Form) (change : Change) (after : State) (w : Watch) (made : List Entries) → (b : IsWatchedBefore layouts form change after w)
     → ((layouts : List Layout) (state : State) → IsChangeOf layouts change state → IsSmallState (state_after layouts change state) → AreKept state form w.totals.items → AreKept (state_after layouts change state) form made) → AreKept after form made
@@ -92,7 +113,15 @@ false_same layouts state forms ws k =
     let in_forms : i < length forms = omega (arith, in_ws, k.long) in
     let w : Watch = item_in ws i in_ws in
     let a : Assertion = item_in forms i in_forms in
-    get_or-map kept ws i w d in_ws ∙ ap (λ t. is_of t False) (k.right i in_forms a w).truth ∙ sym (get_or-map told forms i a d in_forms))
+    get_or-mapped kept ws i w d in_ws ∙ ap (λ t. is_of t False) (k.right i in_forms a w).truth ∙ sym (get_or-mapped told forms i a d in_forms))
+
+-- where watches are shared
+pub position_shared : (p : Watch → Bool) (ws : List (Arc Watch Global)) → position (λ w. p (arc_value w)) ws ≡ position p (map arc_value ws)
+position_shared p ws = position_map (λ w. p (arc_value w)) ws ∙ ap (position (λ b. b)) (both ws) ∙ sym (position_map p (map arc_value ws))
+  where
+    both : (ws : List (Arc Watch Global)) → map (λ w. p (arc_value w)) ws ≡ map p (map arc_value ws)
+    both [] = refl
+    both (w ∷ ws) = ap (λ bs. p (arc_value w) ∷ bs) (both ws)
 
 pub first_same : (layouts : List Layout) (state : State) (forms : List Assertion) (ws : List Watch) → AreWatched layouts state forms (length forms) ws
     → position (λ w. is_of w.truth False) ws ≡ position (λ a. is_of (verdict_of layouts a.form state) False) forms

@@ -1,5 +1,7 @@
 -- What a view keeps for its assertions, and how it agrees with the tables.
-use Rattle.std.specs.Prelude.{◌≡◌, ℕ, ◌<◌, ◌^◌, List, length, slice_index_or}
+use Rattle.std.specs.Prelude.{◌≡◌, Bool, ℕ, ◌<◌, ◌^◌, List, length, slice_index_or}
+use Rattle.threeval.specs.Truths.{is_of}
+use Rattle.threeval.specs.declared.Truth.TheVariants.{False}
 use Rattle.table.specs.declared.rows.Change.{Change}
 use Rattle.table.specs.Rows.{Layout, Tables, layouts_of}
 use Rattle.assertion.specs.declared.assertions.Assertion.{Assertion}
@@ -10,15 +12,23 @@ use Rattle.roots.specs.Kept.{AreKept}
 use Rattle.delta.specs.declared.watches.Watch.{Watch}
 use Rattle.delta.specs.Views.{AreTables, AreBounded, IsFitting}
 
+-- the rows of each table can be counted
+abbrev pub AreShort : State → Type 0
+AreShort state = (table : ℕ) → length (rows_of table state) < 2 ^ 63
+
 -- the rows are tables of these layouts, and can be counted
 pub record IsGood (layouts : List Layout) (state : State) : Type 0 where
   pub tables : AreTables layouts state
-  pub short : (table : ℕ) → length (rows_of table state) < 2 ^ 63
+  pub short : AreShort state
+
+-- whether an assertion is false by what is kept for it
+abbrev pub is_false : Watch → Bool
+is_false watch = is_of watch.truth False
 
 -- what is kept for an assertion is right on these tables
 pub record IsWatched (layouts : List Layout) (state : State) (form : Form) (watch : Watch) : Type 0 where
   pub kept : AreKept state form watch.totals.items
-  pub bad : AreBad layouts form state watch.bad.items
+  pub bad : AreBad layouts form state watch.bad
   pub truth : watch.truth ≡ verdict_of layouts form state
 
 -- the first n watches are right for the first n assertions

@@ -2,15 +2,15 @@
 use Rattle.std.specs.Prelude.{◌≡◌, ℕ, List, [], All, length, slice_index_or}
 use Rattle.value.specs.Ordered.{HoldsOf}
 use Rattle.table.specs.declared.rows.Change.{Change}
-use Rattle.table.specs.Rows.{Layout, Tables, FitsColumns, IsTable}
+use Rattle.table.specs.Rows.{Layout, FitsColumns, IsTable}
 use Rattle.assertion.specs.declared.assertions.Assertion.{Assertion}
 use Rattle.assertion.specs.Bounded.{IsBounded}
+use Rattle.assertion.specs.Declarations.{Declared}
 use Rattle.assertion.specs.Meaning.{State, rows_of}
 
--- a view: the tables that there are, the assertions on them, and the rows of each table
+-- a view: the tables and assertions that are declared, and the rows of each table
 pub record Shown : Type 0 where
-  pub tables : Tables
-  pub assertions : List Assertion
+  pub declared : Declared
   pub state : State
 
 -- what the table at a place shows of its columns

@@ -13,11 +13,13 @@
 //! transaction can go on reading the version that it began with (multiversion concurrency control). The new watches are made
 //! from the old ones: the old row leaves its group and the new row joins its own, and the assertion is evaluated again only
 //! at the change's candidates, since no other root can have turned (materialized views, maintained incrementally: Gupta,
-//! Mumick and Subrahmanian, "Maintaining Views Incrementally", 1993). The tables that there are and the assertions are
+//! Mumick and Subrahmanian, "Maintaining Views Incrementally", 1993). The watch of an assertion that isn't over the changed
+//! table is shared as it is, and every other one shares all but the paths to what is changed (`pages`). The tables that there are and the assertions are
 //! the same for all views that come from one, and are shared.
 //!
-//! **Why each verdict is that from scratch.** Of a view, contracts show three things: the tables that there are, the
-//! assertions, and the plain rows. They name no total, no bad root that is kept, and no kept truth. [`View::verdict`] and
+//! **Why each verdict is that from scratch.** Of a view, contracts show two things: what is declared (the tables and the
+//! assertions, which no change touches) and the state (the plain rows). They name no total, no bad root that is kept, and
+//! no kept truth. [`View::verdict`] and
 //! [`View::least_bad`] answer what `assertion`'s definitions say of those rows, evaluated from scratch. For that the view
 //! keeps as its invariant that every watch is right: its totals are those of the groups of these very rows, its list has the
 //! roots at which the assertion is false and no other, and its truth is the assertion's. It holds of tables without rows,
@@ -26,8 +28,9 @@
 //! root is then the first of the list.
 //!
 //! - [`View::load`] is the view of given tables.
-//! - [`View::with`] is the view after a change of one row, and [`View::copy`] one that is equal.
-//! - [`View::catalog`], [`View::assertions`] and [`View::rows`] lend what it shows.
+//! - [`View::with`] is the view after a change of one row, [`View::after`] that after several, one after the other, and
+//!   [`View::copy`] one that is equal.
+//! - [`View::catalog`], [`View::schema`], [`View::assertions`] and [`View::rows`] lend what it shows.
 //! - [`View::verdict`] and [`View::least_bad`] are an assertion's truth and the least root at which it is false, and
 //!   [`View::first_false`] is the first assertion that is false. They take no memory.
 //! - [`View::candidates`] are the roots that changes can turn, for who has to note what a check has read.

@@ -139,7 +139,7 @@ fn assertions(alloc: Global) -> Result<Vec<Assertion>, Refusal>
 
 /// The view of a table of this row alone.
 fn view_of(alloc: Global, row: Row) -> Result<View, Refusal>
-    ensures three { IfOk result (λ view. length view.assertions ≡ 3) }
+    ensures three { IfOk result (λ view. length view.declared.assertions ≡ 3) }
     ensures one { IfOk result (λ view. length view.state ≡ 1) }
 {
     let schema = schema(alloc)?;
@@ -171,7 +171,7 @@ fn old_row(view: &View, schema: &Schema, key: &Value) -> Result<Option<Row>, Ref
 
 /// The view with the row in place of the one under its key.
 fn put(view: &View, row: Row) -> Result<View, Refusal>
-    ensures { IfOk result (λ after. after.assertions ≡ view.now.assertions) }
+    ensures { IfOk result (λ after. after.declared ≡ view.now.declared) }
 {
     let Some(schema) = view.catalog().at(0) else {
         return view.copy();
@@ -189,24 +189,25 @@ fn put(view: &View, row: Row) -> Result<View, Refusal>
 
 /// The view without the row of this number.
 fn remove(view: &View, id: i64) -> Result<View, Refusal>
-    ensures { IfOk result (λ after. after.assertions ≡ view.now.assertions) }
+    ensures { IfOk result (λ after. after.declared ≡ view.now.declared) }
 {
     let Some(schema) = view.catalog().at(0) else {
         return view.copy();
     };
     let key = Value::Int(id);
     let old = old_row(view, schema, &key)?;
-    view.with(&Change {
+    let changes = [Change {
         table: 0,
         key,
         old,
         new: None,
-    })
+    }];
+    view.after(&changes)
 }
 
 /// The verdicts in order.
 fn verdicts(view: &View) -> (Truth, Truth, Truth)
-    requires { length view.now.assertions ≡ 3 }
+    requires { length view.now.declared.assertions ≡ 3 }
 {
     (view.verdict(0), view.verdict(1), view.verdict(2))
 }
@@ -243,7 +244,7 @@ fn null_group(rt: HostRuntime) -> Result<(), Fail> {
     let alloc = rt.alloc();
     let view = view_of(alloc, row(alloc, 7, "", 6)?)?.copy()?;
     assert!(rt; view.least_bad(0) == Some(&Root::Of(Value::Null)));
-    assert_eq!(rt; view.catalog().len(), 1);
+    assert_eq!(rt; (view.catalog().len(), view.schema(0).key()), (1, 0));
     assert_eq!(rt; view.assertions().len(), 3);
     let mut changes = Vec::new(alloc);
     changes.push(Change {

@@ -1,45 +1,53 @@
 //! The tables and what is kept for the assertions, at the start and after a change.
 
-ghost use Rattle.std.specs.Prelude.{ℕ, ◌≡◌, ◌<◌, List, length, IfOk, IsOkUnless};
+ghost use Rattle.std.specs.Prelude.{◌≡◌, map, length, IfOk, IsOkUnless};
+ghost use Rattle.std.specs.Arc.{arc_value};
 ghost use Rattle.value.specs.declared.refusals.Refusal.TheVariants.{NoMemory};
-ghost use Rattle.table.specs.Rows.{Layout};
-ghost use Rattle.assertion.specs.declared.assertions.Assertion.{Assertion as AnyAssertion};
-ghost use Rattle.assertion.specs.Meaning.{State, key_of};
+ghost use Rattle.assertion.specs.Meaning.{key_of};
 ghost use Rattle.assertion.specs.Roots.{IsChangeOf, state_after};
-ghost use Rattle.roots.specs.Kept.{IsEmptyState};
-ghost use Rattle.delta.specs.Kept.{AreWatched, IsGood, IsStep};
+ghost use Rattle.delta.specs.Kept.{AreShort, AreWatched, IsGood, IsStep};
 ghost use Rattle.delta.specs.Views.{AreBounded, IsFitting};
 
-use crate::watches::Watch;
+use crate::watches::{Watch, watch_after};
 use assertion::Assertion;
 use mvrows::Rows;
 use std::alloc::Global;
+use std::sync::Arc;
 use table::{Change, Schema};
 use value::Refusal;
 
-/// A table without rows for each schema.
-pub fn tables_at_start(alloc: Global, schemas: &[Schema]) -> Result<Vec<Rows>, Refusal>
+/// Tables equal to these, and that each can be counted.
+pub fn tables_of(alloc: Global, rows: &[Rows]) -> Result<Vec<Rows>, Refusal>
     ensures only_memory { IsOkUnless result NoMemory }
-    ensures long { IfOk result (λ made. length made.items ≡ length schemas.now) }
-    ensures empty { IfOk result (λ made. IsEmptyState made.items) }
+    ensures equal { IfOk result (λ made. made.items ≡ rows.now) }
+    ensures short { IfOk result (λ made. AreShort made.items) }
 {
     let mut made = Vec::new(alloc);
-    for table in 0..schemas.len() {
-        made.push(Rows::new(alloc))?;
+    for table in 0..rows.len() {
+        let table = &rows[table];
+        // The proof reads that there are fewer than 2^63.
+        let _ = table.len();
+        made.push(table.copy()?)?;
     }
     Ok(made)
 }
 
-/// What is kept for the assertions while no table has a row.
-pub fn watches_at_start(alloc: Global, assertions: &[Assertion]) -> Result<Vec<Watch>, Refusal>
+/// What is kept for the assertions on these tables.
+pub fn watches_of(
+    alloc: Global,
+    schemas: &[Schema],
+    tables: &[Rows],
+    assertions: &[Assertion],
+) -> Result<Vec<Arc<Watch>>, Refusal>
     requires bounded { AreBounded assertions.now }
+    requires good { IsGood schemas.now tables.now }
     ensures only_memory { IsOkUnless result NoMemory }
-    ensures watched { IfOk result (λ made. (layouts : List Layout) (state : State) → IsEmptyState state
-        → AreWatched layouts state assertions.now (length assertions.now) made.items) }
+    ensures watched { IfOk result (λ made. AreWatched schemas.now tables.now assertions.now (length assertions.now) (map arc_value made.items)) }
 {
     let mut made = Vec::new(alloc);
     for index in 0..assertions.len() {
-        made.push(Watch::at_start(alloc, &assertions[index].form)?)?;
+        let watch = Watch::of(alloc, schemas, tables, &assertions[index].form)?;
+        made.push(Arc::new(alloc, watch)?)?;
     }
     Ok(made)
 }
@@ -82,19 +90,19 @@ pub fn watches_after(
     _before: &[Rows],
     after: &[Rows],
     assertions: &[Assertion],
-    watches: &[Watch],
+    watches: &[Arc<Watch>],
     change: &Change,
-) -> Result<Vec<Watch>, Refusal>
+) -> Result<Vec<Arc<Watch>>, Refusal>
     requires bounded { AreBounded assertions.now }
     requires step { IsStep schemas.now change.now _before.now after.now }
-    requires watched { AreWatched schemas.now _before.now assertions.now (length assertions.now) watches.now }
+    requires watched { AreWatched schemas.now _before.now assertions.now (length assertions.now) (map arc_value watches.now) }
     ensures only_memory { IsOkUnless result NoMemory }
-    ensures watched { IfOk result (λ made. AreWatched schemas.now after.now assertions.now (length assertions.now) made.items) }
+    ensures watched { IfOk result (λ made. AreWatched schemas.now after.now assertions.now (length assertions.now) (map arc_value made.items)) }
 {
     let mut made = Vec::new(alloc);
     for index in 0..assertions.len() {
         let form = &assertions[index].form;
-        made.push(watches[index].after(alloc, schemas, after, form, change)?)?;
+        made.push(watch_after(&watches[index], alloc, schemas, after, form, change)?)?;
     }
     Ok(made)
 }
@@ -111,15 +119,14 @@ pub fn copy_tables(alloc: Global, tables: &[Rows]) -> Result<Vec<Rows>, Refusal>
     Ok(made)
 }
 
-/// Watches that are right wherever these are.
-pub fn copy_watches(alloc: Global, watches: &[Watch]) -> Result<Vec<Watch>, Refusal>
+/// The same watches, shared.
+pub fn copy_watches(alloc: Global, watches: &[Arc<Watch>]) -> Result<Vec<Arc<Watch>>, Refusal>
     ensures only_memory { IsOkUnless result NoMemory }
-    ensures watched { IfOk result (λ made. (layouts : List Layout) (state : State) (assertions : List AnyAssertion) (n : ℕ)
-        → AreWatched layouts state assertions n watches.now → AreWatched layouts state assertions n made.items) }
+    ensures equal { IfOk result (λ made. map arc_value made.items ≡ map arc_value watches.now) }
 {
     let mut made = Vec::new(alloc);
     for watch in watches {
-        made.push(watch.copy(alloc)?)?;
+        made.push(Arc::try_clone(watch)?)?;
     }
     Ok(made)
 }

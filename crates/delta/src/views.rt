@@ -1,21 +1,22 @@
 //! Versions of the tables, with the verdicts of the assertions kept.
 
-ghost use Rattle.std.specs.Prelude.{◌≡◌, ◌<◌, ◌++◌, ◌∷◌, [], Some, None, length, position, slice_index_or, slice_set, IfOk, IfSome, IsOkUnless};
+ghost use Rattle.std.specs.Prelude.{◌≡◌, ◌<◌, length, position, slice_index_or, All, IfOk, IfSome, IsOkUnless};
 ghost use Rattle.std.specs.Option.{option_copied};
 ghost use Rattle.value.specs.declared.refusals.Refusal.TheVariants.{NoMemory};
-ghost use Rattle.table.specs.Rows.{FitsColumns, IsTable, layouts_of, value_in};
+ghost use Rattle.table.specs.Rows.{IsTable, layouts_of};
 ghost use Rattle.threeval.specs.Truths.{is_of};
 ghost use Rattle.threeval.specs.declared.Truth.TheVariants.{False};
+ghost use Rattle.cond.specs.Bounds.{IsSmallRow};
 ghost use Rattle.assertion.specs.declared.assertions.Assertion.{Assertion as AnyAssertion};
 ghost use Rattle.assertion.specs.Candidates.{candidates_of};
+ghost use Rattle.assertion.specs.Declarations.{layouts_in};
 ghost use Rattle.assertion.specs.Meaning.{least_bad_of, rows_of, verdict_of};
-ghost use Rattle.assertion.specs.Roots.{IsChangeOf, state_after};
-ghost use Rattle.roots.specs.Kept.{IsEmptyState};
+ghost use Rattle.assertion.specs.Roots.{AreChangesOf, IsChangeOf, state_after, state_after_all};
 ghost use Rattle.delta.specs.Views.{AreBounded, AreTables, IsFitting, layout_at};
 
 use crate::declarations::{Declarations, schemas_of};
 use crate::versions::{
-    copy_tables, copy_watches, tables_after, tables_at_start, watches_after, watches_at_start,
+    copy_tables, copy_watches, tables_after, tables_of, watches_after, watches_of,
 };
 use crate::watches::{Watch, first_false};
 use assertion::Assertion;
@@ -24,7 +25,7 @@ use roots::candidates;
 use std::alloc::Global;
 use std::marker::Model;
 use std::sync::Arc;
-use table::{Catalog, Change, Row, Schema};
+use table::{Catalog, Change, Schema};
 use threeval::Truth;
 use value::{Refusal, Root};
 
@@ -34,10 +35,11 @@ pub struct View {
     declarations: Arc<Declarations, Global>,
     tables: Vec<Rows>,
     /// One for each assertion.
-    watches: Vec<Watch>,
+    watches: Vec<Arc<Watch>>,
 }
 
 impl Model for View {
+    ghost use Rattle.std.specs.Prelude.{map};
     ghost use Rattle.std.specs.Arc.{arc_value};
     ghost use Rattle.std.specs.Coded.{codes};
     ghost use Rattle.cond.specs.contracts.conds.Cond as cond_type;
@@ -49,9 +51,9 @@ impl Model for View {
 
     ghost coded = { Prim.hlevel (codes, cond_type.the_row.coded, expr_type.the_row.coded) };
 
-    ghost view = { λ v. record { tables = (arc_value v.declarations).catalog; assertions = (arc_value v.declarations).assertions.items; state = v.tables.items } };
+    ghost view = { λ v. record { declared = record { tables = (arc_value v.declarations).catalog; assertions = (arc_value v.declarations).assertions.items }; state = v.tables.items } };
 
-    ghost invariant = { λ v. IsKept (arc_value v.declarations).catalog (arc_value v.declarations).schemas.items (arc_value v.declarations).assertions.items v.tables.items v.watches.items };
+    ghost invariant = { λ v. IsKept (arc_value v.declarations).catalog (arc_value v.declarations).schemas.items (arc_value v.declarations).assertions.items v.tables.items (map arc_value v.watches.items) };
 }
 
 impl View {
@@ -65,61 +67,11 @@ impl View {
         requires bounded { AreBounded assertions.items }
         requires tables { AreTables (layouts_of catalog) rows.now }
         ensures only_memory { IsOkUnless result NoMemory }
-        ensures loaded { IfOk result (λ view. view ≡ record { tables = catalog; assertions = assertions.items; state = rows.now }) }
-    {
-        let mut view = View::start(alloc, catalog, assertions)?;
-        for table in 0..rows.len() {
-            view = view.with_table(table, &rows[table])?;
-        }
-        Ok(view)
-    }
-
-    /// The view with these rows in a table that has none.
-    fn with_table(self, table: usize, rows: &Rows) -> Result<View, Refusal>
-        requires table_in { table < length self.state }
-        requires empty { rows_of table self.state ≡ [] }
-        requires table { IsTable (layout_at table (layouts_of self.tables)) rows.now }
-        ensures only_memory { IsOkUnless result NoMemory }
-        ensures filled { IfOk result (λ view. view ≡ record self { state = slice_set self.state table rows.now }) }
-    {
-        let mut view = self;
-        for row in rows.iter() {
-            view = view.with_row(table, row)?;
-        }
-        Ok(view)
-    }
-
-    /// The view with one more row, whose key is above those of a table.
-    fn with_row(&self, table: usize, row: &Row) -> Result<View, Refusal>
-        requires table_in { table < length self.now.state }
-        requires table { IsTable (layout_at table (layouts_of self.now.tables)) (rows_of table self.now.state ++ row.now ∷ []) }
-        ensures only_memory { IsOkUnless result NoMemory }
-        ensures added { IfOk result (λ view. view ≡ record self.now { state = slice_set self.now.state table (rows_of table self.now.state ++ row.now ∷ []) }) }
-    {
-        let change = insertion(table, self.schema(table), row)?;
-        self.with(&change)
-    }
-
-    /// The schema of a table.
-    fn schema(&self, table: usize) -> &Schema
-        requires { table < length self.now.state }
-        ensures { result.now ≡ layout_at table (layouts_of self.now.tables) }
-    {
-        &self.declarations.schemas[table]
-    }
-
-    /// The view of tables without rows.
-    fn start(alloc: Global, catalog: Catalog, assertions: Vec<Assertion>) -> Result<View, Refusal>
-        requires bounded { AreBounded assertions.items }
-        ensures only_memory { IsOkUnless result NoMemory }
-        ensures tables { IfOk result (λ view. view.tables ≡ catalog) }
-        ensures assertions { IfOk result (λ view. view.assertions ≡ assertions.items) }
-        ensures long { IfOk result (λ view. length view.state ≡ length (layouts_of catalog)) }
-        ensures empty { IfOk result (λ view. IsEmptyState view.state) }
+        ensures loaded { IfOk result (λ view. view ≡ record { declared = record { tables = catalog; assertions = assertions.items }; state = rows.now }) }
     {
         let schemas = schemas_of(alloc, &catalog)?;
-        let tables = tables_at_start(alloc, &schemas)?;
-        let watches = watches_at_start(alloc, &assertions)?;
+        let tables = tables_of(alloc, rows)?;
+        let watches = watches_of(alloc, &schemas, &tables, &assertions)?;
         let declarations = Declarations {
             catalog,
             schemas,
@@ -132,13 +84,21 @@ impl View {
         })
     }
 
+    /// The schema of a table.
+    pub fn schema(&self, table: usize) -> &Schema
+        requires { table < length self.now.state }
+        ensures { result.now ≡ layout_at table (layouts_in self.now.declared) }
+    {
+        &self.declarations.schemas[table]
+    }
+
     /// The view after a change of one row. The change names what stands under its key now, and this view stays as it
     /// is. Only memory can fail.
     pub fn with(&self, change: &Change) -> Result<View, Refusal>
-        requires is { IsChangeOf (layouts_of self.now.tables) change.now self.now.state }
-        requires fits { IsFitting (layouts_of self.now.tables) change.now }
+        requires is { IsChangeOf (layouts_in self.now.declared) change.now self.now.state }
+        requires fits { IsFitting (layouts_in self.now.declared) change.now }
         ensures only_memory { IsOkUnless result NoMemory }
-        ensures changed { IfOk result (λ view. view ≡ record self.now { state = state_after (layouts_of self.now.tables) change.now self.now.state }) }
+        ensures changed { IfOk result (λ view. view ≡ record self.now { state = state_after (layouts_in self.now.declared) change.now self.now.state }) }
     {
         let alloc = *self.tables.allocator();
         let declarations = Arc::try_clone(&self.declarations)?;
@@ -160,6 +120,22 @@ impl View {
         })
     }
 
+    /// The view after changes of rows, put in one after the other. Each names what stands under its key when its turn
+    /// comes, and this view stays as it is. Only memory can fail.
+    pub fn after(&self, changes: &[Change]) -> Result<View, Refusal>
+        requires are { AreChangesOf (layouts_in self.now.declared) changes.now self.now.state }
+        requires fit { All (IsFitting (layouts_in self.now.declared)) changes.now }
+        ensures only_memory { IsOkUnless result NoMemory }
+        ensures changed { IfOk result (λ view. view
+            ≡ record self.now { state = state_after_all (layouts_in self.now.declared) changes.now self.now.state }) }
+    {
+        let mut view = self.copy()?;
+        for change in changes {
+            view = view.with(change)?;
+        }
+        Ok(view)
+    }
+
     /// A view equal to this one.
     pub fn copy(&self) -> Result<View, Refusal>
         ensures only_memory { IsOkUnless result NoMemory }
@@ -175,35 +151,36 @@ impl View {
 
     /// The tables that there are.
     pub fn catalog(&self) -> &Catalog
-        ensures value { result.now ≡ self.now.tables }
-        ensures tables { AreTables (layouts_of self.now.tables) self.now.state }
+        ensures value { result.now ≡ self.now.declared.tables }
+        ensures tables { AreTables (layouts_in self.now.declared) self.now.state }
     {
         &self.declarations.catalog
     }
 
     /// The assertions on the tables.
     pub fn assertions(&self) -> &[Assertion]
-        ensures value { result.now ≡ self.now.assertions }
-        ensures bounded { AreBounded self.now.assertions }
+        ensures value { result.now ≡ self.now.declared.assertions }
+        ensures bounded { AreBounded self.now.declared.assertions }
     {
         self.declarations.assertions.as_slice()
     }
 
-    /// The rows of a table in key order, each fitting its columns.
+    /// The rows of a table in key order, each fitting its columns, so that its numbers are within their bounds.
     pub fn rows(&self, table: usize) -> &Rows
         requires { table < length self.now.state }
         ensures value { result.now ≡ rows_of table self.now.state }
-        ensures table { IsTable (layout_at table (layouts_of self.now.tables)) result.now }
+        ensures table { IsTable (layout_at table (layouts_in self.now.declared)) result.now }
+        ensures small { All IsSmallRow result.now }
     {
         &self.tables[table]
     }
 
     /// The roots at which an assertion can be another after these changes than before.
     pub fn candidates(&self, assertion: usize, changes: &[Change]) -> Result<Vec<Root>, Refusal>
-        requires { assertion < length self.now.assertions }
+        requires { assertion < length self.now.declared.assertions }
         ensures only_memory { IsOkUnless result NoMemory }
         ensures candidates { IfOk result (λ roots. (a : AnyAssertion)
-            → roots.items ≡ candidates_of changes.now (slice_index_or self.now.assertions assertion a).form) }
+            → roots.items ≡ candidates_of changes.now (slice_index_or self.now.declared.assertions assertion a).form) }
     {
         candidates(
             *self.tables.allocator(),
@@ -214,41 +191,27 @@ impl View {
 
     /// The truth of an assertion on the tables: what evaluating it afresh gives.
     pub fn verdict(&self, assertion: usize) -> Truth
-        requires { assertion < length self.now.assertions }
+        requires { assertion < length self.now.declared.assertions }
         ensures { (a : AnyAssertion)
-            → result ≡ verdict_of (layouts_of self.now.tables) (slice_index_or self.now.assertions assertion a).form self.now.state }
+            → result ≡ verdict_of (layouts_in self.now.declared) (slice_index_or self.now.declared.assertions assertion a).form self.now.state }
     {
         self.watches[assertion].truth
     }
 
     /// The first assertion that is false, in their order. What is unknown is not false.
     pub fn first_false(&self) -> Option<usize>
-        ensures first { result ≡ position (λ a. is_of (verdict_of (layouts_of self.now.tables) a.form self.now.state) False) self.now.assertions }
-        ensures within { IfSome result (λ assertion. assertion < length self.now.assertions) }
+        ensures first { result ≡ position (λ a. is_of (verdict_of (layouts_in self.now.declared) a.form self.now.state) False) self.now.declared.assertions }
+        ensures within { IfSome result (λ assertion. assertion < length self.now.declared.assertions) }
     {
         first_false(&self.watches)
     }
 
     /// The least root at which an assertion is false, if it is false.
     pub fn least_bad(&self, assertion: usize) -> Option<&Root>
-        requires { assertion < length self.now.assertions }
+        requires { assertion < length self.now.declared.assertions }
         ensures { (a : AnyAssertion)
-            → option_copied result ≡ least_bad_of (layouts_of self.now.tables) (slice_index_or self.now.assertions assertion a).form self.now.state }
+            → option_copied result ≡ least_bad_of (layouts_in self.now.declared) (slice_index_or self.now.declared.assertions assertion a).form self.now.state }
     {
         self.watches[assertion].bad.first()
     }
-}
-
-/// That this row is put into a table, under a key where none stands.
-fn insertion(table: usize, schema: &Schema, row: &Row) -> Result<Change, Refusal>
-    requires { FitsColumns schema.now.columns row.now }
-    ensures only_memory { IsOkUnless result NoMemory }
-    ensures change { IfOk result (λ change. change ≡ record { table = table; key = value_in schema.now.key row.now; old = None; new = Some row.now }) }
-{
-    Ok(Change {
-        table,
-        key: row.value(schema.key()).copy()?,
-        old: None,
-        new: Some(row.copy()?),
-    })
 }

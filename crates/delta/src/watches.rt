@@ -1,48 +1,47 @@
 //! What is kept for an assertion.
 
-ghost use Rattle.std.specs.Prelude.{◌≡◌, List, position, IfOk, IsOkUnless};
+ghost use Rattle.std.specs.Prelude.{◌≡◌, position, IfOk, IsOkUnless};
+ghost use Rattle.std.specs.Arc.{arc_value};
 ghost use Rattle.value.specs.declared.refusals.Refusal.TheVariants.{NoMemory};
-ghost use Rattle.threeval.specs.Truths.{is_of};
-ghost use Rattle.threeval.specs.declared.Truth.TheVariants.{False};
-ghost use Rattle.table.specs.Rows.{Layout};
-ghost use Rattle.assertion.specs.declared.forms.Form.{Form as AnyForm};
 ghost use Rattle.assertion.specs.Bounded.{IsBounded};
-ghost use Rattle.assertion.specs.Meaning.{State};
-ghost use Rattle.roots.specs.Kept.{IsEmptyState};
-ghost use Rattle.delta.specs.Kept.{IsWatched, IsWatchedBefore};
+ghost use Rattle.delta.specs.Kept.{IsGood, IsWatched, IsWatchedBefore, is_false};
 
 use assertion::Form;
 use groups::Totals;
 use mvrows::Rows;
-use roots::{bad_after, bad_at_start, totals_after, totals_at_start, truth_of};
+use roots::{BadRoots, bad_after, bad_of, is_over, totals_after, totals_of, truth_of};
 use std::alloc::Global;
+use std::sync::Arc;
 use table::{Change, Schema};
 use threeval::Truth;
-use value::{Refusal, Root};
+use value::Refusal;
 
 /// What is kept for an assertion: the totals that its set functions are answered from, its bad roots in order, and its
 /// truth.
 #[derive(Debug, Drop)]
 pub struct Watch {
     pub totals: Vec<Totals>,
-    pub bad: Vec<Root>,
+    pub bad: BadRoots,
     pub truth: Truth,
 }
 
 impl Watch {
-    /// What is kept for an assertion while no table has a row.
-    pub fn at_start(alloc: Global, form: &Form) -> Result<Watch, Refusal>
-        requires { IsBounded form.now }
+    /// What is kept for an assertion on these tables, made in one pass over them.
+    pub fn of(
+        alloc: Global,
+        schemas: &[Schema],
+        tables: &[Rows],
+        form: &Form,
+    ) -> Result<Watch, Refusal>
+        requires bounded { IsBounded form.now }
+        requires good { IsGood schemas.now tables.now }
         ensures only_memory { IsOkUnless result NoMemory }
-        ensures watched { IfOk result (λ watch. (layouts : List Layout) (state : State) → IsEmptyState state → IsWatched layouts state form.now watch) }
+        ensures watched { IfOk result (IsWatched schemas.now tables.now form.now) }
     {
-        let totals = totals_at_start(alloc, form)?;
-        let bad = bad_at_start(alloc, form, &totals)?;
-        Ok(Watch {
-            truth: truth_of(alloc, form, &totals, &bad)?,
-            totals,
-            bad,
-        })
+        let totals = totals_of(alloc, form, tables)?;
+        let bad = bad_of(alloc, schemas, tables, form, &totals)?;
+        let truth = truth_of(alloc, form, &totals, &bad)?;
+        Ok(Watch { truth, totals, bad })
     }
 
     /// What is kept for the assertion after a change. `tables` are those after it.
@@ -64,48 +63,33 @@ impl Watch {
         let truth = truth_of(alloc, form, &totals, &bad)?;
         Ok(Watch { totals, bad, truth })
     }
-
-    /// A watch that is right wherever this one is.
-    pub fn copy(&self, alloc: Global) -> Result<Watch, Refusal>
-        ensures only_memory { IsOkUnless result NoMemory }
-        ensures watched { IfOk result (λ copy. (layouts : List Layout) (state : State) (form : AnyForm)
-            → IsWatched layouts state form self.now → IsWatched layouts state form copy) }
-    {
-        Ok(Watch {
-            totals: copy_totals(alloc, &self.totals)?,
-            bad: copy_roots(alloc, &self.bad)?,
-            truth: self.truth,
-        })
-    }
 }
 
-/// Kept totals equal to these.
-fn copy_totals(alloc: Global, kept: &[Totals]) -> Result<Vec<Totals>, Refusal>
+/// What is kept for an assertion after a change, which is shared where the assertion is not over the changed table.
+pub fn watch_after(
+    watch: &Arc<Watch>,
+    alloc: Global,
+    schemas: &[Schema],
+    tables: &[Rows],
+    form: &Form,
+    change: &Change,
+) -> Result<Arc<Watch>, Refusal>
+    requires bounded { IsBounded form.now }
+    requires before { IsWatchedBefore schemas.now form.now change.now tables.now (arc_value watch.now) }
     ensures only_memory { IsOkUnless result NoMemory }
-    ensures equal { IfOk result (λ made. made.items ≡ kept.now) }
+    ensures watched { IfOk result (λ made. IsWatched schemas.now tables.now form.now (arc_value made)) }
 {
-    let mut made = Vec::new(alloc);
-    for totals in kept {
-        made.push(totals.copy()?)?;
+    if is_over(form, change.table) {
+        let made = watch.after(alloc, schemas, tables, form, change)?;
+        Ok(Arc::new(alloc, made)?)
+    } else {
+        Ok(Arc::try_clone(watch)?)
     }
-    Ok(made)
-}
-
-/// Roots equal to these.
-fn copy_roots(alloc: Global, roots: &[Root]) -> Result<Vec<Root>, Refusal>
-    ensures only_memory { IsOkUnless result NoMemory }
-    ensures equal { IfOk result (λ made. made.items ≡ roots.now) }
-{
-    let mut made = Vec::new(alloc);
-    for root in roots {
-        made.push(root.copy()?)?;
-    }
-    Ok(made)
 }
 
 /// The first watch of a false assertion.
-pub fn first_false(watches: &[Watch]) -> Option<usize>
-    ensures { result ≡ position (λ watch. is_of watch.truth False) watches.now }
+pub fn first_false(watches: &[Arc<Watch>]) -> Option<usize>
+    ensures { result ≡ position (λ watch. is_false (arc_value watch)) watches.now }
 {
     watches.iter().position(|watch| watch.truth == Truth::False)
 }

@@ -1,10 +1,7 @@
-use Rattle.std.proofs.Common.{ℕ, List}
-use Rattle.table.specs.Rows.{Layout}
-use Rattle.assertion.specs.declared.assertions.Assertion.{Assertion}
-use Rattle.assertion.specs.Meaning.{State}
-use Rattle.delta.specs.Kept.{AreWatched}
+use Rattle.std.proofs.Common.{◌≡◌, take, map}
+use Rattle.std.specs.Arc.{arc_value}
 use Rattle.delta.proofs.versions.copy_watches.Given as goal
 
--- the copies so far are right for the first assertions
+-- the watches so far
 abbrev pub invariant-loop-watch : goal.invariant-loop-watch
-invariant-loop-watch l = (layouts : List Layout) (state : State) (assertions : List Assertion) (n : ℕ) → AreWatched layouts state assertions n l.watches → AreWatched layouts state assertions l.watch-index l.made.items
+invariant-loop-watch l = map arc_value l.made.items ≡ map arc_value (take l.watch-index l.watches)

@@ -1,16 +1,19 @@
-use Rattle.std.proofs.Common.{arith}
-use Rattle.delta.proofs.WatchLemmas.{AreWatched-more, watched_past, watched_for}
+use Rattle.std.proofs.Common.{arith, map}
+use Rattle.std.specs.Arc.{arc_value}
+use Rattle.delta.proofs.WatchLemmas.{AreWatched-more, shared_at, shared_more, watched_past, watched_for}
 use Rattle.delta.proofs.versions.watches_after.Goals as goal
 
-pub after-requires-clause-before : goal.after-requires-clause-before
-after-requires-clause-before c = record {
+pub watch_after-requires-clause-before : goal.watch_after-requires-clause-before
+watch_after-requires-clause-before c = record {
   before = c.args._before.now;
   step = c.requires.step;
-  watched = watched_for c.args.schemas.now c.args._before.now c.args.assertions.now _ c.args.watches.now c.loop-index.index c.index-watches-index.result c.requires.watched (omega arith) c.index-watches-index.is c.index-assertions-index.result;
+  watched = watched_for c.args.schemas.now c.args._before.now c.args.assertions.now _ (map arc_value c.args.watches.now) c.loop-index.index (arc_value c.index-watches-index.result) c.requires.watched (omega arith) (shared_at c.args.watches.now c.loop-index.index c.index-watches-index.result c.index-watches-index.is) c.index-assertions-index.result;
 }
 
 pub loop-index-preserved : goal.loop-index-preserved
 loop-index-preserved c =
-    AreWatched-more c.args.schemas.now c.args.after.now c.args.assertions.now c.loop-index.index c.loop-index.made.items c.push.new.self.items c.in_ok-after.field-0 c.in_ok-push.ensures.items
-    (watched_past c.args.schemas.now c.args.after.now c.args.assertions.now c.loop-index.index c.index-assertions-index.result c.in_ok-after.field-0 (omega arith) c.in_ok-after.ensures.watched)
+    let made = c.in_ok-watch_after.field-0 in
+    AreWatched-more c.args.schemas.now c.args.after.now c.args.assertions.now c.loop-index.index (map arc_value c.loop-index.made.items) (map arc_value c.push.new.self.items) (arc_value made)
+    (shared_more c.loop-index.made.items c.push.new.self.items made c.in_ok-push.ensures.items)
+    (watched_past c.args.schemas.now c.args.after.now c.args.assertions.now c.loop-index.index c.index-assertions-index.result (arc_value made) (omega arith) c.in_ok-watch_after.ensures.watched)
     c.loop-index.invariant

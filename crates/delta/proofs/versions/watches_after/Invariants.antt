@@ -1,6 +1,8 @@
+use Rattle.std.proofs.Common.{map}
+use Rattle.std.specs.Arc.{arc_value}
 use Rattle.delta.specs.Kept.{AreWatched}
 use Rattle.delta.proofs.versions.watches_after.Given as goal
 
 -- the watches so far are right for the first assertions after the change
 abbrev pub invariant-loop-index : goal.invariant-loop-index
-invariant-loop-index l = AreWatched l.schemas l.after l.assertions l.index l.made.items
+invariant-loop-index l = AreWatched l.schemas l.after l.assertions l.index (map arc_value l.made.items)

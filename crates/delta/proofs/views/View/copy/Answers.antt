@@ -2,9 +2,4 @@ use Rattle.delta.proofs.views.View.copy.Goals as goal
 
 pub invariant_of-result : goal.invariant_of-result
 invariant_of-result c =
-    rw (c.in_ok-try_clone.ensures, c.in_ok-copy_tables.ensures.equal, c.deref.ensures.value) (record {
-      lays = c.self.invariant.lays;
-      bounded = c.self.invariant.bounded;
-      good = c.self.invariant.good;
-      watched = c.in_ok-copy_watches.ensures.watched _ _ _ _ (rw c.deref-2.ensures.value c.self.invariant.watched);
-    })
+    rw (c.in_ok-try_clone.ensures, c.in_ok-copy_tables.ensures.equal, c.in_ok-copy_watches.ensures.equal, c.deref.ensures.value, c.deref-2.ensures.value) c.self.invariant

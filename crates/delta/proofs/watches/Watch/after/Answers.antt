@@ -25,15 +25,15 @@ pub truth_of-requires-clause-kept : goal.truth_of-requires-clause-kept
 truth_of-requires-clause-kept c = record {
   state = c.args.tables.now;
   small = good_small c.args.schemas.now c.args.tables.now c.requires.before.step.good_after;
-  kept = rw c.deref-4.ensures.value (kept_after c.args.schemas.now c.args.form.now c.args.change.now c.args.tables.now c.args.self.now c.in_ok-totals.totals.items c.requires.before (rw c.deref.ensures.value at c.in_ok-totals.ensures.kept));
+  kept = rw c.deref-3.ensures.value (kept_after c.args.schemas.now c.args.form.now c.args.change.now c.args.tables.now c.args.self.now c.in_ok-totals.totals.items c.requires.before (rw c.deref.ensures.value at c.in_ok-totals.ensures.kept));
 }
 
 pub returns-clause-watched : goal.returns-clause-watched
 returns-clause-watched c =
     let kept = kept_after c.args.schemas.now c.args.form.now c.args.change.now c.args.tables.now c.args.self.now c.in_ok-totals.totals.items c.requires.before (rw c.deref.ensures.value at c.in_ok-totals.ensures.kept) in
-    let bad = c.in_ok-bad.ensures.bad c.requires.before.before (good_order c.args.schemas.now c.requires.before.before c.requires.before.step.good) c.requires.before.step.is c.requires.before.step.changed (rw c.deref-3.ensures.value c.requires.before.watched.bad) in
+    let bad = c.in_ok-bad.ensures.bad c.requires.before.before (good_order c.args.schemas.now c.requires.before.before c.requires.before.step.good) c.requires.before.step.is c.requires.before.step.changed c.requires.before.watched.bad in
     record {
       kept = kept;
       bad = bad;
-      truth = c.in_ok-truth.ensures.truth c.args.schemas.now c.args.tables.now (good_order c.args.schemas.now c.args.tables.now c.requires.before.step.good_after) (rw c.deref-4.ensures.value kept) (rw c.deref-5.ensures.value bad);
+      truth = c.in_ok-truth.ensures.truth c.args.schemas.now c.args.tables.now (good_order c.args.schemas.now c.args.tables.now c.requires.before.step.good_after) (rw c.deref-3.ensures.value kept) bad;
     }

@@ -1,0 +1,25 @@
+use Rattle.delta.proofs.TableLemmas.{good_order, good_small}
+use Rattle.delta.proofs.watches.Watch.of.Goals as goal
+
+pub totals_of-requires-clause-small : goal.totals_of-requires-clause-small
+totals_of-requires-clause-small c = good_small c.args.schemas.now c.args.tables.now c.requires.good
+
+pub bad_of-requires-clause-small : goal.bad_of-requires-clause-small
+bad_of-requires-clause-small c = good_small c.args.schemas.now c.args.tables.now c.requires.good
+
+pub bad_of-requires-clause-kept : goal.bad_of-requires-clause-kept
+bad_of-requires-clause-kept c = rw c.deref.ensures.value c.in_ok-totals.ensures.kept
+
+pub truth_of-requires-clause-kept : goal.truth_of-requires-clause-kept
+truth_of-requires-clause-kept c = record {
+  state = c.args.tables.now;
+  small = good_small c.args.schemas.now c.args.tables.now c.requires.good;
+  kept = rw c.deref-2.ensures.value c.in_ok-totals.ensures.kept;
+}
+
+pub returns-clause-watched : goal.returns-clause-watched
+returns-clause-watched c = record {
+  kept = c.in_ok-totals.ensures.kept;
+  bad = c.in_ok-bad.ensures.bad;
+  truth = c.in_ok-truth.ensures.truth c.args.schemas.now c.args.tables.now (good_order c.args.schemas.now c.args.tables.now c.requires.good) (rw c.deref-2.ensures.value c.in_ok-totals.ensures.kept) c.in_ok-bad.ensures.bad;
+}
