@@ -1,0 +1,6 @@
+pub mod Commits
+pub mod Order
+pub mod Numbers
+pub mod Replay
+pub mod Epoch
+pub mod Answer

@@ -1,0 +1,47 @@
+-- The test of a commit by two numbers: the least commit to which it conflicts, and the greatest that conflicts to it.
+use Rattle.std.specs.Prelude.{◌≡◌, ◌≤◌, ℕ, Bool, true, false, ◌&&◌, if◌then◌else◌, nat_le, nat_lt, max, List, [], ◌∷◌, Contains}
+use Rattle.std.specs.List.{list_any}
+use Rattle.serial.specs.declared.records.Record.{Record}
+use Rattle.serial.specs.Commits.{conflicts_to, IsDangerous}
+use Rattle.serial.specs.Order.{least_out}
+
+-- the greatest of those that conflict to the commit, 0 where none does
+abbrev pub greatest_in : List Record → Record → ℕ
+greatest_in [] commit = 0
+greatest_in (other ∷ log) commit =
+    if conflicts_to other commit then max other.number (greatest_in log commit) else greatest_in log commit
+
+-- whether the commit would be the pivot of a dangerous triple. Without a conflict out, the least out is its own
+-- number, above all others; without one in, the greatest in is 0, below all
+abbrev pub is_pivot : List Record → Record → Bool
+is_pivot log commit = nat_le (least_out log commit) (greatest_in log commit)
+
+-- whether it would be the reader of one, with this pivot
+abbrev pub is_reader_of : List Record → Record → Record → Bool
+is_reader_of log commit pivot =
+    conflicts_to commit pivot
+    && (nat_lt (least_out log pivot) pivot.number && nat_le (least_out log pivot) commit.number)
+
+-- whether it would be the reader of one
+abbrev pub is_reader : List Record → Record → Bool
+is_reader log commit = list_any (is_reader_of log commit) log
+
+-- neither
+pub record IsNeither (log : List Record) (commit : Record) : Type 0 where
+  pub no_pivot : is_pivot log commit ≡ false
+  pub no_reader : is_reader log commit ≡ false
+
+-- the triple that is named where the commit can be the pivot: its greatest reader and its least writer
+pub record IsPivotTriple (log : List Record) (reader commit writer : Record) : Type 0 where
+  pub reader_in : Contains log reader
+  pub writer_in : Contains log writer
+  pub danger : IsDangerous reader commit writer
+  pub greatest : (other : Record) → Contains log other → conflicts_to other commit ≡ true → other.number ≤ reader.number
+  pub least : (other : Record) → Contains log other → conflicts_to commit other ≡ true → writer.number ≤ other.number
+
+-- the least of those with which the commit would be a reader
+pub record IsLeastPivot (log : List Record) (commit pivot : Record) : Type 0 where
+  pub listed : Contains log pivot
+  pub passes : is_reader_of log commit pivot ≡ true
+  pub least : (other : Record) → Contains log other
+      → is_reader_of log commit other ≡ true → pivot.number ≤ other.number

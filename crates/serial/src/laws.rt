@@ -1,0 +1,43 @@
+//! What the definitions of this crate entail. Each law is the contract of a function that does nothing.
+
+ghost use Rattle.std.specs.Prelude.{List, ◌∷◌, IsPermutation};
+ghost use Rattle.serial.specs.declared.records.Record.{Record};
+ghost use Rattle.serial.specs.Commits.{IsLog, IsNext, IsAccepted};
+ghost use Rattle.serial.specs.Order.{serial_order, IsSerial, IsKept, IsFixed, IsPutIn};
+ghost use Rattle.serial.specs.Answer.{AreJudged, IsNumbered};
+ghost use Rattle.serial.specs.Epoch.{InEachEpoch, AreRecorded, AnswersAgain, EndsNewest, AreSound, InTurn};
+
+/// The order law: in the serial order of a log each commit stands once, after all that its snapshot holds, after the
+/// earlier writers of its rows, and before all to which it conflicts. One commit more leaves the others as they
+/// stood, and is put in just before the least to which it conflicts, or at the end.
+pub fn order()
+    ensures once { (log : List Record) → IsLog log → IsPermutation log (serial_order log) }
+    ensures serial { (log : List Record) → IsLog log → IsSerial log (serial_order log) }
+    ensures kept { (commit : Record) (earlier : List Record) → IsLog (commit ∷ earlier) → IsKept commit earlier }
+    ensures fixed { (commit : Record) (earlier : List Record) → IsLog (commit ∷ earlier) → IsFixed commit earlier }
+    ensures put_in { (commit : Record) (earlier : List Record) → IsLog (commit ∷ earlier) → IsPutIn commit earlier }
+{}
+
+/// Two numbers decide: no dangerous triple has the next commit in it exactly where neither test passes. Where the first
+/// does, it is the pivot of one, and the two numbers are the greatest reader and the least writer. Where it can be no
+/// pivot and the second test passes, it is the reader, and the least pivot has the least writer in its own number.
+pub fn numbers()
+    ensures { (log : List Record) (commit : Record) → IsNext commit log → AreJudged log commit }
+{}
+
+/// A commit that is answered with its number is accepted.
+pub fn answers()
+    ensures { (log : List Record) (commit : Record) → IsNumbered log commit → IsAccepted commit log }
+{}
+
+/// The replay theorem: the committed transactions, run alone in the serial order, answer what each was answered on
+/// its snapshot, and end in the newest tables; and the tables after each number of commits make no assertion false.
+/// What each was answered has an accepted COMMIT in it, and the net change that is recorded. The newest tables are
+/// those of the start with the net changes put in from the oldest on.
+pub fn replay()
+    ensures again { InEachEpoch AnswersAgain }
+    ensures newest { InEachEpoch EndsNewest }
+    ensures sound { InEachEpoch AreSound }
+    ensures recorded { InEachEpoch AreRecorded }
+    ensures in_turn { InEachEpoch InTurn }
+{}

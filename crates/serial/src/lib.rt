@@ -1,0 +1,26 @@
+//! When a commit may join those before it, and why the committed transactions then have a serial order.
+//!
+//! Transactions run on snapshots. A transaction *conflicts to* another that ran beside it where that one wrote what
+//! it read: in every serial order it has to stand before it. A snapshot engine is serializable where it refuses each
+//! commit that would complete a *dangerous triple*: a reader that conflicts to a pivot, the pivot to a writer, and
+//! the writer committed before both (Cahill, Röhm and Fekete 2008; that the writer comes first is the rule of Ports
+//! and Grittner 2012). Writer and reader may be one transaction.
+//!
+//! These are definitions and laws alone, over a log of [`Record`]s, the newest first:
+//!
+//! - `specs/Commits`: conflicts, dangerous triples, and a log whose commits were accepted one after the other;
+//! - `specs/Numbers`: the two numbers by which a commit is judged;
+//! - `specs/Order`: the serial order, and what it keeps;
+//! - `specs/Replay`, `specs/Epoch`: transactions run alone one after the other, on states of rows;
+//! - `specs/Answer`: what a COMMIT is to be answered by the commits before it.
+//!
+//! The laws are contracts of functions without parameters: [`order`] is the order law, [`numbers`] says what the two
+//! numbers decide, and [`replay`] is the theorem of the whole: run alone in the serial order, each committed
+//! transaction answers what it was answered on its snapshot. That there are such logs is shown in `proofs/Witness`.
+#![tactic(auto)]
+
+mod laws;
+mod records;
+
+pub use laws::{answers, numbers, order, replay};
+pub use records::Record;

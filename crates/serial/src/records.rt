@@ -1,0 +1,25 @@
+//! Committed transactions.
+
+use alone::Resolved;
+use siread::LockKey;
+use sqlite_items::Items;
+use table::Change;
+use value::Text;
+
+/// A committed transaction. What its statements were answered is not in it: that is a function of its statements and
+/// of the tables that it began on, which the commits before it made.
+#[derive(Debug, Drop)]
+pub struct Record {
+    /// Its place among the commits, from 1 upwards.
+    pub number: u64,
+    /// How many commits its snapshot holds.
+    pub snapshot: u64,
+    /// The session that ran it.
+    pub session: Text,
+    /// Its statements, refused ones too, with their names found.
+    pub trace: Items<Resolved>,
+    /// What it read.
+    pub reads: Items<LockKey>,
+    /// Its net change, by table and key.
+    pub changes: Items<Change>,
+}
