@@ -1,31 +1,29 @@
--- The change that puts a row into a table, or why the row is refused.
-use Rattle.std.specs.Prelude.{ℕ, List, Option, Some, None, Result, Ok, Err}
-use Rattle.value.specs.declared.values.Value.{Value}
+-- What a new row changes of a table, or why it is refused.
+use Rattle.std.specs.Prelude.{ℕ, List, Result, Ok}
 use Rattle.value.specs.declared.refusals.Refusal.{Refusal}
-use Rattle.value.specs.declared.refusals.Refusal.TheVariants.{DuplicateKey}
-use Rattle.table.specs.declared.rows.Change.{Change}
-use Rattle.table.specs.Rows.{RowValues, Layout, layouts_of, value_in, row_at}
-use Rattle.table.specs.Faults.{row_refusal}
-use Rattle.statement_syntax.specs.declared.statements.Insert.{Insert}
-use Rattle.assertion.specs.Meaning.{rows_of}
-use Rattle.assertion.specs.Roots.{state_after}
 use Rattle.value.specs.Results.{and_then, unless}
+use Rattle.table.specs.Rows.{RowValues, Layout, value_in, row_at}
+use Rattle.table.specs.Faults.{row_refusal}
+use Rattle.siread.specs.declared.keys.Place.{Place}
+use Rattle.statement_syntax.specs.declared.statements.Insert.{Insert}
+use Rattle.assertion.specs.Declarations.{layouts_in}
+use Rattle.assertion.specs.Roots.{state_after_all}
 use Rattle.assertcheck.specs.Statements.{insert_of}
-use Rattle.delta.specs.Views.{Shown, layout_at}
+use Rattle.alone.specs.Statements.{Effect, inserted_at, insert_effect}
+use Rattle.delta.specs.Views.{Shown}
 
--- the row comes to stand under a key, if none stands there
-abbrev pub free_change : List ℕ → ℕ → Value → RowValues → Option RowValues → Result Change Refusal
-free_change name table key row None = Ok (record { table = table; key = key; old = None; new = Some row })
-free_change name table key row (Some other) = Err (DuplicateKey name key)
+-- where a new row of a table is to stand
+abbrev pub place_for : ℕ → Layout → RowValues → Place
+place_for table layout row = record { table = table; key = value_in layout.key row }
 
 -- types, and NULLs and ranges by columns, and then the key
-abbrev pub insertion_of : List ℕ → ℕ → Layout → List RowValues → RowValues → Result Change Refusal
+abbrev pub insertion_of : List ℕ → ℕ → Layout → List RowValues → RowValues → Result Effect Refusal
 insertion_of name table layout rows row =
-    unless (row_refusal layout.columns row) (free_change name table (value_in layout.key row) row (row_at layout.key (value_in layout.key row) rows))
+    unless (row_refusal layout.columns row) (inserted_at name (place_for table layout row) row (row_at layout.key (value_in layout.key row) rows))
 
 -- INSERT, before any assertion is looked at: its names and types, and then its row
 abbrev pub inserted : Shown → Insert → Result Shown Refusal
 inserted now insert =
-    and_then (insert_of now.tables insert) (λ new.
-    and_then (insertion_of insert.table new.table (layout_at new.table (layouts_of now.tables)) (rows_of new.table now.state) new.row) (λ change.
-    Ok (record now { state = state_after (layouts_of now.tables) change now.state })))
+    and_then (insert_of now.declared.tables insert) (λ new.
+    and_then (insert_effect now.declared.tables new now.state) (λ effect.
+    Ok (record now { state = state_after_all (layouts_in now.declared) effect.changes now.state })))

@@ -1,1 +1,2 @@
 pub mod GoodTables
+pub mod WrittenAssertions

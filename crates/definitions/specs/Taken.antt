@@ -19,13 +19,13 @@ use Rattle.assertcheck.specs.Assertions.{checked}
 use Rattle.definitions.specs.Tables.{layout_from}
 
 abbrev pub nothing : Shown
-nothing = record { tables = []; assertions = []; state = [] }
+nothing = record { declared = record { tables = []; assertions = [] }; state = [] }
 
 -- CREATE TABLE: its name is free among the tables
 abbrev pub with_table : List ℕ → List ColumnDefinition → Shown → Result Shown Refusal
 with_table name columns now =
-    provided (is_none (layout_of name now.tables)) (NameTaken name) (
-    and_then (layout_from columns) (λ layout. Ok (record { tables = now.tables ++ (name, layout) ∷ []; assertions = now.assertions; state = now.state ++ [] ∷ [] })))
+    provided (is_none (layout_of name now.declared.tables)) (NameTaken name) (
+    and_then (layout_from columns) (λ layout. Ok (record { declared = record (now.declared) { tables = now.declared.tables ++ (name, layout) ∷ [] }; state = now.state ++ [] ∷ [] })))
 
 -- whether an assertion has the name
 abbrev pub is_asserted : List ℕ → List Assertion → Bool
@@ -34,8 +34,8 @@ is_asserted name assertions = list_any (λ a. bytes_eq a.name name) assertions
 -- CREATE ASSERTION: its name is free among the assertions
 abbrev pub with_assertion : List ℕ → Condition → Attributes → Shown → Result Shown Refusal
 with_assertion name condition attributes now =
-    provided (not (is_asserted name now.assertions)) (NameTaken name) (
-    and_then (checked now.tables name condition attributes) (λ a. Ok (record now { assertions = now.assertions ++ a ∷ [] })))
+    provided (not (is_asserted name now.declared.assertions)) (NameTaken name) (
+    and_then (checked now.declared.tables name condition attributes) (λ a. Ok (record now { declared = record (now.declared) { assertions = now.declared.assertions ++ a ∷ [] } })))
 
 -- one definition; no assertion is looked at where a row is put in
 abbrev pub with_definition : Definition → Shown → Result Shown Refusal

@@ -16,7 +16,9 @@
 //!
 //! What the layer above may rest on: [`Definitions::take`] answers what `specs/Taken` says of the list, or its first fault, or
 //! that memory ran out. What is taken in is always good tables and assertions that are evaluated without overflow, which is what a
-//! view is made of. `specs/Tables` has CREATE TABLE; an INSERT is that of `changes`.
+//! view is made of. `specs/Tables` has CREATE TABLE; an INSERT is that of `changes`. And the assertions are those that are
+//! written (`specs/Written`): there is one for each CREATE ASSERTION, in their order, which has its name and means what its
+//! condition means as it is written (`meaning`), over all tables of the schema.
 #![tactic(auto)]
 
 mod tables;

@@ -1,18 +1,20 @@
 //! Definitions are taken in one after the other.
 
-ghost use Rattle.std.specs.Prelude.{◌≡◌, ◌≢◌, ◌<◌, IfOk, IfErr, IsOkUnless, Ok, Err, length};
+ghost use Rattle.std.specs.Prelude.{◌≡◌, ◌≢◌, ◌<◌, [], ◌∷◌, IfOk, IfErr, IsOkUnless, Ok, Err, length};
 ghost use Rattle.value.specs.declared.refusals.Refusal.TheVariants.{NoMemory};
 ghost use Rattle.definitions.specs.Taken.{is_asserted, nothing, taken, with_all, with_assertion, with_definition, with_table};
-ghost use Rattle.table.specs.Rows.{layouts_of};
-ghost use Rattle.assertion.specs.Meaning.{rows_of};
+ghost use Rattle.definitions.specs.Written.{AreWritten};
+ghost use Rattle.assertion.specs.Declarations.{layouts_in};
 ghost use Rattle.assertion.specs.Roots.{IsChangeOf, state_after};
-ghost use Rattle.changes.specs.Insertions.{inserted, insertion_of};
-ghost use Rattle.delta.specs.Views.{IsFitting, layout_at};
+ghost use Rattle.answer.specs.declared.answers.Reply.TheVariants.{Inserted};
+ghost use Rattle.alone.specs.Statements.{insert_effect};
+ghost use Rattle.changes.specs.Insertions.{inserted};
+ghost use Rattle.delta.specs.Views.{IsFitting};
 
 use crate::tables::schema_of;
 use assertcheck::{NewRow, check, check_insert};
 use assertion::Assertion;
-use changes::{insertion, schema_at};
+use changes::{insertion, name_at, schema_at};
 use delta::View;
 use mvrows::Rows;
 use statement_syntax::{Attributes, ColumnDefinition, Definition, Insert};
@@ -42,13 +44,14 @@ impl Model for Definitions {
 
     ghost coded = { Prim.hlevel (codes, cond_type.the_row.coded, expr_type.the_row.coded) };
 
-    ghost view = { λ d. record { tables = d.catalog; assertions = d.assertions.items; state = d.rows.items } };
+    ghost view = { λ d. record { declared = record { tables = d.catalog; assertions = d.assertions.items }; state = d.rows.items } };
 
     ghost invariant = { λ d. AreBounded d.assertions.items × IsGood (layouts_of d.catalog) d.rows.items };
 }
 
 impl Definitions {
-    /// What these definitions define, taken in in their order. No assertion is evaluated.
+    /// What these definitions define, taken in in their order. No assertion is evaluated. Each assertion has the name of
+    /// its text and means what is written there.
     ///
     /// # Errors
     ///
@@ -59,6 +62,7 @@ impl Definitions {
     pub fn take(alloc: Global, definitions: &[Definition]) -> Result<Definitions, Refusal>
         ensures taken { IfOk result (λ made. taken definitions.now ≡ Ok made) }
         ensures refused { IfErr result (λ refusal. refusal ≢ NoMemory → taken definitions.now ≡ Err refusal) }
+        ensures written { IfOk result (λ made. AreWritten definitions.now made.declared) }
     {
         let mut made = Definitions::nothing(alloc);
         for definition in definitions {
@@ -67,26 +71,11 @@ impl Definitions {
         Ok(made)
     }
 
-    /// The tables by their names.
-    pub fn catalog(&self) -> &Catalog
-        ensures { result.now ≡ self.now.tables }
-    {
-        &self.catalog
-    }
-
     /// The assertions in the order of their creation.
-    pub fn assertions(&self) -> &[Assertion]
-        ensures { result.now ≡ self.now.assertions }
+    fn assertions(&self) -> &[Assertion]
+        ensures { result.now ≡ self.now.declared.assertions }
     {
         self.assertions.as_slice()
-    }
-
-    /// The rows of each table, by the tables' places in the catalog.
-    pub fn rows(&self) -> &[Rows]
-        ensures value { result.now ≡ self.now.state }
-        ensures each { length result.now ≡ length self.now.tables }
-    {
-        self.rows.as_slice()
     }
 
     /// The view of these tables, with the verdicts of the assertions on the rows that they begin with.
@@ -195,20 +184,22 @@ impl Definitions {
         ensures refused { IfErr result (λ refusal. refusal ≢ NoMemory → inserted self insert.now ≡ Err refusal) }
     {
         let NewRow { table, row } = check_insert(alloc, &self.catalog, insert)?;
-        let change = self.insertion(&insert.table, table, row)?;
+        let change = self.insertion(table, row)?;
         self.with_change(&change)
     }
 
-    /// The change that puts a row into the table at a place, which has this name.
-    fn insertion(&self, name: &Text, table: usize, row: Row) -> Result<Change, Refusal>
-        requires { table < length self.now.tables }
-        ensures made { IfOk result (λ change. insertion_of name.now table (layout_at table (layouts_of self.now.tables)) (rows_of table self.now.state) row ≡ Ok change) }
-        ensures refused { IfErr result (λ refusal. refusal ≢ NoMemory → insertion_of name.now table (layout_at table (layouts_of self.now.tables)) (rows_of table self.now.state) row ≡ Err refusal) }
-        ensures is { IfOk result (λ change. IsChangeOf (layouts_of self.now.tables) change self.now.state) }
-        ensures fits { IfOk result (IsFitting (layouts_of self.now.tables)) }
+    /// The change that puts a row into the table at a place.
+    fn insertion(&self, table: usize, row: Row) -> Result<Change, Refusal>
+        requires { table < length self.now.declared.tables }
+        ensures made { IfOk result (λ change. insert_effect self.now.declared.tables (record { table = table; row = row }) self.now.state
+            ≡ Ok (record { reply = Inserted; changes = change ∷ [] })) }
+        ensures refused { IfErr result (λ refusal. refusal ≢ NoMemory
+            → insert_effect self.now.declared.tables (record { table = table; row = row }) self.now.state ≡ Err refusal) }
+        ensures is { IfOk result (λ change. IsChangeOf (layouts_in self.now.declared) change self.now.state) }
+        ensures fits { IfOk result (IsFitting (layouts_in self.now.declared)) }
     {
         insertion(
-            name,
+            name_at(&self.catalog, table),
             table,
             schema_at(&self.catalog, table),
             &self.rows[table],
@@ -218,10 +209,10 @@ impl Definitions {
 
     /// These with a change of one row.
     fn with_change(self, change: &Change) -> Result<Definitions, Refusal>
-        requires is { IsChangeOf (layouts_of self.tables) change.now self.state }
-        requires fits { IsFitting (layouts_of self.tables) change.now }
+        requires is { IsChangeOf (layouts_in self.declared) change.now self.state }
+        requires fits { IsFitting (layouts_in self.declared) change.now }
         ensures only_memory { IsOkUnless result NoMemory }
-        ensures changed { IfOk result (λ made. made ≡ record self { state = state_after (layouts_of self.tables) change.now self.state }) }
+        ensures changed { IfOk result (λ made. made ≡ record self { state = state_after (layouts_in self.declared) change.now self.state }) }
     {
         let Definitions {
             catalog,

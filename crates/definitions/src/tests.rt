@@ -78,9 +78,9 @@ fn taken_of(alloc: Global, first: Value, second: Value) -> Result<Definitions, R
 fn what_is_taken_in(rt: HostRuntime) -> Result<(), Fail> {
     let alloc = rt.alloc();
     let taken = taken_of(alloc, Value::Int(8), Value::Int(7))?;
-    assert_eq!(rt; taken.catalog().len(), 1);
-    assert_eq!(rt; taken.assertions().len(), 1);
     let view = taken.load(alloc)?;
+    assert_eq!(rt; view.catalog().len(), 1);
+    assert_eq!(rt; view.assertions().len(), 1);
     assert_eq!(rt; view.first_false(), Some(0));
     Ok(())
 }

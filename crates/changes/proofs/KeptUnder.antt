@@ -1,0 +1,86 @@
+-- The rows that a condition keeps are under the key that it wants.
+use Rattle.std.proofs.Common.{◌≡◌, ℕ, Bool, true, false, cond, List, [], ◌∷◌, Option, Some, None, append-nil, refl, sym, ◌∙◌, ap, subst}
+use Rattle.std.specs.Prelude.{◌==◌, All, option_to_list}
+use Rattle.std.specs.declared.cmp.Ordering.{Ordering}
+use Rattle.std.specs.declared.cmp.Ordering.TheVariants.{Less, Equal, Greater}
+use Rattle.std.proofs.lemmas.List.Elements.{All-nil, All-cons}
+use Rattle.std.proofs.lemmas.Cmp.{tied_itself}
+use Rattle.value.specs.declared.values.Value.{Value}
+use Rattle.value.specs.ValueOrder.{value_cmp}
+use Rattle.value.specs.Ordered.{AreAbove, HoldsOf, IsAscending, by_order}
+use Rattle.value.proofs.OrderedLists.{equal_from, All-at, AreAbove-below, AreAbove-tied}
+use Rattle.value.proofs.ValueOrders.{value_cmp_total, value_exact}
+use Rattle.table.specs.Rows.{RowValues, value_in, row_at}
+use Rattle.cond.specs.declared.conds.Cond.{Cond}
+use Rattle.cond.specs.Eval.{keeps}
+use Rattle.assertion.specs.Meaning.{kept_rows}
+use Rattle.siread.specs.Keys.{is_under, same_value}
+use Rattle.alone.specs.Reads.{Equality, first_on, first_equality, key_from, top_parts}
+use Rattle.alone.proofs.Wheres.{where_under}
+use Rattle.changes.specs.Lookups.{literal_on, looked_at, wanted}
+use Rattle.changes.proofs.Walks.{not_kept, kept_first}
+
+apart : (c : Ordering) → c ≡ Less → c ≡ Equal → ⊥
+apart c e f = cc
+
+over : (c : Ordering) → c ≡ Greater → c ≡ Equal → ⊥
+over c e f = cc
+
+-- if a kept row has a value in its key
+module _ (kept : Cond) (key : ℕ) (v : Value) (only : (row : RowValues) → keeps row [] kept ≡ true → value_in key row ≡ v) where
+  level : (row : RowValues) → value_in key row ≡ v → value_cmp v (value_in key row) ≡ Equal
+  level row e = subst (λ w. value_cmp v w ≡ Equal) (sym e) (tied_itself value_cmp_total v)
+
+  -- then one with another isn't kept
+  off : (row : RowValues) → ((value_cmp v (value_in key row) ≡ Equal) → ⊥) → keeps row [] kept ≡ false
+  off row other = go (keeps row [] kept) refl
+    where
+      go : (b : Bool) → keeps row [] kept ≡ b → keeps row [] kept ≡ false
+      go true e = absurd (other (level row (only row e)))
+      go false e = e
+
+  none_above : (rows : List RowValues) → AreAbove value_cmp (value_in key) v rows → kept_rows kept rows ≡ []
+  none_above [] a = refl
+  none_above (row ∷ rows) a = not_kept kept row rows (off row (λ e. apart (value_cmp v (value_in key row)) a.0 e)) ∙ none_above rows a.1
+
+  -- and so the row under that key is the only one that can be
+  pub kept_under : (rows : List RowValues) → IsAscending value_cmp (value_in key) rows → kept_rows kept (option_to_list (row_at key v rows)) ≡ kept_rows kept rows
+  kept_under [] s = refl
+  kept_under (row ∷ rows) s = go (value_cmp v (value_in key row)) refl (kept_under rows s.1)
+    where
+      go : (c : Ordering) → value_cmp v (value_in key row) ≡ c → kept_rows kept (option_to_list (row_at key v rows)) ≡ kept_rows kept rows → kept_rows kept (option_to_list (by_order c None (Some row) (row_at key v rows))) ≡ kept_rows kept (row ∷ rows)
+      go Less e h =
+          sym (not_kept kept row rows (off row (λ f. apart (value_cmp v (value_in key row)) e f))
+          ∙ none_above rows (AreAbove-below value_cmp_total (value_in key) v (value_in key row) rows e s.0))
+      go Equal e h =
+          let none : kept_rows kept rows ≡ [] = none_above rows (AreAbove-tied value_cmp_total (value_in key) (value_in key row) v rows e s.0) in
+          sym (ap (λ (rs : List RowValues). cond (keeps row [] kept) (row ∷ rs) rs) none)
+      go Greater e h = h ∙ sym (not_kept kept row rows (off row (λ f. over (value_cmp v (value_in key row)) e f)))
+
+-- a row that is kept has the value that is wanted of its key
+pub kept_wanted : (kept : Cond) (key : ℕ) (v : Value) → wanted key kept ≡ Some v → (row : RowValues) → keeps row [] kept ≡ true → value_in key row ≡ v
+kept_wanted kept key v w row keep = go (first_on key (top_parts kept)) refl w (where_under 0 key kept row keep)
+  where
+    go : (o : Option Equality) → first_on key (top_parts kept) ≡ o → literal_on key o ≡ Some v
+        → is_under (key_from 0 (first_on key (top_parts kept)) (first_equality (top_parts kept))) (record { table = 0; key = value_in key row }) row ≡ true → value_in key row ≡ v
+    go None e w u = cc
+    go (Some equality) e w u =
+        let under : same_value equality.value (value_in key row) ≡ true
+        = subst (λ (o : Option Equality). is_under (key_from 0 o (first_equality (top_parts kept))) (record { table = 0; key = value_in key row }) row ≡ true) e u in
+        sym (value_exact equality.value (value_in key row) (equal_from (value_cmp equality.value (value_in key row)) under)) ∙ literal (equality.column == key) w
+      where
+        literal : (b : Bool) → cond b (Some equality.value) None ≡ Some v → equality.value ≡ v
+        literal true h = cc
+        literal false h = cc
+
+-- what all rows have the one under a key has
+pub all_under : (P : RowValues → Type 0) (key : ℕ) (v : Value) (rows : List RowValues) → All P rows → All P (option_to_list (row_at key v rows))
+all_under P key v rows all = go (row_at key v rows) (All-at value_cmp (value_in key) P v rows all)
+  where
+    go : (o : Option RowValues) → HoldsOf P o → All P (option_to_list o)
+    go None h = All-nil P
+    go (Some row) h = All-cons P row [] h (All-nil P)
+
+-- so the rows that are looked at are that one
+pub one_looked : (o : Option RowValues) (key : ℕ) (v : Value) (rows : List RowValues) → o ≡ row_at key v rows → looked_at o None ≡ option_to_list (row_at key v rows)
+one_looked o key v rows e = append-nil (option_to_list o) ∙ ap (λ (x : Option RowValues). option_to_list x) e

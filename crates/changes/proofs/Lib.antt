@@ -1,0 +1,4 @@
+pub mod Due
+pub mod Fitting
+pub mod KeptUnder
+pub mod Walks

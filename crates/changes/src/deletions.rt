@@ -1,0 +1,66 @@
+//! Rows that are taken out.
+
+ghost use Rattle.std.specs.Prelude.{◌≡◌, [], All, List, length, IfOk, IsOkUnless, IsTrue};
+ghost use Rattle.value.specs.declared.refusals.Refusal.TheVariants.{NoMemory};
+ghost use Rattle.value.specs.Ordered.{IsAscending};
+ghost use Rattle.value.specs.ValueOrder.{value_cmp};
+ghost use Rattle.table.specs.Rows.{Layout, value_in};
+ghost use Rattle.cond.specs.Bounds.{IsSmallRow, is_bounded};
+ghost use Rattle.assertion.specs.Meaning.{State, key_of, kept_rows, rows_of};
+ghost use Rattle.answer.specs.declared.answers.Reply.TheVariants.{Deleted};
+ghost use Rattle.alone.specs.States.{AreDue, IsState};
+ghost use Rattle.alone.specs.Statements.{delete_effect, removal};
+ghost use Rattle.delta.specs.Views.{IsFitting};
+
+use crate::kept::{is_kept, value_at};
+use crate::lookups::look_through;
+use cond::Cond;
+use mvrows::Rows;
+use std::alloc::Global;
+use table::{Change, Row};
+use value::Refusal;
+
+/// The changes of a DELETE: that each row of a table which the condition keeps is taken out, in key order. `table` is the
+/// table's place, `key` that of its key column, and `rows` are those that stand in it now.
+///
+/// # Errors
+///
+/// [`Refusal::NoMemory`] alone.
+pub fn removals(
+    alloc: Global,
+    table: usize,
+    key: usize,
+    rows: &Rows,
+    kept: &Cond,
+) -> Result<Vec<Change>, Refusal>
+    requires bounded { IsTrue (is_bounded [] kept.now) }
+    requires small { All IsSmallRow rows.now }
+    requires ordered { IsAscending value_cmp (value_in key) rows.now }
+    ensures only_memory { IsOkUnless result NoMemory }
+    ensures made { IfOk result (λ made. record { reply = Deleted (length made.items); changes = made.items }
+        ≡ delete_effect table key (kept_rows kept.now rows.now)) }
+    ensures due { IfOk result (λ made. (layouts : List Layout) (state : State) → IsState layouts state
+        → key_of table layouts ≡ key → rows_of table state ≡ rows.now → AreDue layouts made.items state) }
+    ensures fit { IfOk result (λ made. (layouts : List Layout) → All (IsFitting layouts) made.items) }
+{
+    let mut made = Vec::new(alloc);
+    for row in look_through(rows, key, kept) {
+        if is_kept(alloc, kept, row) {
+            made.push(removal(table, key, row)?)?;
+        }
+    }
+    Ok(made)
+}
+
+/// That a row is taken out.
+fn removal(table: usize, key: usize, row: &Row) -> Result<Change, Refusal>
+    ensures only_memory { IsOkUnless result NoMemory }
+    ensures change { IfOk result (λ change. change ≡ removal table key row.now) }
+{
+    Ok(Change {
+        table,
+        key: value_at(row, key)?,
+        old: Some(row.copy()?),
+        new: None,
+    })
+}
