@@ -1,0 +1,11 @@
+use Rattle.std.proofs.Common.{◌∙◌, sym, subst}
+use Rattle.assertion.specs.Declarations.{Declared, layouts_in}
+use Rattle.delta.specs.Views.{AreTables}
+use Rattle.net.proofs.Places.{differences_net}
+use Rattle.net.proofs.changes.net_change.Goals as goal
+
+pub returns-clause-net : goal.returns-clause-net
+returns-clause-net c =
+    c.in_ok-made.ensures.made
+    ∙ differences_net (layouts_in c.args.before.now.declared) c.args.before.now.state c.args.after.now.state c.args.touched.now c.catalog.ensures.tables
+    (subst (λ (declared : Declared). AreTables (layouts_in declared) c.args.after.now.state) c.requires.declared c.catalog-2.ensures.tables) c.in_order.ensures c.requires.differ

@@ -1,0 +1,82 @@
+//! Where two views may differ.
+
+ghost use Rattle.std.specs.Prelude.{◌≡◌, [], Contains, map, IsOkUnless, OnOk, OnErr};
+ghost use Rattle.value.specs.Ordered.{IsAscending};
+ghost use Rattle.value.specs.declared.refusals.Refusal.TheVariants.{NoMemory};
+ghost use Rattle.siread.specs.declared.keys.Place.{Place as AnyPlace};
+ghost use Rattle.siread.specs.Keys.{place_of};
+ghost use Rattle.alone.specs.States.{place_cmp};
+
+use siread::Place;
+use std::alloc::Global;
+use std::collections::BTreeSet;
+use std::collections::btree_set::Iter;
+use std::marker::Model;
+use table::Change;
+use value::Refusal;
+
+/// The places of the rows that a transaction has changed, in their order, each once.
+#[derive(Drop)]
+pub struct Touched {
+    places: BTreeSet<Place>,
+}
+
+impl Model for Touched {
+    ghost use Rattle.std.specs.Prelude.{List};
+    ghost use Rattle.siread.specs.declared.keys.Place.{Place as AnyPlace};
+
+    ghost Value = { List AnyPlace };
+
+    ghost view = { λ touched. touched.places.keys };
+}
+
+impl Touched {
+    /// No place.
+    pub fn new(alloc: Global) -> Touched
+        ensures { result ≡ [] }
+    {
+        Touched {
+            places: BTreeSet::new(alloc),
+        }
+    }
+
+    /// Adds the places of changes. After NoMemory, the only error, some of them may have been added.
+    pub fn add(&mut self, changes: &[Change]) -> Result<(), Refusal>
+        ensures only_memory { IsOkUnless result NoMemory }
+        ensures kept { (place : AnyPlace) → Contains self.old place → Contains self.new place }
+        ensures added { OnOk result ((place : AnyPlace) → Contains (map place_of changes.now) place → Contains self.new place) }
+    {
+        for change in changes {
+            self.add_place(change)?;
+        }
+        Ok(())
+    }
+
+    fn add_place(&mut self, change: &Change) -> Result<(), Refusal>
+        ensures only_memory { IsOkUnless result NoMemory }
+        ensures kept { OnOk result ((place : AnyPlace) → Contains self.old place → Contains self.new place) }
+        ensures added { OnOk result (Contains self.new (place_of change.now)) }
+        ensures same { OnErr result (self.new ≡ self.old) }
+    {
+        let place = Place {
+            table: change.table,
+            key: change.key.copy()?,
+        };
+        self.places.insert(place)?;
+        Ok(())
+    }
+
+    /// The places, in their order.
+    pub fn iter(&self) -> Iter<'_, Place>
+        ensures rest { result ≡ self.now }
+    {
+        self.places.iter()
+    }
+
+    /// The places stand in their order, each once.
+    pub fn in_order(&self)
+        ensures { IsAscending place_cmp (λ place. place) self.now }
+    {
+        let _ = self.places.len();
+    }
+}
