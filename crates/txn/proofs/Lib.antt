@@ -1,2 +1,5 @@
-pub mod CheckLemmas
-pub mod DeletionLemmas
+mod Checking
+mod Holding
+mod Modes
+mod Naming
+mod Putting

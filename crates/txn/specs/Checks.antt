@@ -1,17 +1,17 @@
--- The first assertion that is false on a state.
-use Rattle.std.specs.Prelude.{ℕ, List, [], ◌∷◌, Option, Some, None}
-use Rattle.value.specs.declared.values.Root.{Root}
+-- What a look at one assertion finds.
+use Rattle.std.specs.Prelude.{Bool, true, false, List, Option, Some, None}
+use Rattle.value.specs.declared.refusals.Refusal.{Refusal}
 use Rattle.table.specs.Rows.{Layout}
 use Rattle.assertion.specs.declared.assertions.Assertion.{Assertion}
 use Rattle.assertion.specs.Meaning.{State, least_bad_of}
-use Rattle.txn.specs.declared.checks.FalseAssertion.{FalseAssertion}
+use Rattle.alone.specs.Checks.{refusal_at}
 
--- an assertion with the least root at which it is false; where it has none, what is found among the others
-abbrev pub found_at : List ℕ → Option Root → Option FalseAssertion → Option FalseAssertion
-found_at name None others = others
-found_at name (Some root) others = Some (record { assertion = name; group = root })
+-- the refusal by an assertion, if it is meant and false
+abbrev pub refused_at : List Layout → Assertion → Bool → State → Option Refusal
+refused_at layouts a true state = refusal_at a.name (least_bad_of layouts a.form state) None
+refused_at layouts a false state = None
 
--- the first false assertion, in their order
-abbrev pub first_false : List Layout → State → List Assertion → Option FalseAssertion
-first_false layouts state [] = None
-first_false layouts state (a ∷ rest) = found_at a.name (least_bad_of layouts a.form state) (first_false layouts state rest)
+-- the first of two refusals
+abbrev pub or_else : Option Refusal → Option Refusal → Option Refusal
+or_else None rest = rest
+or_else (Some refusal) rest = Some refusal

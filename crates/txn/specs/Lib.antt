@@ -1,2 +1,6 @@
 pub mod Checks
-pub mod Statements
+pub mod Effects
+pub mod Held
+pub mod Runnable
+pub mod Steps
+pub mod Transactions

@@ -1,56 +1,88 @@
-//! Assertions that are false.
+//! Checks of assertions.
 
-ghost use Rattle.std.specs.Prelude.{◌≡◌, IfOk, IsOkUnless};
-ghost use Rattle.value.specs.declared.refusals.Refusal.TheVariants.{FalseAtCreation, NoMemory, Violated};
-ghost use Rattle.table.specs.Rows.{layouts_of};
-ghost use Rattle.txn.specs.Checks.{first_false};
+ghost use Rattle.std.specs.Prelude.{◌≡◌, ◌≢◌, ◌<◌, ◌++◌, length, slice_index_or, IfOk, IfNone, IfSome, IsOkUnless, OnOk, None, Some};
+ghost use Rattle.value.specs.Ordered.{HoldsOf};
+ghost use Rattle.value.specs.declared.refusals.Refusal.TheVariants.{NoMemory};
+ghost use Rattle.assertion.specs.declared.assertions.Assertion.{Assertion as AnyAssertion};
+ghost use Rattle.assertion.specs.Declarations.{layouts_in};
+ghost use Rattle.modes.specs.Modes.{assertion_of, immediate_ones};
+ghost use Rattle.alone.specs.Checks.{violation};
+ghost use Rattle.txn.specs.Checks.{refused_at};
+ghost use Rattle.txn.specs.Transactions.{false_names, name_if_false};
 
+use assertion::Assertion;
 use delta::View;
-use value::{Refusal, Root, Text};
+use std::alloc::Global;
+use threeval::Truth;
+use value::{Refusal, Text};
 
-/// A false assertion, with the least root at which it is false.
-#[derive(Debug, Drop)]
-pub struct FalseAssertion {
-    pub assertion: Text,
-    pub group: Root,
-}
-
-impl FalseAssertion {
-    /// The refusal of a statement or a commit that would make it false.
-    pub fn violated(self) -> Refusal
-        ensures { result ≡ Violated self.assertion self.group }
-    {
-        Refusal::Violated {
-            assertion: self.assertion,
-            group: self.group,
-        }
-    }
-
-    /// The refusal of definitions whose rows it is false on.
-    pub fn at_creation(self) -> Refusal
-        ensures { result ≡ FalseAtCreation self.assertion self.group }
-    {
-        Refusal::FalseAtCreation {
-            assertion: self.assertion,
-            group: self.group,
-        }
-    }
-}
-
-/// The first assertion that is false on the tables, in the order of creation. What is unknown is not false. NoMemory alone is
-/// refused, where the name or the root was not to be copied.
-pub fn first_false(view: &View) -> Result<Option<FalseAssertion>, Refusal>
+/// The refusal by the first assertion, of those that are meant, that is false on a view, with the least root at which it is.
+/// What is unknown is not false. NoMemory is the only error.
+pub fn violation(view: &View, meant: &[bool]) -> Result<Option<Refusal>, Refusal>
+    requires { length meant.now ≡ length view.now.declared.assertions }
     ensures only_memory { IsOkUnless result NoMemory }
-    ensures first { IfOk result (λ found. found ≡ first_false (layouts_of view.now.tables) view.now.state view.now.assertions) }
+    ensures named { IfOk result (HoldsOf (λ refusal. refusal ≢ NoMemory)) }
+    ensures first { IfOk result (λ found. found ≡ violation (layouts_in view.now.declared) (immediate_ones meant.now view.now.declared.assertions) view.now.state) }
 {
-    let assertions = view.assertions();
-    for place in 0..assertions.len() {
-        if let Some(group) = view.least_bad(place) {
-            return Ok(Some(FalseAssertion {
-                assertion: assertions[place].name.copy()?,
-                group: group.copy()?,
-            }));
+    for place in 0..meant.len() {
+        if let Some(refusal) = refused_at(view, meant[place], place)? {
+            return Ok(Some(refusal));
         }
     }
     Ok(None)
+}
+
+/// The refusal by one assertion, if it is meant and false.
+fn refused_at(view: &View, meant: bool, place: usize) -> Result<Option<Refusal>, Refusal>
+    requires { place < length view.now.declared.assertions }
+    ensures only_memory { IsOkUnless result NoMemory }
+    ensures named { IfOk result (HoldsOf (λ refusal. refusal ≢ NoMemory)) }
+    ensures found { IfOk result (λ found. (a : AnyAssertion) → found ≡ refused_at (layouts_in view.now.declared) (slice_index_or view.now.declared.assertions place a) meant view.now.state) }
+{
+    match view.least_bad(place) {
+        Some(group) if meant => Ok(Some(Refusal::Violated {
+            assertion: view.assertions()[place].name.copy()?,
+            group: group.copy()?,
+        })),
+        _ => Ok(None),
+    }
+}
+
+/// The place of the first assertion of a name. It takes no memory.
+pub fn place_named(assertions: &[Assertion], name: &Text) -> Option<usize>
+    ensures within { IfSome result (λ place. place < length assertions.now) }
+    ensures found { IfSome result (λ place. (a : AnyAssertion) → assertion_of name.now assertions.now ≡ Some (slice_index_or assertions.now place a)) }
+    ensures none { IfNone result (assertion_of name.now assertions.now ≡ None) }
+{
+    for place in 0..assertions.len() {
+        if assertions[place].name == *name {
+            return Some(place);
+        }
+    }
+    None
+}
+
+/// The names of the assertions that are false on a view, in the order of their creation. NoMemory is the only error.
+pub fn false_names(alloc: Global, view: &View) -> Result<Vec<Text>, Refusal>
+    ensures only_memory { IsOkUnless result NoMemory }
+    ensures names { IfOk result (λ names. names.items ≡ false_names view.now) }
+{
+    let mut names = Vec::new(alloc);
+    for place in 0..view.assertions().len() {
+        push_if_false(&mut names, view, place)?;
+    }
+    Ok(names)
+}
+
+/// Puts the name of an assertion behind the names, if it is false.
+fn push_if_false(names: &mut Vec<Text>, view: &View, place: usize) -> Result<(), Refusal>
+    requires { place < length view.now.declared.assertions }
+    ensures only_memory { IsOkUnless result NoMemory }
+    ensures pushed { OnOk result ((a : AnyAssertion) → names.new.items ≡ names.old.items ++ name_if_false view.now (slice_index_or view.now.declared.assertions place a)) }
+{
+    let assertion = &view.assertions()[place];
+    if view.verdict(place) == Truth::False {
+        names.push(assertion.name.copy()?)?;
+    }
+    Ok(())
 }

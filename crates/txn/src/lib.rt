@@ -1,33 +1,60 @@
-//! One statement of a transaction alone, on the tables as the transaction sees them.
+//! One transaction alone: what its statements answer and leave, and what its COMMIT checks.
 //!
-//! A statement has its effect on the rows, and then every assertion is checked on the rows that it leaves: where one is false,
-//! the statement is refused and has had no effect (ISO/IEC 9075:1992, assertion definition and checking of constraints). Which
-//! tables a transaction sees is not decided here: a statement is given a [`delta::View`] of them, and hands back the view
-//! after it, or none where nothing can have changed. The view that it was given stays as it was.
+//! A transaction begins on some version of the tables, and from then on sees that version with its own changes and
+//! nothing of what others do (ISO/IEC 9075:1992, SQL-transactions). A statement has its effect on the rows, and then
+//! the immediate assertions are checked on the rows that it leaves: where one is false, the statement is refused and
+//! has had no effect (checking of constraints). SET CONSTRAINTS sets which assertions are immediate, and COMMIT
+//! checks all of them (set constraints mode statement, commit statement). Which transactions may commit side by side
+//! is not decided here: a transaction notes under which keys it has read, and hands out its net change, for the layer
+//! above to decide.
 //!
-//! - [`execute`] runs a statement: INSERT puts one row in, DELETE takes out the rows that its condition keeps, VERDICT asks
-//!   for the truth of an assertion. The other statements are not run yet, and refused as outside the class.
-//! - [`first_false`] is the first assertion that is false on a view, with the least root at which it is: what refuses a
-//!   statement, and what refuses tables to begin with.
+//! - [`Txn::begin`] is a transaction on given tables. [`Txn::ticket`] and [`Txn::snapshot`] tell what it was begun
+//!   with.
+//! - [`Txn::execute`] runs a statement, finds its names first, and notes it in the trace.
+//! - [`Txn::own`], [`Txn::trace`] and [`Txn::reads`] lend its own view of the tables, its statements so far with
+//!   their names found, and the keys under which they have read.
+//! - [`Txn::verdict`] is the truth of an assertion on the own view, and [`Txn::pending`] names the assertions that
+//!   are false there. Neither enters the trace.
+//! - [`Txn::close_check`] takes it to COMMIT: a [`Closed`] has its net change ([`Closed::changes`]) and the refusal
+//!   by the first assertion that is false ([`Closed::refused`]). [`Closed::adopt`] hands out its own view of the
+//!   tables, and [`Closed::reopen`] opens it again. Where memory runs out, [`Unclosed`] gives it back as it was.
+//! - [`Txn::abandon`] ends it, and nothing is kept but its own view.
+//! - [`violation`] is the refusal by the first assertion that is false, of those that are meant: also for tables that
+//!   a transaction is to begin on.
 //!
-//! **Why each reply is that from scratch.** The definitions in `specs/` take what a view shows, its plain rows, and evaluate
-//! each condition and each assertion on whole lists of rows. They know nothing of what a view keeps. DELETE takes its rows
-//! out one after the other, and the rows left are those that the condition doesn't keep: each row still stands under its
-//! key when its turn comes, since keys are unique.
+//! **Why each reply is that from scratch.** Of a transaction, contracts show five things: what is declared, its
+//! ticket and snapshot, the state that it began on, and its trace. They name no own view and no modes that are kept,
+//! no places that it has changed and no key that it has noted. The definitions of `alone` run the trace again, from
+//! the first statement on, over plain lists of rows, and evaluate each condition and each assertion on them;
+//! [`Txn::execute`] answers what the last statement of such a run answers. For that a transaction keeps as its
+//! invariant that its own view, its modes and its keys are those which the run leaves, and that start and own view
+//! differ at most at the places that it has noted (`Held`). So the net change at COMMIT, found at these places alone,
+//! is that of the two whole states; a row that is set to what it held is no part of it. A view answers for its
+//! assertions (`delta`), and a statement that is refused leaves view and modes as they were, since the new ones are
+//! made beside the old and put in their place last.
 //!
-//! What the layer above may rest on: a reply and the tables after it are those of the definition; a refusal is the definition's
-//! refusal, or memory ran out; after any refusal nothing has changed.
+//! What the layer above may rest on: a trace is all that there is to know of a transaction, and it can be run again
+//! on other tables; a refusal is the definition's refusal, and stands in the trace; or it is NoMemory, and then
+//! nothing has changed and the statement is in no trace. Tables, assertions and start stay as they were begun with. A
+//! transaction is not let go by itself: each one is closed or abandoned. What it owes: nothing but tables that are a
+//! [`delta::View`].
 //!
-//! The definitions are in `specs/`: `Statements` (a statement alone) and `Checks` (the first false assertion).
+//! The definitions are in `specs/`: `Transactions` (an open transaction, its own view, its outcome), `Runnable` (what
+//! finding the names has tested), `Effects`, `Steps` and `Checks` (what steps of the code leave), and `Held` (how
+//! what is kept agrees with the trace; no public contract cites it). A statement and a transaction alone are those of
+//! `alone`.
 #![tactic(auto)]
 
 mod checks;
-mod deletions;
-mod statements;
-mod tables;
+mod closed;
+mod effects;
+mod resolutions;
+mod steps;
+mod txns;
 
-pub use checks::{FalseAssertion, first_false};
-pub use statements::{Done, execute};
+pub use checks::violation;
+pub use closed::{Closed, Unclosed};
+pub use txns::Txn;
 
 #[cfg(test)]
 mod tests;

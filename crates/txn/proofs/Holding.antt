@@ -1,0 +1,90 @@
+-- A statement more, and what is held is again what the trace leaves.
+use Rattle.std.proofs.Common.{◌≡◌, List, [], ◌∷◌, ◌++◌, Option, Some, None, Result, Ok, Err, map, length, refl, sym, ap, ◌∙◌, subst, append-nil}
+use Rattle.std.specs.Prelude.{Contains, unwrap_or, IfOk, IfErr, ◌≢◌}
+use Rattle.value.specs.declared.refusals.Refusal.{Refusal}
+use Rattle.value.specs.declared.refusals.Refusal.TheVariants.{NoMemory}
+use Rattle.value.specs.Ordered.{HoldsOf}
+use Rattle.answer.specs.declared.answers.Reply.{Reply}
+use Rattle.assertion.specs.Declarations.{Declared, layouts_in}
+use Rattle.assertion.specs.Meaning.{State}
+use Rattle.siread.specs.declared.keys.LockKey.{LockKey}
+use Rattle.siread.specs.declared.keys.Place.{Place}
+use Rattle.siread.specs.Keys.{place_of}
+use Rattle.modes.specs.Modes.{Immediates}
+use Rattle.alone.specs.declared.statements.Resolved.{Resolved}
+use Rattle.alone.specs.Alone.{Run, Standing, Step, followed, ran, stepped}
+use Rattle.delta.specs.Views.{Shown}
+use Rattle.net.specs.Nets.{DifferAt}
+use Rattle.txn.specs.declared.steps.Done.{Done}
+use Rattle.txn.specs.Held.{IsHeld}
+use Rattle.txn.specs.Steps.{IsDone, IsOf, left_by, rows_left, standing}
+use Rattle.txn.specs.Transactions.{OpenTransaction, own_view, run_of, standing_of, step_of, with_statement}
+use Rattle.txn.proofs.Putting.{differ_both}
+
+-- runs may be run in two parts
+abbrev pub InParts : Type 0
+InParts = (declared : Declared) (start : State) (now : Standing) (first rest : List Resolved)
+    → ran declared start now (first ++ rest) ≡ followed (ran declared start now first) (ran declared start (ran declared start now first).final rest)
+
+module _ (t : OpenTransaction) (own : Shown) (modes : Immediates) (s : Resolved) where
+  -- the step on what is held is that of the transaction
+  pub step_is : {touched : List Place} {reads : List LockKey} → IsHeld t own modes touched reads → stepped own.declared t.start (standing own modes) s ≡ step_of t s
+  step_is h = λ i. stepped (h.own_is i).declared t.start (record { view = (h.own_is i).state; modes = h.modes_are i }) s
+
+  module _ (parts : InParts) where
+    -- the run with one statement more
+    pub run_with : run_of (with_statement t s) ≡ followed (run_of t) (ran t.declared t.start (standing_of t) (s ∷ []))
+    run_with = parts t.declared t.start _ t.trace (s ∷ [])
+
+    pub final_with : standing_of (with_statement t s) ≡ (step_of t s).after
+    final_with = ap (λ (r : Run). r.final) run_with
+
+    pub reads_with : (run_of (with_statement t s)).reads ≡ (run_of t).reads ++ (step_of t s).reads
+    reads_with = ap (λ (r : Run). r.reads) run_with ∙ ap (λ ks. (run_of t).reads ++ ks) (append-nil (step_of t s).reads)
+
+view_left : (own : Shown) (view : Option Shown) → (unwrap_or view own).state ≡ rows_left own.state view
+view_left own None = refl
+view_left own (Some after) = refl
+
+declared_left : (own : Shown) (view : Option Shown) → HoldsOf (λ (after : Shown). after.declared ≡ own.declared) view → (unwrap_or view own).declared ≡ own.declared
+declared_left own None h = refl
+declared_left own (Some after) h = h
+
+long_left : (modes : Immediates) (new : Option Immediates) (declared : Declared) → length modes ≡ length declared.assertions
+    → HoldsOf (λ (after : Immediates). length after ≡ length declared.assertions) new → length (unwrap_or new modes) ≡ length declared.assertions
+long_left modes None declared e h = e
+long_left modes (Some after) declared e h = h
+
+pub held_after : (t : OpenTransaction) (own : Shown) (modes : Immediates) (touched more : List Place) (reads all : List LockKey) (s : Resolved) (d : Done) → InParts
+    → IsHeld t own modes touched reads
+    → IsDone (standing own modes) (stepped own.declared t.start (standing own modes) s) d → IsOf own.declared d
+    → DifferAt (layouts_in own.declared) own.state (left_by (standing own modes) d).view (map place_of d.changes.items)
+    → ((place : Place) → Contains touched place → Contains more place) → ((place : Place) → Contains (map place_of d.changes.items) place → Contains more place)
+    → all ≡ reads ++ d.reads.items
+    → IsHeld (with_statement t s) (unwrap_or d.view own) (unwrap_or d.modes modes) more all
+held_after t own modes touched more reads all s d parts h done of differ kept added read =
+    let step : stepped own.declared t.start (standing own modes) s ≡ step_of t s = step_is t own modes s h in
+    let after : standing_of (with_statement t s) ≡ left_by (standing own modes) d = final_with t own modes s parts ∙ sym (ap (λ (p : Step). p.after) step) ∙ done.after in
+    let declared : (unwrap_or d.view own).declared ≡ t.declared = declared_left own d.view of.view ∙ ap (λ (o : Shown). o.declared) h.own_is in
+    let state : (unwrap_or d.view own).state ≡ (standing_of (with_statement t s)).view = view_left own d.view ∙ sym (ap (λ (p : Standing). p.view) after) in
+    record {
+      own_is = λ i. record { declared = declared i; state = state i };
+      modes_are = sym (ap (λ (p : Standing). p.modes) after);
+      long = long_left modes d.modes t.declared h.long (subst (λ (declared : Declared). HoldsOf (λ (after : Immediates). length after ≡ length declared.assertions) d.modes) (ap (λ (o : Shown). o.declared) h.own_is) of.modes);
+      differ = differ_both (layouts_in t.declared) t.start own.state (unwrap_or d.view own).state touched (map place_of d.changes.items) more kept added h.differ
+          (subst (λ u. DifferAt (layouts_in t.declared) own.state u (map place_of d.changes.items)) (sym (view_left own d.view))
+          (subst (λ (declared : Declared). DifferAt (layouts_in declared) own.state (rows_left own.state d.view) (map place_of d.changes.items)) (ap (λ (o : Shown). o.declared) h.own_is) differ));
+      reads_are = read ∙ ap (λ ks. ks ++ d.reads.items) h.reads_are ∙ ap (λ ks. (run_of t).reads ++ ks) (sym done.reads ∙ ap (λ (p : Step). p.reads) step) ∙ sym (reads_with t own modes s parts);
+    }
+
+pub reply_ok : (r : Result Reply Refusal) (step : Step) → step.reply ≡ r → IfOk r (λ reply. step.reply ≡ Ok reply)
+reply_ok (Ok reply) step e = e
+reply_ok (Err refusal) step e = tt
+
+pub reply_err : (r : Result Reply Refusal) (step : Step) → step.reply ≡ r → IfErr r (λ refusal. refusal ≢ NoMemory → step.reply ≡ Err refusal)
+reply_err (Ok reply) step e = tt
+reply_err (Err refusal) step e = λ known. e
+
+pub never : (P : Type 0) (r : Result Reply Refusal) → IfErr r (λ refusal. refusal ≢ NoMemory) → IfErr r (λ refusal. refusal ≡ NoMemory → P)
+never P (Ok reply) h = tt
+never P (Err refusal) h = λ e. absurd (h e)

@@ -1,0 +1,126 @@
+-- What changes that are put in leave of a state.
+use Rattle.std.proofs.Common.{◌≡◌, ◌⊎◌, ℕ, true, List, [], ◌∷◌, Option, Some, None, Ok, Err, map, filter, refl, sym, ap, ◌∙◌, subst, inl, inr}
+use Rattle.std.specs.Prelude.{Contains, unwrap_or}
+use Rattle.value.specs.declared.refusals.Refusal.{Refusal}
+use Rattle.table.specs.declared.rows.Change.{Change}
+use Rattle.table.specs.Rows.{Layout}
+use Rattle.assertion.specs.declared.assertions.Assertion.{Assertion}
+use Rattle.assertion.specs.Declarations.{layouts_in}
+use Rattle.assertion.specs.Meaning.{State}
+use Rattle.assertion.specs.Roots.{state_after_all}
+use Rattle.siread.specs.declared.keys.LockKey.{LockKey}
+use Rattle.siread.specs.declared.keys.Place.{Place}
+use Rattle.siread.specs.Keys.{place_of}
+use Rattle.modes.specs.Modes.{Immediates, immediate_ones, modes_with, named_ones}
+use Rattle.answer.specs.declared.answers.Reply.{Reply}
+use Rattle.answer.specs.declared.answers.Reply.TheVariants.{ModesSet}
+use Rattle.alone.specs.Alone.{Standing, effected, modes_step, unless_violated}
+use Rattle.alone.specs.Checks.{checks_read, violation}
+use Rattle.alone.specs.States.{row_in, change_between, net_change, IsState}
+use Rattle.alone.specs.Statements.{Effect}
+use Rattle.alone.proofs.Members.{in_map}
+use Rattle.alone.proofs.Nets.{net_all}
+use Rattle.delta.specs.Views.{Shown}
+use Rattle.net.specs.Nets.{DifferAt}
+use Rattle.txn.specs.declared.steps.Done.{Done}
+use Rattle.txn.specs.Steps.{ArePut, IsDone, IsLeft, left_by, rows_left, standing}
+
+module _ (layouts : List Layout) where
+  -- two states differ at the places of their net change alone
+  pub differ_net : (before after : State) → IsState layouts before → IsState layouts after → DifferAt layouts before after (map place_of (net_change layouts before after))
+  differ_net before after f g = record {
+    elsewhere = λ place. elim (net_all layouts before after f g place) [
+      | inl same ↦ inl same
+      | inr listed ↦ inr (in_map place_of (net_change layouts before after) (change_between layouts before after place) listed)
+    ];
+  }
+
+  -- where nothing changed they differ nowhere
+  pub differ_nowhere : (state : State) (places : List Place) → DifferAt layouts state state places
+  differ_nowhere state places = record { elsewhere = λ place. inl refl }
+
+  -- one after the other
+  pub differ_both : (first second third : State) (here there all : List Place) → ((place : Place) → Contains here place → Contains all place) → ((place : Place) → Contains there place → Contains all place)
+      → DifferAt layouts first second here → DifferAt layouts second third there → DifferAt layouts first third all
+  differ_both first second third here there all old new d e = record {
+    elsewhere = λ place. elim (d.elsewhere place) [
+      | inr at ↦ inr (old place at)
+      | inl same ↦ elim (e.elsewhere place) [ inr at ↦ inr (new place at) | inl still ↦ inl (same ∙ still) ]
+    ];
+  }
+
+-- what is left where nothing has changed, and where rows have
+left_none : (own : Shown) (modes : Immediates) (done : Done) → done.view ≡ None → done.modes ≡ None → standing own modes ≡ left_by (standing own modes) done
+left_none own modes done v m = λ i. record { view = sym (ap (rows_left own.state) v) i; modes = sym (ap (λ o. unwrap_or o modes) m) i }
+
+left_so : (own : Shown) (modes : Immediates) {after : Shown} (new : State) (done : Done) → done.view ≡ Some after → done.modes ≡ None → after.state ≡ new
+    → record { view = new; modes = modes } ≡ left_by (standing own modes) done
+left_so own modes new done v m e = λ i. record { view = sym (ap (rows_left own.state) v ∙ e) i; modes = sym (ap (λ o. unwrap_or o modes) m) i }
+
+module _ (own : Shown) (modes : Immediates) where
+  abbrev layouts : List Layout
+  layouts = layouts_in own.declared
+
+  abbrev checked : List Assertion
+  checked = immediate_ones modes own.declared.assertions
+
+  -- rows that are left unless an assertion is violated are those of the step
+  pub rows_done : (read : LockKey) (effect : Effect) (after : Shown) (found violated : Option Refusal) (done : Done) → after.state ≡ state_after_all layouts effect.changes own.state
+      → found ≡ violation layouts checked (state_after_all layouts effect.changes own.state) → violated ≡ found
+      → done.reads.items ≡ read ∷ checks_read checked (net_change layouts own.state (state_after_all layouts effect.changes own.state))
+      → IsLeft violated effect.reply (Some after) None done
+      → IsDone (standing own modes) (effected own.declared (standing own modes) read (Ok effect)) done
+  rows_done read effect after found None done e f g r left =
+      subst (λ o. IsDone (standing own modes) (unless_violated o effect.reply (standing own modes) new reads) done) (g ∙ f) (record {
+        reply = sym left.0;
+        after = left_so own modes _ done left.1 left.2 e;
+        reads = sym r;
+      })
+    where
+      new : Standing
+      new = record { view = state_after_all (layouts_in own.declared) effect.changes own.state; modes = modes }
+
+      reads : List LockKey
+      reads = read ∷ checks_read (immediate_ones modes own.declared.assertions) (net_change (layouts_in own.declared) own.state (state_after_all (layouts_in own.declared) effect.changes own.state))
+  rows_done read effect after found (Some refusal) done e f g r left =
+      subst (λ o. IsDone (standing own modes) (unless_violated o effect.reply (standing own modes) new reads) done) (g ∙ f) (record {
+        reply = sym left.0;
+        after = left_none own modes done left.1 left.2;
+        reads = sym r;
+      })
+    where
+      new : Standing
+      new = record { view = state_after_all (layouts_in own.declared) effect.changes own.state; modes = modes }
+
+      reads : List LockKey
+      reads = read ∷ checks_read (immediate_ones modes own.declared.assertions) (net_change (layouts_in own.declared) own.state (state_after_all (layouts_in own.declared) effect.changes own.state))
+
+  -- and they differ at the changed places alone
+  pub rows_differ : (real put : List Change) (after : Shown) (reply : Reply) (violated : Option Refusal) (done : Done)
+      → DifferAt layouts own.state after.state (map place_of real)
+      → IsLeft violated reply (Some after) None done → ArePut violated real put
+      → DifferAt layouts own.state (left_by (standing own modes) done).view (map place_of put)
+  rows_differ real put after reply None done d left same =
+      subst (λ all. DifferAt layouts own.state (rows_left own.state done.view) (map place_of all)) (sym same) (subst (λ u. DifferAt layouts own.state (rows_left own.state u) (map place_of real)) (sym left.1) d)
+  rows_differ real put after reply (Some refusal) done d left same =
+      subst (λ u. DifferAt layouts own.state (rows_left own.state u) (map place_of put)) (sym left.1) (differ_nowhere layouts own.state (map place_of put))
+
+  -- modes that are set unless an assertion is violated are those of the step
+  pub modes_done : (start : State) (names : List (List ℕ)) (new : Immediates) (net : List Change) (found violated : Option Refusal) (done : Done)
+      → net ≡ net_change layouts start own.state → new ≡ modes_with names true own.declared.assertions modes
+      → found ≡ violation layouts (named_ones names own.declared.assertions) own.state → violated ≡ found
+      → done.reads.items ≡ checks_read (named_ones names own.declared.assertions) net
+      → IsLeft violated ModesSet None (Some new) done
+      → IsDone (standing own modes) (modes_step own.declared start names true (standing own modes)) done
+  modes_done start names new net found None done n e f g r left =
+      subst (λ o. IsDone (standing own modes) (unless_violated o ModesSet (standing own modes) (record { view = own.state; modes = modes_with names true own.declared.assertions modes }) (checks_read (named_ones names own.declared.assertions) (net_change (layouts_in own.declared) start own.state))) done) (g ∙ f) (record {
+        reply = sym left.0;
+        after = λ i. record { view = sym (ap (rows_left own.state) left.1) i; modes = sym (ap (λ o. unwrap_or o modes) left.2 ∙ e) i };
+        reads = sym (r ∙ ap (checks_read (named_ones names own.declared.assertions)) n);
+      })
+  modes_done start names new net found (Some refusal) done n e f g r left =
+      subst (λ o. IsDone (standing own modes) (unless_violated o ModesSet (standing own modes) (record { view = own.state; modes = modes_with names true own.declared.assertions modes }) (checks_read (named_ones names own.declared.assertions) (net_change (layouts_in own.declared) start own.state))) done) (g ∙ f) (record {
+        reply = sym left.0;
+        after = left_none own modes done left.1 left.2;
+        reads = sym (r ∙ ap (checks_read (named_ones names own.declared.assertions)) n);
+      })

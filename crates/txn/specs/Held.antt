@@ -1,0 +1,25 @@
+-- What an open transaction holds is what its trace leaves.
+use Rattle.std.specs.Prelude.{◌≡◌, ◌++◌, ℕ, List, Option, length}
+use Rattle.value.specs.declared.refusals.Refusal.{Refusal}
+use Rattle.table.specs.declared.rows.Change.{Change}
+use Rattle.assertion.specs.Declarations.{layouts_in}
+use Rattle.modes.specs.Modes.{Immediates}
+use Rattle.siread.specs.declared.keys.LockKey.{LockKey}
+use Rattle.siread.specs.declared.keys.Place.{Place}
+use Rattle.delta.specs.Views.{Shown}
+use Rattle.net.specs.Nets.{DifferAt}
+use Rattle.txn.specs.Transactions.{OpenTransaction, keys_of, outcome_of, own_view, run_of, standing_of}
+
+-- its own view, its modes, the places of the rows that it has changed, and what it has read
+pub record IsHeld (t : OpenTransaction) (own : Shown) (modes : Immediates) (touched : List Place) (reads : List LockKey) : Type 0 where
+  pub own_is : own ≡ own_view t
+  pub modes_are : modes ≡ (standing_of t).modes
+  pub long : length modes ≡ length t.declared.assertions
+  pub differ : DifferAt (layouts_in t.declared) t.start own.state touched
+  pub reads_are : reads ≡ (run_of t).reads
+
+-- what a transaction that goes to COMMIT has beside: its net change, the refusal by a false assertion, and what the check read
+pub record IsClosed (t : OpenTransaction) (changes : List Change) (refused : Option Refusal) (checked : List LockKey) : Type 0 where
+  pub changes_are : changes ≡ (outcome_of t).changes
+  pub refused_is : refused ≡ (outcome_of t).refused
+  pub keys_are : (run_of t).reads ++ checked ≡ keys_of t

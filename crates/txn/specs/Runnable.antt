@@ -1,0 +1,37 @@
+-- What is known of a statement with its names found: its table is one of those that there are, its conditions are evaluated
+-- without overflow, and an UPDATE leaves the key.
+use Rattle.std.specs.Prelude.{◌≡◌, ◌≢◌, ◌<◌, ℕ, false, [], All, IsTrue, length}
+use Rattle.value.specs.declared.refusals.Refusal.TheVariants.{NoMemory}
+use Rattle.cond.specs.Bounds.{is_bounded}
+use Rattle.assertion.specs.Declarations.{Declared, layouts_in}
+use Rattle.assertion.specs.Meaning.{key_of}
+use Rattle.assertcheck.specs.declared.deletes.Delete.{Delete}
+use Rattle.assertcheck.specs.declared.selects.Select.{Select}
+use Rattle.assertcheck.specs.declared.updates.Update.{Update}
+use Rattle.assertcheck.specs.Updates.{IsBoundedSetting}
+use Rattle.alone.specs.declared.statements.Resolved.{Resolved}
+use Rattle.alone.specs.declared.statements.Resolved.TheVariants as resolved
+use Rattle.alone.specs.Statements.{sets_key}
+
+pub record IsRunnableUpdate (declared : Declared) (update : Update) : Type 0 where
+  pub table_in : update.table < length declared.tables
+  pub bounded : IsTrue (is_bounded [] update.kept)
+  pub bounded_sets : All IsBoundedSetting update.sets
+  pub keyless : sets_key (key_of update.table (layouts_in declared)) update.sets ≡ false
+
+pub record IsRunnableDelete (declared : Declared) (delete : Delete) : Type 0 where
+  pub table_in : delete.table < length declared.tables
+  pub bounded : IsTrue (is_bounded [] delete.kept)
+
+pub record IsRunnableSelect (declared : Declared) (select : Select) : Type 0 where
+  pub table_in : select.table < length declared.tables
+  pub bounded : IsTrue (is_bounded [] select.kept)
+
+abbrev pub IsRunnable : Declared → Resolved → Type 0
+IsRunnable declared (resolved.Refused refusal) = refusal ≢ NoMemory
+IsRunnable declared (resolved.Insert new) = new.table < length declared.tables
+IsRunnable declared (resolved.Update update) = IsRunnableUpdate declared update
+IsRunnable declared (resolved.Delete delete) = IsRunnableDelete declared delete
+IsRunnable declared (resolved.Select select) = IsRunnableSelect declared select
+IsRunnable declared (resolved.SetModes names mode) = Unit {0}
+IsRunnable declared (resolved.Verdict name) = Unit {0}

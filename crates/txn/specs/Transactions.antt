@@ -1,0 +1,68 @@
+-- An open transaction: what it began on, and what it has run so far. Its own view and its modes are what that leaves.
+use Rattle.std.specs.Prelude.{ℕ, Bool, List, [], ◌∷◌, ◌++◌, flat_map, if◌then◌else◌, Option, Some, None}
+use Rattle.threeval.specs.declared.Truth.{Truth}
+use Rattle.threeval.specs.declared.Truth.TheVariants.{False}
+use Rattle.threeval.specs.Truths.{is_of}
+use Rattle.assertion.specs.declared.assertions.Assertion.{Assertion}
+use Rattle.assertion.specs.Declarations.{Declared, layouts_in}
+use Rattle.assertion.specs.Meaning.{State, verdict_of}
+use Rattle.siread.specs.declared.keys.LockKey.{LockKey}
+use Rattle.alone.specs.declared.statements.Resolved.{Resolved}
+use Rattle.alone.specs.Alone.{Outcome, Run, Standing, Step, run_on, stepped, transaction, transaction_keys}
+use Rattle.delta.specs.Views.{Shown}
+
+-- a transaction that has not ended
+pub record OpenTransaction : Type 0 where
+  pub declared : Declared
+  pub ticket : ℕ
+  pub snapshot : ℕ
+  pub start : State
+  pub trace : List Resolved
+
+-- its statements, run alone on the tables that it began on
+abbrev pub run_of : OpenTransaction → Run
+run_of t = run_on t.declared t.trace t.start
+
+-- its own view of the tables, and its modes
+abbrev pub standing_of : OpenTransaction → Standing
+standing_of t = (run_of t).final
+
+-- the tables as it sees them
+abbrev pub own_view : OpenTransaction → Shown
+own_view t = record { declared = t.declared; state = (standing_of t).view }
+
+-- what it would answer and change as a whole, if it went to COMMIT now
+abbrev pub outcome_of : OpenTransaction → Outcome
+outcome_of t = transaction t.declared t.trace t.start
+
+-- what it has read then, the check of COMMIT included
+abbrev pub keys_of : OpenTransaction → List LockKey
+keys_of t = transaction_keys t.declared t.trace t.start
+
+-- one more statement
+abbrev pub step_of : OpenTransaction → Resolved → Step
+step_of t statement = stepped t.declared t.start (standing_of t) statement
+
+abbrev pub with_statement : OpenTransaction → Resolved → OpenTransaction
+with_statement t statement = record t { trace = t.trace ++ statement ∷ [] }
+
+-- before its first statement
+abbrev pub begun : (ticket snapshot : ℕ) → Shown → OpenTransaction
+begun ticket snapshot shown = record { declared = shown.declared; ticket = ticket; snapshot = snapshot; start = shown.state; trace = [] }
+
+-- whether an assertion is false on what a view shows
+abbrev pub is_false_on : Shown → Assertion → Bool
+is_false_on shown a = is_of (verdict_of (layouts_in shown.declared) a.form shown.state) False
+
+-- the name of an assertion, if it is false there
+abbrev pub name_if_false : Shown → Assertion → List (List ℕ)
+name_if_false shown a = if is_false_on shown a then a.name ∷ [] else []
+
+-- the names of the assertions that are false there, in the order of their creation
+abbrev pub false_names : Shown → List (List ℕ)
+false_names shown = flat_map (name_if_false shown) shown.declared.assertions
+
+-- the truth of the assertion of a name there
+abbrev pub truth_of : Shown → Option Assertion → Option Truth
+truth_of shown None = None
+truth_of shown (Some a) = Some (verdict_of (layouts_in shown.declared) a.form shown.state)

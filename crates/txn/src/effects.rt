@@ -1,0 +1,118 @@
+//! What statements do to the rows of a view.
+
+ghost use Rattle.std.specs.Prelude.{◌≡◌, ◌≢◌, ◌<◌, [], length, slice_index_or, IfOk, IfErr, IsOkUnless, Ok, Err};
+ghost use Rattle.value.specs.declared.refusals.Refusal.TheVariants.{NoMemory};
+ghost use Rattle.assertion.specs.Declarations.{layouts_in};
+ghost use Rattle.table.specs.Rows.{names_of};
+ghost use Rattle.alone.specs.States.{IsState};
+ghost use Rattle.alone.specs.Statements.{insert_effect};
+ghost use Rattle.txn.specs.Effects.{ArePutIn, delete_of, update_of};
+ghost use Rattle.txn.specs.Runnable.{IsRunnableDelete, IsRunnableUpdate};
+
+use answer::Reply;
+use assertcheck::{Delete, NewRow, Update};
+use changes::{insertion, removals, renewals};
+use delta::View;
+use std::alloc::Global;
+use table::Change;
+use value::{Refusal, Text};
+
+/// What a statement answers, and the changes of rows that it makes, in the order in which they are put in.
+#[derive(Drop)]
+pub struct Effect {
+    pub reply: Reply,
+    pub changes: Vec<Change>,
+}
+
+/// INSERT: the row comes to stand at its key. Its refusals are those of `changes::insertion`.
+pub fn insert_effect(alloc: Global, view: &View, new: &NewRow) -> Result<Effect, Refusal>
+    requires table_in { new.now.table < length view.now.declared.tables }
+    ensures made { IfOk result (λ effect. insert_effect view.now.declared.tables new.now view.now.state ≡ Ok (record { reply = effect.reply; changes = effect.changes.items })) }
+    ensures refused { IfErr result (λ refusal. refusal ≢ NoMemory → insert_effect view.now.declared.tables new.now view.now.state ≡ Err refusal) }
+    ensures put_in { IfOk result (λ effect. ArePutIn (layouts_in view.now.declared) effect.changes.items view.now.state) }
+{
+    has_table(view, new.table);
+    let change = insertion(
+        table_name(view, new.table),
+        new.table,
+        view.schema(new.table),
+        view.rows(new.table),
+        new.row.copy()?,
+    )?;
+    let mut changes = Vec::new(alloc);
+    changes.push(change)?;
+    Ok(Effect {
+        reply: Reply::Inserted,
+        changes,
+    })
+}
+
+/// UPDATE of the rows that its condition keeps. Its refusals are those of `changes::renewals`.
+pub fn update_effect(alloc: Global, view: &View, update: &Update) -> Result<Effect, Refusal>
+    requires runnable { IsRunnableUpdate view.now.declared update.now }
+    ensures made { IfOk result (λ effect. update_of view.now update.now ≡ Ok (record { reply = effect.reply; changes = effect.changes.items })) }
+    ensures refused { IfErr result (λ refusal. refusal ≢ NoMemory → update_of view.now update.now ≡ Err refusal) }
+    ensures put_in { IfOk result (λ effect. ArePutIn (layouts_in view.now.declared) effect.changes.items view.now.state) }
+{
+    has_table(view, update.table);
+    let changes = renewals(
+        alloc,
+        update.table,
+        view.schema(update.table),
+        view.rows(update.table),
+        update.sets.as_slice(),
+        &update.kept,
+    )?;
+    Ok(Effect {
+        reply: Reply::Updated(changes.len() as u64),
+        changes,
+    })
+}
+
+/// DELETE of the rows that its condition keeps. NoMemory is the only error.
+pub fn delete_effect(alloc: Global, view: &View, delete: &Delete) -> Result<Effect, Refusal>
+    requires runnable { IsRunnableDelete view.now.declared delete.now }
+    ensures only_memory { IsOkUnless result NoMemory }
+    ensures made { IfOk result (λ effect. delete_of view.now delete.now ≡ record { reply = effect.reply; changes = effect.changes.items }) }
+    ensures put_in { IfOk result (λ effect. ArePutIn (layouts_in view.now.declared) effect.changes.items view.now.state) }
+{
+    has_table(view, delete.table);
+    let changes = removals(
+        alloc,
+        delete.table,
+        view.schema(delete.table).key(),
+        view.rows(delete.table),
+        &delete.kept,
+    )?;
+    Ok(Effect {
+        reply: Reply::Deleted(changes.len() as u64),
+        changes,
+    })
+}
+
+/// There are rows for each table of the catalog, and the state is in key order.
+pub fn has_table(view: &View, table: usize)
+    requires { table < length view.now.declared.tables }
+    ensures within { table < length view.now.state }
+    ensures state { IsState (layouts_in view.now.declared) view.now.state }
+{
+    let _ = view.catalog();
+}
+
+/// The rows of a view are a state: those of each table are in key order.
+pub fn in_order(view: &View)
+    ensures { IsState (layouts_in view.now.declared) view.now.state }
+{
+    let _ = view.catalog();
+}
+
+/// The name of the table at a place of the catalog.
+fn table_name(view: &View, table: usize) -> &Text
+    requires { table < length view.now.declared.tables }
+    ensures { result.now ≡ slice_index_or (names_of view.now.declared.tables) table [] }
+{
+    match view.catalog().name(table) {
+        Some(name) => name,
+        None => unreachable!(),
+    }
+}

@@ -1,0 +1,391 @@
+//! A statement of a transaction alone.
+
+ghost use Rattle.std.specs.Prelude.{◌≡◌, ◌≢◌, ◌<◌, ◌++◌, [], ◌∷◌, length, map, true, IfOk, IsOkUnless, OnErr, OnOk, Ok, Err, None, Some};
+ghost use Rattle.value.specs.Ordered.{HoldsOf};
+ghost use Rattle.value.specs.declared.refusals.Refusal.TheVariants.{NoMemory};
+ghost use Rattle.assertion.specs.Declarations.{layouts_in};
+ghost use Rattle.assertion.specs.Meaning.{State, key_of};
+ghost use Rattle.siread.specs.declared.keys.LockKey.{LockKey as AnyKey};
+ghost use Rattle.siread.specs.Keys.{place_of};
+ghost use Rattle.modes.specs.Modes.{Immediates, assertion_of, is_immediate, modes_with};
+ghost use Rattle.answer.specs.declared.answers.Reply.TheVariants as replies;
+ghost use Rattle.answer.specs.declared.answers.Reply.TheVariants.{ModesSet};
+ghost use Rattle.alone.specs.Alone.{effected, modes_step, stepped, verdict_step};
+ghost use Rattle.alone.specs.Reads.{where_key};
+ghost use Rattle.alone.specs.States.{net_change};
+ghost use Rattle.alone.specs.Statements.{found_rows, listed, place_in};
+ghost use Rattle.net.specs.Nets.{DifferAt};
+ghost use Rattle.txn.specs.Effects.{ArePutIn};
+ghost use Rattle.txn.specs.Runnable.{IsRunnable, IsRunnableDelete, IsRunnableSelect, IsRunnableUpdate};
+ghost use Rattle.txn.specs.Steps.{ArePut, IsDone, IsKnown, IsLeft, IsOf, delete_step, insert_step, left_by, shown_effect, standing, update_step};
+
+use crate::checks::{place_named, violation};
+use crate::effects::{Effect, delete_effect, has_table, in_order, insert_effect, update_effect};
+use alone::Resolved;
+use answer::Reply;
+use assertcheck::{Delete, NewRow, Select, Update};
+use changes::listed_rows;
+use cond::Cond;
+use delta::View;
+use modes::Modes;
+use net::{Touched, net_change};
+use reads::{checks_read, real_changes, tables_read, where_key};
+use siread::{LockKey, Place};
+use sqlite_items::Items;
+use statement_syntax::Mode;
+use std::alloc::Global;
+use table::Change;
+use value::{Refusal, Text, Value};
+
+/// What a statement answered, a refusal among the answers, what it left where that is another than before, and what it read.
+#[derive(Drop)]
+pub struct Done {
+    pub reply: Result<Reply, Refusal>,
+    pub view: Option<View>,
+    pub modes: Option<Modes>,
+    /// The rows that it changed.
+    pub changes: Vec<Change>,
+    /// The keys under which it read.
+    pub reads: Vec<LockKey>,
+}
+
+/// Runs a statement alone, on a transaction's own view and modes; the view on which it began can differ at the touched places alone.
+/// NoMemory is the only error; a statement that is refused is done, and its reply is the refusal.
+pub fn step(
+    alloc: Global,
+    start: &View,
+    own: &View,
+    modes: &Modes,
+    touched: &Touched,
+    statement: &Resolved,
+) -> Result<Done, Refusal>
+    requires runnable { IsRunnable own.now.declared statement.now }
+    requires modes { length modes.now ≡ length own.now.declared.assertions }
+    requires declared { own.now.declared ≡ start.now.declared }
+    requires differ { DifferAt (layouts_in start.now.declared) start.now.state own.now.state touched.now }
+    ensures only_memory { IsOkUnless result NoMemory }
+    ensures done { IfOk result (IsDone (standing own.now modes.now) (stepped own.now.declared start.now.state (standing own.now modes.now) statement.now)) }
+    ensures of { IfOk result (IsOf own.now.declared) }
+    ensures known { IfOk result IsKnown }
+    ensures changes { IfOk result (λ done. DifferAt (layouts_in own.now.declared) own.now.state (left_by (standing own.now modes.now) done).view (map place_of done.changes.items)) }
+{
+    match statement {
+        Resolved::Refused(refusal) => Ok(refused(refusal.copy()?, Vec::new(alloc))),
+        Resolved::Insert(new) => insert(alloc, own, modes, new),
+        Resolved::Update(update) => change(alloc, own, modes, update),
+        Resolved::Delete(delete) => take_out(alloc, own, modes, delete),
+        Resolved::Select(select) => list(alloc, own, select),
+        Resolved::SetModes { names, mode } => {
+            set_modes(alloc, start, own, modes, touched, names.as_slice(), *mode)
+        }
+        Resolved::Verdict(name) => verdict(alloc, own, name),
+    }
+}
+
+/// It was answered, and nothing has changed.
+fn replied(reply: Reply, reads: Vec<LockKey>) -> Done
+    ensures reply { result.reply ≡ Ok reply }
+    ensures same { (result.view ≡ None) × (result.modes ≡ None) × (result.changes.items ≡ []) }
+    ensures reads { result.reads.items ≡ reads.items }
+{
+    Done {
+        reply: Ok(reply),
+        view: None,
+        modes: None,
+        changes: Vec::new(*reads.allocator()),
+        reads,
+    }
+}
+
+/// It was refused, and nothing has changed.
+fn refused(refusal: Refusal, reads: Vec<LockKey>) -> Done
+    ensures reply { result.reply ≡ Err refusal }
+    ensures same { (result.view ≡ None) × (result.modes ≡ None) × (result.changes.items ≡ []) }
+    ensures reads { result.reads.items ≡ reads.items }
+{
+    Done {
+        reply: Err(refusal),
+        view: None,
+        modes: None,
+        changes: Vec::new(*reads.allocator()),
+        reads,
+    }
+}
+
+/// The same, of a refusal that may be that no memory was left, which is an error.
+fn refused_unless_memory(refusal: Refusal, reads: Vec<LockKey>) -> Result<Done, Refusal>
+    ensures only_memory { IsOkUnless result NoMemory }
+    ensures known { IfOk result IsKnown }
+    ensures reply { IfOk result (λ done. done.reply ≡ Err refusal) }
+    ensures same { IfOk result (λ done. (done.view ≡ None) × (done.modes ≡ None) × (done.changes.items ≡ [])) }
+    ensures reads { IfOk result (λ done. done.reads.items ≡ reads.items) }
+{
+    match refusal {
+        Refusal::NoMemory => Err(Refusal::NoMemory),
+        refusal => Ok(refused(refusal, reads)),
+    }
+}
+
+/// One key.
+fn only(alloc: Global, key: LockKey) -> Result<Vec<LockKey>, Refusal>
+    ensures only_memory { IsOkUnless result NoMemory }
+    ensures only { IfOk result (λ keys. keys.items ≡ key ∷ []) }
+{
+    let mut keys = Vec::new(alloc);
+    keys.push(key)?;
+    Ok(keys)
+}
+
+/// INSERT, which reads the row of its key.
+fn insert(alloc: Global, own: &View, modes: &Modes, new: &NewRow) -> Result<Done, Refusal>
+    requires table_in { new.now.table < length own.now.declared.tables }
+    requires modes { length modes.now ≡ length own.now.declared.assertions }
+    ensures only_memory { IsOkUnless result NoMemory }
+    ensures done { IfOk result (IsDone (standing own.now modes.now) (insert_step own.now modes.now new.now)) }
+    ensures of { IfOk result (IsOf own.now.declared) }
+    ensures known { IfOk result IsKnown }
+    ensures changes { IfOk result (λ done. DifferAt (layouts_in own.now.declared) own.now.state (left_by (standing own.now modes.now) done).view (map place_of done.changes.items)) }
+{
+    let reads = only(alloc, LockKey::Row(place_in(own, new)?))?;
+    match insert_effect(alloc, own, new) {
+        Ok(effect) => put_in(own, modes, reads, effect),
+        Err(refusal) => refused_unless_memory(refusal, reads),
+    }
+}
+
+/// UPDATE, which reads what its condition names.
+fn change(alloc: Global, own: &View, modes: &Modes, update: &Update) -> Result<Done, Refusal>
+    requires runnable { IsRunnableUpdate own.now.declared update.now }
+    requires modes { length modes.now ≡ length own.now.declared.assertions }
+    ensures only_memory { IsOkUnless result NoMemory }
+    ensures done { IfOk result (IsDone (standing own.now modes.now) (update_step own.now modes.now update.now)) }
+    ensures of { IfOk result (IsOf own.now.declared) }
+    ensures known { IfOk result IsKnown }
+    ensures changes { IfOk result (λ done. DifferAt (layouts_in own.now.declared) own.now.state (left_by (standing own.now modes.now) done).view (map place_of done.changes.items)) }
+{
+    let reads = only(alloc, read_key(own, update.table, &update.kept)?)?;
+    match update_effect(alloc, own, update) {
+        Ok(effect) => put_in(own, modes, reads, effect),
+        Err(refusal) => refused_unless_memory(refusal, reads),
+    }
+}
+
+/// DELETE, which reads what its condition names.
+fn take_out(alloc: Global, own: &View, modes: &Modes, delete: &Delete) -> Result<Done, Refusal>
+    requires runnable { IsRunnableDelete own.now.declared delete.now }
+    requires modes { length modes.now ≡ length own.now.declared.assertions }
+    ensures only_memory { IsOkUnless result NoMemory }
+    ensures done { IfOk result (IsDone (standing own.now modes.now) (delete_step own.now modes.now delete.now)) }
+    ensures of { IfOk result (IsOf own.now.declared) }
+    ensures known { IfOk result IsKnown }
+    ensures changes { IfOk result (λ done. DifferAt (layouts_in own.now.declared) own.now.state (left_by (standing own.now modes.now) done).view (map place_of done.changes.items)) }
+{
+    let reads = only(alloc, read_key(own, delete.table, &delete.kept)?)?;
+    put_in(own, modes, reads, delete_effect(alloc, own, delete)?)
+}
+
+/// The key under which a condition on a table reads.
+fn read_key(own: &View, table: usize, kept: &Cond) -> Result<LockKey, Refusal>
+    requires table_in { table < length own.now.declared.tables }
+    ensures only_memory { IsOkUnless result NoMemory }
+    ensures key { IfOk result (λ key. key ≡ where_key table (key_of table (layouts_in own.now.declared)) kept.now) }
+{
+    let _ = own.catalog();
+    where_key(table, own.schema(table).key(), kept)
+}
+
+/// The place at which a new row is to stand.
+fn place_in(own: &View, new: &NewRow) -> Result<Place, Refusal>
+    requires table_in { new.now.table < length own.now.declared.tables }
+    ensures only_memory { IsOkUnless result NoMemory }
+    ensures place { IfOk result (λ place. place ≡ place_in (layouts_in own.now.declared) new.now) }
+{
+    let _ = own.catalog();
+    let key = match new.row.values().get(own.schema(new.table).key()) {
+        Some(key) => key.copy()?,
+        None => Value::Null,
+    };
+    Ok(Place {
+        table: new.table,
+        key,
+    })
+}
+
+/// Puts an effect in, and checks the immediate assertions on what it leaves. `reads` is what it was found under.
+fn put_in(own: &View, modes: &Modes, reads: Vec<LockKey>, effect: Effect) -> Result<Done, Refusal>
+    requires modes { length modes.now ≡ length own.now.declared.assertions }
+    requires changes { ArePutIn (layouts_in own.now.declared) effect.changes.items own.now.state }
+    ensures only_memory { IsOkUnless result NoMemory }
+    ensures done { IfOk result (λ done. (read : AnyKey) → reads.items ≡ read ∷ [] → IsDone (standing own.now modes.now) (effected own.now.declared (standing own.now modes.now) read (Ok (shown_effect effect))) done) }
+    ensures of { IfOk result (IsOf own.now.declared) }
+    ensures known { IfOk result IsKnown }
+    ensures changes { IfOk result (λ done. DifferAt (layouts_in own.now.declared) own.now.state (left_by (standing own.now modes.now) done).view (map place_of done.changes.items)) }
+{
+    let Effect { reply, changes } = effect;
+    let alloc = *reads.allocator();
+    let mut reads = reads;
+    in_order(own);
+    let after = own.after(changes.as_slice())?;
+    let real = real_changes(changes);
+    let checked = checks_read(alloc, own, modes.as_slice(), real.as_slice())?;
+    append(&mut reads, checked)?;
+    let violated = violation(&after, modes.as_slice())?;
+    Ok(rows_unless(violated, reply, after, real, reads))
+}
+
+/// These rows are left, unless an assertion is violated.
+fn rows_unless(
+    violated: Option<Refusal>,
+    reply: Reply,
+    after: View,
+    changes: Vec<Change>,
+    reads: Vec<LockKey>,
+) -> Done
+    requires named { HoldsOf (λ refusal. refusal ≢ NoMemory) violated }
+    ensures known { IsKnown result }
+    ensures left { IsLeft violated reply (Some after) None result }
+    ensures changes { ArePut violated changes.items result.changes.items }
+    ensures reads { result.reads.items ≡ reads.items }
+{
+    match violated {
+        Some(refusal) => refused(refusal, reads),
+        None => Done {
+            reply: Ok(reply),
+            view: Some(after),
+            modes: None,
+            changes,
+            reads,
+        },
+    }
+}
+
+/// These modes are set, unless an assertion is violated.
+fn modes_unless(violated: Option<Refusal>, modes: Modes, reads: Vec<LockKey>) -> Done
+    requires named { HoldsOf (λ refusal. refusal ≢ NoMemory) violated }
+    ensures known { IsKnown result }
+    ensures left { IsLeft violated ModesSet None (Some modes) result }
+    ensures changes { result.changes.items ≡ [] }
+    ensures reads { result.reads.items ≡ reads.items }
+{
+    match violated {
+        Some(refusal) => refused(refusal, reads),
+        None => Done {
+            reply: Ok(Reply::ModesSet),
+            view: None,
+            modes: Some(modes),
+            changes: Vec::new(*reads.allocator()),
+            reads,
+        },
+    }
+}
+
+/// SELECT: the listed values of the rows that its condition keeps, in key order.
+fn list(alloc: Global, own: &View, select: &Select) -> Result<Done, Refusal>
+    requires runnable { IsRunnableSelect own.now.declared select.now }
+    ensures only_memory { IsOkUnless result NoMemory }
+    ensures reply { IfOk result (λ done. done.reply ≡ Ok (replies.Rows (listed select.now.columns (found_rows own.now.state select.now.table select.now.kept)))) }
+    ensures same { IfOk result (λ done. (done.view ≡ None) × (done.modes ≡ None) × (done.changes.items ≡ [])) }
+    ensures reads { IfOk result (λ done. done.reads.items ≡ where_key select.now.table (key_of select.now.table (layouts_in own.now.declared)) select.now.kept ∷ []) }
+{
+    let reads = only(alloc, read_key(own, select.table, &select.kept)?)?;
+    has_table(own, select.table);
+    let rows = listed_rows(
+        alloc,
+        own.rows(select.table),
+        select.columns.as_slice(),
+        &select.kept,
+    )?;
+    Ok(replied(Reply::Rows(Items::from_vec(rows)), reads))
+}
+
+/// SET CONSTRAINTS. IMMEDIATE checks the assertions that it names over the net change so far, and where one is false no mode
+/// changes.
+fn set_modes(
+    alloc: Global,
+    start: &View,
+    own: &View,
+    modes: &Modes,
+    touched: &Touched,
+    names: &[Text],
+    mode: Mode,
+) -> Result<Done, Refusal>
+    requires modes { length modes.now ≡ length own.now.declared.assertions }
+    requires declared { own.now.declared ≡ start.now.declared }
+    requires differ { DifferAt (layouts_in start.now.declared) start.now.state own.now.state touched.now }
+    ensures only_memory { IsOkUnless result NoMemory }
+    ensures done { IfOk result (IsDone (standing own.now modes.now) (modes_step own.now.declared start.now.state names.now (is_immediate mode) (standing own.now modes.now))) }
+    ensures of { IfOk result (IsOf own.now.declared) }
+    ensures known { IfOk result IsKnown }
+    ensures rows { IfOk result (λ done. done.view ≡ None) }
+{
+    match mode {
+        Mode::Deferred => {
+            let after = modes_after(own, modes, names, Mode::Deferred)?;
+            Ok(modes_unless(None, after, Vec::new(alloc)))
+        }
+        Mode::Immediate => {
+            let net = net_change(alloc, start, own, touched)?;
+            made_immediate(alloc, own, modes, names, net.as_slice())
+        }
+    }
+}
+
+/// The modes after those of some assertions are set, by their names.
+fn modes_after(own: &View, modes: &Modes, names: &[Text], mode: Mode) -> Result<Modes, Refusal>
+    requires modes { length modes.now ≡ length own.now.declared.assertions }
+    ensures only_memory { IsOkUnless result NoMemory }
+    ensures set { IfOk result (λ after. after ≡ modes_with names.now (is_immediate mode) own.now.declared.assertions modes.now) }
+    ensures long { IfOk result (λ after. length after ≡ length own.now.declared.assertions) }
+{
+    let after = modes.set(own.assertions(), names, mode)?;
+    Ok(after)
+}
+
+/// SET CONSTRAINTS .. IMMEDIATE, where this is the net change so far.
+fn made_immediate(
+    alloc: Global,
+    own: &View,
+    modes: &Modes,
+    names: &[Text],
+    net: &[Change],
+) -> Result<Done, Refusal>
+    requires modes { length modes.now ≡ length own.now.declared.assertions }
+    ensures only_memory { IsOkUnless result NoMemory }
+    ensures done { IfOk result (λ done. (start : State) → net.now ≡ net_change (layouts_in own.now.declared) start own.now.state → IsDone (standing own.now modes.now) (modes_step own.now.declared start names.now true (standing own.now modes.now)) done) }
+    ensures of { IfOk result (IsOf own.now.declared) }
+    ensures known { IfOk result IsKnown }
+    ensures rows { IfOk result (λ done. done.view ≡ None) }
+{
+    let meant = Modes::named_immediate(alloc, own.assertions(), names)?;
+    let reads = checks_read(alloc, own, meant.as_slice(), net)?;
+    let violated = violation(own, meant.as_slice())?;
+    let after = modes_after(own, modes, names, Mode::Immediate)?;
+    Ok(modes_unless(violated, after, reads))
+}
+
+/// VERDICT: the truth of the assertion of a name on the own view. It reads the tables that the assertion names.
+fn verdict(alloc: Global, own: &View, name: &Text) -> Result<Done, Refusal>
+    ensures only_memory { IsOkUnless result NoMemory }
+    ensures known { IfOk result IsKnown }
+    ensures done { IfOk result (λ done. (modes : Immediates) → IsDone (standing own.now modes) (verdict_step own.now.declared (assertion_of name.now own.now.declared.assertions) name.now (standing own.now modes)) done) }
+    ensures same { IfOk result (λ done. (done.view ≡ None) × (done.modes ≡ None) × (done.changes.items ≡ [])) }
+{
+    match place_named(own.assertions(), name) {
+        Some(place) => {
+            let reads = tables_read(alloc, &own.assertions()[place].form)?;
+            Ok(replied(Reply::Verdict(own.verdict(place)), reads))
+        }
+        None => Ok(refused(Refusal::UnknownName { name: name.copy()? }, Vec::new(alloc))),
+    }
+}
+
+/// These keys, and then those. NoMemory, the only error, leaves them as they were.
+pub fn append(keys: &mut Vec<LockKey>, more: Vec<LockKey>) -> Result<(), Refusal>
+    ensures only_memory { IsOkUnless result NoMemory }
+    ensures both { OnOk result (keys.new.items ≡ keys.old.items ++ more.items) }
+    ensures same { OnErr result (keys.new.items ≡ keys.old.items) }
+{
+    let mut more = more;
+    keys.append(&mut more)?;
+    Ok(())
+}

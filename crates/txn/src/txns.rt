@@ -1,0 +1,317 @@
+//! Open transactions.
+
+ghost use Rattle.std.specs.Prelude.{◌≡◌, ◌≢◌, ◌<◌, ◌++◌, map, unwrap_or, vec_capacity, vec_len, Contains, IfOk, IfErr, IsOkUnless, OnErr, OnOk, Ok, Err};
+ghost use Rattle.value.specs.declared.refusals.Refusal.TheVariants.{NoMemory};
+ghost use Rattle.siread.specs.declared.keys.Place.{Place as AnyPlace};
+ghost use Rattle.siread.specs.Keys.{place_of};
+ghost use Rattle.modes.specs.Modes.{assertion_of};
+ghost use Rattle.alone.specs.Resolve.{resolved};
+ghost use Rattle.txn.specs.Held.{IsClosed};
+ghost use Rattle.txn.specs.Runnable.{IsRunnable};
+ghost use Rattle.txn.specs.Transactions.{begun, false_names, own_view, run_of, step_of, truth_of, with_statement};
+
+use crate::checks::{false_names, place_named, violation};
+use crate::closed::{Closed, Unclosed};
+use crate::resolutions::resolve;
+use crate::steps::{Done, append, step};
+use alone::{Resolved, runs};
+use answer::Reply;
+use delta::View;
+use modes::Modes;
+use net::{Touched, net_change};
+use reads::checks_read;
+use siread::LockKey;
+use statement_syntax::Statement;
+use std::alloc::Global;
+use std::marker::Model;
+use table::Change;
+use threeval::Truth;
+use value::{Refusal, Text};
+
+/// An open transaction: the tables that it began on, its own view of them, its modes, its trace, and what it has read. It must be
+/// spent: by [`Txn::close_check`], or by [`Txn::abandon`].
+pub struct Txn {
+    pub(crate) ticket: u64,
+    pub(crate) snapshot: u64,
+    pub(crate) start: View,
+    pub(crate) own: View,
+    pub(crate) modes: Modes,
+    pub(crate) trace: Vec<Resolved>,
+    pub(crate) touched: Touched,
+    pub(crate) reads: Vec<LockKey>,
+}
+
+/// What a transaction needs for COMMIT: its net change, the refusal by a false assertion, and what the check read.
+#[derive(Drop)]
+struct Closing {
+    changes: Vec<Change>,
+    refused: Option<Refusal>,
+    checked: Vec<LockKey>,
+}
+
+impl Model for Txn {
+    ghost use Rattle.cond.specs.contracts.conds.Cond as cond_type;
+    ghost use Rattle.cond.specs.contracts.exprs.Expr as expr_type;
+    ghost use Rattle.std.specs.Coded.{codes};
+    ghost use Rattle.txn.specs.Held.{IsHeld};
+    ghost use Rattle.txn.specs.Transactions.{OpenTransaction};
+
+    ghost Value = { OpenTransaction };
+
+    ghost coded = { Prim.hlevel (codes, cond_type.the_row.coded, expr_type.the_row.coded) };
+
+    ghost view = { λ t. record { declared = t.start.declared; ticket = t.ticket; snapshot = t.snapshot; start = t.start.state; trace = t.trace.items } };
+
+    ghost invariant = { λ t. IsHeld (record { declared = t.start.declared; ticket = t.ticket; snapshot = t.snapshot; start = t.start.state; trace = t.trace.items }) t.own t.modes t.touched t.reads.items };
+}
+
+impl Txn {
+    /// A transaction that begins on these tables, which so many commits left. The ticket is its name with the caller. NoMemory is
+    /// the only error.
+    pub fn begin(alloc: Global, ticket: u64, snapshot: u64, tables: &View) -> Result<Txn, Refusal>
+        ensures only_memory { IsOkUnless result NoMemory }
+        ensures begun { IfOk result (λ txn. txn ≡ begun ticket snapshot tables.now) }
+    {
+        Ok(Txn {
+            ticket,
+            snapshot,
+            start: tables.copy()?,
+            own: tables.copy()?,
+            modes: Modes::initial(alloc, tables.assertions())?,
+            trace: Vec::new(alloc),
+            touched: Touched::new(alloc),
+            reads: Vec::new(alloc),
+        })
+    }
+
+    /// The name of the transaction with whom it was begun. It takes no memory.
+    pub fn ticket(&self) -> u64
+        ensures { result ≡ self.now.ticket }
+    {
+        self.ticket
+    }
+
+    /// How many commits its snapshot holds. It takes no memory.
+    pub fn snapshot(&self) -> u64
+        ensures { result ≡ self.now.snapshot }
+    {
+        self.snapshot
+    }
+
+    /// The tables as it sees them: those that it began on, with its own changes. It takes no memory.
+    pub fn own(&self) -> &View
+        ensures { result.now ≡ own_view self.now }
+    {
+        &self.own
+    }
+
+    /// Its statements so far, with their names found, refused ones too. It takes no memory.
+    pub fn trace(&self) -> &[Resolved]
+        ensures { result.now ≡ self.now.trace }
+    {
+        self.trace.as_slice()
+    }
+
+    /// What its statements have read so far, in their order. It takes no memory.
+    pub fn reads(&self) -> &[LockKey]
+        ensures { result.now ≡ (run_of self.now).reads }
+    {
+        self.reads.as_slice()
+    }
+
+    /// Runs a statement, and notes it in the trace. Its reply is that of the statement alone on the own view (ISO/IEC 9075:1992,
+    /// data manipulation, and checking of constraints), and a refused one leaves view and modes as they were.
+    ///
+    /// # Errors
+    ///
+    /// The statement's first fault, in the order of names, shape, types and width; then INSERT and UPDATE
+    /// [`Refusal::NullNotAllowed`] and [`Refusal::OutOfRange`], INSERT last [`Refusal::DuplicateKey`]; then [`Refusal::Violated`]
+    /// by the first immediate assertion that would be false, and for SET CONSTRAINTS .. IMMEDIATE by the first of those named;
+    /// [`Refusal::NotDeferrable`] for a mode that may not be set. Such a statement stands in the trace. Or
+    /// [`Refusal::NoMemory`]: then nothing has changed, and the statement is in no trace.
+    pub fn execute(&mut self, statement: &Statement) -> Result<Reply, Refusal>
+        ensures replied { IfOk result (λ reply. (step_of self.old (resolved self.old.declared statement.now)).reply ≡ Ok reply) }
+        ensures run { IfOk result (λ _. self.new ≡ with_statement self.old (resolved self.old.declared statement.now)) }
+        ensures refused { IfErr result (λ refusal. refusal ≢ NoMemory → (step_of self.old (resolved self.old.declared statement.now)).reply ≡ Err refusal) }
+        ensures noted { IfErr result (λ refusal. refusal ≢ NoMemory → self.new ≡ with_statement self.old (resolved self.old.declared statement.now)) }
+        ensures same { IfErr result (λ refusal. refusal ≡ NoMemory → self.new ≡ self.old) }
+    {
+        let alloc = *self.trace.allocator();
+        let statement = resolve(alloc, &self.start, statement)?;
+        self.run(alloc, statement)
+    }
+
+    /// Runs a statement with its names found.
+    fn run(&mut self, alloc: Global, statement: Resolved) -> Result<Reply, Refusal>
+        requires runnable { IsRunnable self.old.declared statement }
+        ensures replied { IfOk result (λ reply. (step_of self.old statement).reply ≡ Ok reply) }
+        ensures run { IfOk result (λ _. self.new ≡ with_statement self.old statement) }
+        ensures refused { IfErr result (λ refusal. refusal ≢ NoMemory → (step_of self.old statement).reply ≡ Err refusal) }
+        ensures noted { IfErr result (λ refusal. refusal ≢ NoMemory → self.new ≡ with_statement self.old statement) }
+        ensures same { IfErr result (λ refusal. refusal ≡ NoMemory → self.new ≡ self.old) }
+    {
+        runs();
+        let done = match step(
+            alloc,
+            &self.start,
+            &self.own,
+            &self.modes,
+            &self.touched,
+            &statement,
+        ) {
+            Ok(done) => done,
+            Err(refusal) => return stopped(refusal, statement),
+        };
+        let Done {
+            reply,
+            view,
+            modes,
+            changes,
+            reads,
+        } = done;
+        if let Err(refusal) = make_room(
+            &mut self.touched,
+            &mut self.trace,
+            &mut self.reads,
+            changes.as_slice(),
+            reads,
+        ) {
+            return stopped(refusal, (statement, reply, view, modes));
+        }
+        settle(&mut self.own, view);
+        settle_modes(&mut self.modes, modes);
+        self.trace.push_reserved(statement);
+        reply
+    }
+
+    /// The truth of the assertion of a name on the own view; none where no assertion has it. It enters no trace, and takes no
+    /// memory.
+    pub fn verdict(&self, name: &Text) -> Option<Truth>
+        ensures { result ≡ truth_of (own_view self.now) (assertion_of name.now self.now.declared.assertions) }
+    {
+        match place_named(self.own.assertions(), name) {
+            Some(place) => {
+                // Both clauses speak of the item at the place, and an index names one.
+                let _ = &self.own.assertions()[place];
+                Some(self.own.verdict(place))
+            }
+            None => None,
+        }
+    }
+
+    /// The names of the assertions that are false on the own view, in the order of their creation. It enters no trace. NoMemory is
+    /// the only error.
+    pub fn pending(&self) -> Result<Vec<Text>, Refusal>
+        ensures only_memory { IsOkUnless result NoMemory }
+        ensures names { IfOk result (λ names. names.items ≡ false_names (own_view self.now)) }
+    {
+        let names = false_names(*self.trace.allocator(), &self.own)?;
+        Ok(names)
+    }
+
+    /// Takes the transaction to COMMIT: its net change, and the check of all assertions on its own view, whatever their modes
+    /// (ISO/IEC 9075:1992, commit statement). NoMemory is the only error, and gives the transaction back as it was.
+    pub fn close_check(self) -> Result<Closed, Unclosed>
+        ensures closed { IfOk result (λ closed. closed ≡ self) }
+        ensures only_memory { IfErr result (λ fault. fault.refusal ≡ NoMemory) }
+        ensures back { IfErr result (λ fault. fault.txn ≡ self) }
+    {
+        match self.closing() {
+            Ok(
+                Closing {
+                    changes,
+                    refused,
+                    checked,
+                },
+            ) => Ok(Closed {
+                txn: self,
+                changes,
+                refused,
+                checked,
+            }),
+            Err(refusal) => Err(Unclosed { refusal, txn: self }),
+        }
+    }
+
+    /// What COMMIT is answered by.
+    fn closing(&self) -> Result<Closing, Refusal>
+        ensures only_memory { IsOkUnless result NoMemory }
+        ensures closed { IfOk result (λ closing. IsClosed self.now closing.changes.items closing.refused closing.checked.items) }
+    {
+        let alloc = *self.trace.allocator();
+        let changes = net_change(alloc, &self.start, &self.own, &self.touched)?;
+        let meant = Modes::all_immediate(alloc, self.own.assertions())?;
+        let checked = checks_read(alloc, &self.own, meant.as_slice(), changes.as_slice())?;
+        let refused = violation(&self.own, meant.as_slice())?;
+        Ok(Closing {
+            changes,
+            refused,
+            checked,
+        })
+    }
+
+    /// Ends the transaction, and nothing of it is kept but its own view of the tables. It takes no memory.
+    pub fn abandon(self) -> View
+        ensures { result ≡ own_view self }
+    {
+        let Txn {
+            ticket: _,
+            snapshot: _,
+            start: _,
+            own,
+            modes: _,
+            trace: _,
+            touched: _,
+            reads: _,
+        } = self;
+        own
+    }
+}
+
+/// Stopped by this, with what had been made.
+fn stopped<T: Drop>(refusal: Refusal, _made: T) -> Result<Reply, Refusal>
+    ensures { result ≡ Err refusal }
+{
+    Err(refusal)
+}
+
+/// Notes the places of changes and what was read, and makes room for one more statement. After NoMemory, the only error, some
+/// of the places may have been noted.
+fn make_room(
+    touched: &mut Touched,
+    trace: &mut Vec<Resolved>,
+    reads: &mut Vec<LockKey>,
+    changes: &[Change],
+    more: Vec<LockKey>,
+) -> Result<(), Refusal>
+    ensures only_memory { IsOkUnless result NoMemory }
+    ensures kept { (place : AnyPlace) → Contains touched.old place → Contains touched.new place }
+    ensures added { OnOk result ((place : AnyPlace) → Contains (map place_of changes.now) place → Contains touched.new place) }
+    ensures trace { trace.new.items ≡ trace.old.items }
+    ensures room { OnOk result (vec_len trace.new < vec_capacity trace.new) }
+    ensures read { OnOk result (reads.new.items ≡ reads.old.items ++ more.items) }
+    ensures unread { OnErr result (reads.new.items ≡ reads.old.items) }
+{
+    touched.add(changes)?;
+    trace.reserve(1)?;
+    append(reads, more)?;
+    Ok(())
+}
+
+/// The view is the one after, if there is one.
+fn settle(view: &mut View, after: Option<View>)
+    ensures { view.new ≡ unwrap_or after view.old }
+{
+    if let Some(after) = after {
+        *view = after;
+    }
+}
+
+/// The modes are those after, if there are any.
+fn settle_modes(modes: &mut Modes, after: Option<Modes>)
+    ensures { modes.new ≡ unwrap_or after modes.old }
+{
+    if let Some(after) = after {
+        *modes = after;
+    }
+}
