@@ -1,1 +1,2 @@
-pub mod TransactionLemmas
+mod AdmissionLemmas
+mod TransactionLemmas

@@ -1,67 +1,62 @@
 -- The statements of an open transaction are answered as alone.
-use Rattle.std.proofs.Common.{◌≡◌, ◌∙◌, ap, refl, ℕ, ◌+◌, ◌==◌, true, false, cond, List, [], ◌∷◌, map, Option, Some, None}
-use Rattle.std.specs.Prelude.{Ok, Err}
+use Rattle.std.proofs.Common.{◌≡◌, ◌∙◌, sym, ap, refl, subst, ℕ, ◌+◌, ◌==◌, true, false, Bool, cond, List, [], ◌∷◌, ◌++◌, map, Option, Some, None, append-nil, append_assoc}
 use Rattle.value.specs.declared.refusals.Refusal.{Refusal}
 use Rattle.value.specs.declared.refusals.Refusal.TheVariants.{EpochFull}
-use Rattle.delta.specs.Views.{Shown}
 use Rattle.statement_syntax.specs.declared.statements.Statement.{Statement}
 use Rattle.statement_syntax.specs.declared.statements.Event.TheVariants.{Commit, Run}
-use Rattle.commit.specs.declared.sessions.Standing.{Standing}
 use Rattle.answer.specs.declared.answers.Answer.TheVariants.{Begun, Committed, Refused}
-use Rattle.txn.specs.Statements.{executed}
-use Rattle.commit.specs.Sessions.{accepted_turn, begin_turn, decided_turn, ended_turn, replied_turn, turn}
-use Rattle.commit.specs.Transactions.{answer_of, left_by, answers_alone, state_alone, answers, led_to, begun_events, commit_answer, refused_alone}
+use Rattle.assertion.specs.Declarations.{Declared}
+use Rattle.assertion.specs.Meaning.{State}
+use Rattle.alone.specs.declared.statements.Resolved.{Resolved}
+use Rattle.alone.specs.Resolve.{resolved}
+use Rattle.alone.specs.Alone.{Run as Ran, Standing as Alone, Step, followed, ran, stepped}
+use Rattle.delta.specs.Views.{Shown}
+use Rattle.txn.specs.Transactions.{OpenTransaction, begun, outcome_of, run_of, standing_of, step_of, with_statement}
+use Rattle.commit.specs.declared.sessions.Standing.{Standing}
+use Rattle.commit.specs.Sessions.{answer_of, begin_turn, commit_turn, decided_turn, refusal_of, turn, with_open}
+use Rattle.commit.specs.Transactions.{alone_on, answers, answers_alone, begun_events, commit_answer, having_run, led_to, number_or, trace_of}
 
--- a transaction is open with this state
-open_with : Shown → ℕ → Shown → Standing
-open_with committed commits own = record { committed = committed; commits = commits; own = Some own }
+-- runs may be run in two parts
+abbrev InParts : Type 0
+InParts = (declared : Declared) (start : State) (now : Alone) (first rest : List Resolved)
+    → ran declared start now (first ++ rest) ≡ followed (ran declared start now first) (ran declared start (ran declared start now first).final rest)
 
-answers-open : (limit commits : ℕ) (committed own : Shown) (statements : List Statement)
-    → answers limit (open_with committed commits own) (map Run statements) ≡ answers_alone own statements
-unfolding open_with
-answers-open limit commits committed own [] = refl
-answers-open limit commits committed own (statement ∷ rest) =
-    elim (executed own statement) as (λ r. (replied_turn (open_with committed commits own) r).answer ∷ answers limit (replied_turn (open_with committed commits own) r).after (map Run rest)
-    ≡ answer_of r ∷ answers_alone (left_by own r) rest) [
-      | Ok done ↦ ap (λ more. answer_of (Ok done) ∷ more) (answers-open limit commits committed done.1 rest)
-      | Err refusal ↦ ap (λ more. answer_of (Err refusal) ∷ more) (answers-open limit commits committed own rest)
-    ]
+module _ (parts : InParts) (limit : ℕ) (now : Standing) where
+  -- where the transaction stands after one statement more
+  stands : (t : OpenTransaction) (s : Resolved) → standing_of (with_statement t s) ≡ (step_of t s).after
+  stands t s = ap (λ (r : Ran). r.final) (parts t.declared t.start _ t.trace (s ∷ []))
 
-led-open : (limit commits : ℕ) (committed own : Shown) (statements : List Statement)
-    → led_to limit (open_with committed commits own) (map Run statements) ≡ open_with committed commits (state_alone own statements)
-unfolding open_with
-led-open limit commits committed own [] = refl
-led-open limit commits committed own (statement ∷ rest) =
-    elim (executed own statement) as (λ r. led_to limit (replied_turn (open_with committed commits own) r).after (map Run rest)
-    ≡ open_with committed commits (state_alone (left_by own r) rest)) [
-      | Ok done ↦ led-open limit commits committed done.1 rest
-      | Err refusal ↦ led-open limit commits committed own rest
-    ]
+  told : (t : OpenTransaction) (statements : List Statement)
+      → answers limit (with_open now (Some t)) (map Run statements) ≡ map answer_of (ran t.declared t.start (standing_of t) (map (resolved t.declared) statements)).replies
+  told t [] = refl
+  told t (s ∷ rest) =
+      ap (λ more. answer_of (step_of t (resolved t.declared s)).reply ∷ more)
+      (told (with_statement t (resolved t.declared s)) rest
+      ∙ ap (λ (n : Alone). map answer_of (ran t.declared t.start n (map (resolved t.declared) rest)).replies) (stands t (resolved t.declared s)))
 
-pub answers-begun : (limit : ℕ) (now : Standing) (statements : List Statement) → now.own ≡ None
-    → answers limit now (begun_events statements) ≡ Begun now.commits ∷ answers_alone now.committed statements
-unfolding open_with
-answers-begun limit now statements closed =
-    ap (λ own. (begin_turn now own).answer ∷ answers limit (begin_turn now own).after (map Run statements)) closed
-    ∙ ap (λ more. Begun now.commits ∷ more) (answers-open limit now.commits now.committed now.committed statements)
+  left : (t : OpenTransaction) (statements : List Statement)
+      → led_to limit (with_open now (Some t)) (map Run statements) ≡ with_open now (Some (record t { trace = t.trace ++ map (resolved t.declared) statements }))
+  left t [] = ap (λ trace. with_open now (Some (record t { trace = trace }))) (sym (append-nil t.trace))
+  left t (s ∷ rest) =
+      left (with_statement t (resolved t.declared s)) rest
+      ∙ ap (λ trace. with_open now (Some (record t { trace = trace }))) (append_assoc t.trace (resolved t.declared s ∷ []) (map (resolved t.declared) rest))
 
-pub led-begun : (limit : ℕ) (now : Standing) (statements : List Statement) → now.own ≡ None
-    → led_to limit now (begun_events statements) ≡ record now { own = Some (state_alone now.committed statements) }
-unfolding open_with
-led-begun limit now statements closed =
-    ap (λ own. led_to limit (begin_turn now own).after (map Run statements)) closed ∙ led-open limit now.commits now.committed now.committed statements
+  -- where none was open
+  pub told-alone : (statements : List Statement) → now.own.txn ≡ None → answers limit now (begun_events statements) ≡ Begun now.commits ∷ answers_alone now.committed statements
+  told-alone statements none =
+      ap (λ o. (begin_turn now o).answer ∷ answers limit (begin_turn now o).after (map Run statements)) none
+      ∙ ap (λ more. Begun now.commits ∷ more) (told (begun 0 now.commits now.committed) statements)
 
--- an end decided so is answered so
-answer-decided : (limit : ℕ) (now : Standing) (own : Shown) (refusal : Option Refusal) → (decided_turn limit now own refusal).answer ≡ commit_answer limit now.commits refusal
-answer-decided limit now own (Some refusal) = refl
-answer-decided limit now own None =
-    elim (now.commits == limit) as (λ full. (cond full (ended_turn now (Refused EpochFull)) (accepted_turn now own)).answer ≡ cond full (Refused EpochFull) (Committed (now.commits + 1))) [
-      | true ↦ refl
-      | false ↦ refl
-    ]
+  pub left-alone : (statements : List Statement) → now.own.txn ≡ None → led_to limit now (begun_events statements) ≡ with_open now (Some (having_run now statements))
+  left-alone statements none =
+      ap (λ o. led_to limit (begin_turn now o).after (map Run statements)) none ∙ left (begun 0 now.commits now.committed) statements
 
-pub commit-begun : (limit : ℕ) (now : Standing) (statements : List Statement) → now.own ≡ None
-    → (turn limit (led_to limit now (begun_events statements)) Commit).answer ≡ commit_answer limit now.commits (refused_alone now.committed statements)
-commit-begun limit now statements closed =
-    ap (λ (led : Standing). (turn limit led Commit).answer) (led-begun limit now statements closed)
-    ∙ answer-decided limit (record now { own = Some (state_alone now.committed statements) }) (state_alone now.committed statements) (refused_alone now.committed statements)
+  decided : (t : OpenTransaction) (o : Option Refusal) → (decided_turn (with_open now (Some t)) t o).answer ≡ number_or now.commits o
+  decided t None = refl
+  decided t (Some refusal) = refl
+
+  pub commit-alone : (statements : List Statement) → now.own.txn ≡ None
+      → (turn limit (led_to limit now (begun_events statements)) Commit).answer ≡ commit_answer limit now.commits (alone_on now.committed statements).refused
+  commit-alone statements none =
+      ap (λ (n : Standing). (turn limit n Commit).answer) (left-alone statements none)
+      ∙ decided (having_run now statements) (refusal_of limit now.commits (outcome_of (having_run now statements)).refused)

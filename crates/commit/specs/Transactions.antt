@@ -1,45 +1,42 @@
 -- A transaction alone, and a script in which it stands.
-use Rattle.std.specs.Prelude.{ℕ, ◌+◌, ◌==◌, List, [], ◌∷◌, map, Option, Some, None, Result, Ok, Err, if◌then◌else◌}
+use Rattle.std.specs.Prelude.{ℕ, ◌+◌, List, [], ◌∷◌, map, Option, Some, None}
 use Rattle.value.specs.declared.refusals.Refusal.{Refusal}
-use Rattle.value.specs.declared.refusals.Refusal.TheVariants.{EpochFull}
 use Rattle.statement_syntax.specs.declared.statements.Statement.{Statement}
 use Rattle.statement_syntax.specs.declared.statements.Event.{Event}
 use Rattle.statement_syntax.specs.declared.statements.Event.TheVariants.{Begin, Run}
 use Rattle.answer.specs.declared.answers.Answer.{Answer}
-use Rattle.answer.specs.declared.answers.Answer.TheVariants.{Replied, Committed, Refused}
+use Rattle.answer.specs.declared.answers.Answer.TheVariants.{Committed, Refused}
+use Rattle.alone.specs.declared.statements.Resolved.{Resolved}
+use Rattle.alone.specs.Resolve.{resolved}
+use Rattle.alone.specs.Alone.{Outcome, transaction}
 use Rattle.delta.specs.Views.{Shown}
-use Rattle.txn.specs.Statements.{Done, executed}
+use Rattle.txn.specs.Transactions.{OpenTransaction, begun}
 use Rattle.commit.specs.declared.sessions.Standing.{Standing}
-use Rattle.commit.specs.Sessions.{turn, violated}
+use Rattle.commit.specs.Sessions.{answer_of, refusal_of, turn, with_open}
 
--- the answer to a statement
-abbrev pub answer_of : Result Done Refusal → Answer
-answer_of (Ok done) = Replied done.0
-answer_of (Err refusal) = Refused refusal
+-- statements with their names found
+abbrev pub trace_of : Shown → List Statement → List Resolved
+trace_of shown statements = map (resolved shown.declared) statements
 
--- the state that it leaves: after a refusal the one before
-abbrev pub left_by : Shown → Result Done Refusal → Shown
-left_by before (Ok done) = done.1
-left_by before (Err refusal) = before
+-- what a transaction of these statements answers and changes, run alone on these tables
+abbrev pub alone_on : Shown → List Statement → Outcome
+alone_on shown statements = transaction shown.declared (trace_of shown statements) shown.state
 
--- the answers to statements run alone, one after the other, from a state
+-- the answers to its statements
 abbrev pub answers_alone : Shown → List Statement → List Answer
-answers_alone state [] = []
-answers_alone state (statement ∷ rest) = answer_of (executed state statement) ∷ answers_alone (left_by state (executed state statement)) rest
+answers_alone shown statements = map answer_of (alone_on shown statements).replies
 
--- the state that they leave
-abbrev pub state_alone : Shown → List Statement → Shown
-state_alone state [] = state
-state_alone state (statement ∷ rest) = state_alone (left_by state (executed state statement)) rest
-
--- which assertion refuses the COMMIT of a transaction alone, and with which root
-abbrev pub refused_alone : Shown → List Statement → Option Refusal
-refused_alone state statements = violated (state_alone state statements)
+-- the transaction that has run them
+abbrev pub having_run : Standing → List Statement → OpenTransaction
+having_run now statements = record (begun 0 now.commits now.committed) { trace = trace_of now.committed statements }
 
 -- what COMMIT is answered: a false assertion first, then a full epoch, else the next number
+abbrev pub number_or : (commits : ℕ) → Option Refusal → Answer
+number_or commits (Some refusal) = Refused refusal
+number_or commits None = Committed (commits + 1)
+
 abbrev pub commit_answer : (limit commits : ℕ) → Option Refusal → Answer
-commit_answer limit commits (Some refusal) = Refused refusal
-commit_answer limit commits None = if commits == limit then Refused EpochFull else Committed (commits + 1)
+commit_answer limit commits refused = number_or commits (refusal_of limit commits refused)
 
 -- the answers to events, one after the other
 abbrev pub answers : (limit : ℕ) → Standing → List Event → List Answer

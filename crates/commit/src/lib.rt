@@ -2,20 +2,20 @@
 //!
 //! [`admit`] takes definitions in: what they define, and that no assertion is false on the rows that they begin with
 //! (ISO/IEC 9075:1992, assertion definition: an assertion is satisfied where its condition is not false; that rows are loaded
-//! first and assertions evaluated once, at the end, is this project's choice). A [`Standing`] is what there is between two
-//! events of a session: the committed tables, how many commits led to them, and the tables as the open transaction sees
-//! them, if one is open.
+//! first and assertions evaluated once, at the end, is this project's choice). Each assertion means what the definitions
+//! write. A [`Standing`] is what there is between two events of a session: the committed tables, how many commits led to
+//! them, and the open transaction in its [`Seat`], if one is open.
 //!
 //! [`Standing::answer`] answers one event of one session:
 //!
-//! - BEGIN: the transaction sees the committed tables. Inside a transaction it is refused.
-//! - A statement is answered as alone on the tables that the transaction sees (`txn`), and leaves what it alone leaves.
-//! - COMMIT is refused where an assertion is false on these tables, and then where the epoch is full; either ends the
-//!   transaction, and nothing of it is kept. Else they become the committed tables.
+//! - BEGIN: a transaction begins on the committed tables. Inside a transaction it is refused.
+//! - A statement is answered as alone in the transaction (`txn`), and its trace then holds it.
+//! - COMMIT is refused where an assertion is false on the transaction's own view, and then where the epoch is full; either
+//!   ends the transaction, and nothing of it is kept. Else its own view is the committed tables.
 //! - ROLLBACK ends the transaction, and nothing of it is kept.
 //!
-//! Outside a transaction everything but BEGIN is refused. What a refusal or memory running out leaves is in the contracts: after
-//! a refused statement and after NoMemory nothing has changed.
+//! Outside a transaction everything but BEGIN is refused. What a refusal or memory running out leaves is in the contracts: a
+//! refused statement leaves view and modes as they were, and after NoMemory nothing has changed.
 //!
 //! What the layer above may rest on: each answer, and what it leaves, is that of `specs/Sessions`, a function of the
 //! event and of what stood before it. [`transactions_run_alone`] is the law that joins events to transactions: BEGIN,
@@ -30,7 +30,7 @@ mod sessions;
 
 pub use admission::admit;
 pub use laws::transactions_run_alone;
-pub use sessions::Standing;
+pub use sessions::{Seat, Standing};
 
 #[cfg(test)]
 mod tests;

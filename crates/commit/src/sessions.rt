@@ -1,23 +1,41 @@
 //! A session: its transactions run one after the other.
 
-ghost use Rattle.std.specs.Prelude.{◌≡◌, ◌≤◌, IfOk, IfSome, IsSome, OnErr, IsOkUnless, unwrap_or, Ok, None};
+ghost use Rattle.std.specs.Prelude.{◌≡◌, ◌≤◌, ◌<◌, ◌+◌, ◌^◌, IfOk, OnErr, IsOkUnless, None, Some};
 ghost use Rattle.value.specs.declared.refusals.Refusal.TheVariants.{NoMemory};
-ghost use Rattle.commit.specs.Sessions.{turn, beginning, begin_turn, replied_turn, run_turn, decided_turn, commit_turn, rollback_turn};
+ghost use Rattle.txn.specs.Transactions.{outcome_of};
+ghost use Rattle.commit.specs.Sessions.{accepted_turn, begin_turn, beginning, commit_turn, decided_turn, refusal_of, rollback_turn, run_turn, turn, with_open};
 
 use answer::Answer;
 use delta::View;
 use statement_syntax::{Event, Statement};
 use std::alloc::Global;
-use txn::{Done, execute, first_false};
+use txn::{Closed, Txn, Unclosed};
 use value::Refusal;
 
-/// What stands between two events: the committed state, how many commits led to it, and the own state of the open
-/// transaction, if one is open.
+/// Where a session's open transaction stands, if one is open. One that is let go is rolled back.
+pub struct Seat {
+    pub txn: Option<Txn>,
+}
+
+impl Drop for Seat {
+    fn drop(self) {
+        let Seat { txn } = self;
+        match txn {
+            Some(txn) => let_go(txn.abandon()),
+            None => {}
+        }
+    }
+}
+
+fn let_go<T: Drop>(_value: T) {}
+
+/// What stands between two events: the committed tables, how many commits led to them, and the open transaction, if one is
+/// open.
 #[derive(Drop)]
 pub struct Standing {
     pub committed: View,
     pub commits: u64,
-    pub own: Option<View>,
+    pub own: Seat,
 }
 
 impl Standing {
@@ -28,7 +46,7 @@ impl Standing {
         Standing {
             committed,
             commits: 0,
-            own: None,
+            own: Seat { txn: None },
         }
     }
 
@@ -45,104 +63,123 @@ impl Standing {
         ensures within { self.new.commits ≤ limit }
     {
         match event {
-            Event::Begin => self.begin(),
+            Event::Begin => self.begin(alloc),
             Event::Commit => self.commit(limit),
             Event::Rollback => Ok(self.roll_back()),
-            Event::Run(statement) => self.run(alloc, statement),
+            Event::Run(statement) => self.run(statement),
         }
     }
 
-    /// BEGIN: the transaction begins on the committed state.
-    fn begin(&mut self) -> Result<Answer, Refusal>
+    /// BEGIN: the transaction begins on the committed tables.
+    fn begin(&mut self, alloc: Global) -> Result<Answer, Refusal>
         ensures only_memory { IsOkUnless result NoMemory }
-        ensures answered { IfOk result (λ answer. begin_turn self.old self.old.own ≡ record { answer = answer; after = self.new }) }
+        ensures answered { IfOk result (λ answer. begin_turn self.old self.old.own.txn ≡ record { answer = answer; after = self.new }) }
         ensures same { OnErr result (self.new ≡ self.old) }
         ensures count { self.new.commits ≡ self.old.commits }
     {
-        if self.own.is_some() {
+        if self.own.txn.is_some() {
             return Ok(Answer::Refused(Refusal::TransactionOpen));
         }
-        self.own = Some(self.committed.copy()?);
+        let txn = Txn::begin(alloc, 0, self.commits, &self.committed)?;
+        self.own = Seat { txn: Some(txn) };
         Ok(Answer::Begun(self.commits))
     }
 
     /// A statement, in the open transaction.
-    fn run(&mut self, alloc: Global, statement: &Statement) -> Result<Answer, Refusal>
+    fn run(&mut self, statement: &Statement) -> Result<Answer, Refusal>
         ensures only_memory { IsOkUnless result NoMemory }
-        ensures answered { IfOk result (λ answer. run_turn self.old statement.now self.old.own ≡ record { answer = answer; after = self.new }) }
+        ensures answered { IfOk result (λ answer. run_turn self.old statement.now self.old.own.txn ≡ record { answer = answer; after = self.new }) }
         ensures same { OnErr result (self.new ≡ self.old) }
         ensures count { self.new.commits ≡ self.old.commits }
     {
-        let Some(own) = &self.own else {
-            return Ok(Answer::Refused(Refusal::NoTransaction));
-        };
-        match execute(alloc, own, statement) {
-            Ok(done) => Ok(self.replied(done)),
-            Err(Refusal::NoMemory) => Err(Refusal::NoMemory),
-            Err(refusal) => Ok(Answer::Refused(refusal)),
+        match &mut self.own.txn {
+            None => Ok(Answer::Refused(Refusal::NoTransaction)),
+            Some(txn) => match txn.execute(statement) {
+                Ok(reply) => Ok(Answer::Replied(reply)),
+                Err(Refusal::NoMemory) => Err(Refusal::NoMemory),
+                Err(refusal) => Ok(Answer::Refused(refusal)),
+            },
         }
     }
 
-    /// COMMIT: refused where an assertion is false on the own state, and then where the epoch is full.
+    /// COMMIT: refused where an assertion is false on the own view, and then where the epoch is full.
     fn commit(&mut self, limit: u64) -> Result<Answer, Refusal>
         requires within { self.old.commits ≤ limit }
         ensures only_memory { IsOkUnless result NoMemory }
-        ensures answered { IfOk result (λ answer. commit_turn limit self.old self.old.own ≡ record { answer = answer; after = self.new }) }
+        ensures answered { IfOk result (λ answer. commit_turn limit self.old self.old.own.txn ≡ record { answer = answer; after = self.new }) }
         ensures same { OnErr result (self.new ≡ self.old) }
         ensures within { self.new.commits ≤ limit }
     {
-        let Some(own) = &self.own else {
+        let Some(txn) = self.own.txn.take() else {
             return Ok(Answer::Refused(Refusal::NoTransaction));
         };
-        if let Some(found) = first_false(own)? {
-            self.own = None;
-            return Ok(Answer::Refused(found.violated()));
+        match txn.close_check() {
+            Ok(closed) => self.decide(limit, closed),
+            Err(Unclosed { refusal, txn }) => {
+                self.own = Seat { txn: Some(txn) };
+                Err(refusal)
+            }
         }
-        Ok(self.accept(limit))
     }
 
-    /// Makes the open transaction's own state the committed one, unless the epoch is full.
-    fn accept(&mut self, limit: u64) -> Answer
-        requires open { IsSome self.old.own }
+    /// Answers the COMMIT of a transaction that has left its seat.
+    fn decide(&mut self, limit: u64, closed: Closed) -> Result<Answer, Refusal>
         requires within { self.old.commits ≤ limit }
-        ensures accepted { IfSome self.old.own (λ own. decided_turn limit self.old own None ≡ record { answer = result; after = self.new }) }
+        requires left { self.old.own.txn ≡ None }
+        ensures only_memory { IsOkUnless result NoMemory }
+        ensures answered { IfOk result (λ answer. decided_turn (with_open self.old (Some closed)) closed (refusal_of limit self.old.commits (outcome_of closed).refused) ≡ record { answer = answer; after = self.new }) }
+        ensures same { OnErr result (self.new ≡ with_open self.old (Some closed)) }
         ensures within { self.new.commits ≤ limit }
     {
-        let Some(own) = self.own.take() else {
-            return Answer::Refused(Refusal::NoTransaction);
-        };
-        if self.commits == limit {
-            return Answer::Refused(Refusal::EpochFull);
+        match refusal_of(limit, self.commits, &closed) {
+            Err(refusal) => {
+                self.own = Seat {
+                    txn: Some(closed.reopen()),
+                };
+                Err(refusal)
+            }
+            Ok(Some(refusal)) => {
+                let_go(closed.adopt());
+                Ok(Answer::Refused(refusal))
+            }
+            Ok(None) => Ok(self.accept(closed)),
         }
-        self.committed = own;
+    }
+
+    /// Makes the own view of the transaction the committed tables.
+    fn accept(&mut self, closed: Closed) -> Answer
+        requires room { self.old.commits + 1 < 2 ^ 64 }
+        requires left { self.old.own.txn ≡ None }
+        ensures { accepted_turn self.old closed ≡ record { answer = result; after = self.new } }
+    {
+        self.committed = closed.adopt();
         self.commits += 1;
         Answer::Committed(self.commits)
     }
 
-    /// The answer to a statement that was run; what it left becomes the own state.
-    fn replied(&mut self, done: Done) -> Answer
-        requires { IsSome self.old.own }
-        ensures replied { IfSome self.old.own (λ own. replied_turn self.old (Ok (done.reply, unwrap_or done.after own)) ≡ record { answer = result; after = self.new }) }
+    /// ROLLBACK: the transaction is let go.
+    fn roll_back(&mut self) -> Answer
+        ensures answered { rollback_turn self.old self.old.own.txn ≡ record { answer = result; after = self.new } }
         ensures count { self.new.commits ≡ self.old.commits }
     {
-        let Done { reply, after } = done;
-        match after {
-            Some(after) => {
-                self.own = Some(after);
-                Answer::Replied(reply)
+        match self.own.txn.take() {
+            None => Answer::Refused(Refusal::NoTransaction),
+            Some(txn) => {
+                let_go(txn.abandon());
+                Answer::RolledBack
             }
-            None => Answer::Replied(reply),
         }
     }
+}
 
-    /// ROLLBACK: the own state is let go.
-    fn roll_back(&mut self) -> Answer
-        ensures answered { rollback_turn self.old self.old.own ≡ record { answer = result; after = self.new } }
-        ensures count { self.new.commits ≡ self.old.commits }
-    {
-        match self.own.take() {
-            None => Answer::Refused(Refusal::NoTransaction),
-            Some(_) => Answer::RolledBack,
-        }
+/// Why a COMMIT is refused: by a false assertion, and else by the full epoch.
+fn refusal_of(limit: u64, commits: u64, closed: &Closed) -> Result<Option<Refusal>, Refusal>
+    ensures only_memory { IsOkUnless result NoMemory }
+    ensures decided { IfOk result (λ found. found ≡ refusal_of limit commits (outcome_of closed.now).refused) }
+{
+    match closed.refused() {
+        Some(refusal) => Ok(Some(refusal.copy()?)),
+        None if commits == limit => Ok(Some(Refusal::EpochFull)),
+        None => Ok(None),
     }
 }

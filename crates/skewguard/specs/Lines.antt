@@ -4,6 +4,7 @@ use Rattle.std.specs.List.{list_all}
 use Rattle.std.specs.Str.{bytes_eq}
 use Rattle.statement_syntax.specs.declared.statements.Step.{Step}
 use Rattle.delta.specs.Views.{Shown}
+use Rattle.txn.specs.Transactions.{OpenTransaction}
 use Rattle.commit.specs.declared.sessions.Standing.{Standing}
 use Rattle.commit.specs.Sessions.{beginning, turn}
 use Rattle.report.specs.Report.{answer_line, left_open_line}
@@ -28,11 +29,11 @@ standing_after limit now [] = now
 standing_after limit now (step ∷ rest) = standing_after limit (turn limit now step.event).after rest
 
 -- the line of the transaction that is open in the end, in the session of the script
-abbrev pub last_line : List Step → Option Shown → List ℕ
+abbrev pub last_line : List Step → Option OpenTransaction → List ℕ
 last_line steps None = []
-last_line [] (Some own) = []
-last_line (step ∷ rest) (Some own) = left_open_line step.session
+last_line [] (Some t) = []
+last_line (step ∷ rest) (Some t) = left_open_line step.session
 
 -- what a script of one session prints, from the tables that it begins with
 abbrev pub report : Shown → (limit : ℕ) → List Step → List ℕ
-report shown limit steps = lines limit (beginning shown) steps ++ last_line steps (standing_after limit (beginning shown) steps).own
+report shown limit steps = lines limit (beginning shown) steps ++ last_line steps (standing_after limit (beginning shown) steps).own.txn

@@ -11,6 +11,7 @@ use Rattle.statement_syntax.specs.declared.statements.Step.{Step}
 use Rattle.statement_syntax.specs.SchemaGrammar.{IsSchema, IsScript}
 use Rattle.parse.specs.Told.{Refused, most_open}
 use Rattle.delta.specs.Views.{Shown}
+use Rattle.definitions.specs.Written.{AreWritten}
 use Rattle.commit.specs.Admission.{admitted}
 use Rattle.skewguard.specs.declared.replay.ProgramFault.{ProgramFault}
 use Rattle.skewguard.specs.declared.replay.ProgramFault.TheVariants.{Defs, Script, Output}
@@ -30,11 +31,12 @@ pub record AreRead (defs script : List ℕ) (definitions : List Definition) (ste
   pub defs_read : IsRead IsSchema defs definitions
   pub script_read : IsRead IsScript script steps
 
--- both texts are read, and the definitions are admitted
+-- both texts are read, and the definitions are admitted; each assertion means what they write
 pub record AreAdmitted (defs script : List ℕ) (shown : Shown) (steps : List Step) : Type 0 where
   pub definitions : List Definition
   pub read : AreRead defs script definitions steps
   pub admits : admitted definitions ≡ Ok shown
+  pub written : AreWritten definitions shown.declared
 
 -- the report of the script on what the definitions define
 pub record IsReport (defs script : List ℕ) (limit : ℕ) (bytes : List ℕ) : Type 0 where

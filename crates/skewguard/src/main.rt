@@ -30,6 +30,8 @@ mod class_tests;
 mod program;
 mod replay;
 #[cfg(test)]
+mod statement_tests;
+#[cfg(test)]
 mod tests;
 
 use std::process::ExitCode;

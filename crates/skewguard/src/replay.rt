@@ -16,6 +16,7 @@ use statement_syntax::{Definition, Step};
 use std::alloc::Global;
 use std::io::Write;
 use thiserror::Error;
+use txn::Txn;
 use value::{Refusal, Text};
 
 /// Why nothing was replayed.
@@ -109,7 +110,7 @@ fn run(alloc: Global, view: View, limit: u64, steps: &[Step]) -> Result<Report, 
     let mut standing = Standing::new(view);
     let mut report = Report::new(alloc);
     answer_all(alloc, limit, &mut standing, steps, &mut report)?;
-    close(&mut report, steps, &standing.own)?;
+    close(&mut report, steps, &standing.own.txn)?;
     Ok(report)
 }
 
@@ -150,11 +151,11 @@ fn answer_all(
 }
 
 /// The line of the transaction that the session left open, if it did.
-fn close(report: &mut Report, steps: &[Step], own: &Option<View>) -> Result<(), Refusal>
+fn close(report: &mut Report, steps: &[Step], left: &Option<Txn>) -> Result<(), Refusal>
     ensures only_memory { IsOkUnless result NoMemory }
-    ensures closed { OnOk result (report.new ≡ report.old ++ last_line steps.now own.now) }
+    ensures closed { OnOk result (report.new ≡ report.old ++ last_line steps.now left.now) }
 {
-    if own.is_none() {
+    if left.is_none() {
         return Ok(());
     }
     match steps.first() {

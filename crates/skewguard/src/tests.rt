@@ -14,7 +14,7 @@ const TABLES: &str = "CREATE TABLE SHIFTS (ID INTEGER PRIMARY KEY);
     CREATE TABLE ACCT (ID INTEGER PRIMARY KEY, OWNER VARCHAR(10), BAL INTEGER);";
 
 /// Someone is on call in each shift.
-const COVER: &str =
+pub const COVER: &str =
     "CREATE ASSERTION COVER CHECK (NOT EXISTS (SELECT * FROM SHIFTS S WHERE NOT EXISTS
     (SELECT * FROM DUTY D WHERE D.SHIFT = S.ID AND D.ONCALL = 1)));";
 
@@ -184,9 +184,8 @@ fn attribute_clash(rt: HostRuntime) -> Result<(), Fail> {
             "INITIALLY DEFERRED NOT DEFERRABLE",
             "DEFS: REFUSED 22 - FUNDS\n",
         ),
-        // Other attributes are not run yet.
-        ("INITIALLY DEFERRED", "DEFS: REFUSED 20 - OUTSIDE CLASS\n"),
-        ("NOT DEFERRABLE", "DEFS: REFUSED 20 - OUTSIDE CLASS\n"),
+        ("INITIALLY DEFERRED", "A: BEGIN 0\nA: ROLLBACK AT END\n"),
+        ("NOT DEFERRABLE", "A: BEGIN 0\nA: ROLLBACK AT END\n"),
         ("", "A: BEGIN 0\nA: ROLLBACK AT END\n"),
     ] {
         let more = format!(in rt.alloc(); "{funds} {attributes};")?;
@@ -209,12 +208,12 @@ fn unfinished_text(rt: HostRuntime) -> Result<(), Fail> {
 fn epoch_full(rt: HostRuntime) -> Result<(), Fail> {
     let got = written(
         rt.alloc(),
-        AT_MOST_TWO,
-        "A: BEGIN; A: DELETE FROM DUTY; A: COMMIT; A: BEGIN; A: COMMIT; A: COMMIT;",
+        TABLES,
+        "A: BEGIN; A: INSERT INTO SHIFTS VALUES (1); A: COMMIT; A: BEGIN; A: SELECT * FROM SHIFTS; A: COMMIT;",
         1,
     )?;
     let want =
-        "A: BEGIN 0\nA: DELETE 2\nA: COMMIT 1\nA: BEGIN 1\nA: REFUSED 17 - EPOCH FULL\nA: REFUSED 14 - NO TRANSACTION\n";
+        "A: BEGIN 0\nA: INSERT 1\nA: COMMIT 1\nA: BEGIN 1\nA: SELECT 1\n  1\nA: REFUSED 17 - EPOCH FULL\n";
     assert_eq!(rt; got.as_slice(), want.as_bytes());
     Ok(())
 }
@@ -252,13 +251,7 @@ fn statements_are_refused_in_order(rt: HostRuntime) -> Result<(), Fail> {
 }
 
 #[test]
-fn what_is_not_run_yet(rt: HostRuntime) -> Result<(), Fail> {
-    prints(
-        &rt,
-        AT_MOST_TWO,
-        "A: BEGIN; A: UPDATE DUTY SET SHIFT = 1; A: SELECT * FROM DUTY; A: SET CONSTRAINTS ALL DEFERRED;",
-        "A: BEGIN 0\nA: REFUSED 20 - OUTSIDE CLASS\nA: REFUSED 20 - OUTSIDE CLASS\nA: REFUSED 20 - OUTSIDE CLASS\nA: ROLLBACK AT END\n",
-    )?;
+fn a_second_session_is_not_run_yet(rt: HostRuntime) -> Result<(), Fail> {
     prints(
         &rt,
         AT_MOST_TWO,
