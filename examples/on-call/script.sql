@@ -18,3 +18,18 @@ ALICE: DELETE FROM ACCT WHERE BAL > 0 AND OWNER = 'KIM';    -- what makes up for
 ALICE: ROLLBACK;                                        -- none of this is kept
 ALICE: BEGIN;
 ALICE: INSERT INTO ACCT VALUES (12, 'KIM', -30);        -- account 12 is free again
+
+-- Bob and Carol are both on call in shift 9, and each goes home as long as the other one stays.
+BOB: BEGIN;
+BOB: INSERT INTO DUTY VALUES (5, 9, 'BOB', 1);
+BOB: INSERT INTO DUTY VALUES (6, 9, 'CAROL', 1);
+BOB: INSERT INTO SHIFTS VALUES (9);
+BOB: COMMIT;
+BOB: BEGIN;
+CAROL: BEGIN;
+BOB: UPDATE DUTY SET ONCALL = 0 WHERE ID = 5;           -- Carol stays
+CAROL: UPDATE DUTY SET ONCALL = 0 WHERE ID = 6;         -- Bob stays: each is right on the tables that both began on
+BOB: COMMIT;
+CAROL: COMMIT;                                          -- but one after the other they are not, so this one is refused
+CAROL: BEGIN;
+CAROL: UPDATE DUTY SET ONCALL = 0 WHERE ID = 6;         -- and on the tables as they are now she sees why

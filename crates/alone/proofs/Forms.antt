@@ -28,9 +28,10 @@ use Rattle.siread.specs.declared.keys.LockKey.TheVariants.{Row as OneRow, Column
 use Rattle.siread.specs.Keys.{is_under, holds, touches, SameUnder, AlikeUnder, same_value, place_of}
 use Rattle.alone.specs.States.{row_in}
 use Rattle.alone.specs.Checks.{keys_for, tables_in}
-use Rattle.alone.proofs.Lists.{in_head, in_tail, in_cases, not_in_nil}
+use Rattle.siread.proofs.Members.{in_head, in_tail, in_cases, not_in_nil}
 use Rattle.alone.proofs.Members.{in_left, in_right, in_map, from_map, in_filter, in_flat}
-use Rattle.alone.proofs.Stores.{same_value-true, table_same, one_same, kept_same}
+use Rattle.siread.proofs.KeyOrder.{same_value-true}
+use Rattle.alone.proofs.Stores.{table_same, one_same, kept_same}
 
 -- a root's own keys: those of a look at it, but for the root NULL, to which no row links
 abbrev pub needs : Form → Root → List LockKey

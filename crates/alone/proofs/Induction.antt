@@ -1,5 +1,5 @@
 -- The agreement law, by induction over the trace, and that an accepted transaction leaves a sound state.
-use Rattle.std.proofs.Common.{◌≡◌, ◌≤◌, ℕ, Bool, true, false, cond, List, [], ◌∷◌, ◌++◌, Option, Some, None, Result, Ok, Err, length, map, filter, refl, sym, ap, ◌∙◌, subst, inl, inr}
+use Rattle.std.proofs.Common.{◌≡◌, ◌≤◌, ℕ, Bool, true, false, List, [], ◌∷◌, ◌++◌, Option, Some, None, Result, Ok, Err, length, map, filter, refl, sym, ap, ◌∙◌, subst, inl, inr}
 use Rattle.std.specs.Prelude.{Contains, slice_index_or}
 use Rattle.std.proofs.lemmas.Bool.{cases_lt}
 use Rattle.value.specs.declared.refusals.Refusal.{Refusal}
@@ -29,7 +29,8 @@ use Rattle.alone.specs.Statements.{Effect, columns_of, place_in, found_rows, ins
 use Rattle.assertion.specs.Declarations.{Declared, layouts_in}
 use Rattle.modes.specs.Modes.{Immediates, is_immediate, is_named, modes_with, assertion_of, initial_modes, immediate_ones, named_ones}
 use Rattle.alone.specs.Alone.{Standing, Step, refused_step, unless_violated, effected, verdict_step, modes_step, unless_key, key_name, stepped, Run, ran, run_on, transaction, transaction_keys, IsSound}
-use Rattle.alone.proofs.Lists.{each_filter, in_head, in_tail}
+use Rattle.siread.proofs.Members.{in_head, in_tail}
+use Rattle.alone.proofs.Lists.{each_filter}
 use Rattle.alone.proofs.Members.{in_map}
 use Rattle.alone.proofs.Stores.{one_same, all_fit}
 use Rattle.alone.proofs.Nets.{Alike, alike_start, alike_under, alike_put, net_same, net_exact, put_net}

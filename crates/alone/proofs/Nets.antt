@@ -18,7 +18,8 @@ use Rattle.siread.specs.declared.keys.Place.{Place}
 use Rattle.siread.specs.declared.keys.LockKey.{LockKey}
 use Rattle.siread.specs.Keys.{seen, SameUnder, same_value, place_of}
 use Rattle.alone.specs.States.{row_in, IsState, IsPut, same_there, is_real, change_between, in_order, keys_of_both, table_changes, net_change}
-use Rattle.alone.proofs.Lists.{Each, each_at, each_from, each_left, each_right, in_head, in_tail}
+use Rattle.siread.proofs.Members.{in_head, in_tail}
+use Rattle.alone.proofs.Lists.{Each, each_at, each_from, each_left, each_right}
 use Rattle.alone.proofs.Members.{from_map, from_filter, in_flat, from_flat, in_range, from_range}
 use Rattle.alone.proofs.InOrder.{only, same_list, IsAscending-filter, at-filter}
 use Rattle.alone.proofs.Stores.{listed_at, empty, same_there-true, same_there-refl, at_own, change_at, changed, Found, change_at_cases, all_fit, row_in-put, same_states}

@@ -24,10 +24,12 @@ use Rattle.siread.specs.Keys.{same_place, place_of}
 use Rattle.alone.specs.States.{row_in, IsState, IsPut, same_there, is_real, change_between, place_cmp, AreInOrder, AreDue, AreDifferences, keys_of_both, table_changes, net_change}
 use Rattle.alone.specs.Statements.{Effect, found_rows}
 use Rattle.alone.proofs.Effects.{IsDoable}
-use Rattle.alone.proofs.Lists.{Each, each_at, each_from, in_head, in_tail, in_cases, not_in_nil}
+use Rattle.siread.proofs.Members.{in_head, in_tail, in_cases, not_in_nil}
+use Rattle.alone.proofs.Lists.{Each, each_at, each_from}
 use Rattle.alone.proofs.Members.{from_map, in_filter, from_filter, from_flat}
 use Rattle.alone.proofs.InOrder.{same_list, IsAscending-filter, at-key}
-use Rattle.alone.proofs.Stores.{same_there-true, same_there-refl, same_place-true, changed, Found, change_at_cases, listed_at, row_in-after, row_in-put, after_fits, all_fit}
+use Rattle.siread.proofs.KeyOrder.{same_place-true}
+use Rattle.alone.proofs.Stores.{same_there-true, same_there-refl, changed, Found, change_at_cases, listed_at, row_in-after, row_in-put, after_fits, all_fit}
 use Rattle.alone.proofs.Nets.{at_in, changes_ascend, net_exact, net_all}
 
 pub place_cmp_total : IsTotalOrder place_cmp

@@ -2,13 +2,12 @@
 -- with the same rows under a key.
 use Rattle.std.proofs.Common.{◌≡◌, ◌≤◌, ◌<◌, ℕ, zero, suc, Bool, true, false, cond, List, [], ◌∷◌, ◌⊎◌, Option, Some, None, length, filter, refl, sym, ap, ◌∙◌, subst, inl, inr, eqb-true, eq-eqb, arith}
 use Rattle.std.specs.Prelude.{Contains, ◌==◌, ◌&&◌}
-use Rattle.std.specs.Cmp.{eq_by_cmp_equiv}
 use Rattle.std.proofs.lemmas.Bool.{cases_Bool, both_ways, and_parts, and_from}
 use Rattle.std.proofs.lemmas.List.{length-set}
 use Rattle.value.specs.declared.values.Value.{Value}
 use Rattle.value.specs.ValueOrder.{value_cmp}
 use Rattle.value.specs.Ordered.{HasKey}
-use Rattle.value.proofs.OrderedLists.{at-put, equal_from}
+use Rattle.value.proofs.OrderedLists.{at-put}
 use Rattle.value.proofs.ValueOrders.{value_cmp_total, value_exact}
 use Rattle.table.specs.declared.rows.Change.{Change}
 use Rattle.table.specs.Rows.{RowValues, Layout, value_in, row_at}
@@ -20,14 +19,10 @@ use Rattle.siread.specs.declared.keys.LockKey.{LockKey}
 use Rattle.siread.specs.declared.keys.LockKey.TheVariants.{Row as OneRow, Table as WholeTable}
 use Rattle.siread.specs.Keys.{is_under, seen, SameUnder, same_value, same_place, place_of}
 use Rattle.alone.specs.States.{row_in, IsState, same_row, same_there, IsPut}
-use Rattle.alone.proofs.Lists.{Each, in_head, in_tail, in_cases, not_in_nil}
+use Rattle.siread.proofs.KeyOrder.{same_value-true, same_value-refl, same_place-true, same_place-refl}
+use Rattle.siread.proofs.Members.{in_head, in_tail, in_cases, not_in_nil}
+use Rattle.alone.proofs.Lists.{Each}
 use Rattle.alone.proofs.InOrder.{only, same_list, at-key, filter_same}
-
-pub same_value-true : (a b : Value) → same_value a b ≡ true → a ≡ b
-same_value-true a b h = value_exact a b (equal_from (value_cmp a b) h)
-
-pub same_value-refl : (a : Value) → same_value a a ≡ true
-same_value-refl a = (eq_by_cmp_equiv value_cmp_total).refl a
 
 -- whether two values are the same, from either side
 pub same_value-turned : (a b : Value) → same_value a b ≡ same_value b a
@@ -38,16 +33,6 @@ same_value-turned a b = elim (cases_Bool (same_value a b)) [
     | inr apart ↦ other ∙ sym apart
   ]
 ]
-
-pub same_place-true : (a b : Place) → same_place a b ≡ true → a ≡ b
-same_place-true a b h =
-    let p = and_parts _ _ h in
-    let t : a.table ≡ b.table = eqb-true _ _ p.0 in
-    let k : a.key ≡ b.key = same_value-true _ _ p.1 in
-    λ i. record { table = t i; key = k i }
-
-pub same_place-refl : (a : Place) → same_place a a ≡ true
-same_place-refl a = and_from _ _ (eq-eqb a.table a.table refl) (same_value-refl a.key)
 
 pub same_row-true : (a b : RowValues) → same_row a b ≡ true → a ≡ b
 same_row-true [] [] h = refl

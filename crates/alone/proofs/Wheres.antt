@@ -30,7 +30,8 @@ use Rattle.alone.specs.States.{row_in}
 use Rattle.alone.specs.Reads.{parts_in, top_parts, Equality, sides, equal_sides, equality_in, is_on, first_of, first_equality, first_on, key_from, where_key}
 use Rattle.alone.specs.Statements.{found_rows}
 use Rattle.alone.proofs.Lists.{Each}
-use Rattle.alone.proofs.Stores.{same_value-refl, kept_same}
+use Rattle.siread.proofs.KeyOrder.{same_value-refl}
+use Rattle.alone.proofs.Stores.{kept_same}
 
 is_of-True : (t : Truth) → is_of t True ≡ true → t ≡ True
 is_of-True True h = refl

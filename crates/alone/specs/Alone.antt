@@ -1,17 +1,15 @@
 -- A statement alone, a transaction alone, and what they read.
-use Rattle.std.specs.Prelude.{◌≡◌, ℕ, Bool, true, false, not, List, [], ◌∷◌, ◌++◌, Option, Some, None, Result, Ok, Err, filter, map, slice_index_or, if◌then◌else◌}
-use Rattle.std.specs.List.{list_any}
-use Rattle.std.specs.Str.{bytes_eq}
+use Rattle.std.specs.Prelude.{◌≡◌, ℕ, Bool, true, false, List, [], ◌∷◌, ◌++◌, Option, Some, None, Result, Ok, Err, map, slice_index_or}
 use Rattle.value.specs.declared.refusals.Refusal.{Refusal}
 use Rattle.value.specs.declared.refusals.Refusal.TheVariants.{UnknownName, KeyUpdate}
 use Rattle.table.specs.declared.rows.Change.{Change}
-use Rattle.table.specs.Rows.{Layout, layouts_of}
+use Rattle.table.specs.Rows.{Layout}
 use Rattle.assertion.specs.declared.assertions.Assertion.{Assertion}
 use Rattle.assertion.specs.Meaning.{State, key_of, verdict_of}
 use Rattle.assertion.specs.Roots.{state_after_all}
 use Rattle.siread.specs.declared.keys.LockKey.{LockKey}
 use Rattle.siread.specs.declared.keys.LockKey.TheVariants.{Row as OneRow, Table as WholeTable}
-use Rattle.modes.specs.Modes.{Immediates, initial_modes, is_immediate, is_named, modes_with, immediate_ones, named_ones, assertion_of}
+use Rattle.modes.specs.Modes.{Immediates, initial_modes, is_immediate, modes_with, immediate_ones, named_ones, assertion_of}
 use Rattle.alone.specs.States.{IsState, net_change}
 use Rattle.alone.specs.Reads.{where_key}
 use Rattle.alone.specs.Checks.{tables_in, violation, checks_read}
@@ -45,17 +43,27 @@ unless_violated (Some refusal) reply before after reads = refused_step before re
 abbrev pub effected : Declared → Standing → LockKey → Result Effect Refusal → Step
 effected declared now read (Err refusal) = refused_step now refusal (read ∷ [])
 effected declared now read (Ok effect) =
-    unless_violated (violation (layouts_in declared) (immediate_ones now.modes declared.assertions) (state_after_all (layouts_in declared) effect.changes now.view)) effect.reply
+    unless_violated (violation (layouts_in declared) (immediate_ones now.modes declared.assertions)
+    (state_after_all (layouts_in declared) effect.changes now.view)) effect.reply
     now (record { view = state_after_all (layouts_in declared) effect.changes now.view; modes = now.modes })
-    (read ∷ checks_read (immediate_ones now.modes declared.assertions) (net_change (layouts_in declared) now.view (state_after_all (layouts_in declared) effect.changes now.view)))
+    (read ∷ checks_read (immediate_ones now.modes declared.assertions)
+    (net_change (layouts_in declared) now.view (state_after_all (layouts_in declared) effect.changes now.view)))
 
 abbrev pub verdict_step : Declared → Option Assertion → List ℕ → Standing → Step
 verdict_step declared None name now = refused_step now (UnknownName name) []
-verdict_step declared (Some a) name now = record { reply = Ok (Truthful (verdict_of (layouts_in declared) a.form now.view)); after = now; reads = map WholeTable (tables_in a.form) }
+verdict_step declared (Some a) name now = record {
+  reply = Ok (Truthful (verdict_of (layouts_in declared) a.form now.view));
+  after = now;
+  reads = map WholeTable (tables_in a.form);
+}
 
 -- SET CONSTRAINTS; IMMEDIATE checks what it names over the net change so far
 abbrev pub modes_step : Declared → State → List (List ℕ) → Bool → Standing → Step
-modes_step declared start names false now = record { reply = Ok ModesSet; after = record { view = now.view; modes = modes_with names false declared.assertions now.modes }; reads = [] }
+modes_step declared start names false now = record {
+  reply = Ok ModesSet;
+  after = record { view = now.view; modes = modes_with names false declared.assertions now.modes };
+  reads = [];
+}
 modes_step declared start names true now =
     unless_violated (violation (layouts_in declared) (named_ones names declared.assertions) now.view) ModesSet
     now (record { view = now.view; modes = modes_with names true declared.assertions now.modes })
@@ -72,15 +80,22 @@ key_name layouts table = (slice_index_or (columns_of table layouts) (key_of tabl
 -- a statement alone: from the snapshot's state, and the own view and the modes
 abbrev pub stepped : Declared → State → Standing → Resolved → Step
 stepped declared start now (Refuse refusal) = refused_step now refusal []
-stepped declared start now (Insert new) = effected declared now (OneRow (place_in (layouts_in declared) new)) (insert_effect declared.tables new now.view)
+stepped declared start now (Insert new) =
+    effected declared now (OneRow (place_in (layouts_in declared) new)) (insert_effect declared.tables new now.view)
 stepped declared start now (Update u) =
-    unless_key (sets_key (key_of u.table (layouts_in declared)) u.sets) (KeyUpdate (key_name (layouts_in declared) u.table)) now
+    unless_key (sets_key (key_of u.table (layouts_in declared)) u.sets)
+    (KeyUpdate (key_name (layouts_in declared) u.table)) now
     (effected declared now (where_key u.table (key_of u.table (layouts_in declared)) u.kept)
-    (update_effect (columns_of u.table (layouts_in declared)) u.table (key_of u.table (layouts_in declared)) u.sets (found_rows now.view u.table u.kept)))
+    (update_effect (columns_of u.table (layouts_in declared)) u.table (key_of u.table (layouts_in declared)) u.sets
+    (found_rows now.view u.table u.kept)))
 stepped declared start now (Delete d) =
-    effected declared now (where_key d.table (key_of d.table (layouts_in declared)) d.kept) (Ok (delete_effect d.table (key_of d.table (layouts_in declared)) (found_rows now.view d.table d.kept)))
-stepped declared start now (Select s) =
-    record { reply = Ok (Rows (listed s.columns (found_rows now.view s.table s.kept))); after = now; reads = where_key s.table (key_of s.table (layouts_in declared)) s.kept ∷ [] }
+    effected declared now (where_key d.table (key_of d.table (layouts_in declared)) d.kept)
+    (Ok (delete_effect d.table (key_of d.table (layouts_in declared)) (found_rows now.view d.table d.kept)))
+stepped declared start now (Select s) = record {
+  reply = Ok (Rows (listed s.columns (found_rows now.view s.table s.kept)));
+  after = now;
+  reads = where_key s.table (key_of s.table (layouts_in declared)) s.kept ∷ [];
+}
 stepped declared start now (SetModes names mode) = modes_step declared start names (is_immediate mode) now
 stepped declared start now (Verdict name) = verdict_step declared (assertion_of name declared.assertions) name now
 
@@ -91,20 +106,24 @@ pub record Run : Type 0 where
   pub reads : List LockKey
 
 abbrev pub then_ran : Step → Run → Run
-then_ran step more = record { replies = step.reply ∷ more.replies; final = more.final; reads = step.reads ++ more.reads }
+then_ran step more =
+    record { replies = step.reply ∷ more.replies; final = more.final; reads = step.reads ++ more.reads }
 
 abbrev pub ran : Declared → State → Standing → List Resolved → Run
 ran declared start now [] = record { replies = []; final = now; reads = [] }
 ran declared start now (statement ∷ rest) =
-    then_ran (stepped declared start now statement) (ran declared start (stepped declared start now statement).after rest)
+    then_ran (stepped declared start now statement)
+    (ran declared start (stepped declared start now statement).after rest)
 
 -- one run and then another, from where it ended
 abbrev pub followed : Run → Run → Run
-followed run more = record { replies = run.replies ++ more.replies; final = more.final; reads = run.reads ++ more.reads }
+followed run more =
+    record { replies = run.replies ++ more.replies; final = more.final; reads = run.reads ++ more.reads }
 
 -- a transaction's statements, run alone on a state
 abbrev pub run_on : Declared → List Resolved → State → Run
-run_on declared trace start = ran declared start (record { view = start; modes = initial_modes declared.assertions }) trace
+run_on declared trace start =
+    ran declared start (record { view = start; modes = initial_modes declared.assertions }) trace
 
 -- what a transaction alone answers: its replies, its net change, and by which assertion its COMMIT is refused
 pub record Outcome : Type 0 where
@@ -122,7 +141,8 @@ transaction declared trace start = record {
 -- what it reads, the check of COMMIT included
 abbrev pub transaction_keys : Declared → List Resolved → State → List LockKey
 transaction_keys declared trace start =
-    (run_on declared trace start).reads ++ checks_read declared.assertions (net_change (layouts_in declared) start (run_on declared trace start).final.view)
+    (run_on declared trace start).reads ++ checks_read declared.assertions
+    (net_change (layouts_in declared) start (run_on declared trace start).final.view)
 
 -- the states of which the theorems speak: tables in key order, on which no assertion is false
 pub record IsSound (declared : Declared) (state : State) : Type 0 where

@@ -14,10 +14,12 @@ use Rattle.assertion.specs.Candidates.{candidates_of}
 use Rattle.siread.specs.declared.keys.LockKey.{LockKey}
 use Rattle.siread.specs.declared.keys.LockKey.TheVariants.{Row as OneRow, Column as InColumn, Table as WholeTable}
 
--- what a look at a root reads: by rows its row, and the rows that link to it; by groups the group; a single condition its tables
+-- what a look at a root reads: by rows its row, and the rows that link to it; by groups the group; a single condition
+-- its tables
 abbrev pub keys_for : Form → Root → List LockKey
 keys_for (ByRow table condition queries) All = []
-keys_for (ByRow table condition queries) (Of k) = OneRow (record { table = table; key = k }) ∷ map (λ q. InColumn q.table q.link k) queries
+keys_for (ByRow table condition queries) (Of k) =
+    OneRow (record { table = table; key = k }) ∷ map (λ q. InColumn q.table q.link k) queries
 keys_for (ByGroup table kept group having aggregates) All = []
 keys_for (ByGroup table kept group having aggregates) (Of v) = InColumn table group v ∷ []
 keys_for (Single condition queries) All = map (λ q. WholeTable q.table) queries
@@ -40,7 +42,8 @@ refusal_at name (Some root) rest = Some (Violated name root)
 -- the refusal by the first assertion of a list that is false, with its least bad root
 abbrev pub violation : List Layout → List Assertion → State → Option Refusal
 violation layouts [] state = None
-violation layouts (a ∷ rest) state = refusal_at a.name (least_bad_of layouts a.form state) (violation layouts rest state)
+violation layouts (a ∷ rest) state =
+    refusal_at a.name (least_bad_of layouts a.form state) (violation layouts rest state)
 
 -- what a check of them over changes reads
 abbrev pub checks_read : List Assertion → List Change → List LockKey

@@ -54,7 +54,8 @@ first_equality (part ∷ rest) = first_of (equality_in (out-Cond part)) (first_e
 
 abbrev pub first_on : ℕ → List Cond → Option Equality
 first_on column [] = None
-first_on column (part ∷ rest) = if is_on column (equality_in (out-Cond part)) then equality_in (out-Cond part) else first_on column rest
+first_on column (part ∷ rest) =
+    if is_on column (equality_in (out-Cond part)) then equality_in (out-Cond part) else first_on column rest
 
 abbrev pub key_from : ℕ → Option Equality → Option Equality → LockKey
 key_from table (Some row) other = OneRow (record { table = table; key = row.value })
@@ -63,4 +64,5 @@ key_from table None None = WholeTable table
 
 -- the row of `key = literal`, else the rows of `column = literal`, else the table
 abbrev pub where_key : (table key : ℕ) → Cond → LockKey
-where_key table key condition = key_from table (first_on key (top_parts condition)) (first_equality (top_parts condition))
+where_key table key condition =
+    key_from table (first_on key (top_parts condition)) (first_equality (top_parts condition))

@@ -19,6 +19,8 @@ abbrev pub resolved : Declared → Written → Resolved
 resolved declared (written.Insert insert) = made Insert (insert_of declared.tables insert)
 resolved declared (written.Update table sets condition) = made Update (update_of declared.tables table sets condition)
 resolved declared (written.Delete table condition) = made Delete (delete_of declared.tables table condition)
-resolved declared (written.Select columns table condition) = made Select (select_of declared.tables columns table condition)
-resolved declared (written.SetConstraints assertions mode) = made (λ names. SetModes names mode) (set_names declared.assertions assertions)
+resolved declared (written.Select columns table condition) =
+    made Select (select_of declared.tables columns table condition)
+resolved declared (written.SetConstraints assertions mode) =
+    made (λ names. SetModes names mode) (set_names declared.assertions assertions)
 resolved declared (written.Verdict name) = Verdict name

@@ -36,14 +36,18 @@ place_in layouts new = record { table = new.table; key = value_in (key_of new.ta
 
 -- the row comes to stand at its key, if none stands there
 abbrev pub inserted_at : List ℕ → Place → RowValues → Option RowValues → Result Effect Refusal
-inserted_at name place row None = Ok (record { reply = Inserted; changes = record { table = place.table; key = place.key; old = None; new = Some row } ∷ [] })
+inserted_at name place row None = Ok (record {
+  reply = Inserted;
+  changes = record { table = place.table; key = place.key; old = None; new = Some row } ∷ [];
+})
 inserted_at name place row (Some other) = Err (DuplicateKey name place.key)
 
 -- INSERT: types, NULLs and ranges by columns, and then the key
 abbrev pub insert_effect : Tables → NewRow → State → Result Effect Refusal
 insert_effect tables new state =
     unless (row_refusal (columns_of new.table (layouts_of tables)) new.row)
-    (inserted_at (slice_index_or (names_of tables) new.table []) (place_in (layouts_of tables) new) new.row (row_in (layouts_of tables) state (place_in (layouts_of tables) new)))
+    (inserted_at (slice_index_or (names_of tables) new.table []) (place_in (layouts_of tables) new) new.row
+    (row_in (layouts_of tables) state (place_in (layouts_of tables) new)))
 
 abbrev pub removal : (table key : ℕ) → RowValues → Change
 removal table key row = record { table = table; key = value_in key row; old = Some row; new = None }
@@ -60,7 +64,8 @@ abbrev pub given_value : RowValues → Option Expr → Value
 given_value old None = Null
 given_value old (Some value) = answer old [] value
 
--- what is wrong with a value that is given to a column: its type, which a checked UPDATE has right, and then NULL or its range
+-- what is wrong with a value that is given to a column: its type, which a checked UPDATE has right, and then NULL or
+-- its range
 abbrev pub given_fault : Option Column → Value → Option Refusal
 given_fault None v = None
 given_fault (Some column) v = if is_typed column.kind v then fault_in column v else Some TypeMismatch
@@ -69,7 +74,8 @@ given_fault (Some column) v = if is_typed column.kind v then fault_in column v e
 abbrev pub settings_fault : List Column → List Setting → RowValues → Option Refusal
 settings_fault columns [] old = None
 settings_fault columns (setting ∷ rest) old =
-    first_of (given_fault (slice_get columns setting.column) (given_value old setting.value)) (settings_fault columns rest old)
+    first_of (given_fault (slice_get columns setting.column) (given_value old setting.value))
+    (settings_fault columns rest old)
 
 -- and of some rows, row by row
 abbrev pub update_fault : List Column → List Setting → List RowValues → Option Refusal
@@ -82,12 +88,14 @@ updated [] old row = row
 updated (setting ∷ rest) old row = updated rest old (slice_set row setting.column (given_value old setting.value))
 
 abbrev pub renewal : (table key : ℕ) → List Setting → RowValues → Change
-renewal table key sets row = record { table = table; key = value_in key row; old = Some row; new = Some (updated sets row row) }
+renewal table key sets row =
+    record { table = table; key = value_in key row; old = Some row; new = Some (updated sets row row) }
 
 -- UPDATE of the rows that its condition keeps
 abbrev pub update_effect : List Column → (table key : ℕ) → List Setting → List RowValues → Result Effect Refusal
 update_effect columns table key sets rows =
-    unless (update_fault columns sets rows) (Ok (record { reply = Updated (length rows); changes = map (renewal table key sets) rows }))
+    unless (update_fault columns sets rows)
+    (Ok (record { reply = Updated (length rows); changes = map (renewal table key sets) rows }))
 
 -- whether the key is given a value; a checked UPDATE doesn't do that
 abbrev pub sets_key : ℕ → List Setting → Bool

@@ -46,7 +46,12 @@ pub record IsPut (layouts : List Layout) (change : Change) : Type 0 where
 
 -- what two states hold at a place, as a change
 abbrev pub change_between : List Layout → State → State → Place → Change
-change_between layouts before after place = record { table = place.table; key = place.key; old = row_in layouts before place; new = row_in layouts after place }
+change_between layouts before after place = record {
+  table = place.table;
+  key = place.key;
+  old = row_in layouts before place;
+  new = row_in layouts after place;
+}
 
 -- values in their order, each once
 abbrev pub in_order : List Value → List Value
@@ -55,12 +60,14 @@ in_order (v ∷ vs) = ordered.put value_cmp (λ k. k) v (Some v) (in_order vs)
 
 -- the keys of the rows of a table before and after
 abbrev pub keys_of_both : List Layout → State → State → ℕ → List Value
-keys_of_both layouts before after table = in_order (map (value_in (key_of table layouts)) (rows_of table before ++ rows_of table after))
+keys_of_both layouts before after table =
+    in_order (map (value_in (key_of table layouts)) (rows_of table before ++ rows_of table after))
 
 -- the rows of a table in which two states differ, in the order of their keys
 abbrev pub table_changes : List Layout → State → State → ℕ → List Change
 table_changes layouts before after table =
-    filter is_real (map (λ k. change_between layouts before after (record { table = table; key = k })) (keys_of_both layouts before after table))
+    filter is_real (map (λ k. change_between layouts before after (record { table = table; key = k }))
+    (keys_of_both layouts before after table))
 
 -- the net change: the rows in which two states differ, by table and key, each with what stands there before and after
 unfoldable pub net_change : List Layout → State → State → List Change
@@ -83,6 +90,8 @@ pub record AreDue (layouts : List Layout) (changes : List Change) (state : State
 -- changes that are the rows in which two states differ
 pub record AreDifferences (layouts : List Layout) (changes : List Change) (before after : State) : Type 0 where
   pub in_order : AreInOrder changes
-  pub exact : (change : Change) → Contains changes change → change ≡ change_between layouts before after (place_of change)
+  pub exact : (change : Change) → Contains changes change
+      → change ≡ change_between layouts before after (place_of change)
   pub real : (change : Change) → Contains changes change → is_real change ≡ true
-  pub all : (place : Place) → (row_in layouts before place ≡ row_in layouts after place) ⊎ Contains changes (change_between layouts before after place)
+  pub all : (place : Place) → (row_in layouts before place ≡ row_in layouts after place)
+      ⊎ Contains changes (change_between layouts before after place)

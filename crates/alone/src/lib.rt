@@ -1,11 +1,11 @@
 //! What a statement and a transaction do alone, and what they read.
 //!
-//! A statement of a transaction is a step: from what is declared, the tables of the transaction's begin, its own view of
-//! them and its modes, to a reply (a refusal among the replies), the view and the modes afterwards, and the keys that it
-//! read. Its effect on the rows comes first, then the changes are put in, and then the immediate assertions are
-//! checked on what they leave (ISO/IEC 9075:1992, checking of constraints): one definition for INSERT, UPDATE and DELETE. A
-//! refused statement leaves everything as it was. A transaction is its statements one after the other, and then COMMIT's
-//! check of all assertions.
+//! A statement of a transaction is a step: from what is declared, the tables of the transaction's begin, its own view
+//! of them and its modes, to a reply (a refusal among the replies), the view and the modes afterwards, and the keys
+//! that it read. Its effect on the rows comes first, then the changes are put in, and then the immediate assertions
+//! are checked on what they leave (ISO/IEC 9075:1992, checking of constraints): one definition for INSERT, UPDATE and
+//! DELETE. A refused statement leaves everything as it was. A transaction is its statements one after the other, and
+//! then COMMIT's check of all assertions.
 //!
 //! These definitions evaluate whole lists of rows from scratch, and know nothing of what a view keeps:
 //!
@@ -15,10 +15,10 @@
 //! - `specs/Alone`: a step, a run of statements, a transaction, and what it reads;
 //! - `specs/Resolve`: statements as they were written, with their names found.
 //!
-//! The laws are contracts of functions without parameters. The one that all of serializability rests on is [`agreement`]:
-//! on two states that make no assertion false and hold the same rows under each key that a transaction reads on the
-//! one, it answers the same and changes the same (in the theory of Cahill, Röhm and Fekete 2008, that a transaction is a
-//! function of what it read).
+//! The laws are contracts of functions without parameters. The one that all of serializability rests on is
+//! [`agreement`]: on two states that make no assertion false and hold the same rows under each key that a transaction
+//! reads on the one, it answers the same and changes the same (in the theory of Cahill, Röhm and Fekete 2008, that a
+//! transaction is a function of what it read).
 #![tactic(auto)]
 
 mod laws;

@@ -5,8 +5,8 @@ use sqlite_items::Items;
 use statement_syntax::Mode;
 use value::{Refusal, Text};
 
-/// A statement with its names found, as a transaction's trace holds it: it can be run again on other rows. One that was refused
-/// for its names, shape, types or width, or for a mode that it may not set, is just that refusal.
+/// A statement with its names found, as a transaction's trace holds it: it can be run again on other rows. One that
+/// was refused for its names, shape, types or width, or for a mode that it may not set, is just that refusal.
 #[derive(Debug, Drop)]
 pub enum Resolved {
     Refused(Refusal),

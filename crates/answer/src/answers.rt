@@ -3,7 +3,7 @@
 use sqlite_items::Items;
 use table::Row;
 use threeval::Truth;
-use value::Refusal;
+use value::{Refusal, Text};
 
 /// What a statement did.
 #[derive(Debug, Drop)]
@@ -36,4 +36,13 @@ pub enum Answer {
     /// The event was refused. A COMMIT refused as violated, as a write conflict, as dangerous or by a full epoch has ended
     /// its transaction, and the committed tables are as before; after any other refusal nothing has changed.
     Refused(Refusal),
+}
+
+/// A COMMIT that was refused, and so ended its transaction.
+#[derive(Debug, Drop)]
+pub struct RefusedCommit {
+    /// The session that asked for it.
+    pub session: Text,
+    /// Why: as violated, as a write conflict, as dangerous, or by a full epoch.
+    pub refusal: Refusal,
 }

@@ -1,8 +1,7 @@
 -- Values that are given to the columns of a row that fits.
-use Rattle.std.proofs.Common.{◌≡◌, ℕ, ◌<◌, ◌≤◌, zero, suc, Bool, true, false, cond, List, [], ◌∷◌, Option, Some, None, length, get_or, refl, sym, ◌∙◌, ap, subst, arith}
+use Rattle.std.proofs.Common.{◌≡◌, ℕ, ◌<◌, ◌≤◌, zero, suc, Bool, true, false, cond, List, [], ◌∷◌, Some, None, length, get_or, refl, sym, ap, subst, arith}
 use Rattle.std.specs.Prelude.{◌&&◌, slice_get, slice_set}
 use Rattle.value.specs.declared.values.Value.{Value}
-use Rattle.value.specs.declared.refusals.Refusal.{Refusal}
 use Rattle.value.specs.declared.refusals.Refusal.TheVariants.{TypeMismatch}
 use Rattle.table.specs.declared.schemas.Column.{Column}
 use Rattle.table.specs.Rows.{RowValues, FitsColumn, FitsColumns}

@@ -1,6 +1,6 @@
--- The rows that a condition keeps are under the key that it wants.
+-- The rows that a condition keeps are under the key that it sets equal to a literal.
 use Rattle.std.proofs.Common.{◌≡◌, ℕ, Bool, true, false, cond, List, [], ◌∷◌, Option, Some, None, append-nil, refl, sym, ◌∙◌, ap, subst}
-use Rattle.std.specs.Prelude.{◌==◌, All, option_to_list}
+use Rattle.std.specs.Prelude.{All, option_to_list}
 use Rattle.std.specs.declared.cmp.Ordering.{Ordering}
 use Rattle.std.specs.declared.cmp.Ordering.TheVariants.{Less, Equal, Greater}
 use Rattle.std.proofs.lemmas.List.Elements.{All-nil, All-cons}
@@ -8,17 +8,18 @@ use Rattle.std.proofs.lemmas.Cmp.{tied_itself}
 use Rattle.value.specs.declared.values.Value.{Value}
 use Rattle.value.specs.ValueOrder.{value_cmp}
 use Rattle.value.specs.Ordered.{AreAbove, HoldsOf, IsAscending, by_order}
-use Rattle.value.proofs.OrderedLists.{equal_from, All-at, AreAbove-below, AreAbove-tied}
-use Rattle.value.proofs.ValueOrders.{value_cmp_total, value_exact}
+use Rattle.value.proofs.OrderedLists.{All-at, AreAbove-below, AreAbove-tied}
+use Rattle.value.proofs.ValueOrders.{value_cmp_total}
 use Rattle.table.specs.Rows.{RowValues, value_in, row_at}
 use Rattle.cond.specs.declared.conds.Cond.{Cond}
 use Rattle.cond.specs.Eval.{keeps}
 use Rattle.assertion.specs.Meaning.{kept_rows}
 use Rattle.siread.specs.Keys.{is_under, same_value}
 use Rattle.alone.specs.Reads.{Equality, first_on, first_equality, key_from, top_parts}
+use Rattle.siread.proofs.KeyOrder.{same_value-true}
 use Rattle.alone.proofs.Wheres.{where_under}
-use Rattle.changes.specs.Lookups.{literal_on, looked_at, wanted}
-use Rattle.changes.proofs.Walks.{not_kept, kept_first}
+use Rattle.changes.specs.Lookups.{looked_at}
+use Rattle.changes.proofs.Walks.{not_kept}
 
 apart : (c : Ordering) → c ≡ Less → c ≡ Equal → ⊥
 apart c e f = cc
@@ -57,21 +58,13 @@ module _ (kept : Cond) (key : ℕ) (v : Value) (only : (row : RowValues) → kee
           sym (ap (λ (rs : List RowValues). cond (keeps row [] kept) (row ∷ rs) rs) none)
       go Greater e h = h ∙ sym (not_kept kept row rows (off row (λ f. over (value_cmp v (value_in key row)) e f)))
 
--- a row that is kept has the value that is wanted of its key
-pub kept_wanted : (kept : Cond) (key : ℕ) (v : Value) → wanted key kept ≡ Some v → (row : RowValues) → keeps row [] kept ≡ true → value_in key row ≡ v
-kept_wanted kept key v w row keep = go (first_on key (top_parts kept)) refl w (where_under 0 key kept row keep)
-  where
-    go : (o : Option Equality) → first_on key (top_parts kept) ≡ o → literal_on key o ≡ Some v
-        → is_under (key_from 0 (first_on key (top_parts kept)) (first_equality (top_parts kept))) (record { table = 0; key = value_in key row }) row ≡ true → value_in key row ≡ v
-    go None e w u = cc
-    go (Some equality) e w u =
-        let under : same_value equality.value (value_in key row) ≡ true
-        = subst (λ (o : Option Equality). is_under (key_from 0 o (first_equality (top_parts kept))) (record { table = 0; key = value_in key row }) row ≡ true) e u in
-        sym (value_exact equality.value (value_in key row) (equal_from (value_cmp equality.value (value_in key row)) under)) ∙ literal (equality.column == key) w
-      where
-        literal : (b : Bool) → cond b (Some equality.value) None ≡ Some v → equality.value ≡ v
-        literal true h = cc
-        literal false h = cc
+-- a row that is kept has in a column the literal of an equality on it
+pub kept_on : (kept : Cond) (column : ℕ) (equality : Equality) → first_on column (top_parts kept) ≡ Some equality
+    → (row : RowValues) → keeps row [] kept ≡ true → value_in column row ≡ equality.value
+kept_on kept column equality is row keep =
+    let under : same_value equality.value (value_in column row) ≡ true
+    = subst (λ (o : Option Equality). is_under (key_from 0 o (first_equality (top_parts kept))) (record { table = 0; key = value_in column row }) row ≡ true) is (where_under 0 column kept row keep) in
+    sym (same_value-true equality.value (value_in column row) under)
 
 -- what all rows have the one under a key has
 pub all_under : (P : RowValues → Type 0) (key : ℕ) (v : Value) (rows : List RowValues) → All P rows → All P (option_to_list (row_at key v rows))

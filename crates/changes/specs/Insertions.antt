@@ -19,7 +19,8 @@ place_for table layout row = record { table = table; key = value_in layout.key r
 -- types, and NULLs and ranges by columns, and then the key
 abbrev pub insertion_of : List ℕ → ℕ → Layout → List RowValues → RowValues → Result Effect Refusal
 insertion_of name table layout rows row =
-    unless (row_refusal layout.columns row) (inserted_at name (place_for table layout row) row (row_at layout.key (value_in layout.key row) rows))
+    unless (row_refusal layout.columns row)
+    (inserted_at name (place_for table layout row) row (row_at layout.key (value_in layout.key row) rows))
 
 -- INSERT, before any assertion is looked at: its names and types, and then its row
 abbrev pub inserted : Shown → Insert → Result Shown Refusal

@@ -12,16 +12,17 @@ ghost use Rattle.alone.specs.States.{AreDue, IsState};
 ghost use Rattle.alone.specs.Statements.{delete_effect, removal};
 ghost use Rattle.delta.specs.Views.{IsFitting};
 
-use crate::kept::{is_kept, value_at};
+use crate::kept::is_kept;
 use crate::lookups::look_through;
 use cond::Cond;
 use mvrows::Rows;
+use roots::value_at;
 use std::alloc::Global;
 use table::{Change, Row};
 use value::Refusal;
 
-/// The changes of a DELETE: that each row of a table which the condition keeps is taken out, in key order. `table` is the
-/// table's place, `key` that of its key column, and `rows` are those that stand in it now.
+/// The changes of a DELETE: that each row of a table which the condition keeps is taken out, in key order. `table` is
+/// the table's place, `key` that of its key column, and `rows` are those that stand in it now.
 ///
 /// # Errors
 ///

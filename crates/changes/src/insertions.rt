@@ -29,7 +29,8 @@ pub fn insertion(
 ) -> Result<Change, Refusal>
     ensures made { IfOk result (λ change. insertion_of name.now table schema.now rows.now row
         ≡ Ok (record { reply = Inserted; changes = change ∷ [] })) }
-    ensures refused { IfErr result (λ refusal. refusal ≢ NoMemory → insertion_of name.now table schema.now rows.now row ≡ Err refusal) }
+    ensures refused { IfErr result (λ refusal. refusal ≢ NoMemory
+        → insertion_of name.now table schema.now rows.now row ≡ Err refusal) }
     ensures place { IfOk result (λ change. change.table ≡ table) }
     ensures stands { IfOk result (λ change. row_at schema.now.key change.key rows.now ≡ change.old) }
     ensures keyed { IfOk result (λ change. HasKey value_cmp (value_in schema.now.key) change.key change.new) }

@@ -9,13 +9,14 @@ ghost use Rattle.table.specs.Rows.{FitsColumns, value_in};
 ghost use Rattle.cond.specs.Bounds.{IsSmallRow};
 ghost use Rattle.assertion.specs.Meaning.{kept_rows};
 
-use crate::wheres::wanted;
 use cond::Cond;
 use mvrows::{RowIter, Rows};
+use reads::equality_on;
 use std::marker::Model;
 use table::Row;
 
-/// The rows that a condition has still to be tested on, in key order: one, where it wants a key, or all. It takes no memory.
+/// The rows that a condition has still to be tested on, in key order: one, where it wants a key, or all. It takes no
+/// memory.
 #[derive(Drop)]
 pub struct Looked<'a> {
     one: Option<&'a Row>,
@@ -33,17 +34,17 @@ impl<'a> Model for Looked<'a> {
     ghost view = { λ left. looked_at (option_copied left.one) left.rows };
 }
 
-/// Of the rows of a table those that a condition has to be tested on: it is true of no other. The keys are in the column at
-/// `key`. It takes no memory.
+/// Of the rows of a table those that a condition has to be tested on: it is true of no other. The keys are in the
+/// column at `key`. It takes no memory.
 pub fn look_through<'a>(rows: &'a Rows, key: usize, kept: &Cond) -> Looked<'a>
     requires { IsAscending value_cmp (value_in key) rows.now }
     ensures kept { kept_rows kept.now result ≡ kept_rows kept.now rows.now }
     ensures small { All IsSmallRow rows.now → All IsSmallRow result }
     ensures fit { (columns : List Column) → All (FitsColumns columns) rows.now → All (FitsColumns columns) result }
 {
-    match wanted(kept, key) {
-        Some(value) => Looked {
-            one: rows.get(key, value),
+    match equality_on(kept, key) {
+        Some(equality) => Looked {
+            one: rows.get(key, equality.value),
             rows: None,
         },
         None => Looked {

@@ -6,15 +6,16 @@ ghost use Rattle.cond.specs.Bounds.{IsSmallRow, is_bounded};
 ghost use Rattle.assertion.specs.Meaning.{kept_rows};
 ghost use Rattle.alone.specs.Statements.{listed, listed_row};
 
-use crate::kept::{is_kept, value_at};
+use crate::kept::is_kept;
 use cond::Cond;
 use mvrows::Rows;
+use roots::value_at;
 use std::alloc::Global;
 use table::Row;
 use value::Refusal;
 
-/// What a SELECT lists: of each row that the condition keeps, in key order, what stands in these columns, in their order.
-/// A row that has no such column lists NULL there.
+/// What a SELECT lists: of each row that the condition keeps, in key order, what stands in these columns, in their
+/// order. A row that has no such column lists NULL there.
 ///
 /// # Errors
 ///

@@ -37,12 +37,13 @@ pub fn given_value(
     }
 }
 
-/// What an expression gives as a value of a column, or what is wrong with it there. A number may be larger than any that
-/// a value holds.
+/// What an expression gives as a value of a column, or what is wrong with it there. A number may be larger than any
+/// that a value holds.
 fn admitted(column: &Column, given: Given) -> Result<Value, Refusal>
     ensures made { IfOk result (λ value. value ≡ shown given.entry) }
     ensures faultless { OnOk result (given_fault (Some column.now) (shown given.entry) ≡ None) }
-    ensures refused { IfErr result (λ refusal. refusal ≢ NoMemory → given_fault (Some column.now) (shown given.entry) ≡ Some refusal) }
+    ensures refused { IfErr result (λ refusal. refusal ≢ NoMemory
+        → given_fault (Some column.now) (shown given.entry) ≡ Some refusal) }
 {
     match given {
         Given::Null => tested(column, Value::Null),
@@ -55,7 +56,8 @@ fn admitted(column: &Column, given: Given) -> Result<Value, Refusal>
 fn admitted_number(column: &Column, number: i128) -> Result<Value, Refusal>
     ensures made { IfOk result (λ value. value ≡ values.Int number) }
     ensures faultless { OnOk result (given_fault (Some column.now) (values.Int number) ≡ None) }
-    ensures refused { IfErr result (λ refusal. refusal ≢ NoMemory → given_fault (Some column.now) (values.Int number) ≡ Some refusal) }
+    ensures refused { IfErr result (λ refusal. refusal ≢ NoMemory
+        → given_fault (Some column.now) (values.Int number) ≡ Some refusal) }
 {
     if column.kind != ColType::Integer {
         return Err(Refusal::TypeMismatch);
@@ -73,7 +75,8 @@ fn admitted_number(column: &Column, number: i128) -> Result<Value, Refusal>
 fn tested(column: &Column, value: Value) -> Result<Value, Refusal>
     ensures same { IfOk result (λ made. made ≡ value) }
     ensures faultless { OnOk result (given_fault (Some column.now) value ≡ None) }
-    ensures refused { IfErr result (λ refusal. refusal ≢ NoMemory → given_fault (Some column.now) value ≡ Some refusal) }
+    ensures refused { IfErr result (λ refusal. refusal ≢ NoMemory
+        → given_fault (Some column.now) value ≡ Some refusal) }
 {
     if !column.is_typed(&value) {
         return Err(Refusal::TypeMismatch);

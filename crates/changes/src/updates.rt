@@ -12,18 +12,20 @@ ghost use Rattle.alone.specs.States.{AreDue, IsState};
 ghost use Rattle.alone.specs.Statements.{given_fault, given_value, renewal, sets_key, settings_fault, update_effect, updated};
 ghost use Rattle.delta.specs.Views.{IsFitting, layout_at};
 
-use crate::kept::{is_kept, value_at};
+use crate::kept::is_kept;
 use crate::lookups::look_through;
 use crate::settings::given_value;
 use assertcheck::Setting;
 use cond::Cond;
 use mvrows::Rows;
+use roots::value_at;
 use std::alloc::Global;
 use table::{Change, Column, Row, Schema};
 use value::{Refusal, Value};
 
-/// The changes of an UPDATE: that each row of a table which the condition keeps gets what is assigned, in key order. Each
-/// value is evaluated on the row as it was. `table` is the table's place, and `rows` are those that stand in it now.
+/// The changes of an UPDATE: that each row of a table which the condition keeps gets what is assigned, in key order.
+/// Each value is evaluated on the row as it was. `table` is the table's place, and `rows` are those that stand in it
+/// now.
 ///
 /// # Errors
 ///
@@ -40,14 +42,16 @@ pub fn renewals(
     requires bounded { All IsBoundedSetting sets.now }
     requires bounded_condition { IsTrue (is_bounded [] kept.now) }
     requires table { IsTable schema.now rows.now }
-    ensures made { IfOk result (λ made. update_effect schema.now.columns table schema.now.key sets.now (kept_rows kept.now rows.now)
+    ensures made { IfOk result (λ made.
+        update_effect schema.now.columns table schema.now.key sets.now (kept_rows kept.now rows.now)
         ≡ Ok (record { reply = Updated (length made.items); changes = made.items })) }
     ensures refused { IfErr result (λ refusal. refusal ≢ NoMemory
         → update_effect schema.now.columns table schema.now.key sets.now (kept_rows kept.now rows.now) ≡ Err refusal) }
     ensures due { IfOk result (λ made. (layouts : List Layout) (state : State) → IsState layouts state
         → key_of table layouts ≡ schema.now.key → rows_of table state ≡ rows.now
         → sets_key schema.now.key sets.now ≡ false → AreDue layouts made.items state) }
-    ensures fit { IfOk result (λ made. All (λ change. HoldsOf (FitsColumns schema.now.columns) change.new) made.items) }
+    ensures fit { IfOk result (λ made.
+        All (λ change. HoldsOf (FitsColumns schema.now.columns) change.new) made.items) }
     ensures fitting { IfOk result (λ made. (layouts : List Layout) → layout_at table layouts ≡ schema.now
         → All (IsFitting layouts) made.items) }
 {
@@ -72,7 +76,8 @@ fn renewal(
     requires fits { FitsColumns schema.now.columns row.now }
     ensures made { IfOk result (λ change. change ≡ renewal table schema.now.key sets.now row.now) }
     ensures faultless { OnOk result (settings_fault schema.now.columns sets.now row.now ≡ None) }
-    ensures refused { IfErr result (λ refusal. refusal ≢ NoMemory → settings_fault schema.now.columns sets.now row.now ≡ Some refusal) }
+    ensures refused { IfErr result (λ refusal. refusal ≢ NoMemory
+        → settings_fault schema.now.columns sets.now row.now ≡ Some refusal) }
     ensures fits { OnOk result (FitsColumns schema.now.columns (updated sets.now row.now row.now)) }
 {
     let new = updated(alloc, schema.columns(), sets, row)?;
@@ -90,7 +95,8 @@ fn updated(alloc: Global, columns: &[Column], sets: &[Setting], row: &Row) -> Re
     requires fits { FitsColumns columns.now row.now }
     ensures made { IfOk result (λ new. new ≡ updated sets.now row.now row.now) }
     ensures faultless { OnOk result (settings_fault columns.now sets.now row.now ≡ None) }
-    ensures refused { IfErr result (λ refusal. refusal ≢ NoMemory → settings_fault columns.now sets.now row.now ≡ Some refusal) }
+    ensures refused { IfErr result (λ refusal. refusal ≢ NoMemory
+        → settings_fault columns.now sets.now row.now ≡ Some refusal) }
     ensures fits { IfOk result (FitsColumns columns.now) }
 {
     let mut values = values_of(alloc, row)?;
@@ -111,10 +117,13 @@ fn with_setting(
     requires bounded { IsBoundedSetting setting.now }
     requires small { IsSmallRow old.now }
     requires fits { FitsColumns columns.now values.items }
-    ensures made { IfOk result (λ made. made.items ≡ slice_set values.items setting.now.column (given_value old.now setting.now.value)) }
-    ensures faultless { OnOk result (given_fault (slice_get columns.now setting.now.column) (given_value old.now setting.now.value) ≡ None) }
+    ensures made { IfOk result (λ made. made.items
+        ≡ slice_set values.items setting.now.column (given_value old.now setting.now.value)) }
+    ensures faultless { OnOk result (given_fault (slice_get columns.now setting.now.column)
+        (given_value old.now setting.now.value) ≡ None) }
     ensures refused { IfErr result (λ refusal. refusal ≢ NoMemory
-        → given_fault (slice_get columns.now setting.now.column) (given_value old.now setting.now.value) ≡ Some refusal) }
+        → given_fault (slice_get columns.now setting.now.column) (given_value old.now setting.now.value)
+        ≡ Some refusal) }
     ensures fits { IfOk result (λ made. FitsColumns columns.now made.items) }
 {
     match columns.get(setting.column) {

@@ -1,2 +1,5 @@
-mod AdmissionLemmas
-mod TransactionLemmas
+pub mod Deciding
+pub mod Weighing
+pub mod Accepting
+pub mod Living
+pub mod Answering

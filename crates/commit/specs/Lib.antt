@@ -1,3 +1,6 @@
 pub mod Admission
-pub mod Sessions
-pub mod Transactions
+pub mod Cores
+pub mod Kept
+pub mod Decisions
+pub mod Events
+pub mod Runs

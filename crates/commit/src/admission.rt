@@ -1,16 +1,17 @@
 //! Definitions that are admitted.
 
-ghost use Rattle.std.specs.Prelude.{◌≡◌, ◌≢◌, ◌<◌, length, slice_index_or, IfOk, IfErr, IsOkUnless, Ok, Err};
+ghost use Rattle.std.specs.Prelude.{◌≡◌, ◌≢◌, IfOk, IfErr, IsOkUnless, Ok, Err, None};
 ghost use Rattle.value.specs.declared.refusals.Refusal.TheVariants.{NoMemory};
-ghost use Rattle.assertion.specs.declared.assertions.Assertion.{Assertion as AnyAssertion};
-ghost use Rattle.assertion.specs.Declarations.{layouts_in};
+ghost use Rattle.alone.specs.Alone.{IsSound};
 ghost use Rattle.definitions.specs.Written.{AreWritten};
-ghost use Rattle.commit.specs.Admission.{admitted, false_at_creation, fault_of, satisfied};
+ghost use Rattle.commit.specs.Admission.{admitted, at_creation, false_at_creation, satisfied};
 
 use definitions::Definitions;
 use delta::View;
+use modes::Modes;
 use statement_syntax::Definition;
 use std::alloc::Global;
+use txn::violation;
 use value::Refusal;
 
 /// The tables that definitions begin with. Every assertion is satisfied on them, and means what the definitions write.
@@ -21,51 +22,49 @@ use value::Refusal;
 /// assertion that is false on the loaded rows, and the least root at which it is. Or [`Refusal::NoMemory`].
 pub fn admit(alloc: Global, definitions: &[Definition]) -> Result<View, Refusal>
     ensures admitted { IfOk result (λ view. admitted definitions.now ≡ Ok view) }
+    ensures sound { IfOk result (λ view. IsSound view.declared view.state) }
     ensures written { IfOk result (λ view. AreWritten definitions.now view.declared) }
     ensures refused { IfErr result (λ refusal. refusal ≢ NoMemory → admitted definitions.now ≡ Err refusal) }
 {
     let taken = Definitions::take(alloc, definitions)?;
     let loaded = taken.load(alloc)?;
-    let view = satisfied(loaded)?;
+    let view = satisfied(alloc, loaded)?;
     Ok(view)
 }
 
 /// The tables, if every assertion is satisfied on them.
-fn satisfied(view: View) -> Result<View, Refusal>
+fn satisfied(alloc: Global, view: View) -> Result<View, Refusal>
     ensures satisfied { IfOk result (λ same. satisfied view ≡ Ok same) }
     ensures same { IfOk result (λ same. same ≡ view) }
+    ensures sound { IfOk result (λ same. IsSound same.declared same.state) }
     ensures refused { IfErr result (λ refusal. refusal ≢ NoMemory → satisfied view ≡ Err refusal) }
 {
-    match false_at_creation(&view)? {
+    match false_at_creation(alloc, &view)? {
         None => Ok(view),
         Some(refusal) => Err(refusal),
     }
 }
 
 /// The refusal by the first assertion that is false on the rows that it begins with.
-fn false_at_creation(view: &View) -> Result<Option<Refusal>, Refusal>
+fn false_at_creation(alloc: Global, view: &View) -> Result<Option<Refusal>, Refusal>
     ensures only_memory { IsOkUnless result NoMemory }
-    ensures first { IfOk result (λ found. found ≡ false_at_creation (layouts_in view.now.declared) view.now.state view.now.declared.assertions) }
+    ensures first { IfOk result (λ found. found ≡ false_at_creation view.now) }
+    ensures sound { IfOk result (λ found. found ≡ None → IsSound view.now.declared view.now.state) }
 {
-    for place in 0..view.assertions().len() {
-        if let Some(refusal) = fault_at(view, place)? {
-            return Ok(Some(refusal));
-        }
+    let _ = view.catalog();
+    let meant = Modes::all_immediate(alloc, view.assertions())?;
+    match violation(view, meant.as_slice())? {
+        None => Ok(None),
+        Some(refusal) => Ok(Some(at_creation(refusal))),
     }
-    Ok(None)
 }
 
-/// The refusal by one assertion, if it is false.
-fn fault_at(view: &View, place: usize) -> Result<Option<Refusal>, Refusal>
-    requires { place < length view.now.declared.assertions }
-    ensures only_memory { IsOkUnless result NoMemory }
-    ensures found { IfOk result (λ found. (a : AnyAssertion) → found ≡ fault_of (layouts_in view.now.declared) view.now.state (slice_index_or view.now.declared.assertions place a)) }
+/// A violation as it is answered to definitions.
+fn at_creation(refusal: Refusal) -> Refusal
+    ensures { result ≡ at_creation refusal }
 {
-    match view.least_bad(place) {
-        Some(group) => Ok(Some(Refusal::FalseAtCreation {
-            assertion: view.assertions()[place].name.copy()?,
-            group: group.copy()?,
-        })),
-        None => Ok(None),
+    match refusal {
+        Refusal::Violated { assertion, group } => Refusal::FalseAtCreation { assertion, group },
+        other => other,
     }
 }

@@ -1,36 +1,47 @@
-//! The committed tables, and the transactions that lead from one to the next.
+//! The commits, the sessions with their open transactions, and events of any sessions one after the other.
 //!
 //! [`admit`] takes definitions in: what they define, and that no assertion is false on the rows that they begin with
 //! (ISO/IEC 9075:1992, assertion definition: an assertion is satisfied where its condition is not false; that rows are loaded
-//! first and assertions evaluated once, at the end, is this project's choice). Each assertion means what the definitions
-//! write. A [`Standing`] is what there is between two events of a session: the committed tables, how many commits led to
-//! them, and the open transaction in its [`Seat`], if one is open.
+//! first and assertions evaluated once, at the end, is this project's choice). Each assertion means what the definitions write.
 //!
-//! [`Standing::answer`] answers one event of one session:
+//! A [`Core`] is the commits: the tables before the first and after the last, a record of each, their serial order, and the
+//! commits that were refused. [`Core::begin`] begins a transaction on the newest tables. [`Core::commit`] answers a COMMIT by the
+//! first of these that holds: an assertion is false on the transaction's own view; the epoch is full; a commit after its snapshot
+//! changed a row that it changed; it would complete a dangerous triple; else the next number. Its net change is then put into the
+//! newest tables; where nothing was committed since its snapshot, they are its own view.
 //!
-//! - BEGIN: a transaction begins on the committed tables. Inside a transaction it is refused.
-//! - A statement is answered as alone in the transaction (`txn`), and its trace then holds it.
-//! - COMMIT is refused where an assertion is false on the transaction's own view, and then where the epoch is full; either
-//!   ends the transaction, and nothing of it is kept. Else its own view is the committed tables.
-//! - ROLLBACK ends the transaction, and nothing of it is kept.
+//! An [`Engine`] is a core and the sessions, each in its [`Seat`] with its open transaction, if one is open:
 //!
-//! Outside a transaction everything but BEGIN is refused. What a refusal or memory running out leaves is in the contracts: a
-//! refused statement leaves view and modes as they were, and after NoMemory nothing has changed.
+//! - BEGIN begins a transaction; inside one it is refused, and outside one everything else is.
+//! - A statement is answered as alone on the transaction's own view (`txn`), and its trace then holds it.
+//! - COMMIT ends the transaction, accepted or refused; ROLLBACK ends it, and nothing of it is kept.
+//! - An event that finds no memory is answered so, and nothing has changed.
 //!
-//! What the layer above may rest on: each answer, and what it leaves, is that of `specs/Sessions`, a function of the
-//! event and of what stood before it. [`transactions_run_alone`] is the law that joins events to transactions: BEGIN,
-//! statements and COMMIT are answered as the transaction run alone on the committed tables (`specs/Transactions`).
+//! [`run`] answers a list of events. Its contract is the headline of the whole: each answer is one that `specs/Events` allows
+//! after those before it; no committed tables make an assertion false; the serial order has each commit once; and the committed
+//! transactions, run alone in it, answer what they answered and leave the newest tables (`IsSerializable` in `specs/Cores`).
 //!
-//! One session runs so far. Several sessions on snapshots of the committed tables come with their conflicts.
+//! How it works. What a core keeps at hand (the newest tables, the least conflict out of each commit, the order) is what its records
+//! determine, and each record was accepted over those before it and recorded as it runs alone on its snapshot (`specs/Kept`): that is
+//! the premise of the laws of `serial`, so they hold of every core. A commit is judged by the commits after its snapshot
+//! (`conflict::judge`), and all that takes memory is made before the first field changes.
+//!
+//! What the layer above may rest on: the contracts of [`Engine::answer`], [`Core::commit`] and [`run`]; [`replies`] says that what a
+//! record's trace answers on its snapshot is what its session was told. What it owes: tables that are admitted, and a limit of at
+//! most 4,294,967,295 commits.
 #![tactic(auto)]
 
 mod admission;
+mod cores;
+mod engine;
 mod laws;
-mod sessions;
+mod seats;
 
 pub use admission::admit;
-pub use laws::transactions_run_alone;
-pub use sessions::{Seat, Standing};
+pub use cores::{Core, Uncommitted};
+pub use engine::{Engine, Outcome, run};
+pub use laws::replies;
+pub use seats::Seat;
 
 #[cfg(test)]
 mod tests;

@@ -1,52 +1,39 @@
-//! That calls succeed, and the answers to events that need no statement.
+//! That calls succeed. Events of many sessions are run by the tests of the program.
 
 use super::*;
 use answer::Answer;
-use statement_syntax::Event;
+use statement_syntax::{Event, Step};
 use std::alloc::Global;
 use std::test::Fail;
-use value::Refusal;
+use value::{Refusal, Text};
 
-/// A word for an answer.
-fn word(answer: &Answer) -> &'static str {
-    match answer {
-        Answer::Begun(0) => "begun 0",
-        Answer::Begun(1) => "begun 1",
-        Answer::Committed(1) => "commit 1",
-        Answer::RolledBack => "rollback",
-        Answer::Refused(Refusal::NoTransaction) => "no transaction",
-        Answer::Refused(Refusal::TransactionOpen) => "open",
-        _ => "other",
-    }
-}
+fn let_go<T: Drop>(_value: T) {}
 
-/// What an event is answered, by a word, where more commits are allowed.
-fn answered(
-    alloc: Global,
-    standing: &mut Standing,
-    event: &Event,
-) -> Result<&'static str, Refusal> {
-    let limit = standing.commits.max(9);
-    let answer = standing.answer(alloc, limit, event)?;
-    Ok(word(&answer))
+/// The outcome of one BEGIN.
+fn begun(alloc: Global) -> Result<Outcome, Refusal> {
+    let loaded = admit(alloc, &[])?;
+    let session = Text::from_str(alloc, "A")?;
+    let steps = [Step {
+        session,
+        event: Event::Begin,
+    }];
+    let outcome = run(alloc, 1, loaded, &steps);
+    let_go(steps);
+    outcome
 }
 
 #[test]
-fn transactions_begin_and_end(rt: HostRuntime) -> Result<(), Fail> {
-    let alloc = rt.alloc();
-    let mut standing = Standing::new(admit(alloc, &[])?);
-    assert_eq!(rt;
-        answered(alloc, &mut standing, &Event::Commit)?,
-        "no transaction"
-    );
-    assert_eq!(rt; answered(alloc, &mut standing, &Event::Begin)?, "begun 0");
-    assert_eq!(rt; answered(alloc, &mut standing, &Event::Begin)?, "open");
-    assert_eq!(rt; answered(alloc, &mut standing, &Event::Commit)?, "commit 1");
-    assert_eq!(rt; answered(alloc, &mut standing, &Event::Begin)?, "begun 1");
-    assert_eq!(rt;
-        answered(alloc, &mut standing, &Event::Rollback)?,
-        "rollback"
-    );
-    transactions_run_alone();
+fn a_transaction_begins(rt: HostRuntime) -> Result<(), Fail> {
+    let outcome = begun(rt.alloc())?;
+    let is_begun = match outcome.answers.first() {
+        Some(Answer::Begun(0)) => true,
+        _ => false,
+    };
+    assert!(rt; is_begun);
+    assert_eq!(rt; outcome.engine.seats().len(), 1);
+    assert!(rt; outcome.engine.core().records().is_empty());
+    assert!(rt; outcome.engine.core().refused().is_empty());
+    assert!(rt; outcome.engine.core().serial_order().is_empty());
+    replies();
     Ok(())
 }

@@ -1,64 +1,53 @@
-//! The dangerous triple that a commit would complete.
+//! The dangerous triple that a candidate would complete.
 
-ghost use Rattle.std.specs.Prelude.{◌≡◌, ◌&&◌, false, nat_le, nat_lt, reverse, IfNone, IfSome};
-ghost use Rattle.serial.specs.Commits.{IsNext};
-ghost use Rattle.serial.specs.Numbers.{is_reader, is_reader_of, IsLeastPivot};
-ghost use Rattle.conflict.specs.Judged.{IsDanger};
+ghost use Rattle.std.specs.Prelude.{◌≡◌, ◌<◌, ◌+◌, ◌&&◌, false, length, map, nat_le, nat_lt, reverse, IfNone, IfSome};
+ghost use Rattle.serial.specs.Commits.{conflicts_to, IsLog};
+ghost use Rattle.serial.specs.Numbers.{is_reader, IsLeastPivot};
+ghost use Rattle.serial.specs.Order.{least_out};
+ghost use Rattle.conflict.specs.Candidates.{record_of};
 
-use crate::numbers::{greatest_in, least_out};
-use crate::pairs::is_conflict;
-use serial::{Record, numbers};
+use crate::candidates::Candidate;
+use crate::pairs::conflicts_to;
+use serial::Record;
 
-/// A dangerous triple that a commit would complete. The others in it are named by their numbers.
-#[derive(Clone, Copy, Debug)]
+/// A dangerous triple that a candidate would complete. The others in it are named by their numbers.
+#[derive(Clone, Copy, Debug, PartialEq, Eq)]
 pub enum Danger {
-    /// The commit would be the pivot, between its greatest reader and its least writer.
+    /// The candidate would be the pivot, between its greatest reader and its least writer.
     AsPivot { reader: u64, writer: u64 },
-    /// The commit can be no pivot. It would be the reader of the least pivot, with that one's least writer.
+    /// The candidate can be no pivot. It would be the reader of the least pivot, with that one's least writer.
     AsReader { pivot: u64, writer: u64 },
 }
 
-/// The dangerous triple that the next commit would complete with those before it, if there is one.
-pub fn find_danger(committed: &[Record], commit: &Record) -> Option<Danger>
-    requires { IsNext commit.now (reverse committed.now) }
-    ensures { IsDanger (reverse committed.now) commit.now result }
+/// The least of those with which the candidate would be a reader, and that one's least writer. `places` are the least
+/// conflicts out of those committed.
+pub fn find_pivot<'a>(
+    committed: &'a [Record],
+    places: &[u64],
+    candidate: &Candidate,
+) -> Option<(&'a Record, u64)>
+    requires log { IsLog (reverse committed.now) }
+    requires next { candidate.now.number ≡ length committed.now + 1 }
+    requires after_snapshot { candidate.now.snapshot < candidate.now.number }
+    requires places { places.now ≡ map (least_out (reverse committed.now)) committed.now }
+    ensures found { IfSome result (λ found.
+        IsLeastPivot (reverse committed.now) (record_of candidate.now) found.0.now) }
+    ensures writer { IfSome result (λ found. found.1 ≡ least_out (reverse committed.now) found.0.now) }
+    ensures none { IfNone result (is_reader (reverse committed.now) (record_of candidate.now) ≡ false) }
 {
-    numbers();
-    let writer = least_out(committed, commit);
-    let reader = greatest_in(committed, commit);
-    if writer <= reader {
-        return Some(Danger::AsPivot { reader, writer });
-    }
-    match find_pivot(committed, commit) {
-        None => None,
-        Some(pivot) => {
-            let writer = least_out(committed, pivot);
-            Some(Danger::AsReader {
-                pivot: pivot.number,
-                writer,
-            })
-        }
-    }
-}
-
-/// The least of those with which the commit would be a reader.
-fn find_pivot<'a>(committed: &'a [Record], commit: &Record) -> Option<&'a Record>
-    requires { IsNext commit.now (reverse committed.now) }
-    ensures found { IfSome result (λ pivot. IsLeastPivot (reverse committed.now) commit.now pivot.now) }
-    ensures none { IfNone result (is_reader (reverse committed.now) commit.now ≡ false) }
-{
-    for pivot in committed {
-        if is_reader_of(committed, commit, pivot) {
-            return Some(pivot);
+    let held = candidate.snapshot as usize;
+    for (pivot, place) in committed[held..].iter().zip(&places[held..]) {
+        if is_reader_of(candidate, pivot, *place) {
+            return Some((pivot, *place));
         }
     }
     None
 }
 
-/// Whether the commit would be the reader of a dangerous triple with this pivot.
-fn is_reader_of(committed: &[Record], commit: &Record, pivot: &Record) -> bool
-    ensures { result ≡ is_reader_of (reverse committed.now) commit.now pivot.now }
+/// Whether the candidate would be the reader of a dangerous triple with this pivot, whose least writer is this.
+fn is_reader_of(candidate: &Candidate, pivot: &Record, writer: u64) -> bool
+    ensures { result ≡ (conflicts_to (record_of candidate.now) pivot.now
+        && (nat_lt writer pivot.now.number && nat_le writer candidate.now.number)) }
 {
-    let writer = least_out(committed, pivot);
-    is_conflict(commit, pivot) && (writer < pivot.number && writer <= commit.number)
+    conflicts_to(candidate, pivot) && (writer < pivot.number && writer <= candidate.number)
 }

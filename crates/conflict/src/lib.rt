@@ -1,20 +1,36 @@
-//! Whether a commit may join those before it.
+//! What a commit is answered by those before it, and where it then stands among them.
 //!
-//! These functions compare a candidate with the committed transactions. Whether a dangerous triple would have the
-//! candidate in it is decided by two numbers: the least commit to which it conflicts, and the greatest that conflicts
-//! to it (Cahill, Röhm and Fekete 2008; Ports and Grittner 2012). What conflicts and dangerous triples are is defined in
-//! the crate `serial`.
+//! [`judge`] compares a candidate with the commits after its snapshot. In this order:
 //!
-//! All take the committed transactions in the order of their numbers, and no memory.
+//! - *A write conflict*: one of them has a row of its net change, and the first committer wins. The first such row of
+//!   the net change is named, and the least such commit.
+//! - *A dangerous triple* would have the candidate in it. Two numbers decide: the least commit to which it conflicts,
+//!   and the greatest that conflicts to it (Cahill, Röhm and Fekete 2008; Ports and Grittner 2012). As a pivot it is
+//!   named with these two; else as a reader with the least pivot, and that one's least writer.
+//! - Else it may join them.
+//!
+//! [`put_in_order`] then puts its number into the serial order. What conflicts, dangerous triples and the serial order
+//! are is defined in the crate `serial`, and so is the answer (`specs/Answer`): what `judge` finds is that answer.
+//!
+//! Commits are passed in the order of their numbers. A number is then a place, and a commit on a snapshot overlaps with
+//! none that the snapshot holds, so only what stands after it is looked at. The least conflict out of each commit stays
+//! as others follow. It is found once, kept beside the commit, and passed back with it: no pair of committed
+//! transactions is compared again.
 #![tactic(auto)]
 
+mod candidates;
 mod dangers;
 mod numbers;
+mod orders;
+mod overwrites;
 mod pairs;
+mod verdicts;
 
-pub use dangers::{Danger, find_danger};
-pub use numbers::{greatest_in, least_out};
-pub use pairs::{is_conflict, share_row, touch_any};
+pub use candidates::Candidate;
+pub use dangers::Danger;
+pub use orders::put_in_order;
+pub use pairs::{share_row, touch_any};
+pub use verdicts::{Verdict, judge};
 
 #[cfg(test)]
 mod tests;

@@ -1,10 +1,12 @@
-//! Conflicts between two transactions.
+//! What two transactions have in common.
 
 ghost use Rattle.std.specs.Prelude.{◌≡◌};
 ghost use Rattle.std.specs.List.{list_any};
 ghost use Rattle.siread.specs.Keys.{place_of, same_place, touches};
 ghost use Rattle.serial.specs.Commits.{conflicts_to, overlap, share_row, touch_any};
+ghost use Rattle.conflict.specs.Candidates.{record_of};
 
+use crate::candidates::Candidate;
 use serial::Record;
 use siread::{LockKey, touches};
 use table::Change;
@@ -42,7 +44,8 @@ fn is_any_shared(these: &[Change], those: &[Change]) -> bool
     these.iter().any(|change| has_row_of(those, change))
 }
 
-fn has_row_of(those: &[Change], change: &Change) -> bool
+/// Whether one of these changes is of the same row.
+pub fn has_row_of(those: &[Change], change: &Change) -> bool
     ensures { result ≡ list_any (λ other. same_place (place_of change.now) (place_of other)) those.now }
 {
     those.iter().any(|other| is_same_row(change, other))
@@ -54,22 +57,25 @@ fn is_same_row(change: &Change, other: &Change) -> bool
     change.table == other.table && order(&change.key, &other.key).is_eq()
 }
 
-/// Whether the reader conflicts to the writer: they overlap, and the one wrote what the other read.
-pub fn is_conflict(reader: &Record, writer: &Record) -> bool
-    ensures { result ≡ conflicts_to reader.now writer.now }
+/// Whether the candidate conflicts to a commit: they overlap, and that one wrote what the candidate read.
+pub fn conflicts_to(candidate: &Candidate, writer: &Record) -> bool
+    ensures { result ≡ conflicts_to (record_of candidate.now) writer.now }
 {
-    is_overlap(reader, writer) && is_read_touched(reader, writer)
+    is_overlap(candidate, writer) && touch_any(writer.changes.as_slice(), candidate.reads)
 }
 
-fn is_read_touched(reader: &Record, writer: &Record) -> bool
-    ensures { result ≡ touch_any writer.now.changes reader.now.reads }
+/// Whether a commit conflicts to the candidate: they overlap, and the candidate wrote what that one read.
+pub fn is_conflict_from(reader: &Record, candidate: &Candidate) -> bool
+    ensures { result ≡ conflicts_to reader.now (record_of candidate.now) }
 {
-    touch_any(writer.changes.as_slice(), reader.reads.as_slice())
+    is_overlap(candidate, reader) && touch_any(candidate.changes, reader.reads.as_slice())
 }
 
-/// Whether neither transaction's snapshot holds the other.
-fn is_overlap(a: &Record, b: &Record) -> bool
-    ensures { result ≡ overlap a.now b.now }
+/// Whether neither's snapshot holds the other.
+fn is_overlap(candidate: &Candidate, other: &Record) -> bool
+    ensures { result ≡ overlap (record_of candidate.now) other.now }
 {
-    a.number != b.number && b.snapshot < a.number && a.snapshot < b.number
+    candidate.number != other.number
+        && other.snapshot < candidate.number
+        && candidate.snapshot < other.number
 }

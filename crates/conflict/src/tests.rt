@@ -1,10 +1,13 @@
-//! A transaction alone, beside no other.
+//! Small histories, of transactions that all began before the first commit.
 
-ghost use Rattle.std.specs.Prelude.{◌≡◌, IfOk};
+ghost use Rattle.std.specs.Prelude.{◌≡◌, ◌≤◌, ◌<◌, ◌+◌, length, map, reverse, IfOk};
+ghost use Rattle.serial.specs.Commits.{IsLog};
+ghost use Rattle.serial.specs.Order.{least_out};
+ghost use Rattle.conflict.specs.Judged.{IsVerdict};
 
 use super::*;
 use serial::Record;
-use siread::LockKey;
+use siread::{LockKey, Place};
 use sqlite_items::Items;
 use std::alloc::Global;
 use std::test::Fail;
@@ -21,15 +24,22 @@ fn insertion(alloc: Global, key: i64) -> Result<Change, Refusal> {
     })
 }
 
-/// The first commit, which read the first table and put a row into it.
-fn first(alloc: Global) -> Result<Record, Refusal>
-    ensures { IfOk result (λ made. made.number ≡ 1) }
+/// The transaction with the next number, which read one row of the first table and put in another.
+fn next(alloc: Global, committed: &[Record], read: i64, written: i64) -> Result<Record, Refusal>
+    requires { length committed.now < 9 }
+    ensures number { IfOk result (λ made. made.number ≡ length committed.now + 1) }
+    ensures snapshot { IfOk result (λ made. made.snapshot ≡ 0) }
 {
+    let number = committed.len() as u64 + 1;
     let session = Text::from_str(alloc, "A")?;
-    let reads = vec![in alloc; LockKey::Table(0)]?;
-    let changes = vec![in alloc; insertion(alloc, 7)?]?;
+    let row = Place {
+        table: 0,
+        key: Value::Int(read),
+    };
+    let reads = vec![in alloc; LockKey::Row(row)]?;
+    let changes = vec![in alloc; insertion(alloc, written)?]?;
     Ok(Record {
-        number: 1,
+        number,
         snapshot: 0,
         session,
         trace: Items::new(alloc),
@@ -38,14 +48,102 @@ fn first(alloc: Global) -> Result<Record, Refusal>
     })
 }
 
+/// Judges the next transaction. One that may join those before it then does.
+fn submit(
+    alloc: Global,
+    committed: &mut Vec<Record>,
+    places: &mut Vec<u64>,
+    read: i64,
+    written: i64,
+) -> Result<Verdict, Refusal>
+    requires few { length committed.old.items < 9 }
+    requires log { IsLog (reverse committed.old.items) }
+    requires places { places.old.items ≡ map (least_out (reverse committed.old.items)) committed.old.items }
+    ensures few { length committed.new.items ≤ length committed.old.items + 1 }
+    ensures log { IfOk result (λ _. IsLog (reverse committed.new.items)) }
+    ensures places { IfOk result (λ _. places.new.items ≡ map (least_out (reverse committed.new.items)) committed.new.items) }
+{
+    let commit = next(alloc, committed.as_slice(), read, written)?;
+    let verdict = judge_whole(committed.as_slice(), places.as_slice(), &commit);
+    if let Verdict::Fine { place } = verdict {
+        places.push(place)?;
+        committed.push(commit)?;
+    }
+    Ok(verdict)
+}
+
+/// Judges a transaction that is a record already.
+fn judge_whole(committed: &[Record], places: &[u64], commit: &Record) -> Verdict
+    requires log { IsLog (reverse committed.now) }
+    requires next { commit.now.number ≡ length committed.now + 1 }
+    requires after_snapshot { commit.now.snapshot < commit.now.number }
+    requires places { places.now ≡ map (least_out (reverse committed.now)) committed.now }
+    ensures { IsVerdict (reverse committed.now) commit.now result }
+{
+    let candidate = Candidate {
+        number: commit.number,
+        snapshot: commit.snapshot,
+        reads: commit.reads.as_slice(),
+        changes: commit.changes.as_slice(),
+    };
+    judge(committed, places, &candidate)
+}
+
 #[test]
-fn the_first_commit_has_no_conflict(rt: HostRuntime) -> Result<(), Fail> {
-    let commit = first(rt.alloc())?;
-    assert!(rt; touch_any(commit.changes.as_slice(), commit.reads.as_slice()));
-    assert!(rt; share_row(commit.changes.as_slice(), commit.changes.as_slice()));
-    assert!(rt; !is_conflict(&commit, &commit));
-    assert!(rt; least_out(&[], &commit) == 1);
-    assert!(rt; greatest_in(&[], &commit) == 0);
-    assert!(rt; find_danger(&[], &commit).is_none());
+fn the_first_commit_joins(rt: HostRuntime) -> Result<(), Fail> {
+    let mut committed = Vec::new(rt.alloc());
+    let mut places = Vec::new(rt.alloc());
+    let first = submit(rt.alloc(), &mut committed, &mut places, 7, 7)?;
+    assert_eq!(rt; first, Verdict::Fine { place: 1 });
+    Ok(())
+}
+
+#[test]
+fn the_first_committer_wins(rt: HostRuntime) -> Result<(), Fail> {
+    let mut committed = Vec::new(rt.alloc());
+    let mut places = Vec::new(rt.alloc());
+    submit(rt.alloc(), &mut committed, &mut places, 1, 2)?;
+    let second = submit(rt.alloc(), &mut committed, &mut places, 3, 2)?;
+    assert_eq!(rt; second, Verdict::WriteConflict { row: 0, by: 1 });
+    Ok(())
+}
+
+#[test]
+fn each_read_what_the_other_wrote(rt: HostRuntime) -> Result<(), Fail> {
+    let mut committed = Vec::new(rt.alloc());
+    let mut places = Vec::new(rt.alloc());
+    submit(rt.alloc(), &mut committed, &mut places, 1, 2)?;
+    let second = submit(rt.alloc(), &mut committed, &mut places, 2, 1)?;
+    let danger = Danger::AsPivot {
+        reader: 1,
+        writer: 1,
+    };
+    assert_eq!(rt; second, Verdict::Dangerous(danger));
+    Ok(())
+}
+
+#[test]
+fn the_reader_comes_last(rt: HostRuntime) -> Result<(), Fail> {
+    let mut committed = Vec::new(rt.alloc());
+    let mut places = Vec::new(rt.alloc());
+    submit(rt.alloc(), &mut committed, &mut places, 9, 1)?;
+    let pivot = submit(rt.alloc(), &mut committed, &mut places, 1, 2)?;
+    assert_eq!(rt; pivot, Verdict::Fine { place: 1 });
+    let reader = submit(rt.alloc(), &mut committed, &mut places, 2, 3)?;
+    let danger = Danger::AsReader {
+        pivot: 2,
+        writer: 1,
+    };
+    assert_eq!(rt; reader, Verdict::Dangerous(danger));
+    Ok(())
+}
+
+#[test]
+fn a_commit_stands_before_its_writer(rt: HostRuntime) -> Result<(), Fail> {
+    let mut order = vec![in rt.alloc(); 1u64]?;
+    put_in_order(&mut order, 1, 2)?;
+    assert_eq!(rt; order.as_slice(), [2u64, 1].as_slice());
+    put_in_order(&mut order, 3, 3)?;
+    assert_eq!(rt; order.as_slice(), [2u64, 1, 3].as_slice());
     Ok(())
 }

@@ -1,5 +1,5 @@
 -- The assertions that are taken in are those that are written.
-use Rattle.std.proofs.Common.{◌≡◌, ◌≤◌, ℕ, zero, suc, arith, Bool, true, false, List, [], ◌∷◌, ◌++◌, Result, Ok, Err, length, drop, filter, append-nil, append_assoc, refl, sym, ◌∙◌, ap, subst}
+use Rattle.std.proofs.Common.{◌≡◌, ◌≤◌, ℕ, zero, suc, arith, Bool, true, false, List, [], ◌∷◌, ◌++◌, Result, Ok, length, drop, filter, append-nil, append_assoc, refl, sym, ◌∙◌, ap, subst}
 use Rattle.std.specs.Prelude.{not, is_none}
 use Rattle.value.specs.declared.refusals.Refusal.{Refusal}
 use Rattle.value.specs.declared.refusals.Refusal.TheVariants.{NameTaken}

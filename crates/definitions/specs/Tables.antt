@@ -11,7 +11,8 @@ use Rattle.value.specs.Results.{unless}
 
 -- a column as it was defined: a key takes no NULL
 abbrev pub defined_column : ColumnDefinition → Column
-defined_column d = record { name = d.name; kind = d.kind; nullable = not (d.marks.not_null || d.marks.key); is_key = d.marks.key }
+defined_column d =
+    record { name = d.name; kind = d.kind; nullable = not (d.marks.not_null || d.marks.key); is_key = d.marks.key }
 
 -- whether one of the columns has the name
 abbrev pub is_named : List ℕ → List ColumnDefinition → Bool
@@ -20,7 +21,8 @@ is_named name columns = list_any (λ d. bytes_eq d.name name) columns
 -- the fault of the first column whose name stands before it
 abbrev pub repeated_name : List ColumnDefinition → List ColumnDefinition → Option Refusal
 repeated_name before [] = None
-repeated_name before (d ∷ rest) = if is_named d.name before then Some (NameTaken d.name) else repeated_name (before ++ d ∷ []) rest
+repeated_name before (d ∷ rest) =
+    if is_named d.name before then Some (NameTaken d.name) else repeated_name (before ++ d ∷ []) rest
 
 -- the place of the key, if exactly one column is a key
 abbrev pub only_key : List ColumnDefinition → Option ℕ

@@ -6,7 +6,6 @@ use Rattle.value.specs.declared.refusals.Refusal.{Refusal}
 use Rattle.value.specs.declared.refusals.Refusal.TheVariants.{NameTaken}
 use Rattle.table.specs.Rows.{layout_of}
 use Rattle.syntax.specs.declared.trees.Condition.{Condition}
-use Rattle.statement_syntax.specs.declared.statements.Insert.{Insert}
 use Rattle.statement_syntax.specs.declared.definitions.Attributes.{Attributes}
 use Rattle.statement_syntax.specs.declared.definitions.ColumnDefinition.{ColumnDefinition}
 use Rattle.statement_syntax.specs.declared.definitions.Definition.{Definition}
@@ -25,7 +24,10 @@ nothing = record { declared = record { tables = []; assertions = [] }; state = [
 abbrev pub with_table : List ℕ → List ColumnDefinition → Shown → Result Shown Refusal
 with_table name columns now =
     provided (is_none (layout_of name now.declared.tables)) (NameTaken name) (
-    and_then (layout_from columns) (λ layout. Ok (record { declared = record (now.declared) { tables = now.declared.tables ++ (name, layout) ∷ [] }; state = now.state ++ [] ∷ [] })))
+    and_then (layout_from columns) (λ layout. Ok (record {
+      declared = record (now.declared) { tables = now.declared.tables ++ (name, layout) ∷ [] };
+      state = now.state ++ [] ∷ [];
+    })))
 
 -- whether an assertion has the name
 abbrev pub is_asserted : List ℕ → List Assertion → Bool
@@ -35,7 +37,8 @@ is_asserted name assertions = list_any (λ a. bytes_eq a.name name) assertions
 abbrev pub with_assertion : List ℕ → Condition → Attributes → Shown → Result Shown Refusal
 with_assertion name condition attributes now =
     provided (not (is_asserted name now.declared.assertions)) (NameTaken name) (
-    and_then (checked now.declared.tables name condition attributes) (λ a. Ok (record now { declared = record (now.declared) { assertions = now.declared.assertions ++ a ∷ [] } })))
+    and_then (checked now.declared.tables name condition attributes)
+    (λ a. Ok (record now { declared = record (now.declared) { assertions = now.declared.assertions ++ a ∷ [] } })))
 
 -- one definition; no assertion is looked at where a row is put in
 abbrev pub with_definition : Definition → Shown → Result Shown Refusal

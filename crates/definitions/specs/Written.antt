@@ -16,9 +16,11 @@ is_assertion (definition.Insert insert) = false
 -- an assertion is the one that a definition writes
 abbrev pub IsDefined : Tables → Definition → Assertion → Type 0
 IsDefined tables (definition.Table name columns) assertion = ⊥
-IsDefined tables (definition.Assertion name condition attributes) assertion = IsWritten tables name condition attributes assertion
+IsDefined tables (definition.Assertion name condition attributes) assertion =
+    IsWritten tables name condition attributes assertion
 IsDefined tables (definition.Insert insert) assertion = ⊥
 
 -- there is an assertion for each CREATE ASSERTION, in their order, which has its name and means what is written
 abbrev pub AreWritten : List Definition → Declared → Type 0
-AreWritten definitions declared = Pairs (IsDefined declared.tables) (filter is_assertion definitions) declared.assertions
+AreWritten definitions declared =
+    Pairs (IsDefined declared.tables) (filter is_assertion definitions) declared.assertions

@@ -1,7 +1,7 @@
 //! What definitions define: tables, assertions over them, and the rows that the tables begin with.
 //!
-//! A schema is a list of definitions (SQL-92, ISO/IEC 9075:1992: table definition, assertion definition, insert statement),
-//! and they are taken in in their order; the first fault refuses the whole:
+//! A schema is a list of definitions (SQL-92, ISO/IEC 9075:1992: table definition, assertion definition, insert
+//! statement), and they are taken in in their order; the first fault refuses the whole:
 //!
 //! - CREATE TABLE: the name is free among the tables, no column's name stands twice, and exactly one column is the
 //!   PRIMARY KEY (this project's choice: a table has one key, of one column). A key takes no NULL.
@@ -10,15 +10,16 @@
 //! - INSERT: a row of constants of the columns' types, NULL only where it may stand, each value in its range, under a
 //!   key that is free.
 //!
-//! No assertion is evaluated while definitions are taken in. The rows of a schema are loaded one by one, and it is only when all
-//! are there that the assertions have to hold (this project's choice): [`Definitions::load`] is the view of what is
-//! defined, of which the layer above asks that.
+//! No assertion is evaluated while definitions are taken in. The rows of a schema are loaded one by one, and it is
+//! only when all are there that the assertions have to hold (this project's choice): [`Definitions::load`] is the
+//! view of what is defined, of which the layer above asks that.
 //!
-//! What the layer above may rest on: [`Definitions::take`] answers what `specs/Taken` says of the list, or its first fault, or
-//! that memory ran out. What is taken in is always good tables and assertions that are evaluated without overflow, which is what a
-//! view is made of. `specs/Tables` has CREATE TABLE; an INSERT is that of `changes`. And the assertions are those that are
-//! written (`specs/Written`): there is one for each CREATE ASSERTION, in their order, which has its name and means what its
-//! condition means as it is written (`meaning`), over all tables of the schema.
+//! What the layer above may rest on: [`Definitions::take`] answers what `specs/Taken` says of the list, or its first
+//! fault, or that memory ran out. What is taken in is always good tables and assertions that are evaluated without
+//! overflow, which is what a view is made of. `specs/Tables` has CREATE TABLE; an INSERT is that of `changes`. And
+//! the assertions are those that are written (`specs/Written`): there is one for each CREATE ASSERTION, in their
+//! order, which has its name and means what its condition means as it is written (`meaning`), over all tables of the
+//! schema.
 #![tactic(auto)]
 
 mod tables;

@@ -13,8 +13,8 @@ use value::{Refusal, Text};
 ///
 /// # Errors
 ///
-/// [`Refusal::NameTaken`] with the first name that stands before it; then [`Refusal::OutsideClass`] unless exactly one column is
-/// the key. Or [`Refusal::NoMemory`].
+/// [`Refusal::NameTaken`] with the first name that stands before it; then [`Refusal::OutsideClass`] unless exactly
+/// one column is the key. Or [`Refusal::NoMemory`].
 pub fn schema_of(alloc: Global, columns: &[ColumnDefinition]) -> Result<Schema, Refusal>
     ensures defined { IfOk result (λ schema. layout_from columns.now ≡ Ok schema) }
     ensures refused { IfErr result (λ refusal. refusal ≢ NoMemory → layout_from columns.now ≡ Err refusal) }

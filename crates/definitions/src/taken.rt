@@ -2,7 +2,7 @@
 
 ghost use Rattle.std.specs.Prelude.{◌≡◌, ◌≢◌, ◌<◌, [], ◌∷◌, IfOk, IfErr, IsOkUnless, Ok, Err, length};
 ghost use Rattle.value.specs.declared.refusals.Refusal.TheVariants.{NoMemory};
-ghost use Rattle.definitions.specs.Taken.{is_asserted, nothing, taken, with_all, with_assertion, with_definition, with_table};
+ghost use Rattle.definitions.specs.Taken.{is_asserted, nothing, taken, with_assertion, with_definition, with_table};
 ghost use Rattle.definitions.specs.Written.{AreWritten};
 ghost use Rattle.assertion.specs.Declarations.{layouts_in};
 ghost use Rattle.assertion.specs.Roots.{IsChangeOf, state_after};
@@ -44,21 +44,25 @@ impl Model for Definitions {
 
     ghost coded = { Prim.hlevel (codes, cond_type.the_row.coded, expr_type.the_row.coded) };
 
-    ghost view = { λ d. record { declared = record { tables = d.catalog; assertions = d.assertions.items }; state = d.rows.items } };
+    ghost view = { λ d. record {
+      declared = record { tables = d.catalog; assertions = d.assertions.items };
+      state = d.rows.items;
+    } };
 
     ghost invariant = { λ d. AreBounded d.assertions.items × IsGood (layouts_of d.catalog) d.rows.items };
 }
 
 impl Definitions {
-    /// What these definitions define, taken in in their order. No assertion is evaluated. Each assertion has the name of
-    /// its text and means what is written there.
+    /// What these definitions define, taken in in their order. No assertion is evaluated. Each assertion has the name
+    /// of its text and means what is written there.
     ///
     /// # Errors
     ///
     /// The first fault. CREATE TABLE: [`Refusal::NameTaken`] of the table, then of a column that stands twice, then
-    /// [`Refusal::OutsideClass`] unless exactly one column is the key. CREATE ASSERTION: [`Refusal::NameTaken`], and then what
-    /// `assertcheck::check` answers. INSERT: what `assertcheck::check_insert` answers, then by columns
-    /// [`Refusal::NullNotAllowed`] and [`Refusal::OutOfRange`], and last [`Refusal::DuplicateKey`]. Or [`Refusal::NoMemory`].
+    /// [`Refusal::OutsideClass`] unless exactly one column is the key. CREATE ASSERTION: [`Refusal::NameTaken`], and
+    /// then what `assertcheck::check` answers. INSERT: what `assertcheck::check_insert` answers, then by columns
+    /// [`Refusal::NullNotAllowed`] and [`Refusal::OutOfRange`], and last [`Refusal::DuplicateKey`]. Or
+    /// [`Refusal::NoMemory`].
     pub fn take(alloc: Global, definitions: &[Definition]) -> Result<Definitions, Refusal>
         ensures taken { IfOk result (λ made. taken definitions.now ≡ Ok made) }
         ensures refused { IfErr result (λ refusal. refusal ≢ NoMemory → taken definitions.now ≡ Err refusal) }
@@ -109,7 +113,8 @@ impl Definitions {
     /// These with one more definition.
     fn with(self, alloc: Global, definition: &Definition) -> Result<Definitions, Refusal>
         ensures taken { IfOk result (λ made. with_definition definition.now self ≡ Ok made) }
-        ensures refused { IfErr result (λ refusal. refusal ≢ NoMemory → with_definition definition.now self ≡ Err refusal) }
+        ensures refused { IfErr result (λ refusal. refusal ≢ NoMemory
+            → with_definition definition.now self ≡ Err refusal) }
     {
         match definition {
             Definition::Table { name, columns } => self.with_table(alloc, name, columns.as_slice()),
@@ -130,7 +135,8 @@ impl Definitions {
         columns: &[ColumnDefinition],
     ) -> Result<Definitions, Refusal>
         ensures taken { IfOk result (λ made. with_table name.now columns.now self ≡ Ok made) }
-        ensures refused { IfErr result (λ refusal. refusal ≢ NoMemory → with_table name.now columns.now self ≡ Err refusal) }
+        ensures refused { IfErr result (λ refusal. refusal ≢ NoMemory
+            → with_table name.now columns.now self ≡ Err refusal) }
     {
         if self.catalog.get(name).is_some() {
             return Err(Refusal::NameTaken { name: name.copy()? });
@@ -159,7 +165,8 @@ impl Definitions {
         attributes: Attributes,
     ) -> Result<Definitions, Refusal>
         ensures taken { IfOk result (λ made. with_assertion name.now condition.now attributes self ≡ Ok made) }
-        ensures refused { IfErr result (λ refusal. refusal ≢ NoMemory → with_assertion name.now condition.now attributes self ≡ Err refusal) }
+        ensures refused { IfErr result (λ refusal. refusal ≢ NoMemory
+            → with_assertion name.now condition.now attributes self ≡ Err refusal) }
     {
         if is_asserted(self.assertions(), name) {
             return Err(Refusal::NameTaken { name: name.copy()? });
@@ -191,10 +198,12 @@ impl Definitions {
     /// The change that puts a row into the table at a place.
     fn insertion(&self, table: usize, row: Row) -> Result<Change, Refusal>
         requires { table < length self.now.declared.tables }
-        ensures made { IfOk result (λ change. insert_effect self.now.declared.tables (record { table = table; row = row }) self.now.state
+        ensures made { IfOk result (λ change. insert_effect self.now.declared.tables
+            (record { table = table; row = row }) self.now.state
             ≡ Ok (record { reply = Inserted; changes = change ∷ [] })) }
         ensures refused { IfErr result (λ refusal. refusal ≢ NoMemory
-            → insert_effect self.now.declared.tables (record { table = table; row = row }) self.now.state ≡ Err refusal) }
+            → insert_effect self.now.declared.tables (record { table = table; row = row }) self.now.state
+            ≡ Err refusal) }
         ensures is { IfOk result (λ change. IsChangeOf (layouts_in self.now.declared) change self.now.state) }
         ensures fits { IfOk result (IsFitting (layouts_in self.now.declared)) }
     {
@@ -212,7 +221,8 @@ impl Definitions {
         requires is { IsChangeOf (layouts_in self.declared) change.now self.state }
         requires fits { IsFitting (layouts_in self.declared) change.now }
         ensures only_memory { IsOkUnless result NoMemory }
-        ensures changed { IfOk result (λ made. made ≡ record self { state = state_after (layouts_in self.declared) change.now self.state }) }
+        ensures changed { IfOk result (λ made. made
+            ≡ record self { state = state_after (layouts_in self.declared) change.now self.state }) }
     {
         let Definitions {
             catalog,

@@ -6,7 +6,7 @@ use statement_syntax::{Attributes, ColumnDefinition, Definition, Insert, Marks};
 use std::alloc::Global;
 use std::test::Fail;
 use syntax::{Condition, Expression, Listed, Query};
-use value::{ColType, Comparison, Refusal, Text, Value};
+use value::{ColType, Comparison, Refusal, Root, Text, Value};
 
 fn let_go<T: Drop>(_value: T) {}
 
@@ -80,8 +80,8 @@ fn what_is_taken_in(rt: HostRuntime) -> Result<(), Fail> {
     let taken = taken_of(alloc, Value::Int(8), Value::Int(7))?;
     let view = taken.load(alloc)?;
     assert_eq!(rt; view.catalog().len(), 1);
-    assert_eq!(rt; view.assertions().len(), 1);
-    assert_eq!(rt; view.first_false(), Some(0));
+    assert!(rt; view.assertions().len() == 1);
+    assert!(rt; view.least_bad(0) == Some(&Root::All));
     Ok(())
 }
 

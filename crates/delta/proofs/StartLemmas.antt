@@ -1,10 +1,10 @@
 -- Tables as they are taken in.
-use Rattle.std.proofs.Common.{◌≡◌, ℕ, ◌+◌, ◌<◌, zero, suc, List, [], ◌∷◌, ◌++◌, Some, None, length, take, get_or, sym, ◌∙◌, ap, subst, arith}
+use Rattle.std.proofs.Common.{◌≡◌, ℕ, ◌+◌, ◌<◌, zero, suc, List, [], ◌∷◌, ◌++◌, Some, None, length, take, sym, ◌∙◌, ap, subst, arith}
 use Rattle.std.specs.Prelude.{◌^◌, slice_get}
 use Rattle.std.proofs.lemmas.List.{take_more}
 use Rattle.std.proofs.lemmas.Option.{slice_get_within, get_or_from_slice_get}
 use Rattle.table.specs.Rows.{RowValues}
-use Rattle.assertion.specs.Meaning.{State, rows_of}
+use Rattle.assertion.specs.Meaning.{State}
 use Rattle.delta.specs.Kept.{AreShort}
 
 -- one more table that can be counted

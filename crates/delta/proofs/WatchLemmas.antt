@@ -1,20 +1,14 @@
 -- What is kept is right one by one.
-use Rattle.std.proofs.Common.{◌≡◌, ℕ, ◌+◌, ◌<◌, Bool, true, false, cond, Global, List, [], ◌∷◌, ◌++◌, Some, None, map, length, get_or, refl, sym, ◌∙◌, ap, subst, arith, ◌⊎◌, ⊎_elim, length-append}
-use Rattle.std.specs.Prelude.{IfSome, nat_lt, position}
-use Rattle.std.specs.List.{position_or_len}
-use Rattle.std.proofs.lemmas.Bool.Decides.{nat_tests}
-use Rattle.std.proofs.lemmas.List.{get_or_append_left, get_or_default, get_or-map as get_or-mapped, length-map, map-append, same_lists}
+use Rattle.std.proofs.Common.{◌≡◌, ℕ, ◌+◌, ◌<◌, false, Global, List, [], ◌∷◌, ◌++◌, map, length, get_or, refl, sym, ◌∙◌, ap, subst, arith, ◌⊎◌, ⊎_elim, length-append}
+use Rattle.std.proofs.lemmas.List.{get_or_append_left, get_or_default, map-append}
 use Rattle.std.proofs.Math.ListN.{get_or-map}
 use Rattle.std.specs.Arc.{arc_value}
 use Rattle.std.specs.declared.sync.Arc.{Arc}
-use Rattle.threeval.specs.Truths.{is_of}
-use Rattle.threeval.specs.declared.Truth.TheVariants.{False}
-use Rattle.roots.proofs.AnswerLemmas.{item_in}
 use Rattle.std.proofs.Math.Seq.{get_or-append_seam}
 use Rattle.table.specs.Rows.{Layout}
 use Rattle.assertion.specs.declared.assertions.Assertion.{Assertion}
 use Rattle.assertion.specs.declared.forms.Form.{Form}
-use Rattle.assertion.specs.Meaning.{State, verdict_of}
+use Rattle.assertion.specs.Meaning.{State}
 use Rattle.assertion.specs.Roots.{IsOrdered, IsChangeOf, state_after}
 use Rattle.table.specs.declared.rows.Change.{Change}
 use Rattle.groups.specs.Totals.{Entries}
@@ -90,53 +84,3 @@ pub kept_after : (layouts : List Layout) (form : Form) (change : Change) (after 
 kept_after layouts form change after w made b f =
     subst (λ (s : State). AreKept s form made) (sym b.step.changed)
     (f layouts b.before b.step.is (subst IsSmallState b.step.changed (good_small layouts after b.step.good_after)) b.watched.kept)
-
--- the place of the first item that passes is that of the first true
-place_map : {X : Type 0} (p : X → Bool) (xs : List X) → position_or_len p xs ≡ position_or_len (λ b. b) (map p xs)
-place_map p [] = refl
-place_map p (x ∷ xs) = rw (place_map p xs) refl
-
-position_map : {X : Type 0} (p : X → Bool) (xs : List X) → position p xs ≡ position (λ b. b) (map p xs)
-position_map p xs =
-    ap (λ n. cond (nat_lt n (length xs)) (Some n) None) (place_map p xs)
-    ∙ ap (λ m. cond (nat_lt (position_or_len (λ b. b) (map p xs)) m) (Some (position_or_len (λ b. b) (map p xs))) None) (sym (length-map xs p))
-
--- the kept truths say which assertions are false
-false_same : (layouts : List Layout) (state : State) (forms : List Assertion) (ws : List Watch) → AreWatched layouts state forms (length forms) ws
-    → map (λ w. is_of w.truth False) ws ≡ map (λ a. is_of (verdict_of layouts a.form state) False) forms
-false_same layouts state forms ws k =
-    let kept : Watch → Bool = λ w. is_of w.truth False in
-    let told : Assertion → Bool = λ a. is_of (verdict_of layouts a.form state) False in
-    same_lists (map kept ws) (map told forms) (length-map ws kept ∙ k.long ∙ sym (length-map forms told))
-    (λ i d below.
-    let in_ws : i < length ws = omega (arith, below, length-map ws kept) in
-    let in_forms : i < length forms = omega (arith, in_ws, k.long) in
-    let w : Watch = item_in ws i in_ws in
-    let a : Assertion = item_in forms i in_forms in
-    get_or-mapped kept ws i w d in_ws ∙ ap (λ t. is_of t False) (k.right i in_forms a w).truth ∙ sym (get_or-mapped told forms i a d in_forms))
-
--- where watches are shared
-pub position_shared : (p : Watch → Bool) (ws : List (Arc Watch Global)) → position (λ w. p (arc_value w)) ws ≡ position p (map arc_value ws)
-position_shared p ws = position_map (λ w. p (arc_value w)) ws ∙ ap (position (λ b. b)) (both ws) ∙ sym (position_map p (map arc_value ws))
-  where
-    both : (ws : List (Arc Watch Global)) → map (λ w. p (arc_value w)) ws ≡ map p (map arc_value ws)
-    both [] = refl
-    both (w ∷ ws) = ap (λ bs. p (arc_value w) ∷ bs) (both ws)
-
-pub first_same : (layouts : List Layout) (state : State) (forms : List Assertion) (ws : List Watch) → AreWatched layouts state forms (length forms) ws
-    → position (λ w. is_of w.truth False) ws ≡ position (λ a. is_of (verdict_of layouts a.form state) False) forms
-first_same layouts state forms ws k =
-    position_map (λ (w : Watch). is_of w.truth False) ws ∙ ap (position (λ b. b)) (false_same layouts state forms ws k) ∙ sym (position_map (λ (a : Assertion). is_of (verdict_of layouts a.form state) False) forms)
-
--- a place that is found is one of the list's
-pub position_within : {X : Type 0} (p : X → Bool) (xs : List X) → IfSome (position p xs) (λ i. i < length xs)
-position_within p xs =
-    let n : ℕ = position_or_len p xs in
-    let case : (b : Bool) → nat_lt n (length xs) ≡ b → IfSome (cond b (Some n) None) (λ i. i < length xs) = λ b. elim b as (λ b. nat_lt n (length xs) ≡ b → IfSome (cond b (Some n) None) (λ i. i < length xs)) [
-      | true ↦ λ e. lt_from n (length xs) e
-      | false ↦ λ e. tt
-    ]
-    in case (nat_lt n (length xs)) refl
-  where
-    lt_from : (m n : ℕ) → nat_lt m n ≡ true → m < n
-    lt_from m n e = grind (arith, nat_tests)

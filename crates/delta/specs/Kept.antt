@@ -1,7 +1,5 @@
 -- What a view keeps for its assertions, and how it agrees with the tables.
-use Rattle.std.specs.Prelude.{◌≡◌, Bool, ℕ, ◌<◌, ◌^◌, List, length, slice_index_or}
-use Rattle.threeval.specs.Truths.{is_of}
-use Rattle.threeval.specs.declared.Truth.TheVariants.{False}
+use Rattle.std.specs.Prelude.{◌≡◌, ℕ, ◌<◌, ◌^◌, List, length, slice_index_or}
 use Rattle.table.specs.declared.rows.Change.{Change}
 use Rattle.table.specs.Rows.{Layout, Tables, layouts_of}
 use Rattle.assertion.specs.declared.assertions.Assertion.{Assertion}
@@ -21,10 +19,6 @@ pub record IsGood (layouts : List Layout) (state : State) : Type 0 where
   pub tables : AreTables layouts state
   pub short : AreShort state
 
--- whether an assertion is false by what is kept for it
-abbrev pub is_false : Watch → Bool
-is_false watch = is_of watch.truth False
-
 -- what is kept for an assertion is right on these tables
 pub record IsWatched (layouts : List Layout) (state : State) (form : Form) (watch : Watch) : Type 0 where
   pub kept : AreKept state form watch.totals.items
@@ -32,9 +26,11 @@ pub record IsWatched (layouts : List Layout) (state : State) (form : Form) (watc
   pub truth : watch.truth ≡ verdict_of layouts form state
 
 -- the first n watches are right for the first n assertions
-pub record AreWatched (layouts : List Layout) (state : State) (assertions : List Assertion) (n : ℕ) (watches : List Watch) : Type 0 where
+pub record AreWatched (layouts : List Layout) (state : State) (assertions : List Assertion) (n : ℕ)
+    (watches : List Watch) : Type 0 where
   pub long : length watches ≡ n
-  pub right : (i : ℕ) → i < n → (a : Assertion) (w : Watch) → IsWatched layouts state (slice_index_or assertions i a).form (slice_index_or watches i w)
+  pub right : (i : ℕ) → i < n → (a : Assertion) (w : Watch)
+      → IsWatched layouts state (slice_index_or assertions i a).form (slice_index_or watches i w)
 
 -- tables are others with one change
 pub record IsStep (layouts : List Layout) (change : Change) (before after : State) : Type 0 where
@@ -45,13 +41,15 @@ pub record IsStep (layouts : List Layout) (change : Change) (before after : Stat
   pub good_after : IsGood layouts after
 
 -- the watch is right on some tables of which these are a step
-pub record IsWatchedBefore (layouts : List Layout) (form : Form) (change : Change) (after : State) (watch : Watch) : Type 0 where
+pub record IsWatchedBefore (layouts : List Layout) (form : Form) (change : Change) (after : State)
+    (watch : Watch) : Type 0 where
   pub before : State
   pub step : IsStep layouts change before after
   pub watched : IsWatched layouts before form watch
 
 -- the parts of a view agree
-pub record IsKept (tables : Tables) (layouts : List Layout) (assertions : List Assertion) (state : State) (watches : List Watch) : Type 0 where
+pub record IsKept (tables : Tables) (layouts : List Layout) (assertions : List Assertion) (state : State)
+    (watches : List Watch) : Type 0 where
   pub lays : layouts ≡ layouts_of tables
   pub bounded : AreBounded assertions
   pub good : IsGood layouts state

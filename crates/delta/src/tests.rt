@@ -222,7 +222,7 @@ fn least_balance_removed(rt: HostRuntime) -> Result<(), Fail> {
     let fewer = remove(&remove(&three, 1)?, 2)?;
     let kim = Root::Of(Value::Text(Text::from_str(alloc, "KIM")?));
     assert!(rt; fewer.least_bad(0) == Some(&kim));
-    assert_eq!(rt; fewer.first_false(), Some(0));
+    assert!(rt; fewer.verdict(0) == Truth::False);
     Ok(())
 }
 

@@ -3,7 +3,6 @@
 ghost use Rattle.std.specs.Prelude.{◌≡◌, map, length, IfOk, IsOkUnless};
 ghost use Rattle.std.specs.Arc.{arc_value};
 ghost use Rattle.value.specs.declared.refusals.Refusal.TheVariants.{NoMemory};
-ghost use Rattle.assertion.specs.Meaning.{key_of};
 ghost use Rattle.assertion.specs.Roots.{IsChangeOf, state_after};
 ghost use Rattle.delta.specs.Kept.{AreShort, AreWatched, IsGood, IsStep};
 ghost use Rattle.delta.specs.Views.{AreBounded, IsFitting};
@@ -11,26 +10,11 @@ ghost use Rattle.delta.specs.Views.{AreBounded, IsFitting};
 use crate::watches::{Watch, watch_after};
 use assertion::Assertion;
 use mvrows::Rows;
+use roots::key_column;
 use std::alloc::Global;
 use std::sync::Arc;
 use table::{Change, Schema};
 use value::Refusal;
-
-/// Tables equal to these, and that each can be counted.
-pub fn tables_of(alloc: Global, rows: &[Rows]) -> Result<Vec<Rows>, Refusal>
-    ensures only_memory { IsOkUnless result NoMemory }
-    ensures equal { IfOk result (λ made. made.items ≡ rows.now) }
-    ensures short { IfOk result (λ made. AreShort made.items) }
-{
-    let mut made = Vec::new(alloc);
-    for table in 0..rows.len() {
-        let table = &rows[table];
-        // The proof reads that there are fewer than 2^63.
-        let _ = table.len();
-        made.push(table.copy()?)?;
-    }
-    Ok(made)
-}
 
 /// What is kept for the assertions on these tables.
 pub fn watches_of(
@@ -42,7 +26,8 @@ pub fn watches_of(
     requires bounded { AreBounded assertions.now }
     requires good { IsGood schemas.now tables.now }
     ensures only_memory { IsOkUnless result NoMemory }
-    ensures watched { IfOk result (λ made. AreWatched schemas.now tables.now assertions.now (length assertions.now) (map arc_value made.items)) }
+    ensures watched { IfOk result (λ made. AreWatched schemas.now tables.now assertions.now (length assertions.now)
+        (map arc_value made.items)) }
 {
     let mut made = Vec::new(alloc);
     for index in 0..assertions.len() {
@@ -50,16 +35,6 @@ pub fn watches_of(
         made.push(Arc::new(alloc, watch)?)?;
     }
     Ok(made)
-}
-
-/// The place of a table's key column.
-fn key_column(schemas: &[Schema], table: usize) -> usize
-    ensures { result ≡ key_of table schemas.now }
-{
-    match schemas.get(table) {
-        Some(schema) => schema.key(),
-        None => 0,
-    }
 }
 
 /// The tables after a change.
@@ -95,9 +70,11 @@ pub fn watches_after(
 ) -> Result<Vec<Arc<Watch>>, Refusal>
     requires bounded { AreBounded assertions.now }
     requires step { IsStep schemas.now change.now _before.now after.now }
-    requires watched { AreWatched schemas.now _before.now assertions.now (length assertions.now) (map arc_value watches.now) }
+    requires watched { AreWatched schemas.now _before.now assertions.now (length assertions.now)
+        (map arc_value watches.now) }
     ensures only_memory { IsOkUnless result NoMemory }
-    ensures watched { IfOk result (λ made. AreWatched schemas.now after.now assertions.now (length assertions.now) (map arc_value made.items)) }
+    ensures watched { IfOk result (λ made. AreWatched schemas.now after.now assertions.now (length assertions.now)
+        (map arc_value made.items)) }
 {
     let mut made = Vec::new(alloc);
     for index in 0..assertions.len() {
@@ -107,13 +84,17 @@ pub fn watches_after(
     Ok(made)
 }
 
-/// Tables equal to these.
+/// Tables equal to these, each of which can be counted.
 pub fn copy_tables(alloc: Global, tables: &[Rows]) -> Result<Vec<Rows>, Refusal>
     ensures only_memory { IsOkUnless result NoMemory }
     ensures equal { IfOk result (λ made. made.items ≡ tables.now) }
+    ensures short { IfOk result (λ made. AreShort made.items) }
 {
     let mut made = Vec::new(alloc);
-    for rows in tables {
+    for table in 0..tables.len() {
+        let rows = &tables[table];
+        // The proof reads that there are fewer than 2^63.
+        let _ = rows.len();
         made.push(rows.copy()?)?;
     }
     Ok(made)

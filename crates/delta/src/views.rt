@@ -1,11 +1,9 @@
 //! Versions of the tables, with the verdicts of the assertions kept.
 
-ghost use Rattle.std.specs.Prelude.{◌≡◌, ◌<◌, length, position, slice_index_or, All, IfOk, IfSome, IsOkUnless};
+ghost use Rattle.std.specs.Prelude.{◌≡◌, ◌<◌, length, slice_index_or, All, IfOk, IsOkUnless};
 ghost use Rattle.std.specs.Option.{option_copied};
 ghost use Rattle.value.specs.declared.refusals.Refusal.TheVariants.{NoMemory};
 ghost use Rattle.table.specs.Rows.{IsTable, layouts_of};
-ghost use Rattle.threeval.specs.Truths.{is_of};
-ghost use Rattle.threeval.specs.declared.Truth.TheVariants.{False};
 ghost use Rattle.cond.specs.Bounds.{IsSmallRow};
 ghost use Rattle.assertion.specs.declared.assertions.Assertion.{Assertion as AnyAssertion};
 ghost use Rattle.assertion.specs.Candidates.{candidates_of};
@@ -15,10 +13,8 @@ ghost use Rattle.assertion.specs.Roots.{AreChangesOf, IsChangeOf, state_after, s
 ghost use Rattle.delta.specs.Views.{AreBounded, AreTables, IsFitting, layout_at};
 
 use crate::declarations::{Declarations, schemas_of};
-use crate::versions::{
-    copy_tables, copy_watches, tables_after, tables_of, watches_after, watches_of,
-};
-use crate::watches::{Watch, first_false};
+use crate::versions::{copy_tables, copy_watches, tables_after, watches_after, watches_of};
+use crate::watches::Watch;
 use assertion::Assertion;
 use mvrows::Rows;
 use roots::candidates;
@@ -51,9 +47,16 @@ impl Model for View {
 
     ghost coded = { Prim.hlevel (codes, cond_type.the_row.coded, expr_type.the_row.coded) };
 
-    ghost view = { λ v. record { declared = record { tables = (arc_value v.declarations).catalog; assertions = (arc_value v.declarations).assertions.items }; state = v.tables.items } };
+    ghost view = { λ v. record {
+      declared = record {
+        tables = (arc_value v.declarations).catalog;
+        assertions = (arc_value v.declarations).assertions.items;
+      };
+      state = v.tables.items;
+    } };
 
-    ghost invariant = { λ v. IsKept (arc_value v.declarations).catalog (arc_value v.declarations).schemas.items (arc_value v.declarations).assertions.items v.tables.items (map arc_value v.watches.items) };
+    ghost invariant = { λ v. IsKept (arc_value v.declarations).catalog (arc_value v.declarations).schemas.items
+        (arc_value v.declarations).assertions.items v.tables.items (map arc_value v.watches.items) };
 }
 
 impl View {
@@ -67,10 +70,11 @@ impl View {
         requires bounded { AreBounded assertions.items }
         requires tables { AreTables (layouts_of catalog) rows.now }
         ensures only_memory { IsOkUnless result NoMemory }
-        ensures loaded { IfOk result (λ view. view ≡ record { declared = record { tables = catalog; assertions = assertions.items }; state = rows.now }) }
+        ensures loaded { IfOk result (λ view. view
+            ≡ record { declared = record { tables = catalog; assertions = assertions.items }; state = rows.now }) }
     {
         let schemas = schemas_of(alloc, &catalog)?;
-        let tables = tables_of(alloc, rows)?;
+        let tables = copy_tables(alloc, rows)?;
         let watches = watches_of(alloc, &schemas, &tables, &assertions)?;
         let declarations = Declarations {
             catalog,
@@ -98,7 +102,8 @@ impl View {
         requires is { IsChangeOf (layouts_in self.now.declared) change.now self.now.state }
         requires fits { IsFitting (layouts_in self.now.declared) change.now }
         ensures only_memory { IsOkUnless result NoMemory }
-        ensures changed { IfOk result (λ view. view ≡ record self.now { state = state_after (layouts_in self.now.declared) change.now self.now.state }) }
+        ensures changed { IfOk result (λ view. view
+            ≡ record self.now { state = state_after (layouts_in self.now.declared) change.now self.now.state }) }
     {
         let alloc = *self.tables.allocator();
         let declarations = Arc::try_clone(&self.declarations)?;
@@ -193,24 +198,18 @@ impl View {
     pub fn verdict(&self, assertion: usize) -> Truth
         requires { assertion < length self.now.declared.assertions }
         ensures { (a : AnyAssertion)
-            → result ≡ verdict_of (layouts_in self.now.declared) (slice_index_or self.now.declared.assertions assertion a).form self.now.state }
+            → result ≡ verdict_of (layouts_in self.now.declared)
+            (slice_index_or self.now.declared.assertions assertion a).form self.now.state }
     {
         self.watches[assertion].truth
-    }
-
-    /// The first assertion that is false, in their order. What is unknown is not false.
-    pub fn first_false(&self) -> Option<usize>
-        ensures first { result ≡ position (λ a. is_of (verdict_of (layouts_in self.now.declared) a.form self.now.state) False) self.now.declared.assertions }
-        ensures within { IfSome result (λ assertion. assertion < length self.now.declared.assertions) }
-    {
-        first_false(&self.watches)
     }
 
     /// The least root at which an assertion is false, if it is false.
     pub fn least_bad(&self, assertion: usize) -> Option<&Root>
         requires { assertion < length self.now.declared.assertions }
         ensures { (a : AnyAssertion)
-            → option_copied result ≡ least_bad_of (layouts_in self.now.declared) (slice_index_or self.now.declared.assertions assertion a).form self.now.state }
+            → option_copied result ≡ least_bad_of (layouts_in self.now.declared)
+            (slice_index_or self.now.declared.assertions assertion a).form self.now.state }
     {
         self.watches[assertion].bad.first()
     }

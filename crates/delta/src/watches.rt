@@ -1,10 +1,10 @@
 //! What is kept for an assertion.
 
-ghost use Rattle.std.specs.Prelude.{◌≡◌, position, IfOk, IsOkUnless};
+ghost use Rattle.std.specs.Prelude.{IfOk, IsOkUnless};
 ghost use Rattle.std.specs.Arc.{arc_value};
 ghost use Rattle.value.specs.declared.refusals.Refusal.TheVariants.{NoMemory};
 ghost use Rattle.assertion.specs.Bounded.{IsBounded};
-ghost use Rattle.delta.specs.Kept.{IsGood, IsWatched, IsWatchedBefore, is_false};
+ghost use Rattle.delta.specs.Kept.{IsGood, IsWatched, IsWatchedBefore};
 
 use assertion::Form;
 use groups::Totals;
@@ -85,11 +85,4 @@ pub fn watch_after(
     } else {
         Ok(Arc::try_clone(watch)?)
     }
-}
-
-/// The first watch of a false assertion.
-pub fn first_false(watches: &[Arc<Watch>]) -> Option<usize>
-    ensures { result ≡ position (λ watch. is_false (arc_value watch)) watches.now }
-{
-    watches.iter().position(|watch| watch.truth == Truth::False)
 }

@@ -23,10 +23,20 @@ there_of (Text t) = 1
 
 -- the total with one row more, or one less, by its value
 abbrev pub one_more : Value → Figures → Figures
-one_more v t = record { rows = one_up t.rows; there = min (t.there + there_of v) (2 ^ 64 - 1); sum = saturate_signed w128 (t.sum +ℤ number_of v); values = counts_more v t.values }
+one_more v t = record {
+  rows = one_up t.rows;
+  there = min (t.there + there_of v) (2 ^ 64 - 1);
+  sum = saturate_signed w128 (t.sum +ℤ number_of v);
+  values = counts_more v t.values;
+}
 
 abbrev pub one_less : Value → Figures → Figures
-one_less v t = record { rows = t.rows - 1; there = t.there - there_of v; sum = saturate_signed w128 (t.sum -ℤ number_of v); values = counts_less v t.values }
+one_less v t = record {
+  rows = t.rows - 1;
+  there = t.there - there_of v;
+  sum = saturate_signed w128 (t.sum -ℤ number_of v);
+  values = counts_less v t.values;
+}
 
 abbrev pub put_entry : Value → Option Entry → Entries → Entries
 put_entry = ordered.put value_cmp group_in

@@ -11,7 +11,8 @@ use Rattle.groups.specs.declared.members.Member.{Member}
 use Rattle.groups.specs.Counts.{Count, value_of, count_at}
 use Rattle.groups.specs.Figures.{Figures}
 
--- the total of a list of values, one for each row: how many rows, how many values are not NULL, their sum, and how often each stands
+-- the total of a list of values, one for each row: how many rows, how many values are not NULL, their sum, and how
+-- often each stands
 pub record IsTotalOf (vs : List Value) (t : Figures) : Type 0 where
   pub rows : t.rows ≡ length vs
   pub there : t.there ≡ count_by is_there vs

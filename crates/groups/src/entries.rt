@@ -7,8 +7,8 @@ ghost use Rattle.value.specs.declared.values.Value.{Value as values};
 ghost use Rattle.table.specs.Aggregates.{aggregate as aggregate_of};
 ghost use Rattle.table.specs.Rows.{RowValues};
 ghost use Rattle.cond.specs.Slots.{IsWithinKind, kind_of, value_of};
-ghost use Rattle.groups.specs.Answers.{answer_from, kind_for, value_for};
-ghost use Rattle.groups.specs.Steps.{put_entry, kept_total, figures_at, entries_more, entries_less};
+ghost use Rattle.groups.specs.Answers.{kind_for, value_for};
+ghost use Rattle.groups.specs.Steps.{put_entry, kept_total, entries_more, entries_less};
 ghost use Rattle.groups.specs.Totals.{Members, total_at, IsEntryOf, AreTotalsOf, AreWithin, IsWithin, IsChange};
 
 use crate::members::Member;
@@ -50,13 +50,14 @@ impl Totals {
     pub fn get(&self, group: &Value) -> Option<&Total>
         ensures value { option_copied result ≡ total_at group.now self.now }
         // It is that of the group's rows, and a group without rows has none.
-        ensures entry { (members : Members) → AreTotalsOf members self.now → IsEntryOf (members group.now) (option_copied result) }
+        ensures entry { (members : Members) → AreTotalsOf members self.now
+            → IsEntryOf (members group.now) (option_copied result) }
     {
         self.pages.get(group)
     }
 
-    /// What a set function gives of a group's rows, also where it has none. MIN or MAX of texts copies one, and nothing
-    /// else takes memory.
+    /// What a set function gives of a group's rows, also where it has none. MIN or MAX of texts copies one, and
+    /// nothing else takes memory.
     pub fn answer(&self, group: &Value, aggregate: Aggregate) -> Result<SlotValue, Refusal>
         ensures only_memory { IsOkUnless result NoMemory }
         ensures kind { IfOk result (λ answer. kind_of answer ≡ kind_for aggregate) }

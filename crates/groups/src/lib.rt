@@ -1,37 +1,38 @@
 //! What set functions need of the rows of groups, kept as rows come and go.
 //!
-//! A *set function* (ISO/IEC 9075:1992, set function specification) gives one value of the rows of a group: COUNT(*) how
-//! many rows there are; COUNT, SUM, MIN and MAX of a column look only at its values that are not NULL, and of none of them
-//! COUNT is 0 and the others are NULL. Evaluated from scratch they read the whole group. Here each group has a `Total`
-//! that is carried on as one row goes or comes (incremental view maintenance: Gupta, Mumick and Subrahmanian,
-//! "Maintaining Views Incrementally", 1993): the number of rows, the number of values that are not NULL, their sum, and
-//! the multiset of them, since the least value may go and the next one has then to be known.
+//! A *set function* (ISO/IEC 9075:1992, set function specification) gives one value of the rows of a group: COUNT(*)
+//! how many rows there are; COUNT, SUM, MIN and MAX of a column look only at its values that are not NULL, and of
+//! none of them COUNT is 0 and the others are NULL. Evaluated from scratch they read the whole group. Here each group
+//! has a `Total` that is carried on as one row goes or comes (incremental view maintenance: Gupta, Mumick and
+//! Subrahmanian, "Maintaining Views Incrementally", 1993): the number of rows, the number of values that are not
+//! NULL, their sum, and the multiset of them, since the least value may go and the next one has then to be known.
 //!
-//! - A group is named by a value, and NULL is one like another, as GROUP BY wants it. Its rows count by one value each, that
-//!   of the column under the set function.
-//! - `Totals` has a `Total` for each group that has a row, and nothing for one that has none. `Totals::with` makes the totals
-//!   after one row goes and one comes, each a `Member`: its group and its value. A row that moves between groups, or
-//!   whose value changes, is both. The old totals stay whole.
+//! - A group is named by a value, and NULL is one like another, as GROUP BY wants it. Its rows count by one value
+//!   each, that of the column under the set function.
+//! - `Totals` has a `Total` for each group that has a row, and nothing for one that has none. `Totals::with` makes
+//!   the totals after one row goes and one comes, each a `Member`: its group and its value. A row that moves between
+//!   groups, or whose value changes, is both. The old totals stay whole.
 //! - `Totals::get` lends the total of a group, `Totals::answer` and `Total::answer` what a set function gives.
 //!
-//! What the layer above may rest on: totals that are those of some groups are, after `with`, those of the groups with that
-//! change; what stands for a group is the total of its rows, and nothing stands for a group without rows; what a set
-//! function gives by them is what it gives of the group's rows from scratch, MIN and MAX after removals too; `get` takes
-//! no memory; a copy is equal to its original; and NoMemory is the only error. No call has a premise: the contract of `with`
-//! says what follows where the groups after it are within bounds, which are fewer than 2^63 rows with numbers within
-//! 10^15. There no number passes its width (a sum stays within 2^113), and what is answered fits a slot of a condition.
+//! What the layer above may rest on: totals that are those of some groups are, after `with`, those of the groups with
+//! that change; what stands for a group is the total of its rows, and nothing stands for a group without rows; what a
+//! set function gives by them is what it gives of the group's rows from scratch, MIN and MAX after removals too;
+//! `get` takes no memory; a copy is equal to its original; and NoMemory is the only error. No call has a premise: the
+//! contract of `with` says what follows where the groups after it are within bounds, which are fewer than 2^63 rows
+//! with numbers within 10^15. There no number passes its width (a sum stays within 2^113), and what is answered fits
+//! a slot of a condition.
 //!
-//! That the groups of a table's rows have such a change wherever the table has a changed row, and are within bounds where
-//! its rows are, is the law [`members_follow_rows`]; and that a column makes the groups of GROUP BY is
+//! That the groups of a table's rows have such a change wherever the table has a changed row, and are within bounds
+//! where its rows are, is the law [`members_follow_rows`]; and that a column makes the groups of GROUP BY is
 //! [`column_makes_groups`].
 //!
-//! The definitions are in `specs/`: `Totals` (totals of a list of values and of groups, and the groups before and after
-//! a change), `Figures` (what contracts see of a total), `Members` (a table's rows by groups), `Answers` (the value that a
-//! set function looks at), and for the functions inside `Counts` (the multiset) and `Steps` (one row more or less). The
-//! set functions themselves are `table/specs/Aggregates`.
+//! The definitions are in `specs/`: `Totals` (totals of a list of values and of groups, and the groups before and
+//! after a change), `Figures` (what contracts see of a total), `Members` (a table's rows by groups), `Answers` (the
+//! value that a set function looks at), and for the functions inside `Counts` (the multiset) and `Steps` (one row
+//! more or less). The set functions themselves are `table/specs/Aggregates`.
 //!
-//! Totals stand under their groups in `pages::Pages`, and so do the values of a multiset, each with its number: a change
-//! makes the paths to one group and to one value anew, and shares the rest.
+//! Totals stand under their groups in `pages::Pages`, and so do the values of a multiset, each with its number: a
+//! change makes the paths to one group and to one value anew, and shares the rest.
 #![tactic(auto)]
 
 mod counts;

@@ -17,8 +17,8 @@ use std::marker::Model;
 use table::Aggregate;
 use value::{Refusal, Value};
 
-/// What set functions need of a group's rows: how many there are, and of their values that are not NULL how many, their
-/// sum, and how often each stands.
+/// What set functions need of a group's rows: how many there are, and of their values that are not NULL how many,
+/// their sum, and how often each stands.
 #[derive(Debug, Drop)]
 pub struct Total {
     rows: u64,
@@ -69,7 +69,8 @@ impl Total {
         // It is what the set function gives of the rows from scratch.
         ensures answer { IfOk result (λ answer. (rows : List RowValues)
             → IsTotalOf (map (value_for aggregate) rows) self.now → value_of answer ≡ aggregate_of aggregate rows) }
-        ensures within { IfOk result (λ answer. (vs : List values) → IsTotalOf vs self.now → IsWithin vs → IsWithinKind answer) }
+        ensures within { IfOk result (λ answer. (vs : List values)
+            → IsTotalOf vs self.now → IsWithin vs → IsWithinKind answer) }
     {
         self.figure(aggregate)
     }

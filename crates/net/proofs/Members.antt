@@ -11,7 +11,7 @@ use Rattle.siread.specs.contracts.keys.PlaceOrd.TheImpl.{cmp-value}
 use Rattle.alone.specs.States.{place_cmp}
 use Rattle.alone.proofs.Orders.{place_exact}
 use Rattle.std.specs.BTreeSet.{insert_key}
-use Rattle.alone.proofs.Lists.{in_head, in_tail, in_cases, not_in_nil}
+use Rattle.siread.proofs.Members.{in_head, in_tail, in_cases, not_in_nil}
 
 module _ {K : Type 0} (R : K → K → Ordering) where
   pub keeps : (k : K) (xs : List K) (y : K) → Contains xs y → Contains (insert_key R xs k) y

@@ -1,32 +1,25 @@
 -- What stands at places of two states, and their net change.
-use Rattle.std.proofs.Common.{◌≡◌, ◌⊎◌, ℕ, suc, Bool, false, true, cond, not, List, [], ◌∷◌, Option, Some, None, length, refl, sym, ap, ◌∙◌, subst, inl, inr, arith}
-use Rattle.std.specs.Prelude.{◌&&◌, Contains}
+use Rattle.std.proofs.Common.{◌≡◌, ◌⊎◌, Bool, false, true, cond, List, [], ◌∷◌, Some, None, length, refl, subst, inl, inr, arith}
+use Rattle.std.specs.Prelude.{Contains}
+use Rattle.std.proofs.lemmas.Bool.{and_right, not-false}
 use Rattle.value.specs.Ordered.{AreAbove, IsAscending}
 use Rattle.table.specs.declared.rows.Change.{Change}
 use Rattle.table.specs.Rows.{RowValues, Layout}
 use Rattle.assertion.specs.Meaning.{State}
 use Rattle.siread.specs.declared.keys.Place.{Place}
 use Rattle.siread.specs.Keys.{same_value, place_of}
-use Rattle.alone.specs.States.{row_in, same_row, same_there, is_real, change_between, place_cmp, net_change, AreInOrder, AreDifferences, IsState}
-use Rattle.alone.proofs.Lists.{in_head, in_tail, in_cases, not_in_nil}
+use Rattle.alone.specs.States.{row_in, same_row, is_real, change_between, place_cmp, net_change, AreInOrder, AreDifferences, IsState}
+use Rattle.siread.proofs.Members.{in_head, in_tail, in_cases, not_in_nil}
 use Rattle.alone.proofs.Orders.{net_only}
 use Rattle.alone.proofs.Stores.{same_there-true}
 use Rattle.delta.specs.Views.{AreTables}
 use Rattle.net.specs.Nets.{DifferAt, and_more, differences_at}
 
-not_false : (b : Bool) → not b ≡ false → b ≡ true
-not_false true e = refl
-not_false false e = sym e
-
-both_false : (a b : Bool) → b ≡ false → (a && b) ≡ false
-both_false true b e = e
-both_false false b e = refl
-
 pub longer : (xs ys : RowValues) → (length xs ≡ length ys → ⊥) → same_row xs ys ≡ false
 longer [] [] h = absurd (h refl)
 longer [] (y ∷ ys) h = refl
 longer (x ∷ xs) [] h = refl
-longer (x ∷ xs) (y ∷ ys) h = both_false (same_value x y) (same_row xs ys) (longer xs ys (λ e. h (omega (arith, e))))
+longer (x ∷ xs) (y ∷ ys) h = and_right (same_value x y) (same_row xs ys) (longer xs ys (λ e. h (omega (arith, e))))
 
 module _ (layouts : List Layout) (before after : State) where
   above_all : (p : Place) (places : List Place) → AreAbove place_cmp (λ place. place) p places → AreAbove place_cmp place_of p (differences_at layouts before after places)
@@ -81,7 +74,7 @@ module _ (layouts : List Layout) (before after : State) where
         | inr there ↦ later _ (rest there)
       ]
       go rest false e = elim (in_cases q places place m) [
-        | inl same ↦ inl (subst (λ p. row_in layouts before p ≡ row_in layouts after p) same (same_there-true _ _ (not_false _ e)))
+        | inl same ↦ inl (subst (λ p. row_in layouts before p ≡ row_in layouts after p) same (same_there-true _ _ (not-false _ e)))
         | inr there ↦ rest there
       ]
 

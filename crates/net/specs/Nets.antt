@@ -1,5 +1,5 @@
 -- Where two states can differ, and what was found at places.
-use Rattle.std.specs.Prelude.{◌≡◌, ◌⊎◌, Bool, List, [], ◌∷◌, Option, Some, None, Contains, if◌then◌else◌}
+use Rattle.std.specs.Prelude.{◌≡◌, ◌⊎◌, List, [], ◌∷◌, Option, Some, None, Contains, if◌then◌else◌}
 use Rattle.table.specs.declared.rows.Change.{Change}
 use Rattle.table.specs.Rows.{Layout}
 use Rattle.assertion.specs.Meaning.{State}
@@ -13,7 +13,8 @@ pub record DifferAt (layouts : List Layout) (before after : State) (places : Lis
 -- the change at a place, if it is one
 abbrev pub difference_at : List Layout → State → State → Place → Option Change
 difference_at layouts before after place =
-    if is_real (change_between layouts before after place) then Some (change_between layouts before after place) else None
+    if is_real (change_between layouts before after place) then Some (change_between layouts before after place)
+    else None
 
 -- it, if there is one, and then the others
 abbrev pub and_more : Option Change → List Change → List Change
@@ -23,4 +24,5 @@ and_more (Some change) others = change ∷ others
 -- the changes at some places
 abbrev pub differences_at : List Layout → State → State → List Place → List Change
 differences_at layouts before after [] = []
-differences_at layouts before after (place ∷ rest) = and_more (difference_at layouts before after place) (differences_at layouts before after rest)
+differences_at layouts before after (place ∷ rest) =
+    and_more (difference_at layouts before after place) (differences_at layouts before after rest)

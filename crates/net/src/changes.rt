@@ -1,22 +1,21 @@
 //! Net changes.
 
-ghost use Rattle.std.specs.Prelude.{◌≡◌, ◌<◌, length, IfOk, IsOkUnless};
+ghost use Rattle.std.specs.Prelude.{◌≡◌, ◌<◌, IfOk, IsOkUnless};
 ghost use Rattle.std.specs.Option.{option_copied};
 ghost use Rattle.value.specs.declared.refusals.Refusal.TheVariants.{NoMemory};
 ghost use Rattle.assertion.specs.Declarations.{layouts_in};
-ghost use Rattle.siread.specs.Keys.{same_value};
 ghost use Rattle.alone.specs.States.{net_change, row_in, same_row, same_there};
 ghost use Rattle.net.specs.Nets.{DifferAt, difference_at, differences_at};
 
 use crate::touched::Touched;
 use delta::View;
-use siread::Place;
+use siread::{Place, is_same};
 use std::alloc::Global;
 use table::{Change, Row};
-use value::{Refusal, Value, order};
+use value::{Refusal, Value};
 
-/// The net change between two views, which can differ at these places alone: each row in which they differ, by table and key, with
-/// what stands there before and after. NoMemory is the only error.
+/// The net change between two views, which can differ at these places alone: each row in which they differ, by table
+/// and key, with what stands there before and after. NoMemory is the only error.
 pub fn net_change(
     alloc: Global,
     before: &View,
@@ -26,7 +25,8 @@ pub fn net_change(
     requires declared { after.now.declared ≡ before.now.declared }
     requires differ { DifferAt (layouts_in before.now.declared) before.now.state after.now.state touched.now }
     ensures only_memory { IsOkUnless result NoMemory }
-    ensures net { IfOk result (λ made. made.items ≡ net_change (layouts_in before.now.declared) before.now.state after.now.state) }
+    ensures net { IfOk result (λ made. made.items
+        ≡ net_change (layouts_in before.now.declared) before.now.state after.now.state) }
 {
     touched.in_order();
     let _ = before.catalog();
@@ -44,7 +44,8 @@ fn differences(
 ) -> Result<Vec<Change>, Refusal>
     requires declared { after.now.declared ≡ before.now.declared }
     ensures only_memory { IsOkUnless result NoMemory }
-    ensures made { IfOk result (λ made. made.items ≡ differences_at (layouts_in before.now.declared) before.now.state after.now.state touched.now) }
+    ensures made { IfOk result (λ made. made.items
+        ≡ differences_at (layouts_in before.now.declared) before.now.state after.now.state touched.now) }
 {
     let mut made = Vec::new(alloc);
     for place in touched.iter() {
@@ -59,7 +60,8 @@ fn differences(
 fn difference(before: &View, after: &View, place: &Place) -> Result<Option<Change>, Refusal>
     requires declared { after.now.declared ≡ before.now.declared }
     ensures only_memory { IsOkUnless result NoMemory }
-    ensures made { IfOk result (λ made. made ≡ difference_at (layouts_in before.now.declared) before.now.state after.now.state place.now) }
+    ensures made { IfOk result (λ made. made
+        ≡ difference_at (layouts_in before.now.declared) before.now.state after.now.state place.now) }
 {
     let old = row_in(before, place);
     let new = row_in(after, place);
@@ -119,10 +121,4 @@ fn are_same(values: &[Value], others: &[Value]) -> bool
         }
     }
     true
-}
-
-fn is_same(value: &Value, other: &Value) -> bool
-    ensures { result ≡ same_value value.now other.now }
-{
-    order(value, other).is_eq()
 }

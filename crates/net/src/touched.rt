@@ -44,7 +44,8 @@ impl Touched {
     pub fn add(&mut self, changes: &[Change]) -> Result<(), Refusal>
         ensures only_memory { IsOkUnless result NoMemory }
         ensures kept { (place : AnyPlace) → Contains self.old place → Contains self.new place }
-        ensures added { OnOk result ((place : AnyPlace) → Contains (map place_of changes.now) place → Contains self.new place) }
+        ensures added { OnOk result ((place : AnyPlace) → Contains (map place_of changes.now) place
+            → Contains self.new place) }
     {
         for change in changes {
             self.add_place(change)?;

@@ -47,7 +47,8 @@ fn push_if_meant(
     ensures only_memory { IsOkUnless result NoMemory }
     ensures pushed { OnOk result ((a : AnyAssertion)
         → keys.new.items ≡ keys.old.items
-        ++ (if is_meant then check_keys (slice_index_or view.now.declared.assertions assertion a).form changes.now else [])) }
+        ++ (if is_meant then check_keys (slice_index_or view.now.declared.assertions assertion a).form changes.now
+        else [])) }
 {
     if is_meant {
         push_check(keys, view, assertion, changes)?;
@@ -149,7 +150,8 @@ fn push_linked_tables(keys: &mut Vec<LockKey>, queries: &[Linked]) -> Result<(),
     Ok(())
 }
 
-/// The keys that VERDICT reads of an assertion: each table that it names, as often as it does. NoMemory is the only error.
+/// The keys that VERDICT reads of an assertion: each table that it names, as often as it does. NoMemory is the only
+/// error.
 pub fn tables_read(alloc: Global, form: &Form) -> Result<Vec<LockKey>, Refusal>
     ensures only_memory { IsOkUnless result NoMemory }
     ensures keys { IfOk result (λ keys. keys.items ≡ map WholeTable (tables_in form.now)) }

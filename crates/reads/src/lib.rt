@@ -7,6 +7,7 @@
 //! - [`where_key`]: a WHERE reads one row, whether it is there or not, where a part that AND joins at the top sets the
 //!   key column equal to a literal; else the rows with a value in a column, where a part sets that column equal to a
 //!   literal; else the table.
+//! - [`equality_on`] is the part that sets a column equal to a literal, for who looks the row of a key up.
 //! - [`checks_read`]: a check of assertions reads at each candidate of the changes: by rows the row and those that
 //!   link to it, by groups the group, and of a single condition the tables of its queries.
 //! - [`tables_read`]: VERDICT reads each table that an assertion names.
@@ -25,7 +26,7 @@ mod wheres;
 
 pub use checks::{checks_read, tables_read};
 pub use real::real_changes;
-pub use wheres::where_key;
+pub use wheres::{Equality, equality_on, where_key};
 
 #[cfg(test)]
 mod tests;

@@ -186,6 +186,23 @@ fn where_reads_its_key(rt: HostRuntime) -> Result<(), Fail> {
 }
 
 #[test]
+fn first_equality_on_a_column(rt: HostRuntime) -> Result<(), Fail> {
+    let kept = both(rt.alloc(), 1)?;
+    let found = equality_on(&kept, 1);
+    assert!(rt;
+        matches!(
+            found,
+            Some(Equality {
+                column: 1,
+                value: Value::Int(3)
+            })
+        )
+    );
+    assert!(rt; equality_on(&kept, 0).is_none());
+    Ok(())
+}
+
+#[test]
 fn checks_read_at_candidates(rt: HostRuntime) -> Result<(), Fail> {
     let alloc = rt.alloc();
     let view = view(alloc)?;

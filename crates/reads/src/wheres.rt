@@ -14,9 +14,9 @@ use value::{Comparison, Refusal, Value};
 
 /// A column that is set equal to a literal.
 #[derive(Clone, Copy)]
-struct Equality<'a> {
-    column: usize,
-    value: &'a Value,
+pub struct Equality<'a> {
+    pub column: usize,
+    pub value: &'a Value,
 }
 
 /// The key under which a WHERE reads a table whose key column is this one: the row of the first `key = literal` that
@@ -27,8 +27,19 @@ pub fn where_key(table: usize, key: usize, kept: &Cond) -> Result<LockKey, Refus
     ensures only_memory { IsOkUnless result NoMemory }
     ensures key { IfOk result (λ read. read ≡ where_key_of table key kept.now) }
 {
-    let parts = top_parts(kept);
-    key_of(table, first_on(key, parts), first_equality(parts))
+    key_of(
+        table,
+        equality_on(kept, key),
+        first_equality(top_parts(kept)),
+    )
+}
+
+/// The first `column = literal` of this column among the parts that AND joins at the top of a WHERE. A row that the
+/// WHERE keeps has that literal's value there. It takes no memory.
+pub fn equality_on(kept: &Cond, column: usize) -> Option<Equality<'_>>
+    ensures { shown result ≡ first_of_column column (top_parts_of kept.now) }
+{
+    first_on(column, top_parts(kept))
 }
 
 /// The row of the one, else the rows of the other, else the table.

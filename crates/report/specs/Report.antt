@@ -69,14 +69,19 @@ fault_text at_commit (refusal.UnknownName name) = codes "3 - " ++ name
 fault_text at_commit (refusal.NameTaken name) = codes "4 - " ++ name
 fault_text at_commit refusal.TypeMismatch = codes "5 - TYPE"
 fault_text at_commit (refusal.NullNotAllowed column) = codes "6 23000 " ++ column
-fault_text at_commit (refusal.DuplicateKey table key) = codes "7 23000 " ++ table ++ codes " " ++ value_text key
+fault_text at_commit (refusal.DuplicateKey table key) =
+    codes "7 23000 " ++ table ++ codes " " ++ value_text key
 fault_text at_commit (refusal.KeyUpdate column) = codes "8 - " ++ column
 fault_text at_commit (refusal.OutOfRange column excess) = excess_text excess ++ column
-fault_text at_commit (refusal.Violated assertion group) = violated_text at_commit ++ assertion ++ codes " " ++ root_text group
+fault_text at_commit (refusal.Violated assertion group) =
+    violated_text at_commit ++ assertion ++ codes " " ++ root_text group
 fault_text at_commit (refusal.NotDeferrable assertion) = codes "11 - " ++ assertion
-fault_text at_commit (refusal.WriteConflict table key by) = codes "12 40001 " ++ table ++ codes " " ++ value_text key ++ codes " BY " ++ decimal by
+fault_text at_commit (refusal.WriteConflict table key by) =
+    codes "12 40001 " ++ table ++ codes " " ++ value_text key ++ codes " BY " ++ decimal by
 fault_text at_commit (refusal.Dangerous reader pivot writer) =
-    (codes "13 40001 READER " ++ party_text reader) ++ (codes " PIVOT " ++ party_text pivot) ++ (codes " WRITER " ++ party_text writer)
+    (codes "13 40001 READER " ++ party_text reader)
+    ++ (codes " PIVOT " ++ party_text pivot)
+    ++ (codes " WRITER " ++ party_text writer)
 fault_text at_commit refusal.NoTransaction = codes "14 - NO TRANSACTION"
 fault_text at_commit refusal.TransactionOpen = codes "15 - TRANSACTION OPEN"
 fault_text at_commit refusal.Stranger = codes "16 - STRANGER"
@@ -84,7 +89,8 @@ fault_text at_commit refusal.EpochFull = codes "17 - EPOCH FULL"
 fault_text at_commit refusal.TooWide = codes "18 - TOO WIDE"
 fault_text at_commit (refusal.TooDeep at) = codes "19 - TOO DEEP " ++ decimal at
 fault_text at_commit refusal.OutsideClass = codes "20 - OUTSIDE CLASS"
-fault_text at_commit (refusal.FalseAtCreation assertion group) = codes "21 - " ++ assertion ++ codes " " ++ root_text group
+fault_text at_commit (refusal.FalseAtCreation assertion group) =
+    codes "21 - " ++ assertion ++ codes " " ++ root_text group
 fault_text at_commit (refusal.AttributeClash assertion) = codes "22 - " ++ assertion
 fault_text at_commit refusal.ReadOnlyTransaction = codes "23 - READ ONLY"
 fault_text at_commit refusal.TooManySessions = codes "24 - TOO MANY SESSIONS"

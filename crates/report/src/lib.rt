@@ -1,19 +1,36 @@
-//! The bytes of the report: a line for each event's answer.
+//! The bytes of the report: a line for each event's answer, and the closing part.
 //!
-//! A script is a list of steps, each an event of a named session, and the engine answers each of them. A [`Report`] grows
-//! by one line for each answer. The lines, with one line feed behind each:
+//! A script is a list of steps, each an event of a named session, and the engine answers each of them. A [`Report`]
+//! grows by the line of each answer, and in the end by the closing part. The lines of answers, with one line feed
+//! behind each:
 //!
 //! | what was answered | line |
 //! |---|---|
 //! | a transaction began on the tables that `n` commits left | `session: BEGIN n` |
 //! | an INSERT put its row in | `session: INSERT 1` |
+//! | an UPDATE set `n` rows | `session: UPDATE n` |
 //! | a DELETE took `n` rows out | `session: DELETE n` |
+//! | a SELECT lists `n` rows | `session: SELECT n`, and then `n` lines of rows |
+//! | a row: two spaces, and its values with a comma and a space between each two | `  value, value` |
+//! | a SET CONSTRAINTS set modes | `session: SET CONSTRAINTS` |
 //! | a VERDICT, with `TRUE`, `FALSE` or `UNKNOWN` | `session: VERDICT name truth` |
 //! | a COMMIT, and the commit's number is `n` | `session: COMMIT n` |
 //! | a ROLLBACK | `session: ROLLBACK` |
 //! | a refusal of any event | `session: REFUSED fault` |
 //! | a transaction is open when its session's events end | `session: ROLLBACK AT END` |
 //! | a text was refused whole, and no event of it was run | `text: REFUSED fault` |
+//!
+//! The closing part says what is left of the run:
+//!
+//! | what | line |
+//! |---|---|
+//! | how many commits there are | `COMMITS n` |
+//! | each commit, with how many rows its net change has | `number session SNAPSHOT n ROWS n` |
+//! | the serial order, each number behind a space | `SERIAL number number` |
+//! | how many COMMITs were refused and ended their transactions | `REFUSED n` |
+//! | each of these | `session fault` |
+//! | how many assertions there are | `ASSERTIONS n` |
+//! | each assertion, with `TRUE`, `FALSE` or `UNKNOWN` | `name truth` |
 //!
 //! A *fault* is its number, its SQLSTATE or a dash, and what it names, with a space between each two:
 //!
@@ -45,16 +62,23 @@
 //! | `24 - TOO MANY SESSIONS` | there are as many as the limit |
 //!
 //! Numbers are decimal, with `-` before a negative one and no leading zero. A *value* is a number, `NULL`, or a text in
-//! quotes with each quote inside it written twice: `'O''HARA'`. A *root* is `ALL` or a value. A *party* is `THIS`, for the
-//! transaction that is refused, or the number of a commit. Names stand as they are.
+//! quotes with each quote inside it written twice: `'O''HARA'`. A *root* is `ALL` or a value. A *party* is `THIS`, for
+//! the transaction that is refused, or the number of a commit. Names stand as they are.
 //!
-//! What the layer above may rest on: a call that finds memory puts just its line behind what was there, byte by byte as
-//! `specs/Report` has it. After one that does not, nothing is said of the bytes. Those definitions are public, so that a crate above can say in its own contract
-//! what a whole report is.
+//! What the layer above may rest on: a call that finds memory puts just its lines behind what was there, byte by byte
+//! as `specs/Report` and `specs/Closing` have them; one that does not leaves the bytes as they were. [`Report::clear`]
+//! empties a report that was written out, so that a long run needs room for one line alone. The definitions are public,
+//! so that a crate above can say in its own contract what a whole report is.
+//!
+//! The modules, from the top down: `reports` has whole lines or nothing; `closing` and `lines` the pieces of a line.
 #![tactic(auto)]
 
+mod closing;
+#[cfg(test)]
+mod closing_tests;
 mod lines;
+mod reports;
 #[cfg(test)]
 mod tests;
 
-pub use lines::Report;
+pub use reports::Report;

@@ -1,7 +1,11 @@
-//! The lines of the report as they grow. A public call is one line; the private ones put a piece of a line behind what is there.
+//! The pieces of lines as they grow. Each function puts one piece behind what is there.
 
-ghost use Rattle.std.specs.Prelude.{◌≡◌, ◌++◌, List, ℕ, [], OnOk, codes, decimal};
-ghost use Rattle.report.specs.Report.{doubled, quoted_byte, value_text, root_text, party_text, excess_text, violated_text, fault_text, further_values, row_text, row_lines, reply_text, answer_text, answer_line, left_open_line, refusal_line, asked_name};
+ghost use Rattle.std.specs.Prelude.{◌≡◌, ◌++◌, [], OnOk, codes, decimal, length, take};
+ghost use Rattle.report.specs.Fronts.{KeepsFront};
+ghost use Rattle.report.specs.Report.{answer_line, answer_text, asked_name, doubled, excess_text};
+ghost use Rattle.report.specs.Report.{fault_text, further_values, left_open_line, party_text, quoted_byte};
+ghost use Rattle.report.specs.Report.{refusal_line, reply_text, root_text, row_lines, row_text, value_text};
+ghost use Rattle.report.specs.Report.{violated_text};
 
 use answer::{Answer, Reply};
 use itoa::Buffer;
@@ -11,27 +15,27 @@ use std::marker::Model;
 use table::Row;
 use value::{Excess, Party, Refusal, Root, Text, Value};
 
-/// Lines as they grow, in a contract the list of their bytes. A call that finds no memory answers `AllocError`. After it
-/// no clause says what the bytes are, and they may end in the middle of a line.
+/// Bytes that grow, in a contract their list. Where no memory is left, a piece may stand there in part; what stood in
+/// front of it stands there still.
 #[derive(Drop)]
-pub struct Report {
+pub struct Lines {
     bytes: Vec<u8>,
 }
 
-impl Model for Report {
+impl Model for Lines {
     ghost use Rattle.std.specs.Prelude.{List, ℕ};
 
     ghost Value = { List ℕ };
 
-    ghost view = { λ r. r.bytes.items };
+    ghost view = { λ l. l.bytes.items };
 }
 
-impl Report {
-    /// A report without lines.
-    pub fn new(alloc: Global) -> Report
+impl Lines {
+    /// No bytes.
+    pub fn new(alloc: Global) -> Lines
         ensures { result ≡ [] }
     {
-        Report {
+        Lines {
             bytes: Vec::new(alloc),
         }
     }
@@ -43,10 +47,31 @@ impl Report {
         self.bytes.as_slice()
     }
 
-    /// Adds the line of a step's answer. `AllocError` where no memory is left; the report may then end in the middle of the
-    /// line.
+    /// How many bytes there are.
+    pub fn len(&self) -> usize
+        ensures { result ≡ length self.now }
+    {
+        self.bytes.len()
+    }
+
+    /// Leaves so many bytes at most, those in front.
+    pub fn truncate(&mut self, most: usize)
+        ensures { self.new ≡ take most self.old }
+    {
+        self.bytes.truncate(most);
+    }
+
+    /// Leaves no bytes, and keeps their room.
+    pub fn clear(&mut self)
+        ensures { self.new ≡ [] }
+    {
+        self.bytes.clear();
+    }
+
+    /// The line of a step's answer.
     pub fn answer(&mut self, step: &Step, answer: &Answer) -> Result<(), AllocError>
-        ensures { OnOk result (self.new ≡ self.old ++ answer_line step.now answer.now) }
+        ensures grown { OnOk result (self.new ≡ self.old ++ answer_line step.now answer.now) }
+        ensures front { KeepsFront self.old self.new }
     {
         self.text(&step.session)?;
         self.word(": ")?;
@@ -54,19 +79,19 @@ impl Report {
         self.word("\n")
     }
 
-    /// Adds the line of a transaction that is open when its session's events end. `AllocError` where no memory is left; the
-    /// report may then end in the middle of the line.
+    /// The line of a transaction that is open when its session's events end.
     pub fn left_open(&mut self, session: &Text) -> Result<(), AllocError>
-        ensures { OnOk result (self.new ≡ self.old ++ left_open_line session.now) }
+        ensures grown { OnOk result (self.new ≡ self.old ++ left_open_line session.now) }
+        ensures front { KeepsFront self.old self.new }
     {
         self.text(session)?;
         self.word(": ROLLBACK AT END\n")
     }
 
-    /// Adds the line of a text that was refused whole, by the name of the text. `AllocError` where no memory is left; the
-    /// report may then end in the middle of the line.
+    /// The line of a text that was refused whole, by the name of the text.
     pub fn refusal(&mut self, text: &str, refusal: &Refusal) -> Result<(), AllocError>
-        ensures { OnOk result (self.new ≡ self.old ++ refusal_line text.now refusal.now) }
+        ensures grown { OnOk result (self.new ≡ self.old ++ refusal_line text.now refusal.now) }
+        ensures front { KeepsFront self.old self.new }
     {
         self.word(text)?;
         self.word(": REFUSED ")?;
@@ -75,7 +100,8 @@ impl Report {
     }
 
     fn answer_to(&mut self, event: &Event, answer: &Answer) -> Result<(), AllocError>
-        ensures { OnOk result (self.new ≡ self.old ++ answer_text event.now answer.now) }
+        ensures grown { OnOk result (self.new ≡ self.old ++ answer_text event.now answer.now) }
+        ensures front { KeepsFront self.old self.new }
     {
         match answer {
             Answer::Begun(commits) => self.numbered("BEGIN ", *commits),
@@ -90,7 +116,8 @@ impl Report {
     }
 
     fn reply(&mut self, event: &Event, reply: &Reply) -> Result<(), AllocError>
-        ensures { OnOk result (self.new ≡ self.old ++ reply_text event.now reply.now) }
+        ensures grown { OnOk result (self.new ≡ self.old ++ reply_text event.now reply.now) }
+        ensures front { KeepsFront self.old self.new }
     {
         match reply {
             Reply::Inserted => self.word("INSERT 1"),
@@ -112,7 +139,8 @@ impl Report {
 
     /// A line for each row, behind the line before it.
     fn rows(&mut self, rows: &[Row]) -> Result<(), AllocError>
-        ensures { OnOk result (self.new ≡ self.old ++ row_lines rows.now) }
+        ensures grown { OnOk result (self.new ≡ self.old ++ row_lines rows.now) }
+        ensures front { KeepsFront self.old self.new }
     {
         for row in rows {
             self.word("\n  ")?;
@@ -122,7 +150,8 @@ impl Report {
     }
 
     fn row(&mut self, values: &[Value]) -> Result<(), AllocError>
-        ensures { OnOk result (self.new ≡ self.old ++ row_text values.now) }
+        ensures grown { OnOk result (self.new ≡ self.old ++ row_text values.now) }
+        ensures front { KeepsFront self.old self.new }
     {
         match values.split_first() {
             None => Ok(()),
@@ -135,7 +164,8 @@ impl Report {
 
     /// The values behind the first, each behind a comma and a space.
     fn further_values(&mut self, values: &[Value]) -> Result<(), AllocError>
-        ensures { OnOk result (self.new ≡ self.old ++ further_values values.now) }
+        ensures grown { OnOk result (self.new ≡ self.old ++ further_values values.now) }
+        ensures front { KeepsFront self.old self.new }
     {
         for value in values {
             self.word(", ")?;
@@ -146,7 +176,8 @@ impl Report {
 
     /// The name that a VERDICT asks for; another event asks for none.
     fn asked(&mut self, event: &Event) -> Result<(), AllocError>
-        ensures { OnOk result (self.new ≡ self.old ++ asked_name event.now) }
+        ensures grown { OnOk result (self.new ≡ self.old ++ asked_name event.now) }
+        ensures front { KeepsFront self.old self.new }
     {
         match event {
             Event::Run(Statement::Verdict(name)) => self.text(name),
@@ -154,9 +185,11 @@ impl Report {
         }
     }
 
-    /// A fault: its number, its SQLSTATE or a dash, and what it names. A violated assertion's SQLSTATE is another at COMMIT.
-    fn fault(&mut self, at_commit: bool, refusal: &Refusal) -> Result<(), AllocError>
-        ensures { OnOk result (self.new ≡ self.old ++ fault_text at_commit refusal.now) }
+    /// A fault: its number, its SQLSTATE or a dash, and what it names. A violated assertion's SQLSTATE is another at
+    /// COMMIT.
+    pub fn fault(&mut self, at_commit: bool, refusal: &Refusal) -> Result<(), AllocError>
+        ensures grown { OnOk result (self.new ≡ self.old ++ fault_text at_commit refusal.now) }
+        ensures front { KeepsFront self.old self.new }
     {
         match refusal {
             Refusal::NoMemory => self.word("1 - NO MEMORY"),
@@ -191,7 +224,8 @@ impl Report {
     }
 
     fn out_of_range(&mut self, column: &Text, excess: Excess) -> Result<(), AllocError>
-        ensures { OnOk result (self.new ≡ self.old ++ (excess_text excess ++ column.now)) }
+        ensures grown { OnOk result (self.new ≡ self.old ++ (excess_text excess ++ column.now)) }
+        ensures front { KeepsFront self.old self.new }
     {
         match excess {
             Excess::Number => self.named("9 22003 ", column),
@@ -205,7 +239,9 @@ impl Report {
         assertion: &Text,
         group: &Root,
     ) -> Result<(), AllocError>
-        ensures { OnOk result (self.new ≡ self.old ++ (violated_text at_commit ++ assertion.now ++ codes " " ++ root_text group.now)) }
+        ensures grown { OnOk result (self.new ≡ self.old
+            ++ (violated_text at_commit ++ assertion.now ++ codes " " ++ root_text group.now)) }
+        ensures front { KeepsFront self.old self.new }
     {
         if at_commit {
             self.rooted("10 40002 ", assertion, group)
@@ -215,14 +251,20 @@ impl Report {
     }
 
     fn conflict(&mut self, table: &Text, key: &Value, by: u64) -> Result<(), AllocError>
-        ensures { OnOk result (self.new ≡ self.old ++ (codes "12 40001 " ++ table.now ++ codes " " ++ value_text key.now ++ codes " BY " ++ decimal by)) }
+        ensures grown { OnOk result (self.new ≡ self.old
+            ++ (codes "12 40001 " ++ table.now ++ codes " " ++ value_text key.now ++ codes " BY " ++ decimal by)) }
+        ensures front { KeepsFront self.old self.new }
     {
         self.keyed("12 40001 ", table, key)?;
         self.numbered(" BY ", by)
     }
 
     fn dangerous(&mut self, reader: Party, pivot: Party, writer: Party) -> Result<(), AllocError>
-        ensures { OnOk result (self.new ≡ self.old ++ ((codes "13 40001 READER " ++ party_text reader) ++ (codes " PIVOT " ++ party_text pivot) ++ (codes " WRITER " ++ party_text writer))) }
+        ensures grown { OnOk result (self.new ≡ self.old
+            ++ ((codes "13 40001 READER " ++ party_text reader)
+            ++ (codes " PIVOT " ++ party_text pivot)
+            ++ (codes " WRITER " ++ party_text writer))) }
+        ensures front { KeepsFront self.old self.new }
     {
         self.party("13 40001 READER ", reader)?;
         self.party(" PIVOT ", pivot)?;
@@ -231,7 +273,8 @@ impl Report {
     }
 
     fn party(&mut self, word: &str, party: Party) -> Result<(), AllocError>
-        ensures { OnOk result (self.new ≡ self.old ++ (word.now ++ party_text party)) }
+        ensures grown { OnOk result (self.new ≡ self.old ++ (word.now ++ party_text party)) }
+        ensures front { KeepsFront self.old self.new }
     {
         match party {
             Party::This => {
@@ -242,22 +285,33 @@ impl Report {
         }
     }
 
-    fn named(&mut self, word: &str, name: &Text) -> Result<(), AllocError>
-        ensures { OnOk result (self.new ≡ self.old ++ (word.now ++ name.now)) }
+    pub fn named(&mut self, word: &str, name: &Text) -> Result<(), AllocError>
+        ensures grown { OnOk result (self.new ≡ self.old ++ (word.now ++ name.now)) }
+        ensures front { KeepsFront self.old self.new }
     {
         self.word(word)?;
         self.text(name)
     }
 
-    fn numbered(&mut self, word: &str, number: u64) -> Result<(), AllocError>
-        ensures { OnOk result (self.new ≡ self.old ++ (word.now ++ decimal number)) }
+    pub fn numbered(&mut self, word: &str, number: u64) -> Result<(), AllocError>
+        ensures grown { OnOk result (self.new ≡ self.old ++ (word.now ++ decimal number)) }
+        ensures front { KeepsFront self.old self.new }
     {
         self.word(word)?;
+        self.number(number)
+    }
+
+    pub fn number(&mut self, number: u64) -> Result<(), AllocError>
+        ensures grown { OnOk result (self.new ≡ self.old ++ decimal number) }
+        ensures front { KeepsFront self.old self.new }
+    {
         self.word(Buffer::new().format(number))
     }
 
     fn keyed(&mut self, word: &str, table: &Text, key: &Value) -> Result<(), AllocError>
-        ensures { OnOk result (self.new ≡ self.old ++ (word.now ++ table.now ++ codes " " ++ value_text key.now)) }
+        ensures grown { OnOk result (self.new ≡ self.old
+            ++ (word.now ++ table.now ++ codes " " ++ value_text key.now)) }
+        ensures front { KeepsFront self.old self.new }
     {
         self.named(word, table)?;
         self.word(" ")?;
@@ -265,7 +319,9 @@ impl Report {
     }
 
     fn rooted(&mut self, word: &str, assertion: &Text, root: &Root) -> Result<(), AllocError>
-        ensures { OnOk result (self.new ≡ self.old ++ (word.now ++ assertion.now ++ codes " " ++ root_text root.now)) }
+        ensures grown { OnOk result (self.new ≡ self.old
+            ++ (word.now ++ assertion.now ++ codes " " ++ root_text root.now)) }
+        ensures front { KeepsFront self.old self.new }
     {
         self.named(word, assertion)?;
         self.word(" ")?;
@@ -273,7 +329,8 @@ impl Report {
     }
 
     fn root(&mut self, root: &Root) -> Result<(), AllocError>
-        ensures { OnOk result (self.new ≡ self.old ++ root_text root.now) }
+        ensures grown { OnOk result (self.new ≡ self.old ++ root_text root.now) }
+        ensures front { KeepsFront self.old self.new }
     {
         match root {
             Root::All => self.word("ALL"),
@@ -282,7 +339,8 @@ impl Report {
     }
 
     fn value(&mut self, value: &Value) -> Result<(), AllocError>
-        ensures { OnOk result (self.new ≡ self.old ++ value_text value.now) }
+        ensures grown { OnOk result (self.new ≡ self.old ++ value_text value.now) }
+        ensures front { KeepsFront self.old self.new }
     {
         match value {
             Value::Null => self.word("NULL"),
@@ -297,7 +355,8 @@ impl Report {
 
     /// The text with each quote in it written twice.
     fn quoted(&mut self, text: &Text) -> Result<(), AllocError>
-        ensures { OnOk result (self.new ≡ self.old ++ doubled text.now) }
+        ensures grown { OnOk result (self.new ≡ self.old ++ doubled text.now) }
+        ensures front { KeepsFront self.old self.new }
     {
         for byte in text.as_bytes() {
             self.quoted_byte(*byte)?;
@@ -306,24 +365,34 @@ impl Report {
     }
 
     fn quoted_byte(&mut self, byte: u8) -> Result<(), AllocError>
-        ensures { OnOk result (self.new ≡ self.old ++ quoted_byte byte) }
+        ensures grown { OnOk result (self.new ≡ self.old ++ quoted_byte byte) }
+        ensures front { KeepsFront self.old self.new }
     {
         if byte == b'\'' {
-            self.bytes.push(byte)?;
+            self.put(&[byte, byte])
+        } else {
+            self.put(&[byte])
         }
-        self.bytes.push(byte)?;
-        Ok(())
     }
 
-    fn text(&mut self, text: &Text) -> Result<(), AllocError>
-        ensures { OnOk result (self.new ≡ self.old ++ text.now) }
+    pub fn text(&mut self, text: &Text) -> Result<(), AllocError>
+        ensures grown { OnOk result (self.new ≡ self.old ++ text.now) }
+        ensures front { KeepsFront self.old self.new }
     {
-        self.bytes.extend_from_slice(text.as_bytes())
+        self.put(text.as_bytes())
     }
 
-    fn word(&mut self, word: &str) -> Result<(), AllocError>
-        ensures { OnOk result (self.new ≡ self.old ++ word.now) }
+    pub fn word(&mut self, word: &str) -> Result<(), AllocError>
+        ensures grown { OnOk result (self.new ≡ self.old ++ word.now) }
+        ensures front { KeepsFront self.old self.new }
     {
-        self.bytes.extend_from_slice(word.as_bytes())
+        self.put(word.as_bytes())
+    }
+
+    fn put(&mut self, bytes: &[u8]) -> Result<(), AllocError>
+        ensures grown { OnOk result (self.new ≡ self.old ++ bytes.now) }
+        ensures front { KeepsFront self.old self.new }
+    {
+        self.bytes.extend_from_slice(bytes)
     }
 }

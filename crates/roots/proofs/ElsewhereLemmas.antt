@@ -1,5 +1,5 @@
 -- What is kept for an assertion stays right through a change of a table that it isn't over.
-use Rattle.std.proofs.Common.{◌≡◌, ◌≢◌, ℕ, ◌<◌, Bool, true, false, List, [], ◌∷◌, ◌++◌, Option, map, length, get_or, refl, sym, ◌∙◌, ap}
+use Rattle.std.proofs.Common.{◌≡◌, ◌≢◌, ℕ, false, List, [], ◌∷◌, ◌++◌, Option, map, get_or, refl, sym, ◌∙◌, ap}
 use Rattle.std.specs.Prelude.{◌==◌, All, flat_map, if◌then◌else◌}
 use Rattle.std.proofs.lemmas.List.Elements.{All-nil, All-cons}
 use Rattle.value.specs.declared.values.Root.{Root}

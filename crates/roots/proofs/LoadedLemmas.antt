@@ -1,6 +1,6 @@
 -- What is kept for an assertion, made in one pass over tables.
-use Rattle.std.proofs.Common.{◌≡◌, ℕ, ◌+◌, ◌<◌, ◌≤◌, ◌^◌, Bool, true, false, cond, List, [], ◌∷◌, ◌++◌, Option, Some, None, length, get_or, refl, sym, ◌∙◌, ap, subst, arith, length-append}
-use Rattle.std.specs.Prelude.{◌&&◌, All, filter, nat_lt, if◌then◌else◌}
+use Rattle.std.proofs.Common.{◌≡◌, ℕ, ◌<◌, ◌^◌, Bool, true, false, List, [], ◌∷◌, ◌++◌, Option, Some, None, length, get_or, refl, sym, ◌∙◌, ap, subst, arith, length-append}
+use Rattle.std.specs.Prelude.{◌&&◌, All, filter, if◌then◌else◌}
 use Rattle.std.proofs.lemmas.List.{get_or_append_left}
 use Rattle.std.specs.Ordering.{eq_by_cmp, is_eq}
 use Rattle.std.specs.declared.cmp.Ordering.{Ordering}
@@ -17,22 +17,20 @@ use Rattle.table.specs.Rows.{RowValues, Layout, value_in, row_at}
 use Rattle.cond.specs.declared.conds.Cond.{Cond}
 use Rattle.cond.specs.Bounds.{IsSmallRow}
 use Rattle.cond.specs.Eval.{keeps}
-use Rattle.assertion.specs.declared.linked_queries.Linked.{Linked}
 use Rattle.assertion.specs.declared.forms.Form.{Form}
 use Rattle.assertion.specs.declared.forms.Form.TheVariants.{ByRow, ByGroup, Single}
 use Rattle.assertion.specs.Candidates.{group_candidates}
 use Rattle.assertion.specs.Meaning.{State, rows_of, key_of, kept_rows}
-use Rattle.assertion.specs.Roots.{AreBad, is_bad_row, is_bad_root, is_bad_group, is_among}
+use Rattle.assertion.specs.Roots.{AreBad, is_bad_row, is_bad_root, is_among}
 use Rattle.assertion.proofs.KeptTruth.{not_of_group}
 use Rattle.assertion.proofs.ListLemmas.{DropsAll, filter-filter, or_false}
 use Rattle.groups.specs.Totals.{Entries, AreTotalsOf, AreWithin}
 use Rattle.groups.proofs.RowLemmas.{members_within}
 use Rattle.roots.specs.Bad.{AreUpdated, is_touched, named_roots}
 use Rattle.roots.specs.Kept.{IsSmallState}
-use Rattle.roots.specs.Summaries.{Summary, place, value_by, row_members}
+use Rattle.roots.specs.Summaries.{Summary, place, row_members}
 use Rattle.roots.proofs.UpdateLemmas.{is_touched-has, groups_small, column_small}
 use Rattle.roots.specs.Kept.{IsSmallRoot}
-use Rattle.std.proofs.lemmas.List.Elements.{All-nil, All-cons}
 
 -- the totals so far are those of the rows that are done
 pub record AreDone (s : Summary) (all left : List RowValues) (made : Entries) : Type 0 where

@@ -4,7 +4,6 @@ use Rattle.std.specs.Prelude.{◌==◌, ◌||◌, ◌≤◌, ◌^◌, All, is_so
 use Rattle.std.proofs.lemmas.List.{take_more}
 use Rattle.std.proofs.lemmas.List.Elements.{All-nil, All-cons, All-head, All-tail}
 use Rattle.std.specs.Ordering.{eq_by_cmp}
-use Rattle.value.specs.declared.values.Value.{Value}
 use Rattle.value.specs.declared.values.Root.{Root}
 use Rattle.value.specs.declared.values.Root.TheVariants.{All as Whole, Of}
 use Rattle.value.specs.ValueOrder.{root_cmp}
@@ -12,16 +11,16 @@ use Rattle.value.specs.Ordered.{IsAscending, at, HoldsOf}
 use Rattle.value.proofs.ValueOrders.{root_cmp_total, root_exact}
 use Rattle.value.proofs.OrderedLists.{has, at-put, IsAscending-put, equal_from}
 use Rattle.table.specs.declared.rows.Change.{Change}
-use Rattle.table.specs.Rows.{RowValues, Layout, value_in, row_at}
+use Rattle.table.specs.Rows.{RowValues, Layout, value_in}
 use Rattle.cond.specs.Bounds.{IsSmallRow}
 use Rattle.cond.specs.Slots.{magnitude}
 use Rattle.assertion.specs.declared.forms.Form.{Form}
 use Rattle.assertion.specs.declared.forms.Form.TheVariants.{ByRow, ByGroup, Single}
 use Rattle.assertion.specs.Candidates.{candidates, group_candidates, touched}
-use Rattle.assertion.specs.Meaning.{State, key_of, kept_rows}
-use Rattle.assertion.specs.Roots.{is_bad_group, is_bad_row, is_bad_root, is_among, AreBad, IsOrdered, IsChangeOf, state_after}
+use Rattle.assertion.specs.Meaning.{State}
+use Rattle.assertion.specs.Roots.{is_bad_root, is_among, AreBad, IsOrdered, IsChangeOf, state_after}
 use Rattle.assertion.proofs.KeptTruth.{kept_truth}
-use Rattle.roots.specs.Bad.{IsRowOf, put_root, is_touched, AreUpdated}
+use Rattle.roots.specs.Bad.{put_root, is_touched, AreUpdated}
 use Rattle.roots.specs.Kept.{IsSmallRoot}
 
 -- the roots after one is put in or taken out

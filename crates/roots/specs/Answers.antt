@@ -17,8 +17,10 @@ pub record SlotQuery : Type 0 where
 
 -- the queries of the slots of a form's condition, in order
 abbrev pub queries_of : Form → List SlotQuery
-queries_of (ByRow table condition queries) = map (λ q. record { grouped = linked_table q; aggregate = q.aggregate }) queries
-queries_of (ByGroup table kept group having aggregates) = map (λ a. record { grouped = group_table table kept group; aggregate = a }) aggregates
+queries_of (ByRow table condition queries) =
+    map (λ q. record { grouped = linked_table q; aggregate = q.aggregate }) queries
+queries_of (ByGroup table kept group having aggregates) =
+    map (λ a. record { grouped = group_table table kept group; aggregate = a }) aggregates
 queries_of (Single condition queries) = map (λ q. record { grouped = plain_table q; aggregate = q.aggregate }) queries
 
 -- the kinds of the slots

@@ -22,7 +22,8 @@ use Rattle.roots.specs.Answers.{SlotQuery, query_answer}
 -- this is the row of the root, where a form asks for one: the row under the key in the root table
 abbrev pub IsRowOf : List Layout → Form → State → Root → Option RowValues → Type 0
 IsRowOf layouts (ByRow table condition queries) state All row = Unit {0}
-IsRowOf layouts (ByRow table condition queries) state (Of key) row = row ≡ row_at (key_of table layouts) key (rows_of table state)
+IsRowOf layouts (ByRow table condition queries) state (Of key) row =
+    row ≡ row_at (key_of table layouts) key (rows_of table state)
 IsRowOf layouts (ByGroup table kept group having aggregates) state root row = Unit {0}
 IsRowOf layouts (Single condition queries) state root row = Unit {0}
 
@@ -37,7 +38,8 @@ row_passes state queries condition key (Some row) = keeps row (answers state que
 
 -- whether a group has a row, and HAVING is true of it
 abbrev pub group_passes : State → Summary → List SlotQuery → Cond → Value → Bool
-group_passes state summary queries having v = nat_lt 0 (length (members state summary v)) && keeps (v ∷ []) (answers state queries v) having
+group_passes state summary queries having v =
+    nat_lt 0 (length (members state summary v)) && keeps (v ∷ []) (answers state queries v) having
 
 -- the truth of a condition that sees no row
 abbrev pub whole_truth : State → List SlotQuery → Cond → Truth
@@ -49,7 +51,8 @@ put_root root is_in = ordered.put root_cmp (λ k. k) root (if is_in then Some ro
 
 -- the roots that rows name: the keys of the root table, the groups of the table, or the whole
 abbrev pub named_roots : List Layout → Form → State → List Root
-named_roots layouts (ByRow table condition queries) state = group_candidates (key_of table layouts) (rows_of table state)
+named_roots layouts (ByRow table condition queries) state =
+    group_candidates (key_of table layouts) (rows_of table state)
 named_roots layouts (ByGroup table kept group having aggregates) state = group_candidates group (rows_of table state)
 named_roots layouts (Single condition queries) state = All ∷ []
 
@@ -59,6 +62,8 @@ is_touched root [] = false
 is_touched root (r ∷ rs) = eq_by_cmp root_cmp root r || is_touched root rs
 
 -- the list is another with each of the touched roots in or out as it is bad
-pub record AreUpdated (layouts : List Layout) (form : Form) (state : State) (touched bad made : List Root) : Type 0 where
+pub record AreUpdated (layouts : List Layout) (form : Form) (state : State)
+    (touched bad made : List Root) : Type 0 where
   pub in_order : ordered.IsAscending root_cmp (λ k. k) made
-  pub right : (r : Root) → is_among r made ≡ (if is_touched r touched then is_bad_root layouts form state r else is_among r bad)
+  pub right : (r : Root) → is_among r made
+      ≡ (if is_touched r touched then is_bad_root layouts form state r else is_among r bad)

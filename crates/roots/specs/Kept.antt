@@ -1,5 +1,5 @@
 -- The kept totals of a form, and the bounds of the tables that they are of.
-use Rattle.std.specs.Prelude.{◌≡◌, ℕ, ◌<◌, ◌≤◌, ◌^◌, List, [], length, All, slice_index_or}
+use Rattle.std.specs.Prelude.{◌≡◌, ℕ, ◌<◌, ◌≤◌, ◌^◌, List, length, All, slice_index_or}
 use Rattle.value.specs.declared.values.Root.{Root}
 use Rattle.value.specs.declared.values.Root.TheVariants.{All as Whole, Of}
 use Rattle.cond.specs.Bounds.{IsSmallRow}
@@ -13,7 +13,8 @@ use Rattle.roots.specs.Summaries.{Summary, members, summaries_of}
 -- the first n of the kept totals are those of the first n summaries
 pub record AreSoFar (state : State) (summaries : List Summary) (n : ℕ) (kept : List Entries) : Type 0 where
   pub long : length kept ≡ n
-  pub right : (i : ℕ) → i < n → (s : Summary) (e : Entries) → AreTotalsOf (members state (slice_index_or summaries i s)) (slice_index_or kept i e)
+  pub right : (i : ℕ) → i < n → (s : Summary) (e : Entries)
+      → AreTotalsOf (members state (slice_index_or summaries i s)) (slice_index_or kept i e)
 
 -- the kept totals are those of the form's summaries on these tables, in order
 abbrev pub AreKept : State → Form → List Entries → Type 0

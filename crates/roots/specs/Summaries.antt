@@ -29,8 +29,8 @@ pub record Summary : Type 0 where
   pub grouped : GroupedTable
   pub column : Option ℕ
 
--- the group of a row: all rows are one group; or they go by a column, where NULL is a group; or by a linked column, where
--- it is none
+-- the group of a row: all rows are one group; or they go by a column, where NULL is a group; or by a linked column,
+-- where it is none
 abbrev pub group_of : Grouping → RowValues → Option Value
 group_of Whole row = Some Null
 group_of (By column) row = Some (value_in column row)
@@ -107,9 +107,13 @@ group_table table kept group = record { table = table; kept = kept; grouping = B
 
 -- the summaries of a form: one for each subquery; by groups, one for each column under a set function
 abbrev pub summaries_of : Form → List Summary
-summaries_of (ByRow table condition queries) = map (λ q. record { grouped = linked_table q; column = column_of q.aggregate }) queries
-summaries_of (ByGroup table kept group having aggregates) = map (λ column. record { grouped = group_table table kept group; column = column }) (kept_columns (columns_of aggregates))
-summaries_of (Single condition queries) = map (λ q. record { grouped = plain_table q; column = column_of q.aggregate }) queries
+summaries_of (ByRow table condition queries) =
+    map (λ q. record { grouped = linked_table q; column = column_of q.aggregate }) queries
+summaries_of (ByGroup table kept group having aggregates) =
+    map (λ column. record { grouped = group_table table kept group; column = column })
+    (kept_columns (columns_of aggregates))
+summaries_of (Single condition queries) =
+    map (λ q. record { grouped = plain_table q; column = column_of q.aggregate }) queries
 
 -- the columns under the set functions of a form by groups
 abbrev pub columns_in : Form → List ℕ

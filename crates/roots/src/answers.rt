@@ -9,7 +9,7 @@ ghost use Rattle.cond.specs.Slots.{IsWithinKind, kind_of, kinds_of, value_of, va
 ghost use Rattle.cond.specs.Kinds.{kind_of_aggregate};
 ghost use Rattle.assertion.specs.Meaning.{State};
 ghost use Rattle.groups.specs.Totals.{Members, AreTotalsOf, IsWithin};
-ghost use Rattle.roots.specs.Answers.{SlotQuery, IsReadBy, IsReadFrom, kinds_in, queries_of, query_answer};
+ghost use Rattle.roots.specs.Answers.{SlotQuery, IsReadBy, IsReadFrom, kinds_in, queries_of};
 ghost use Rattle.roots.specs.Bad.{answers as answers_of};
 ghost use Rattle.roots.specs.Kept.{AreKept, AreOfTables};
 ghost use Rattle.roots.specs.Summaries.{Summary, columns_in, index_in, place_in, summaries_of, value_by};
@@ -63,7 +63,8 @@ fn slot_of(form: &Form, columns: &[usize], index: usize) -> Slot
     requires within { index < length (queries_of form.now) }
     ensures within { result.totals < length (summaries_of form.now) }
     ensures read { (summary : Summary) (query : SlotQuery)
-        → IsReadFrom (slice_index_or (summaries_of form.now) result.totals summary) result.aggregate (slice_index_or (queries_of form.now) index query) }
+        → IsReadFrom (slice_index_or (summaries_of form.now) result.totals summary) result.aggregate
+        (slice_index_or (queries_of form.now) index query) }
 {
     match form {
         Form::ByRow { queries, .. } => Slot {

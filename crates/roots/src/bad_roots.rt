@@ -1,18 +1,17 @@
 //! Whether an assertion is false at a root, from the kept totals.
 
-ghost use Rattle.std.specs.Prelude.{◌≡◌, ◌<◌, ◌≤◌, ◌^◌, ◌∷◌, [], IsTrue, List, Option, nat_lt, length, slice_index_or, IfOk, IsOkUnless};
+ghost use Rattle.std.specs.Prelude.{◌≡◌, ◌<◌, ◌≤◌, ◌^◌, ◌∷◌, [], List, Option, length, slice_index_or, IfOk, IsOkUnless};
 ghost use Rattle.std.specs.Option.{option_copied};
 ghost use Rattle.value.specs.Ordered.{HoldsOf};
 ghost use Rattle.value.specs.declared.refusals.Refusal.TheVariants.{NoMemory};
 ghost use Rattle.threeval.specs.Truths.{is_of};
 ghost use Rattle.threeval.specs.declared.Truth.TheVariants.{False};
-ghost use Rattle.table.specs.Rows.{Layout, RowValues};
+ghost use Rattle.table.specs.Rows.{Layout};
 ghost use Rattle.cond.specs.Bounds.{IsSmallRow};
 ghost use Rattle.cond.specs.Slots.{magnitude};
 ghost use Rattle.assertion.specs.Bounded.{IsBounded, IsBoundedOver};
 ghost use Rattle.assertion.specs.Meaning.{State, truth_of_roots, verdict_of};
 ghost use Rattle.assertion.specs.Roots.{AreBad, IsOrdered, is_bad_root};
-ghost use Rattle.groups.specs.Totals.{Members, AreTotalsOf};
 ghost use Rattle.roots.specs.Answers.{kinds_in, queries_of};
 ghost use Rattle.roots.specs.Bad.{IsRowOf, group_passes as group_passes_by, row_passes as row_passes_by, whole_truth};
 ghost use Rattle.roots.specs.Kept.{AreKept, AreOfTables, IsSmallRoot};
@@ -28,8 +27,8 @@ use table::Row;
 use threeval::Truth;
 use value::{Refusal, Root, Value};
 
-/// Whether an assertion is false at a root. By rows, `row` is the row under the root's key in the root table, if there is
-/// one; by groups and for a single condition it isn't looked at.
+/// Whether an assertion is false at a root. By rows, `row` is the row under the root's key in the root table, if
+/// there is one; by groups and for a single condition it isn't looked at.
 pub fn is_bad(
     alloc: Global,
     form: &Form,
@@ -43,7 +42,8 @@ pub fn is_bad(
     requires root_small { IsSmallRoot form.now root.now }
     ensures only_memory { IsOkUnless result NoMemory }
     ensures bad { IfOk result (λ bad. (layouts : List Layout) (state : State) → AreKept state form.now kept.now
-        → IsRowOf layouts form.now state root.now (option_copied row.entry) → bad ≡ is_bad_root layouts form.now state root.now) }
+        → IsRowOf layouts form.now state root.now (option_copied row.entry)
+        → bad ≡ is_bad_root layouts form.now state root.now) }
 {
     match (form, root) {
         (Form::ByRow { condition, .. }, Root::Of(key)) => {
@@ -58,8 +58,8 @@ pub fn is_bad(
     }
 }
 
-/// The truth of an assertion. By rows and by groups it is whether there is a bad root, and `bad` are the bad roots; of a
-/// single condition it is the condition's, which can be unknown, and `bad` isn't looked at.
+/// The truth of an assertion. By rows and by groups it is whether there is a bad root, and `bad` are the bad roots;
+/// of a single condition it is the condition's, which can be unknown, and `bad` isn't looked at.
 pub fn truth_of(
     alloc: Global,
     form: &Form,
@@ -70,7 +70,8 @@ pub fn truth_of(
     requires kept { AreOfTables form.now kept.now }
     ensures only_memory { IsOkUnless result NoMemory }
     ensures truth { IfOk result (λ truth. (layouts : List Layout) (state : State) → IsOrdered layouts state
-        → AreKept state form.now kept.now → AreBad layouts form.now state bad.now → truth ≡ verdict_of layouts form.now state) }
+        → AreKept state form.now kept.now → AreBad layouts form.now state bad.now
+        → truth ≡ verdict_of layouts form.now state) }
 {
     match form {
         Form::Single { condition, .. } => truth_of_whole(alloc, form, kept, condition),
@@ -124,7 +125,8 @@ fn group_passes(
     requires group_small { magnitude group.now ≤ 10 ^ 15 }
     ensures only_memory { IsOkUnless result NoMemory }
     ensures bad { IfOk result (λ bad. (state : State) (summary : Summary) → AreKept state form.now kept.now
-        → bad ≡ group_passes_by state (slice_index_or (summaries_of form.now) 0 summary) (queries_of form.now) having.now group.now) }
+        → bad ≡ group_passes_by state (slice_index_or (summaries_of form.now) 0 summary)
+        (queries_of form.now) having.now group.now) }
 {
     if count_of(&kept[0], group) == 0 {
         return Ok(false);

@@ -2,7 +2,7 @@
 
 ghost use Rattle.std.specs.Prelude.{◌≡◌, ◌++◌, flat_map, IfOk, OnOk, IsOkUnless, option_to_list};
 ghost use Rattle.value.specs.declared.refusals.Refusal.TheVariants.{NoMemory};
-ghost use Rattle.assertion.specs.Candidates.{candidates as candidates_by, candidates_of, group_candidates, is_named as is_named_of, link_candidates, query_candidates, touched};
+ghost use Rattle.assertion.specs.Candidates.{candidates as candidates_by, candidates_of, group_candidates, is_named as is_named_of, link_candidates, query_candidates};
 ghost use Rattle.roots.specs.Over.{is_linked as is_linked_of, is_over as is_over_of};
 
 use crate::columns::value_at;
@@ -11,8 +11,8 @@ use std::alloc::Global;
 use table::{Change, Row};
 use value::{Refusal, Root, Value};
 
-/// The roots at which an assertion can be another after the changes than before, in the order of the changes. A root may
-/// stand more than once. Every other root keeps its truth.
+/// The roots at which an assertion can be another after the changes than before, in the order of the changes. A root
+/// may stand more than once. Every other root keeps its truth.
 pub fn candidates(alloc: Global, form: &Form, changes: &[Change]) -> Result<Vec<Root>, Refusal>
     ensures only_memory { IsOkUnless result NoMemory }
     ensures candidates { IfOk result (λ roots. roots.items ≡ candidates_of changes.now form.now) }
@@ -58,7 +58,8 @@ pub(crate) fn push_candidates(
 /// Puts the keys to which the subqueries link the old and the new row behind the roots.
 fn push_links(roots: &mut Vec<Root>, queries: &[Linked], change: &Change) -> Result<(), Refusal>
     ensures only_memory { IsOkUnless result NoMemory }
-    ensures pushed { OnOk result (roots.new.items ≡ roots.old.items ++ flat_map (query_candidates change.now) queries.now) }
+    ensures pushed { OnOk result (roots.new.items
+        ≡ roots.old.items ++ flat_map (query_candidates change.now) queries.now) }
 {
     for query in queries {
         if query.table == change.table {
@@ -69,8 +70,8 @@ fn push_links(roots: &mut Vec<Root>, queries: &[Linked], change: &Change) -> Res
     Ok(())
 }
 
-/// Puts what a linked column holds behind the roots: nothing where there is no row, and nothing for NULL, which links to
-/// no key.
+/// Puts what a linked column holds behind the roots: nothing where there is no row, and nothing for NULL, which links
+/// to no key.
 fn push_link(roots: &mut Vec<Root>, link: usize, row: &Option<Row>) -> Result<(), Refusal>
     ensures only_memory { IsOkUnless result NoMemory }
     ensures pushed { OnOk result (roots.new.items ≡ roots.old.items ++ link_candidates link (option_to_list row.now)) }
@@ -87,7 +88,8 @@ fn push_link(roots: &mut Vec<Root>, link: usize, row: &Option<Row>) -> Result<()
 /// Puts the group of a row, if there is one, behind the roots. NULL is a group.
 fn push_group(roots: &mut Vec<Root>, group: usize, row: &Option<Row>) -> Result<(), Refusal>
     ensures only_memory { IsOkUnless result NoMemory }
-    ensures pushed { OnOk result (roots.new.items ≡ roots.old.items ++ group_candidates group (option_to_list row.now)) }
+    ensures pushed { OnOk result (roots.new.items
+        ≡ roots.old.items ++ group_candidates group (option_to_list row.now)) }
 {
     if let Some(row) = row {
         roots.push(Root::Of(value_at(row, group)?))?;
@@ -119,8 +121,8 @@ fn is_linked(queries: &[Linked], table: usize) -> bool
     false
 }
 
-/// Whether an assertion is over a table, by its outer query or by a subquery. A change of another table has no candidates,
-/// and what is kept for the assertion stays right.
+/// Whether an assertion is over a table, by its outer query or by a subquery. A change of another table has no
+/// candidates, and what is kept for the assertion stays right.
 pub fn is_over(form: &Form, table: usize) -> bool
     ensures { result ≡ is_over_of table form.now }
 {

@@ -46,7 +46,8 @@ pub fn member(
     requires bounded { IsBoundedOver [] grouped.kept.now }
     requires small { HoldsOf IsSmallRow row.now }
     ensures only_memory { IsOkUnless result NoMemory }
-    ensures member { IfOk result (λ member. member ≡ member_of (place_of (shown_table grouped.entry)) (value_by column) row.now) }
+    ensures member { IfOk result (λ member. member
+        ≡ member_of (place_of (shown_table grouped.entry)) (value_by column) row.now) }
 {
     match row {
         None => Ok(None),
@@ -64,7 +65,8 @@ pub fn member_of_row(
     requires bounded { IsBoundedOver [] grouped.kept.now }
     requires small { IsSmallRow row.now }
     ensures only_memory { IsOkUnless result NoMemory }
-    ensures member { IfOk result (λ member. member ≡ member_of (place_of (shown_table grouped.entry)) (value_by column) (Some row.now)) }
+    ensures member { IfOk result (λ member. member
+        ≡ member_of (place_of (shown_table grouped.entry)) (value_by column) (Some row.now)) }
 {
     match place(alloc, grouped, row)? {
         None => Ok(None),

@@ -1,6 +1,6 @@
 //! The kept totals of a form, of tables and after a change.
 
-ghost use Rattle.std.specs.Prelude.{◌≡◌, ◌≢◌, ◌<◌, ◌^◌, ◌++◌, ◌∷◌, [], All, List, length, IfOk, IsOkUnless};
+ghost use Rattle.std.specs.Prelude.{◌≡◌, ◌<◌, ◌^◌, ◌++◌, ◌∷◌, [], All, List, length, IfOk, IsOkUnless};
 ghost use Rattle.value.specs.declared.refusals.Refusal.TheVariants.{NoMemory};
 ghost use Rattle.value.specs.Ordered.{HoldsOf};
 ghost use Rattle.table.specs.Rows.{Layout, RowValues};
@@ -76,7 +76,8 @@ fn total_with(
     requires bounded { IsBoundedOver [] summary.grouped.kept.now }
     requires small { IsSmallRow row.now }
     ensures only_memory { IsOkUnless result NoMemory }
-    ensures kept { IfOk result (λ made. (rows : List RowValues) → AreWithin (row_members (shown summary.entry) (rows ++ row.now ∷ []))
+    ensures kept { IfOk result (λ made. (rows : List RowValues)
+        → AreWithin (row_members (shown summary.entry) (rows ++ row.now ∷ []))
         → AreTotalsOf (row_members (shown summary.entry) rows) totals.now
         → AreTotalsOf (row_members (shown summary.entry) (rows ++ row.now ∷ [])) made) }
 {

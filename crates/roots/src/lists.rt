@@ -129,7 +129,8 @@ fn with_value(values: &Pages<Root>, value: &Value, is_in: bool) -> Result<Pages<
     requires { AreUnder values.now }
     ensures only_memory { IsOkUnless result NoMemory }
     ensures changed { IfOk result (λ made. made
-        ≡ put value_cmp key_of value.now (entry_of value.now (if is_in then Some (Of value.now) else None)) values.now) }
+        ≡ put value_cmp key_of value.now (entry_of value.now
+        (if is_in then Some (Of value.now) else None)) values.now) }
 {
     if values.get(value).is_some() == is_in {
         return values.copy();

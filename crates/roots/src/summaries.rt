@@ -1,9 +1,9 @@
 //! The totals that are kept for a form.
 
-ghost use Rattle.std.specs.Prelude.{◌≡◌, ◌<◌, ◌+◌, IfOk, OnOk, IsOkUnless, length, slice_get, slice_index_or};
+ghost use Rattle.std.specs.Prelude.{◌≡◌, ◌<◌, IfOk, OnOk, IsOkUnless, length, slice_get, slice_index_or};
 ghost use Rattle.value.specs.declared.refusals.Refusal.TheVariants.{NoMemory};
 ghost use Rattle.roots.specs.Shown.{shown};
-ghost use Rattle.roots.specs.Summaries.{add_column, columns_in, columns_of, column_of as column_under, is_among as is_among_of, kept_columns, summaries_of};
+ghost use Rattle.roots.specs.Summaries.{add_column, columns_in, columns_of, column_of as column_under, is_among as is_among_of, summaries_of};
 
 use crate::grouped::{GroupedTable, Grouping};
 use assertion::Form;

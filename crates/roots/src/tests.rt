@@ -95,8 +95,8 @@ fn insertion(alloc: Global) -> Result<Change, Refusal>
     })
 }
 
-/// The bad roots and the truth of an assertion over one table, which had no row, after a change, and whether it is bad as
-/// a whole.
+/// The bad roots and the truth of an assertion over one table, which had no row, after a change, and whether it is
+/// bad as a whole.
 fn told(alloc: Global, form: &Form, change: &Change) -> Result<(BadRoots, Truth, bool), Refusal>
     requires bounded { IsBounded form.now }
     requires table { change.now.table ≡ 0 }

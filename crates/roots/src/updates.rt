@@ -25,8 +25,8 @@ use std::alloc::Global;
 use table::{Change, Row, Schema};
 use value::{Refusal, Root, Value};
 
-/// The bad roots of these tables, in order, by their kept totals. Only roots that a row names are looked at, since no other
-/// can be bad.
+/// The bad roots of these tables, in order, by their kept totals. Only roots that a row names are looked at, since no
+/// other can be bad.
 pub fn bad_of(
     alloc: Global,
     schemas: &[Schema],
@@ -97,8 +97,8 @@ fn roots_in_rows(alloc: Global, rows: &Rows, column: usize) -> Result<Vec<Root>,
     Ok(roots)
 }
 
-/// The place of a table's key column.
-fn key_column(schemas: &[Schema], table: usize) -> usize
+/// The place of a table's key column; 0 where there is no such table. It takes no memory.
+pub fn key_column(schemas: &[Schema], table: usize) -> usize
     ensures { result ≡ key_of table schemas.now }
 {
     match schemas.get(table) {
@@ -107,8 +107,8 @@ fn key_column(schemas: &[Schema], table: usize) -> usize
     }
 }
 
-/// The bad roots after a change, in order: `tables` and `kept` are those after it, `bad` the bad roots before. Only the
-/// candidates of the change are looked at, and each other root is bad where it was.
+/// The bad roots after a change, in order: `tables` and `kept` are those after it, `bad` the bad roots before. Only
+/// the candidates of the change are looked at, and each other root is bad where it was.
 pub fn bad_after(
     alloc: Global,
     schemas: &[Schema],
@@ -124,7 +124,8 @@ pub fn bad_after(
     requires new_small { ordered.HoldsOf IsSmallRow change.now.new }
     requires kept { AreKept tables.now form.now kept.now }
     ensures only_memory { IsOkUnless result NoMemory }
-    ensures bad { IfOk result (λ made. (before : State) → IsOrdered schemas.now before → IsChangeOf schemas.now change.now before
+    ensures bad { IfOk result (λ made. (before : State) → IsOrdered schemas.now before
+        → IsChangeOf schemas.now change.now before
         → tables.now ≡ state_after schemas.now change.now before → AreBad schemas.now form.now before bad.now
         → AreBad schemas.now form.now tables.now made) }
 {

@@ -7,7 +7,8 @@ use Rattle.std.proofs.lemmas.Bool.{and_parts, and_from, not-true, eqb-false}
 use Rattle.serial.specs.declared.records.Record.{Record}
 use Rattle.serial.specs.Commits.{conflicts_to, share_row, touch_any}
 use Rattle.serial.specs.Order.{Before, IsSerial, without}
-use Rattle.alone.proofs.Lists.{Each, Pairs, each_left, each_right, each_put, each_at, in_cases, in_put, in_middle, not_in_nil}
+use Rattle.siread.proofs.Members.{in_cases, not_in_nil}
+use Rattle.alone.proofs.Lists.{Each, Pairs, each_left, each_right, each_put, each_at, in_put, in_middle}
 
 -- what a conflict says of the numbers
 pub record Overlaps (a b : Record) : Type 0 where

@@ -8,7 +8,8 @@ use Rattle.serial.specs.Commits.{IsLog, IsDangerous, HasNoDanger, conflicts_to}
 use Rattle.serial.specs.Answer.{IsPivotNamed, IsNoPivot, IsReaderNamed}
 use Rattle.serial.specs.Order.{least_out}
 use Rattle.serial.specs.Numbers.{greatest_in, is_pivot, is_reader, is_reader_of, IsNeither, IsLeastPivot}
-use Rattle.alone.proofs.Lists.{each_at, in_head, in_tail, in_cases, not_in_nil}
+use Rattle.siread.proofs.Members.{in_head, in_tail, in_cases, not_in_nil}
+use Rattle.alone.proofs.Lists.{each_at}
 use Rattle.serial.proofs.Arranged.{conflict_overlaps}
 use Rattle.alone.proofs.Members.{any_from}
 use Rattle.serial.proofs.Ranks.{clean, least_out_up_to, least_out_met, numbers_below}

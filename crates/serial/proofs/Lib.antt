@@ -5,4 +5,9 @@ pub mod Ranks
 pub mod Replays
 pub mod Steps
 pub mod Semantics
+pub mod Newest
 pub mod Witness
+pub mod Turned
+pub mod Snapshots
+pub mod Kept
+pub mod Alike

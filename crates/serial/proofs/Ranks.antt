@@ -5,7 +5,8 @@ use Rattle.std.proofs.lemmas.Bool.{and_parts, and_from, cases_Bool, cases_lt}
 use Rattle.serial.specs.declared.records.Record.{Record}
 use Rattle.serial.specs.Commits.{IsLog, IsAccepted, IsDangerous, conflicts_to, share_row}
 use Rattle.serial.specs.Order.{least_out, rank, put_by, sort_by, serial_order, IsSerial, without}
-use Rattle.alone.proofs.Lists.{Each, Pairs, each_weaker, each_both, each_right, each_at, each_from, pairs_put, pairs_out, pairs_before, pairs_after, in_head, in_tail, in_cases, not_in_nil}
+use Rattle.siread.proofs.Members.{in_head, in_tail, in_cases, not_in_nil}
+use Rattle.alone.proofs.Lists.{Each, Pairs, each_weaker, each_both, each_right, each_at, each_from, pairs_put, pairs_out, pairs_before, pairs_after}
 use Rattle.serial.proofs.Arranged.{conflict_overlaps, Arranges, arranges_each, MayPrecede, serial_from, arranges_permutation, taken_out}
 
 -- what a log says of all its commits

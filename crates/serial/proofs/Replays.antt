@@ -15,7 +15,8 @@ use Rattle.alone.proofs.KeyLists.{among}
 use Rattle.serial.specs.declared.records.Record.{Record}
 use Rattle.serial.specs.Commits.{share_row}
 use Rattle.serial.specs.Replay.{held, all_put, state_after, replay, Replays, IsSemantics, IsRecorded, IsHistory}
-use Rattle.alone.proofs.Lists.{Each, Pairs, each_weaker, each_both, each_left, each_right, each_at, each_from, each_filter, pairs_put, pairs_out, pairs_weaker, pairs_before, pairs_after, pairs_filter, in_cases}
+use Rattle.siread.proofs.Members.{in_cases}
+use Rattle.alone.proofs.Lists.{Each, Pairs, each_weaker, each_both, each_left, each_right, each_at, each_from, each_filter, pairs_put, pairs_out, pairs_weaker, pairs_before, pairs_after, pairs_filter}
 use Rattle.serial.proofs.Arranged.{Arranges, MayPrecede, arranges_each, conflict_from}
 use Rattle.serial.proofs.Changes.{share_row-from, touch_any-from}
 

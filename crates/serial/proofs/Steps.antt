@@ -5,7 +5,8 @@ use Rattle.std.proofs.lemmas.Bool.{eqb-false, cases_Bool}
 use Rattle.serial.specs.declared.records.Record.{Record}
 use Rattle.serial.specs.Commits.{IsLog, conflicts_to}
 use Rattle.serial.specs.Order.{least_out, rank, put_by, sort_by, serial_order, put_before}
-use Rattle.alone.proofs.Lists.{Each, each_at, each_from, in_head, in_tail, in_cases, not_in_nil}
+use Rattle.siread.proofs.Members.{in_head, in_tail, in_cases, not_in_nil}
+use Rattle.alone.proofs.Lists.{Each, each_at, each_from}
 use Rattle.serial.proofs.Arranged.{arranges_in, arranges_each}
 use Rattle.serial.proofs.Ranks.{clean, stands, rank_high, least_out_met, Ascends, ascends, sorted_arranges, sort_by_same, rank_stays, earlier_numbers}
 

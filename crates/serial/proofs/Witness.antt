@@ -9,7 +9,7 @@ use Rattle.assertion.specs.Meaning.{State, rows_of, key_of}
 use Rattle.assertion.specs.Declarations.{Declared}
 use Rattle.alone.specs.declared.statements.Resolved.{Resolved}
 use Rattle.alone.specs.Alone.{transaction, transaction_keys, IsSound}
-use Rattle.alone.proofs.Lists.{in_cases, not_in_nil}
+use Rattle.siread.proofs.Members.{in_cases, not_in_nil}
 use Rattle.alone.proofs.KeyLists.{among_from}
 use Rattle.serial.specs.declared.records.Record.{Record}
 use Rattle.serial.specs.Epoch.{IsEpoch}

@@ -8,7 +8,7 @@ use Rattle.siread.specs.declared.keys.LockKey.{LockKey}
 use Rattle.siread.specs.Keys.{same_key}
 use Rattle.siread.specs.Locks.{readers_at, total}
 use Rattle.siread.proofs.KeyOrder.{same_key-true, same_key-refl, same_key-turned}
-use Rattle.siread.proofs.Steps.{in_head, in_tail}
+use Rattle.siread.proofs.Members.{in_head, in_tail}
 
 -- an entry before changes nothing at other keys
 others : (e : LockKey × List ℕ) (es : List (LockKey × List ℕ)) (ks : List LockKey) → AllByRecursion (λ y. same_key e.0 y ≡ false) ks

@@ -10,6 +10,7 @@ use Rattle.std.proofs.lemmas.Cmp.{tied_itself}
 use Rattle.value.specs.declared.values.Value.{Value}
 use Rattle.value.specs.ValueOrder.{value_cmp}
 use Rattle.value.specs.contracts.values.ValueOrd.TheImpl.{cmp-value as value_order}
+use Rattle.value.proofs.OrderedLists.{equal_from}
 use Rattle.value.proofs.ValueOrders.{derived-value_cmp, value_exact, value_cmp_total}
 use Rattle.siread.specs.declared.keys.Place.{Place}
 use Rattle.siread.specs.declared.keys.LockKey.{LockKey}
@@ -42,24 +43,22 @@ is_eq-key (WholeTable t) (OneRow b) = refl
 is_eq-key (WholeTable t) (InColumn u d w) = refl
 is_eq-key (WholeTable t) (WholeTable u) = is_eq-nat t u
 
--- two keys are the same exactly where they are one
-same_value-true : (v w : Value) → same_value v w ≡ true → v ≡ w
+-- two values, places or keys are the same exactly where they are one
+pub same_value-true : (v w : Value) → same_value v w ≡ true → v ≡ w
 same_value-true v w h = value_exact v w (equal_from (value_cmp v w) h)
-  where
-    equal_from : (o : Ordering) → is_eq o ≡ true → o ≡ Equal
-    equal_from Less e = cc
-    equal_from Equal e = refl
-    equal_from Greater e = cc
 
-same_value-refl : (v : Value) → same_value v v ≡ true
+pub same_value-refl : (v : Value) → same_value v v ≡ true
 same_value-refl v = ap is_eq (tied_itself value_cmp_total v)
 
-same_place-true : (a b : Place) → same_place a b ≡ true → a ≡ b
+pub same_place-true : (a b : Place) → same_place a b ≡ true → a ≡ b
 same_place-true a b h =
     let p = and_parts (a.table == b.table) (same_value a.key b.key) h in
     let table = eqb-true a.table b.table p.0 in
     let key = same_value-true a.key b.key p.1 in
     λ i. record { table = table i; key = key i }
+
+pub same_place-refl : (a : Place) → same_place a a ≡ true
+same_place-refl a = and_from (a.table == a.table) (same_value a.key a.key) (eq-eqb a.table a.table refl) (same_value-refl a.key)
 
 pub same_key-true : (a b : LockKey) → same_key a b ≡ true → a ≡ b
 same_key-true (OneRow a) (OneRow b) h = ap OneRow (same_place-true a b h)
@@ -79,7 +78,7 @@ same_key-true (WholeTable t) (InColumn u d w) h = cc
 same_key-true (WholeTable t) (WholeTable u) h = ap WholeTable (eqb-true t u h)
 
 pub same_key-refl : (a : LockKey) → same_key a a ≡ true
-same_key-refl (OneRow a) = and_from (a.table == a.table) (same_value a.key a.key) (eq-eqb a.table a.table refl) (same_value-refl a.key)
+same_key-refl (OneRow a) = same_place-refl a
 same_key-refl (InColumn t c v) = and_from (t == t) ((c == c) && same_value v v) (eq-eqb t t refl) (and_from (c == c) (same_value v v) (eq-eqb c c refl) (same_value-refl v))
 same_key-refl (WholeTable t) = eq-eqb t t refl
 

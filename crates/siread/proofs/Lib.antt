@@ -1,4 +1,5 @@
 pub mod KeyOrder
+pub mod Members
 pub mod Lookups
 pub mod Steps
 pub mod Trims

@@ -1,8 +1,8 @@
 -- One key more or less of those to which a reader is put, and that taking it out undoes it.
-use Rattle.std.proofs.Common.{◌≡◌, ℕ, zero, suc, ◌+◌, ◌<◌, ◌≤◌, get_or, Bool, true, false, cond, not, List, [], ◌∷◌, ◌++◌, length, take, ◌⊎◌, inl, inr, refl, sym, ap, ◌∙◌, arith, eqb, ne_eqb, eq-eqb, append-nil}
+use Rattle.std.proofs.Common.{◌≡◌, ℕ, zero, suc, ◌+◌, ◌<◌, ◌≤◌, get_or, Bool, true, false, cond, not, List, [], ◌∷◌, ◌++◌, length, take, inl, inr, refl, sym, ap, ◌∙◌, arith, eqb, ne_eqb, eq-eqb, append-nil}
 use Rattle.std.specs.Prelude.{Contains, ◌||◌, ◌-◌, slice_get}
 use Rattle.std.specs.List.{list_any}
-use Rattle.std.proofs.lemmas.Bool.{or_cases}
+use Rattle.std.proofs.lemmas.Bool.{or_cases, or_left, or_right}
 use Rattle.std.proofs.Math.Bool.{or-false}
 use Rattle.std.proofs.lemmas.List.Folds.{list_any-append}
 use mathlib.Core.Bool.{true≢false}
@@ -13,19 +13,7 @@ use Rattle.siread.specs.Keys.{same_key}
 use Rattle.siread.specs.Readers.{is_number, ends_in, with_last, left_out}
 use Rattle.siread.specs.Locks.{Reads, AreBelow, changed_at, with_reader, without_reader}
 use Rattle.siread.proofs.KeyOrder.{same_key-turned}
-
-pub in_head : {X : Type 0} (x : X) (xs : List X) → Contains (x ∷ xs) x
-in_head x xs = (0, omega arith, refl)
-
-pub in_tail : {X : Type 0} (x : X) (xs : List X) (y : X) → Contains xs y → Contains (x ∷ xs) y
-in_tail x xs y h = (suc h.0, omega (arith, h.1), h.2)
-
-or_left : (a b : Bool) → a ≡ true → (a || b) ≡ true
-or_left a b h = ap (λ c. c || b) h
-
-or_right : (a b : Bool) → b ≡ true → (a || b) ≡ true
-or_right true b h = refl
-or_right false b h = h
+use Rattle.siread.proofs.Members.{in_head, in_tail, in_cases, not_in_nil}
 
 ends_later : (number x y : ℕ) (rest : List ℕ) → ends_in number (x ∷ y ∷ rest) ≡ ends_in number (y ∷ rest)
 ends_later number x y rest =
@@ -136,16 +124,6 @@ one_more xs i x within e = ap (λ y. take i xs ++ y ∷ []) e ∙ sym (take_more
 
 pub all_taken : {X : Type 0} (xs : List X) (i : ℕ) → length xs ≤ i → take i xs ≡ xs
 all_taken xs i e = take_all i xs e
-
-in_cases : {X : Type 0} (x : X) (xs : List X) (y : X) → Contains (x ∷ xs) y → (x ≡ y) ⊎ Contains xs y
-in_cases x xs y h = go h.0 h.1 h.2
-  where
-    go : (k : ℕ) → k < length (x ∷ xs) → get_or (x ∷ xs) k y ≡ y → (x ≡ y) ⊎ Contains xs y
-    go zero l e = inl e
-    go (suc k) l e = inr (k, omega arith, e)
-
-pub not_in_nil : {X : Type 0} (y : X) → Contains [] y → ⊥
-not_in_nil y h = omega (arith, h.1)
 
 -- those below a number, and the number
 up_to : (number : ℕ) (readers : List ℕ) → ((reader : ℕ) → Contains readers reader → reader < number)

@@ -5,7 +5,7 @@ use Rattle.std.specs.List.{IsDistinct, AllByRecursion}
 use Rattle.std.specs.List.Sorted.{IsStrictlySortedBy}
 use Rattle.std.specs.Map.{lookup, keys_of}
 use Rattle.std.specs.Map.Calls.{RetainsPairs}
-use Rattle.std.proofs.lemmas.Bool.{cases_Bool}
+use Rattle.std.proofs.lemmas.Bool.{cases_Bool, not-false}
 use Rattle.std.proofs.lemmas.Map.Keys.{IsDistinct-from_sorted}
 use Rattle.siread.specs.declared.keys.LockKey.{LockKey}
 use Rattle.siread.specs.Keys.{same_key}
@@ -25,10 +25,6 @@ none_found k (e ∷ es) h = ap (λ b. cond b (Some e.1) (lookup (same_key k) es)
 passed_over : (b : Bool) (k : LockKey) (w : List ℕ) (rest : List (LockKey × List ℕ)) (q : LockKey) → same_key q k ≡ false → readers_at (cond b ((k, w) ∷ rest) rest) q ≡ readers_at rest q
 passed_over true k w rest q apart = ap (λ a. unwrap_or (cond a (Some w) (lookup (same_key q) rest)) []) apart
 passed_over false k w rest q apart = refl
-
-not_false : (x : Bool) → not x ≡ false → x ≡ true
-not_false true h = refl
-not_false false h = sym h
 
 module _ {F : Type 0} (T : F → LockKey → List ℕ → Bool → List ℕ → F → Type 0) (Keeps : F → Type 0) (number : ℕ)
     (says : (f : F) (k : LockKey) (v : List ℕ) (b : Bool) (w : List ℕ) (f' : F) → Keeps f → T f k v b w f' → (b ≡ not (is_none w)) × (w ≡ filter (nat_lt number) v) × Keeps f') where
@@ -54,7 +50,7 @@ module _ {F : Type 0} (T : F → LockKey → List ℕ → Bool → List ℕ → 
               | inr goes ↦ ap (λ c. readers_at (cond c ((e.0, w) ∷ rest) rest) q) goes
                   ∙ more
                   ∙ ap (λ o. filter (nat_lt number) (unwrap_or o [])) none
-                  ∙ sym (none_is_empty w (not_false (is_none w) (sym said.0 ∙ goes)))
+                  ∙ sym (none_is_empty w (not-false (is_none w) (sym said.0 ∙ goes)))
                   ∙ said.1
                   ∙ sym (ap (λ c. filter (nat_lt number) (unwrap_or (cond c (Some e.1) (lookup (same_key q) es)) [])) same)
             ]

@@ -88,7 +88,8 @@ fn is_under(key: &LockKey, at: usize, under: &Value, row: &Row) -> bool
     }
 }
 
-fn is_same(a: &Value, b: &Value) -> bool
+/// Whether two values are the same, as keys and groups see it: NULL is the same as NULL. It takes no memory.
+pub fn is_same(a: &Value, b: &Value) -> bool
     ensures { result ≡ same_value a.now b.now }
 {
     order(a, b).is_eq()

@@ -20,7 +20,7 @@ mod keys;
 mod locks;
 mod readers;
 
-pub use keys::{LockKey, Place, touches};
+pub use keys::{LockKey, Place, is_same, touches};
 pub use locks::LockTable;
 
 #[cfg(test)]

@@ -1,6 +1,6 @@
 //! The table of all reads.
 
-ghost use Rattle.std.specs.Prelude.{◌≡◌, ◌+◌, ℕ, [], true, filter, nat_lt, not, IfOk, IsOkUnless, OnOk, OnErr};
+ghost use Rattle.std.specs.Prelude.{◌≡◌, ◌+◌, ℕ, [], true, filter, nat_lt, not, IsOkUnless, OnOk, OnErr};
 ghost use Rattle.siread.specs.Locks.{above, changed_at, no_reads, readers_at, with_reader, without_reader, AreBelow, IsCount, IsPartlyPut, IsUndone};
 ghost use Rattle.siread.specs.Readers.{is_none, left_out, with_last};
 ghost use Rattle.value.specs.declared.refusals.Refusal.TheVariants.{NoMemory};

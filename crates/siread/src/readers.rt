@@ -1,6 +1,6 @@
 //! The readers of one key.
 
-ghost use Rattle.std.specs.Prelude.{◌≡◌, [], ◌∷◌, ◌++◌, length, filter, nat_lt, not, IfOk, IsOkUnless, OnOk, OnErr};
+ghost use Rattle.std.specs.Prelude.{◌≡◌, [], ◌∷◌, length, filter, nat_lt, not, IfOk, IsOkUnless, OnOk, OnErr};
 ghost use Rattle.siread.specs.Readers.{ends_in, is_none, left_out, with_last};
 ghost use Rattle.value.specs.declared.refusals.Refusal.TheVariants.{NoMemory};
 

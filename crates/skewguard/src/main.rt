@@ -2,19 +2,21 @@
 //!
 //! An assertion (ISO/IEC 9075:1992, assertion definition) is a rule over whole tables, as "some doctor is on call in every shift" or
 //! "no owner's accounts sum below zero". It is satisfied where its condition is not false. The program is given two texts. The
-//! definitions say what there is: tables, assertions over them, and the rows to begin with. The script says what one session
-//! does: it begins transactions, puts rows in and takes rows out, asks for an assertion's truth, commits and rolls back. The
-//! program prints the reply to each event of the script.
+//! definitions say what there is: tables, assertions over them, and the rows to begin with. The script says what sessions do, one
+//! event after the other: each begins transactions, changes and reads rows, asks for an assertion's truth, commits and rolls back. The
+//! program prints the reply to each event, and in the end the commits, their serial order, the COMMITs that were refused and the truth
+//! of each assertion.
 //!
 //! [`replay_into`] is the engine, and its contract is the promise of the whole program, from bytes to bytes: where both texts are
-//! read, the definitions are admitted and no growth of memory is refused, the writer gains exactly the lines that `specs/` says;
-//! otherwise it gains nothing, and the answer is the first fault. What that promise stands on, from the bottom up:
+//! read, the definitions are admitted and the script has 256 sessions or fewer, the writer gains exactly the lines that `specs/` says,
+//! of answers that the sessions may be given, each after those before it; otherwise it gains nothing, and the answer is the first
+//! fault. Memory or the writer may end the run. What that promise stands on, from the bottom up:
 //!
 //! * `parse`: a text has the tree that the grammar relates to its tokens, or the stated first fault;
 //! * `definitions` and `commit::admit`: what definitions define, and that no assertion is false on the rows they begin with;
-//! * `txn`: a statement alone. After an INSERT or a DELETE each assertion is evaluated on the rows as they then are; where one is
-//!   false, the statement is refused with that assertion and its least bad root, and leaves the tables as they were;
-//! * `commit::Standing`: a session's transactions, one after the other, each run alone on the tables that the commits before it left;
+//! * `txn`: a statement alone. After a change each immediate assertion is evaluated on the rows as they then are; where one is false,
+//!   the statement is refused with that assertion and its least bad root, and leaves the tables as they were;
+//! * `commit::Engine`: the sessions' transactions, each on the tables that the commits before its begin left, and what COMMIT answers;
 //! * `report`: the bytes of each line.
 //!
 //! All of these definitions evaluate whole lists of rows from scratch. None of them knows a total or a bad root that is kept: that
@@ -29,6 +31,8 @@
 mod class_tests;
 mod program;
 mod replay;
+#[cfg(test)]
+mod session_tests;
 #[cfg(test)]
 mod statement_tests;
 #[cfg(test)]

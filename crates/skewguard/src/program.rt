@@ -1,9 +1,9 @@
-//! The command line: `skewguard replay DEFS SCRIPT`.
+//! The command line: `skewguard replay [--max-commits N] DEFS SCRIPT`.
 
 ghost use Rattle.std.specs.Prelude.{◌≤◌};
 
 use crate::replay::{ProgramFault, replay_into};
-use clap::{Arg, ArgMatches, Command};
+use clap::{Arg, ArgMatches, Command, value_parser};
 use report::Report;
 use std::alloc::{AllocError, Global};
 use std::io::{ErrorKind, Write};
@@ -20,8 +20,8 @@ const USAGE: u8 = 2;
 /// A file can't be read, or the output can't be written.
 const OUTSIDE: u8 = 3;
 
-/// At most so many commits in one run.
-const MOST_COMMITS: u64 = 1_000_000;
+/// At most so many commits in one run, where the command line gives no number.
+const MOST_COMMITS: &str = "1000000";
 
 /// Does what the words of the command line ask for, and gives the status to end with.
 pub fn command_line<R, W, E>(rt: &R, out: &mut W, err: &mut E) -> u8
@@ -61,9 +61,16 @@ fn command<'a>(alloc: Global) -> Result<Command<'a>, AllocError> {
     );
     let script = Arg::new(alloc, "SCRIPT")
         .required(true)
-        .help("A file of a session's events, one after the other");
+        .help("A file of events of any sessions, one after the other");
+    let max_commits = Arg::new(alloc, "max-commits")
+        .long("max-commits")
+        .value_name("N")
+        .value_parser(value_parser!(u32).range(1..))
+        .default_value(MOST_COMMITS)
+        .help("At most so many commits");
     let replay = Command::new(alloc, "replay")
         .about("Replays a script on definitions and prints the reply to each event")
+        .arg(max_commits)?
         .arg(defs)?
         .arg(script)?;
     Command::new(alloc, "skewguard")
@@ -83,18 +90,33 @@ where
     let Some((_, replay)) = matches.subcommand() else {
         return USAGE;
     };
-    match (replay.get_str("DEFS"), replay.get_str("SCRIPT")) {
-        (Some(defs), Some(script)) => replay_files(rt, defs, script, out, err),
+    match (
+        replay.get_one::<u32>("max-commits"),
+        replay.get_str("DEFS"),
+        replay.get_str("SCRIPT"),
+    ) {
+        (Some(limit), Some(defs), Some(script)) if limit > 0 => {
+            replay_files(rt, u64::from(limit), defs, script, out, err)
+        }
         _ => USAGE,
     }
 }
 
 /// Reads both files and replays them. What is refused or can't be read is said in one line on `err`.
-fn replay_files<R, W, E>(rt: &R, defs: &str, script: &str, out: &mut W, err: &mut E) -> u8
+fn replay_files<R, W, E>(
+    rt: &R,
+    limit: u64,
+    defs: &str,
+    script: &str,
+    out: &mut W,
+    err: &mut E,
+) -> u8
 where
     R: Files + AllocGlobal,
     W: Write,
     E: Write,
+    requires some { 1 ≤ limit }
+    requires within { limit ≤ 4294967295 }
     ensures { result ≤ 3 }
 {
     let alloc = rt.alloc();
@@ -106,10 +128,15 @@ where
         Ok(script) => script,
         Err(fault) => return unread(alloc, "SCRIPT", fault, err),
     };
-    match replay_into(alloc, defs.as_slice(), script.as_slice(), MOST_COMMITS, out) {
+    match replay_into(alloc, defs.as_slice(), script.as_slice(), limit, out) {
         Ok(()) => RUN,
         Err(ProgramFault::Defs(refusal)) => refused(alloc, "DEFS", &refusal, err),
         Err(ProgramFault::Script(refusal)) => refused(alloc, "SCRIPT", &refusal, err),
+        Err(ProgramFault::Stopped) => {
+            let _ = out.flush();
+            let _ = err.write_all(b"SCRIPT: STOPPED 1 - NO MEMORY\n");
+            REFUSED
+        }
         Err(ProgramFault::Output) => OUTSIDE,
     }
 }

@@ -1,49 +1,64 @@
 //! The engine: two texts, of definitions and of a script, are replayed into a writer.
 
-ghost use Rattle.std.specs.Prelude.{◌≡◌, ◌≢◌, ◌≤◌, ◌++◌, false, IfOk, IfErr, IsOkUnless, IsTrue, OnOk, Err};
+ghost use Rattle.std.specs.Prelude.{◌≡◌, ◌≢◌, ◌≤◌, ◌++◌, length, nat_le, true, IfOk, IfErr, IsOkUnless, OnOk, Err};
 ghost use Rattle.std.specs.Io.KnownBytes.{Appends, Keeps};
-ghost use Rattle.value.specs.declared.refusals.Refusal.TheVariants.{NoMemory, OutsideClass};
+ghost use Rattle.value.specs.declared.refusals.Refusal.TheVariants.{NoMemory, TooManySessions};
+ghost use Rattle.alone.specs.Alone.{IsSound};
+ghost use Rattle.commit.specs.Runs.{beginning};
+ghost use Rattle.report.specs.Report.{answer_line};
 ghost use Rattle.skewguard.specs.declared.replay.ProgramFault.TheVariants.{Output};
-ghost use Rattle.skewguard.specs.Lines.{are_of, is_one_session, last_line, lines, standing_after, report};
-ghost use Rattle.skewguard.specs.Replay.{AreRead, IsReport, WritesReport, IsFirstFault};
+ghost use Rattle.skewguard.specs.Lines.{closing, ending, left_line, left_lines, truths};
+ghost use Rattle.skewguard.specs.Replay.{AreRead, HasFewSessions, HasManySessions, IsBeginning, IsFirstFault, IsInTheRun, WritesReport, is_before_the_run, most_sessions};
+ghost use Rattle.skewguard.specs.Writing.{PrintsAnswer, PrintsAnswers, PrintsRun};
 
-use commit::{Standing, admit};
+use answer::Answer;
+use commit::{Core, Engine, Seat, admit};
 use delta::View;
 use parse::{parse_schema, parse_script};
 use report::Report;
 use sqlite_items::Items;
 use statement_syntax::{Definition, Step};
-use std::alloc::Global;
+use std::alloc::{AllocError, Global};
 use std::io::Write;
 use thiserror::Error;
-use txn::Txn;
-use value::{Refusal, Text};
+use threeval::Truth;
+use value::Refusal;
 
-/// Why nothing was replayed.
+/// At most so many sessions in one script.
+const MOST_SESSIONS: usize = 256;
+
+/// Why a replay did not come to its end.
 #[derive(Debug, Drop, Error)]
 pub enum ProgramFault {
-    /// The definitions were refused, or there was no memory to read them or take them in.
+    /// The definitions were refused, or there was no memory to read them or take them in. Nothing was run or written.
     #[error("the definitions were refused: {0}")]
     Defs(Refusal),
-    /// The script was refused, or there was no memory to read or to run it.
+    /// The script was refused, or there was no memory to read it or to make ready for it. Nothing was run or written.
     #[error("the script was refused: {0}")]
     Script(Refusal),
+    /// Memory ended the run. What the writer took before stands.
+    #[error("memory ended the run")]
+    Stopped,
     /// The writer failed. Of the bytes that went out before nothing is known.
     #[error("the output can't be written")]
     Output,
 }
 
-/// Replays a script of one session on definitions, with at most so many commits, and writes a line for each answer.
+/// Replays a script of any sessions on definitions, with at most so many commits, and writes the lines of each answer as soon as it
+/// is answered; then a line for each transaction that is left open, and the closing part.
 ///
-/// Where both texts are read, the definitions are taken in and no growth is refused, the writer gains the report and nothing
-/// else. Otherwise it is as it was.
+/// Where both texts are read, the definitions are taken in and the script has 256 sessions or fewer, its events are run. The writer
+/// then gains the report of their answers and of what they leave, and nothing else. An event that finds no memory is answered so,
+/// and changes nothing.
 ///
 /// # Errors
 ///
 /// The first fault in the order of the work: [`ProgramFault::Defs`] where the definitions are no text of their grammar;
 /// [`ProgramFault::Script`] where the script is none of its own; `Defs` again where the definitions are refused; `Script` of
-/// [`Refusal::OutsideClass`] where the script has a second session (several sessions are not run yet), or of
-/// [`Refusal::NoMemory`] where memory ended the run; [`ProgramFault::Output`] at the first fault of the writer.
+/// [`Refusal::TooManySessions`] where the script has more than 256 sessions. After each of these the writer is as it was. Then
+/// [`ProgramFault::Stopped`] where there is no memory for the lines of an answer, or at the end of the run; and
+/// [`ProgramFault::Output`] at the first fault of the writer.
+#[tactic(auto, using(crate::proofs::Reporting::reports, crate::proofs::Reporting::first_fault, crate::proofs::Reporting::nothing_before))]
 pub fn replay_into<W: Write>(
     alloc: Global,
     defs: &[u8],
@@ -55,25 +70,34 @@ pub fn replay_into<W: Write>(
     requires within { max_commits ≤ 4294967295 }
     ensures written { OnOk result (WritesReport defs.now script.now max_commits (W.contents out.old) (W.contents out.new)) }
     ensures refused { IfErr result (IsFirstFault defs.now script.now) }
-    ensures nothing { IfErr result (λ fault. fault ≢ Output → out.new ≡ out.old) }
+    ensures nothing { IfErr result (λ fault. is_before_the_run fault ≡ true → out.new ≡ out.old) }
 {
-    let report = report_of(alloc, defs, script, max_commits)?;
-    write_whole(report.as_bytes(), out)
+    let (mut engine, steps) = begun(alloc, defs, script, max_commits)?;
+    let printed = print_run(alloc, &mut engine, steps.as_slice(), out);
+    let_go(engine);
+    let_go(steps);
+    printed
 }
 
-/// The whole report, or the first fault before the writer's.
-fn report_of(alloc: Global, defs: &[u8], script: &[u8], limit: u64) -> Result<Report, ProgramFault>
-    ensures reported { IfOk result (IsReport defs.now script.now limit) }
+/// The engine before the first event, and the events.
+fn begun(
+    alloc: Global,
+    defs: &[u8],
+    script: &[u8],
+    limit: u64,
+) -> Result<(Engine, Items<Step>), ProgramFault>
+    requires within { limit ≤ 4294967295 }
+    ensures begun { IfOk result (λ made. IsBeginning defs.now script.now limit made.0 made.1) }
     ensures refused { IfErr result (IsFirstFault defs.now script.now) }
-    ensures unwritten { IfErr result (λ fault. fault ≢ Output) }
+    ensures before { IfErr result (λ fault. is_before_the_run fault ≡ true) }
 {
     let (definitions, steps) = read(alloc, defs, script)?;
     let view = match admit(alloc, definitions.as_slice()) {
         Ok(view) => view,
         Err(refusal) => return Err(ProgramFault::Defs(refusal)),
     };
-    match run(alloc, view, limit, steps.as_slice()) {
-        Ok(report) => Ok(report),
+    match seated(alloc, limit, view, steps.as_slice()) {
+        Ok(engine) => Ok((engine, steps)),
         Err(refusal) => Err(ProgramFault::Script(refusal)),
     }
 }
@@ -86,7 +110,7 @@ fn read(
 ) -> Result<(Items<Definition>, Items<Step>), ProgramFault>
     ensures read { IfOk result (λ trees. AreRead defs.now script.now trees.0 trees.1) }
     ensures refused { IfErr result (IsFirstFault defs.now script.now) }
-    ensures unwritten { IfErr result (λ fault. fault ≢ Output) }
+    ensures before { IfErr result (λ fault. is_before_the_run fault ≡ true) }
 {
     let definitions = match parse_schema(alloc, defs) {
         Ok(definitions) => definitions,
@@ -98,87 +122,179 @@ fn read(
     }
 }
 
-/// The report of the steps from the tables that they begin with. A second session is outside the class so far.
-fn run(alloc: Global, view: View, limit: u64, steps: &[Step]) -> Result<Report, Refusal>
-    ensures reported { IfOk result (λ made. made ≡ report view limit steps.now) }
-    ensures one { IfOk result (λ _. IsTrue (is_one_session steps.now)) }
-    ensures refused { IfErr result (λ refusal. refusal ≢ NoMemory → (is_one_session steps.now ≡ false) × (refusal ≡ OutsideClass)) }
+/// The engine before the first of some events, if they are of 256 sessions or fewer.
+fn seated(alloc: Global, limit: u64, view: View, steps: &[Step]) -> Result<Engine, Refusal>
+    requires sound { IsSound view.declared view.state }
+    requires within { limit ≤ 4294967295 }
+    ensures begun { IfOk result (λ engine. engine ≡ beginning limit view steps.now) }
+    ensures few { IfOk result (λ _. HasFewSessions steps.now) }
+    ensures refused { IfErr result (λ refusal. refusal ≢ NoMemory → HasManySessions steps.now × (refusal ≡ TooManySessions)) }
 {
-    if !is_one_session(steps) {
-        return Err(Refusal::OutsideClass);
-    }
-    let mut standing = Standing::new(view);
-    let mut report = Report::new(alloc);
-    answer_all(alloc, limit, &mut standing, steps, &mut report)?;
-    close(&mut report, steps, &standing.own.txn)?;
-    Ok(report)
-}
-
-/// Whether all steps are of one session, that of the first.
-fn is_one_session(steps: &[Step]) -> bool
-    ensures { result ≡ is_one_session steps.now }
-{
-    match steps.first() {
-        None => true,
-        Some(first) => are_of(&first.session, steps),
+    let engine = Engine::new(alloc, limit, view, steps)?;
+    if has_few_sessions(&engine) {
+        Ok(engine)
+    } else {
+        let_go(engine);
+        Err(Refusal::TooManySessions)
     }
 }
 
-fn are_of(session: &Text, steps: &[Step]) -> bool
-    ensures { result ≡ are_of session.now steps.now }
+fn has_few_sessions(engine: &Engine) -> bool
+    ensures { result ≡ nat_le (length engine.now.seats) most_sessions }
 {
-    steps.iter().all(|step| step.session == *session)
+    engine.seats().len() <= MOST_SESSIONS
 }
 
-/// Answers the steps one after the other, each by a line.
-fn answer_all(
+fn let_go<T: Drop>(_value: T) {}
+
+/// Runs the events one after the other, and writes what each is answered, and then what they leave.
+#[tactic(auto, using(crate::proofs::Printing::closes))]
+fn print_run<W: Write>(
     alloc: Global,
-    limit: u64,
-    standing: &mut Standing,
+    engine: &mut Engine,
     steps: &[Step],
-    report: &mut Report,
-) -> Result<(), Refusal>
-    requires { standing.old.commits ≤ limit }
-    ensures only_memory { IsOkUnless result NoMemory }
-    ensures printed { OnOk result (report.new ≡ report.old ++ lines limit standing.old steps.now) }
-    ensures led { OnOk result (standing.new ≡ standing_after limit standing.old steps.now) }
+    out: &mut W,
+) -> Result<(), ProgramFault>
+    ensures written { OnOk result (PrintsRun engine.old steps.now (W.contents out.old) (W.contents out.new)) }
+    ensures late { IfErr result IsInTheRun }
+{
+    let mut lines = Report::new(alloc);
+    print_answers(engine, steps, &mut lines, out)?;
+    print_ending(alloc, engine, &mut lines, out)
+}
+
+/// Runs the events one after the other, and writes what each is answered.
+#[tactic(auto, using(crate::proofs::Printing::begins, crate::proofs::Printing::goes_on, crate::proofs::Printing::ends))]
+fn print_answers<W: Write>(
+    engine: &mut Engine,
+    steps: &[Step],
+    lines: &mut Report,
+    out: &mut W,
+) -> Result<(), ProgramFault>
+    ensures written { OnOk result (PrintsAnswers engine.old steps.now engine.new (W.contents out.old) (W.contents out.new)) }
+    ensures late { IfErr result IsInTheRun }
 {
     for step in steps {
-        let answer = standing.answer(alloc, limit, &step.event)?;
-        report.answer(step, &answer)?;
+        print_answer(engine, step, lines, out)?;
     }
     Ok(())
 }
 
-/// The line of the transaction that the session left open, if it did.
-fn close(report: &mut Report, steps: &[Step], left: &Option<Txn>) -> Result<(), Refusal>
-    ensures only_memory { IsOkUnless result NoMemory }
-    ensures closed { OnOk result (report.new ≡ report.old ++ last_line steps.now left.now) }
+/// Runs an event, and writes what it is answered.
+fn print_answer<W: Write>(
+    engine: &mut Engine,
+    step: &Step,
+    lines: &mut Report,
+    out: &mut W,
+) -> Result<(), ProgramFault>
+    ensures written { OnOk result (PrintsAnswer engine.old step.now engine.new (W.contents out.old) (W.contents out.new)) }
+    ensures late { IfErr result IsInTheRun }
 {
-    if left.is_none() {
-        return Ok(());
-    }
-    match steps.first() {
-        None => Ok(()),
-        Some(first) => {
-            report.left_open(&first.session)?;
-            Ok(())
-        }
-    }
+    let answer = engine.answer(step);
+    let written = write_answer(step, &answer, lines, out);
+    let_go(answer);
+    written
 }
 
-/// Writes all bytes and flushes the writer.
-fn write_whole<W: Write>(bytes: &[u8], out: &mut W) -> Result<(), ProgramFault>
+/// Writes the lines of an answer.
+fn write_answer<W: Write>(
+    step: &Step,
+    answer: &Answer,
+    lines: &mut Report,
+    out: &mut W,
+) -> Result<(), ProgramFault>
+    ensures written { OnOk result (Appends (W.contents out.old) (W.contents out.new) (answer_line step.now answer.now)) }
+    ensures late { IfErr result IsInTheRun }
+{
+    lines.clear();
+    if lines.answer(step, answer).is_err() {
+        return Err(ProgramFault::Stopped);
+    }
+    write_all(lines.as_bytes(), out)
+}
+
+/// Writes a line for each transaction that is open in the end, and the closing part, and flushes the writer.
+fn print_ending<W: Write>(
+    alloc: Global,
+    engine: &Engine,
+    lines: &mut Report,
+    out: &mut W,
+) -> Result<(), ProgramFault>
+    ensures written { OnOk result (Appends (W.contents out.old) (W.contents out.new) (ending engine.now)) }
+    ensures late { IfErr result IsInTheRun }
+{
+    lines.clear();
+    if end(alloc, engine, lines).is_err() {
+        return Err(ProgramFault::Stopped);
+    }
+    write_all(lines.as_bytes(), out)?;
+    flush(out)
+}
+
+/// Adds what stands behind the answers.
+fn end(alloc: Global, engine: &Engine, lines: &mut Report) -> Result<(), AllocError>
+    ensures { OnOk result (lines.new ≡ lines.old ++ ending engine.now) }
+{
+    leave_open(engine.seats(), lines)?;
+    close(alloc, engine.core(), lines)
+}
+
+/// Adds a line for each transaction that is open.
+fn leave_open(seats: &[Seat], lines: &mut Report) -> Result<(), AllocError>
+    ensures { OnOk result (lines.new ≡ lines.old ++ left_lines seats.now) }
+{
+    for seat in seats {
+        leave_seat(seat, lines)?;
+    }
+    Ok(())
+}
+
+fn leave_seat(seat: &Seat, lines: &mut Report) -> Result<(), AllocError>
+    ensures { OnOk result (lines.new ≡ lines.old ++ left_line seat.now.session seat.now.txn) }
+{
+    if seat.txn.is_some() {
+        lines.left_open(&seat.session)?;
+    }
+    Ok(())
+}
+
+/// Adds the closing part.
+fn close(alloc: Global, core: &Core, lines: &mut Report) -> Result<(), AllocError>
+    ensures { OnOk result (lines.new ≡ lines.old ++ closing core.now) }
+{
+    let newest = core.newest();
+    let truths = truths(alloc, newest)?;
+    lines.close(
+        core.records(),
+        core.serial_order(),
+        core.refused(),
+        newest.assertions(),
+        truths.as_slice(),
+    )
+}
+
+/// The truth of each assertion on the tables.
+fn truths(alloc: Global, tables: &View) -> Result<Vec<Truth>, AllocError>
+    ensures { IfOk result (λ found. found.items ≡ truths tables.now) }
+{
+    let mut found = Vec::new(alloc);
+    for place in 0..tables.assertions().len() {
+        found.push(tables.verdict(place))?;
+    }
+    Ok(found)
+}
+
+fn write_all<W: Write>(bytes: &[u8], out: &mut W) -> Result<(), ProgramFault>
     ensures written { OnOk result (Appends (W.contents out.old) (W.contents out.new) bytes.now) }
     ensures output { IfErr result (λ fault. fault ≡ Output) }
 {
     match out.write_all(bytes) {
         Err(_) => Err(ProgramFault::Output),
-        Ok(()) => flushed(out),
+        Ok(()) => Ok(()),
     }
 }
 
-fn flushed<W: Write>(out: &mut W) -> Result<(), ProgramFault>
+fn flush<W: Write>(out: &mut W) -> Result<(), ProgramFault>
     ensures kept { OnOk result (Keeps (W.contents out.old) (W.contents out.new)) }
     ensures output { IfErr result (λ fault. fault ≡ Output) }
 {

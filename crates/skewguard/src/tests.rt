@@ -35,6 +35,7 @@ fn written(alloc: Global, defs: &str, script: &str, most: u64) -> Result<Vec<u8>
     match fault {
         ProgramFault::Defs(refusal) => line.refusal("DEFS", &refusal)?,
         ProgramFault::Script(refusal) => line.refusal("SCRIPT", &refusal)?,
+        ProgramFault::Stopped => return Err(Fail::from("memory ended the run")),
         ProgramFault::Output => return Err(Fail::from("the writer took no bytes")),
     }
     out.extend_from_slice(line.as_bytes())?;
@@ -70,7 +71,9 @@ fn grouped_count(rt: HostRuntime) -> Result<(), Fail> {
         AT_MOST_TWO,
         "A: BEGIN; A: INSERT INTO DUTY VALUES (3, 7); A: DELETE FROM DUTY WHERE ID = 1; A: INSERT INTO DUTY VALUES (3, 7);
          A: INSERT INTO DUTY VALUES (2, 8); A: VERDICT ATMOST2; A: COMMIT;",
-        "A: BEGIN 0\nA: REFUSED 10 23000 ATMOST2 7\nA: DELETE 1\nA: INSERT 1\nA: REFUSED 7 23000 DUTY 2\nA: VERDICT ATMOST2 TRUE\nA: COMMIT 1\n",
+        "A: BEGIN 0\nA: REFUSED 10 23000 ATMOST2 7\nA: DELETE 1\nA: INSERT 1\nA: REFUSED 7 23000 DUTY 2\n\
+         A: VERDICT ATMOST2 TRUE\nA: COMMIT 1\n\
+         COMMITS 1\n1 A SNAPSHOT 0 ROWS 2\nSERIAL 1\nREFUSED 0\nASSERTIONS 1\nATMOST2 TRUE\n",
     )
 }
 
@@ -89,9 +92,20 @@ fn grouped_count_false_at_creation(rt: HostRuntime) -> Result<(), Fail> {
 #[test]
 fn commit_twice(rt: HostRuntime) -> Result<(), Fail> {
     let script = "A: BEGIN; A: COMMIT; A: COMMIT;";
-    let want = "A: BEGIN 0\nA: COMMIT 1\nA: REFUSED 14 - NO TRANSACTION\n";
-    prints(&rt, AT_MOST_TWO, script, want)?;
-    prints(&rt, TABLES, script, want)
+    prints(
+        &rt,
+        AT_MOST_TWO,
+        script,
+        "A: BEGIN 0\nA: COMMIT 1\nA: REFUSED 14 - NO TRANSACTION\n\
+         COMMITS 1\n1 A SNAPSHOT 0 ROWS 0\nSERIAL 1\nREFUSED 0\nASSERTIONS 1\nATMOST2 TRUE\n",
+    )?;
+    prints(
+        &rt,
+        TABLES,
+        script,
+        "A: BEGIN 0\nA: COMMIT 1\nA: REFUSED 14 - NO TRANSACTION\n\
+         COMMITS 1\n1 A SNAPSHOT 0 ROWS 0\nSERIAL 1\nREFUSED 0\nASSERTIONS 0\n",
+    )
 }
 
 #[test]
@@ -112,7 +126,9 @@ fn a_shift_is_covered_before_it_is_there(rt: HostRuntime) -> Result<(), Fail> {
         COVER,
         "A: BEGIN; A: INSERT INTO SHIFTS VALUES (7); A: INSERT INTO DUTY VALUES (1, 7, 1); A: INSERT INTO SHIFTS VALUES (7);
          A: DELETE FROM DUTY WHERE ONCALL = 1; A: DELETE FROM SHIFTS; A: DELETE FROM DUTY WHERE ONCALL = 1; A: COMMIT;",
-        "A: BEGIN 0\nA: REFUSED 10 23000 COVER 7\nA: INSERT 1\nA: INSERT 1\nA: REFUSED 10 23000 COVER 7\nA: DELETE 1\nA: DELETE 1\nA: COMMIT 1\n",
+        "A: BEGIN 0\nA: REFUSED 10 23000 COVER 7\nA: INSERT 1\nA: INSERT 1\nA: REFUSED 10 23000 COVER 7\n\
+         A: DELETE 1\nA: DELETE 1\nA: COMMIT 1\n\
+         COMMITS 1\n1 A SNAPSHOT 0 ROWS 0\nSERIAL 1\nREFUSED 0\nASSERTIONS 1\nCOVER TRUE\n",
     )
 }
 
@@ -122,7 +138,8 @@ fn null_group(rt: HostRuntime) -> Result<(), Fail> {
         &rt,
         "CREATE ASSERTION FUNDS CHECK (NOT EXISTS (SELECT OWNER FROM ACCT GROUP BY OWNER HAVING SUM(BAL) < 0));",
         "A: BEGIN; A: INSERT INTO ACCT VALUES (1, NULL, 5); A: INSERT INTO ACCT VALUES (2, NULL, -6);",
-        "A: BEGIN 0\nA: INSERT 1\nA: REFUSED 10 23000 FUNDS NULL\nA: ROLLBACK AT END\n",
+        "A: BEGIN 0\nA: INSERT 1\nA: REFUSED 10 23000 FUNDS NULL\nA: ROLLBACK AT END\n\
+         COMMITS 0\nSERIAL\nREFUSED 0\nASSERTIONS 1\nFUNDS TRUE\n",
     )
 }
 
@@ -133,19 +150,26 @@ fn least_balance_removed(rt: HostRuntime) -> Result<(), Fail> {
         "INSERT INTO ACCT VALUES (1, 'KIM', 3); INSERT INTO ACCT VALUES (2, 'KIM', 3); INSERT INTO ACCT VALUES (3, 'KIM', 8);
          CREATE ASSERTION HIGH CHECK (NOT EXISTS (SELECT OWNER FROM ACCT GROUP BY OWNER HAVING MIN(BAL) > 5));",
         "A: BEGIN; A: DELETE FROM ACCT WHERE ID = 1; A: DELETE FROM ACCT WHERE ID = 2;",
-        "A: BEGIN 0\nA: DELETE 1\nA: REFUSED 10 23000 HIGH 'KIM'\nA: ROLLBACK AT END\n",
+        "A: BEGIN 0\nA: DELETE 1\nA: REFUSED 10 23000 HIGH 'KIM'\nA: ROLLBACK AT END\n\
+         COMMITS 0\nSERIAL\nREFUSED 0\nASSERTIONS 1\nHIGH TRUE\n",
     )
 }
 
 #[test]
 fn sum_of_nothing_is_unknown(rt: HostRuntime) -> Result<(), Fail> {
     let cap = "CREATE ASSERTION CAP CHECK ((SELECT SUM(BAL) FROM ACCT) <= 100);";
-    prints_over_tables(&rt, cap, "", "")?;
+    prints_over_tables(
+        &rt,
+        cap,
+        "",
+        "COMMITS 0\nSERIAL\nREFUSED 0\nASSERTIONS 1\nCAP UNKNOWN\n",
+    )?;
     prints_over_tables(
         &rt,
         cap,
         "A: BEGIN; A: VERDICT CAP; A: INSERT INTO ACCT VALUES (1, 'KIM', 100); A: VERDICT CAP; A: INSERT INTO ACCT VALUES (2, 'LEE', 1);",
-        "A: BEGIN 0\nA: VERDICT CAP UNKNOWN\nA: INSERT 1\nA: VERDICT CAP TRUE\nA: REFUSED 10 23000 CAP ALL\nA: ROLLBACK AT END\n",
+        "A: BEGIN 0\nA: VERDICT CAP UNKNOWN\nA: INSERT 1\nA: VERDICT CAP TRUE\nA: REFUSED 10 23000 CAP ALL\nA: ROLLBACK AT END\n\
+         COMMITS 0\nSERIAL\nREFUSED 0\nASSERTIONS 1\nCAP UNKNOWN\n",
     )
 }
 
@@ -161,7 +185,8 @@ fn too_wide(rt: HostRuntime) -> Result<(), Fail> {
         &rt,
         "CREATE ASSERTION W CHECK ((SELECT SUM(BAL) FROM ACCT) * 4000 > 0);",
         "A: BEGIN; A: VERDICT W;",
-        "A: BEGIN 0\nA: VERDICT W UNKNOWN\nA: ROLLBACK AT END\n",
+        "A: BEGIN 0\nA: VERDICT W UNKNOWN\nA: ROLLBACK AT END\n\
+         COMMITS 0\nSERIAL\nREFUSED 0\nASSERTIONS 1\nW UNKNOWN\n",
     )
 }
 
@@ -171,7 +196,8 @@ fn bound_at_the_limit(rt: HostRuntime) -> Result<(), Fail> {
         &rt,
         "INSERT INTO ACCT VALUES (1, 'KIM', 1); INSERT INTO ACCT VALUES (2, 'KIM', 0);",
         "A: BEGIN; A: DELETE FROM ACCT WHERE BAL * BAL * 67108865 > 0; A: DELETE FROM ACCT WHERE BAL * BAL * 67108864 > 0;",
-        "A: BEGIN 0\nA: REFUSED 18 - TOO WIDE\nA: DELETE 1\nA: ROLLBACK AT END\n",
+        "A: BEGIN 0\nA: REFUSED 18 - TOO WIDE\nA: DELETE 1\nA: ROLLBACK AT END\n\
+         COMMITS 0\nSERIAL\nREFUSED 0\nASSERTIONS 0\n",
     )
 }
 
@@ -179,14 +205,16 @@ fn bound_at_the_limit(rt: HostRuntime) -> Result<(), Fail> {
 fn attribute_clash(rt: HostRuntime) -> Result<(), Fail> {
     let funds =
         "CREATE ASSERTION FUNDS CHECK (NOT EXISTS (SELECT OWNER FROM ACCT GROUP BY OWNER HAVING SUM(BAL) < 0))";
+    let taken =
+        "A: BEGIN 0\nA: ROLLBACK AT END\nCOMMITS 0\nSERIAL\nREFUSED 0\nASSERTIONS 1\nFUNDS TRUE\n";
     for (attributes, want) in [
         (
             "INITIALLY DEFERRED NOT DEFERRABLE",
             "DEFS: REFUSED 22 - FUNDS\n",
         ),
-        ("INITIALLY DEFERRED", "A: BEGIN 0\nA: ROLLBACK AT END\n"),
-        ("NOT DEFERRABLE", "A: BEGIN 0\nA: ROLLBACK AT END\n"),
-        ("", "A: BEGIN 0\nA: ROLLBACK AT END\n"),
+        ("INITIALLY DEFERRED", taken),
+        ("NOT DEFERRABLE", taken),
+        ("", taken),
     ] {
         let more = format!(in rt.alloc(); "{funds} {attributes};")?;
         prints_over_tables(&rt, more.as_str(), "A: BEGIN;", want)?;
@@ -213,7 +241,8 @@ fn epoch_full(rt: HostRuntime) -> Result<(), Fail> {
         1,
     )?;
     let want =
-        "A: BEGIN 0\nA: INSERT 1\nA: COMMIT 1\nA: BEGIN 1\nA: SELECT 1\n  1\nA: REFUSED 17 - EPOCH FULL\n";
+        "A: BEGIN 0\nA: INSERT 1\nA: COMMIT 1\nA: BEGIN 1\nA: SELECT 1\n  1\nA: REFUSED 17 - EPOCH FULL\n\
+         COMMITS 1\n1 A SNAPSHOT 0 ROWS 1\nSERIAL 1\nREFUSED 1\nA 17 - EPOCH FULL\nASSERTIONS 0\n";
     assert_eq!(rt; got.as_slice(), want.as_bytes());
     Ok(())
 }
@@ -226,7 +255,9 @@ fn groups_of_null_and_of_nothing(rt: HostRuntime) -> Result<(), Fail> {
         AT_MOST_TWO,
         "A: BEGIN; A: INSERT INTO DUTY VALUES (3, NULL); A: INSERT INTO DUTY VALUES (4, NULL); A: INSERT INTO DUTY (ID) VALUES (5);
          A: DELETE FROM DUTY WHERE SHIFT = 7; A: DELETE FROM DUTY; A: ROLLBACK WORK; A: BEGIN;",
-        "A: BEGIN 0\nA: INSERT 1\nA: INSERT 1\nA: REFUSED 10 23000 ATMOST2 NULL\nA: DELETE 2\nA: DELETE 2\nA: ROLLBACK\nA: BEGIN 0\nA: ROLLBACK AT END\n",
+        "A: BEGIN 0\nA: INSERT 1\nA: INSERT 1\nA: REFUSED 10 23000 ATMOST2 NULL\nA: DELETE 2\nA: DELETE 2\n\
+         A: ROLLBACK\nA: BEGIN 0\nA: ROLLBACK AT END\n\
+         COMMITS 0\nSERIAL\nREFUSED 0\nASSERTIONS 1\nATMOST2 TRUE\n",
     )?;
     // A group that was emptied is none: no group is left of which COUNT(*) < 1 could be true.
     prints(
@@ -234,7 +265,9 @@ fn groups_of_null_and_of_nothing(rt: HostRuntime) -> Result<(), Fail> {
         "CREATE TABLE T (K INT PRIMARY KEY, G INT); CREATE ASSERTION SOME1 CHECK (NOT EXISTS (SELECT G FROM T GROUP BY G HAVING COUNT(*) < 1));
          INSERT INTO T VALUES (1, 5);",
         "A: BEGIN; A: DELETE FROM T WHERE K = 1; A: VERDICT SOME1; A: COMMIT WORK; A: BEGIN; A: COMMIT;",
-        "A: BEGIN 0\nA: DELETE 1\nA: VERDICT SOME1 TRUE\nA: COMMIT 1\nA: BEGIN 1\nA: COMMIT 2\n",
+        "A: BEGIN 0\nA: DELETE 1\nA: VERDICT SOME1 TRUE\nA: COMMIT 1\nA: BEGIN 1\nA: COMMIT 2\n\
+         COMMITS 2\n1 A SNAPSHOT 0 ROWS 1\n2 A SNAPSHOT 1 ROWS 0\nSERIAL 1 2\nREFUSED 0\nASSERTIONS 1\n\
+         SOME1 TRUE\n",
     )
 }
 
@@ -245,18 +278,11 @@ fn statements_are_refused_in_order(rt: HostRuntime) -> Result<(), Fail> {
         AT_MOST_TWO,
         "A: COMMIT; A: ROLLBACK; A: VERDICT ATMOST2; A: BEGIN; A: BEGIN; A: INSERT INTO NONE VALUES (1); A: INSERT INTO DUTY VALUES (1);
          A: INSERT INTO DUTY VALUES (NULL, 7); A: DELETE FROM NONE; A: DELETE FROM DUTY WHERE NONE = 1; A: VERDICT NONE;",
-        "A: REFUSED 14 - NO TRANSACTION\nA: REFUSED 14 - NO TRANSACTION\nA: REFUSED 14 - NO TRANSACTION\nA: BEGIN 0\nA: REFUSED 15 - TRANSACTION OPEN\n\
-         A: REFUSED 3 - NONE\nA: REFUSED 5 - TYPE\nA: REFUSED 6 23000 ID\nA: REFUSED 3 - NONE\nA: REFUSED 3 - NONE\nA: REFUSED 3 - NONE\nA: ROLLBACK AT END\n",
-    )
-}
-
-#[test]
-fn a_second_session_is_not_run_yet(rt: HostRuntime) -> Result<(), Fail> {
-    prints(
-        &rt,
-        AT_MOST_TWO,
-        "A: BEGIN; B: BEGIN;",
-        "SCRIPT: REFUSED 20 - OUTSIDE CLASS\n",
+        "A: REFUSED 14 - NO TRANSACTION\nA: REFUSED 14 - NO TRANSACTION\nA: REFUSED 14 - NO TRANSACTION\n\
+         A: BEGIN 0\nA: REFUSED 15 - TRANSACTION OPEN\nA: REFUSED 3 - NONE\nA: REFUSED 5 - TYPE\n\
+         A: REFUSED 6 23000 ID\nA: REFUSED 3 - NONE\nA: REFUSED 3 - NONE\nA: REFUSED 3 - NONE\n\
+         A: ROLLBACK AT END\n\
+         COMMITS 0\nSERIAL\nREFUSED 0\nASSERTIONS 1\nATMOST2 TRUE\n",
     )
 }
 
@@ -266,7 +292,7 @@ fn faults_come_in_order(rt: HostRuntime) -> Result<(), Fail> {
     let unknown =
         "CREATE ASSERTION R CHECK (NOT EXISTS (SELECT G FROM U GROUP BY G HAVING COUNT(*) = 9));";
     for (defs, script, want) in [
-        ("", "", ""),
+        ("", "", "COMMITS 0\nSERIAL\nREFUSED 0\nASSERTIONS 0\n"),
         (";", "A: BEGIN", "DEFS: REFUSED 2 - SYNTAX 0\n"),
         (unknown, "A: BEGIN", "SCRIPT: REFUSED 2 - SYNTAX 8\n"),
         (unknown, "A: BEGIN; B: BEGIN;", "DEFS: REFUSED 3 - U\n"),

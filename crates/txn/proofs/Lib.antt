@@ -3,3 +3,4 @@ mod Holding
 mod Modes
 mod Naming
 mod Putting
+pub mod Fits

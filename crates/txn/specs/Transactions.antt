@@ -46,9 +46,14 @@ step_of t statement = stepped t.declared t.start (standing_of t) statement
 abbrev pub with_statement : OpenTransaction → Resolved → OpenTransaction
 with_statement t statement = record t { trace = t.trace ++ statement ∷ [] }
 
+-- a transaction that began on these tables, and has run these statements
+abbrev pub opened : (ticket snapshot : ℕ) → Shown → List Resolved → OpenTransaction
+opened ticket snapshot shown trace =
+    record { declared = shown.declared; ticket = ticket; snapshot = snapshot; start = shown.state; trace = trace }
+
 -- before its first statement
 abbrev pub begun : (ticket snapshot : ℕ) → Shown → OpenTransaction
-begun ticket snapshot shown = record { declared = shown.declared; ticket = ticket; snapshot = snapshot; start = shown.state; trace = [] }
+begun ticket snapshot shown = opened ticket snapshot shown []
 
 -- whether an assertion is false on what a view shows
 abbrev pub is_false_on : Shown → Assertion → Bool

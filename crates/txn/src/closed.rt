@@ -1,41 +1,63 @@
 //! Transactions that go to COMMIT.
 
-ghost use Rattle.std.specs.Prelude.{◌≡◌, OnErr, IfErr, IfOk};
+ghost use Rattle.std.specs.Prelude.{◌≡◌, All};
 ghost use Rattle.std.specs.Option.{option_copied};
-ghost use Rattle.value.specs.declared.refusals.Refusal.TheVariants.{NoMemory};
-ghost use Rattle.txn.specs.Transactions.{outcome_of, own_view};
+ghost use Rattle.assertion.specs.Declarations.{layouts_in};
+ghost use Rattle.delta.specs.Views.{IsFitting};
+ghost use Rattle.txn.specs.Transactions.{keys_of, outcome_of, own_view};
 
 use crate::txns::Txn;
+use alone::Resolved;
 use delta::View;
+use modes::Modes;
+use net::Touched;
 use siread::LockKey;
 use std::marker::Model;
 use table::Change;
 use value::Refusal;
 
 /// A transaction that goes to COMMIT: its net change, the refusal by the first assertion that is false on its own view, if one
-/// is, and what it has read, this check included. It must be spent, as the [`Txn`] that it was.
+/// is, and what it has read, this check included. It must be spent: as the [`Txn`] that it was, or in its [`Parts`].
 pub struct Closed {
-    pub(crate) txn: Txn,
+    pub(crate) ticket: u64,
+    pub(crate) snapshot: u64,
+    pub(crate) start: View,
+    pub(crate) own: View,
+    pub(crate) modes: Modes,
+    pub(crate) trace: Vec<Resolved>,
+    pub(crate) touched: Touched,
     pub(crate) changes: Vec<Change>,
     pub(crate) refused: Option<Refusal>,
-    /// What the check of COMMIT read.
-    pub(crate) checked: Vec<LockKey>,
+    /// What its statements read, and behind that what the check of COMMIT read.
+    pub(crate) reads: Vec<LockKey>,
+    /// How much of it the statements read.
+    pub(crate) run: usize,
+}
+
+/// What is kept of a transaction that is committed: its statements, what it has read, and its net change.
+#[derive(Drop)]
+pub struct Parts {
+    pub trace: Vec<Resolved>,
+    pub reads: Vec<LockKey>,
+    pub changes: Vec<Change>,
 }
 
 impl Model for Closed {
     ghost use Rattle.cond.specs.contracts.conds.Cond as cond_type;
     ghost use Rattle.cond.specs.contracts.exprs.Expr as expr_type;
     ghost use Rattle.std.specs.Coded.{codes};
-    ghost use Rattle.txn.specs.Held.{IsClosed};
-    ghost use Rattle.txn.specs.Transactions.{OpenTransaction};
+    ghost use Rattle.std.specs.Prelude.{take};
+    ghost use Rattle.txn.specs.Held.{IsClosed, IsHeld};
+    ghost use Rattle.txn.specs.Transactions.{OpenTransaction, opened};
 
     ghost Value = { OpenTransaction };
 
     ghost coded = { Prim.hlevel (codes, cond_type.the_row.coded, expr_type.the_row.coded) };
 
-    ghost view = { λ c. c.txn };
+    ghost view = { λ c. opened c.ticket c.snapshot c.start c.trace.items };
 
-    ghost invariant = { λ c. IsClosed c.txn c.changes.items c.refused c.checked.items };
+    ghost invariant = { λ c. IsHeld (opened c.ticket c.snapshot c.start c.trace.items) c.own c.modes c.touched (take c.run c.reads.items)
+        × IsClosed (opened c.ticket c.snapshot c.start c.trace.items) c.changes.items c.refused c.reads.items };
 }
 
 /// Why a transaction could not be closed, and the transaction.
@@ -45,12 +67,28 @@ pub struct Unclosed {
 }
 
 impl Closed {
-    /// The net change: each row in which its own view and the tables of its begin differ, by table and key, with what stood there
-    /// and what is to stand there. It takes no memory.
-    pub fn changes(&self) -> &[Change]
-        ensures { result.now ≡ (outcome_of self.now).changes }
+    /// How many commits its snapshot holds. It takes no memory.
+    pub fn snapshot(&self) -> u64
+        ensures { result ≡ self.now.snapshot }
     {
+        self.snapshot
+    }
+
+    /// The net change: each row in which its own view and the tables of its begin differ, by table and key, with what stood there
+    /// and what is to stand there. Each new row fits its table. It takes no memory.
+    pub fn changes(&self) -> &[Change]
+        ensures net { result.now ≡ (outcome_of self.now).changes }
+        ensures fit { All (IsFitting (layouts_in self.now.declared)) result.now }
+    {
+        let _ = self.own.catalog();
         self.changes.as_slice()
+    }
+
+    /// What it has read, the check of COMMIT included. It takes no memory.
+    pub fn reads(&self) -> &[LockKey]
+        ensures { result.now ≡ keys_of self.now }
+    {
+        self.reads.as_slice()
     }
 
     /// The refusal by the first assertion, in the order of creation, that is false on its own view. It takes no memory.
@@ -60,23 +98,66 @@ impl Closed {
         self.refused.as_ref()
     }
 
+    /// The tables as it sees them. It takes no memory.
+    pub fn own(&self) -> &View
+        ensures { result.now ≡ own_view self.now }
+    {
+        &self.own
+    }
+
     /// The transaction that was closed, open again. It takes no memory.
     pub fn reopen(self) -> Txn
         ensures { result ≡ self }
     {
         let Closed {
-            txn,
+            ticket,
+            snapshot,
+            start,
+            own,
+            modes,
+            trace,
+            touched,
             changes: _,
             refused: _,
-            checked: _,
+            mut reads,
+            run,
         } = self;
-        txn
+        reads.truncate(run);
+        Txn {
+            ticket,
+            snapshot,
+            start,
+            own,
+            modes,
+            trace,
+            touched,
+            reads,
+        }
     }
 
-    /// Its own view of the tables. It takes no memory.
-    pub fn adopt(self) -> View
-        ensures { result ≡ own_view self }
+    /// What is kept of it when it is committed. It takes no memory.
+    pub fn into_parts(self) -> Parts
+        ensures trace { result.trace.items ≡ self.trace }
+        ensures reads { result.reads.items ≡ keys_of self }
+        ensures changes { result.changes.items ≡ (outcome_of self).changes }
     {
-        self.reopen().abandon()
+        let Closed {
+            ticket: _,
+            snapshot: _,
+            start: _,
+            own: _,
+            modes: _,
+            trace,
+            touched: _,
+            changes,
+            refused: _,
+            reads,
+            run: _,
+        } = self;
+        Parts {
+            trace,
+            reads,
+            changes,
+        }
     }
 }

@@ -16,8 +16,9 @@
 //! - [`Txn::verdict`] is the truth of an assertion on the own view, and [`Txn::pending`] names the assertions that
 //!   are false there. Neither enters the trace.
 //! - [`Txn::close_check`] takes it to COMMIT: a [`Closed`] has its net change ([`Closed::changes`]) and the refusal
-//!   by the first assertion that is false ([`Closed::refused`]). [`Closed::adopt`] hands out its own view of the
-//!   tables, and [`Closed::reopen`] opens it again. Where memory runs out, [`Unclosed`] gives it back as it was.
+//!   by the first assertion that is false ([`Closed::refused`]), and what it has read ([`Closed::reads`]).
+//!   [`Closed::into_parts`] hands out what is kept of it when it is committed, and [`Closed::reopen`] opens it again.
+//!   Where memory runs out, [`Unclosed`] gives it back as it was.
 //! - [`Txn::abandon`] ends it, and nothing is kept but its own view.
 //! - [`violation`] is the refusal by the first assertion that is false, of those that are meant: also for tables that
 //!   a transaction is to begin on.
@@ -53,7 +54,7 @@ mod steps;
 mod txns;
 
 pub use checks::violation;
-pub use closed::{Closed, Unclosed};
+pub use closed::{Closed, Parts, Unclosed};
 pub use txns::Txn;
 
 #[cfg(test)]

@@ -328,7 +328,7 @@ fn closed(txn: Txn) -> Result<(usize, bool), Refusal> {
     match txn.close_check() {
         Ok(closed) => {
             let found = (closed.changes().len(), closed.refused().is_some());
-            let_go(closed.adopt());
+            let_go(closed.into_parts());
             Ok(found)
         }
         Err(Unclosed { refusal, txn }) => {

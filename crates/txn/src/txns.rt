@@ -54,15 +54,15 @@ impl Model for Txn {
     ghost use Rattle.cond.specs.contracts.exprs.Expr as expr_type;
     ghost use Rattle.std.specs.Coded.{codes};
     ghost use Rattle.txn.specs.Held.{IsHeld};
-    ghost use Rattle.txn.specs.Transactions.{OpenTransaction};
+    ghost use Rattle.txn.specs.Transactions.{OpenTransaction, opened};
 
     ghost Value = { OpenTransaction };
 
     ghost coded = { Prim.hlevel (codes, cond_type.the_row.coded, expr_type.the_row.coded) };
 
-    ghost view = { λ t. record { declared = t.start.declared; ticket = t.ticket; snapshot = t.snapshot; start = t.start.state; trace = t.trace.items } };
+    ghost view = { λ t. opened t.ticket t.snapshot t.start t.trace.items };
 
-    ghost invariant = { λ t. IsHeld (record { declared = t.start.declared; ticket = t.ticket; snapshot = t.snapshot; start = t.start.state; trace = t.trace.items }) t.own t.modes t.touched t.reads.items };
+    ghost invariant = { λ t. IsHeld (opened t.ticket t.snapshot t.start t.trace.items) t.own t.modes t.touched t.reads.items };
 }
 
 impl Txn {
@@ -217,26 +217,68 @@ impl Txn {
         ensures back { IfErr result (λ fault. fault.txn ≡ self) }
     {
         match self.closing() {
-            Ok(
-                Closing {
-                    changes,
-                    refused,
-                    checked,
-                },
-            ) => Ok(Closed {
-                txn: self,
+            Ok(closing) => self.closed(closing),
+            Err(refusal) => Err(Unclosed { refusal, txn: self }),
+        }
+    }
+
+    /// The transaction with what COMMIT is answered by.
+    fn closed(self, closing: Closing) -> Result<Closed, Unclosed>
+        requires { IsClosed self closing.changes.items closing.refused ((run_of self).reads ++ closing.checked.items) }
+        ensures closed { IfOk result (λ closed. closed ≡ self) }
+        ensures only_memory { IfErr result (λ fault. fault.refusal ≡ NoMemory) }
+        ensures back { IfErr result (λ fault. fault.txn ≡ self) }
+    {
+        let Txn {
+            ticket,
+            snapshot,
+            start,
+            own,
+            modes,
+            trace,
+            touched,
+            mut reads,
+        } = self;
+        let Closing {
+            changes,
+            refused,
+            checked,
+        } = closing;
+        let run = reads.len();
+        match append(&mut reads, checked) {
+            Ok(()) => Ok(Closed {
+                ticket,
+                snapshot,
+                start,
+                own,
+                modes,
+                trace,
+                touched,
                 changes,
                 refused,
-                checked,
+                reads,
+                run,
             }),
-            Err(refusal) => Err(Unclosed { refusal, txn: self }),
+            Err(refusal) => Err(Unclosed {
+                refusal,
+                txn: Txn {
+                    ticket,
+                    snapshot,
+                    start,
+                    own,
+                    modes,
+                    trace,
+                    touched,
+                    reads,
+                },
+            }),
         }
     }
 
     /// What COMMIT is answered by.
     fn closing(&self) -> Result<Closing, Refusal>
         ensures only_memory { IsOkUnless result NoMemory }
-        ensures closed { IfOk result (λ closing. IsClosed self.now closing.changes.items closing.refused closing.checked.items) }
+        ensures closed { IfOk result (λ closing. IsClosed self.now closing.changes.items closing.refused ((run_of self.now).reads ++ closing.checked.items)) }
     {
         let alloc = *self.trace.allocator();
         let changes = net_change(alloc, &self.start, &self.own, &self.touched)?;

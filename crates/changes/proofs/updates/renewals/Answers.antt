@@ -1,4 +1,4 @@
-use Rattle.std.proofs.Common.{◌∙◌, None, ap, sym, subst}
+use Rattle.std.proofs.Common.{◌∙◌, None, sym, subst}
 use Rattle.value.specs.Ordered.{HoldsOf}
 use Rattle.table.specs.declared.rows.Change.{Change}
 use Rattle.table.specs.Rows.{FitsColumns}

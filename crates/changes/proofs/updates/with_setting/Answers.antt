@@ -1,6 +1,4 @@
-use Rattle.std.proofs.Common.{◌≡◌, ◌∙◌, ap, Some, None, sym, subst}
-use Rattle.std.specs.Prelude.{slice_get, slice_set}
-use Rattle.value.specs.declared.values.Value.{Value}
+use Rattle.std.proofs.Common.{◌∙◌, ap, sym, subst}
 use Rattle.table.specs.Rows.{FitsColumn, FitsColumns}
 use Rattle.alone.specs.Statements.{given_fault, given_value}
 use Rattle.changes.proofs.Fitting.{there, not_there, in_row, faultless_fits, fits_set, set_nothing}

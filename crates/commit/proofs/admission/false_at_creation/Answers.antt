@@ -1,18 +1,28 @@
-use Rattle.std.proofs.Common.{◌∙◌, ◌+◌, drop, sym, ap}
+use Rattle.std.proofs.Common.{Some, sym, ap, ◌∙◌}
 use Rattle.assertion.specs.Declarations.{layouts_in}
-use Rattle.txn.specs.Checks.{or_else}
-use Rattle.commit.specs.Admission.{false_at_creation}
-use Rattle.commit.proofs.AdmissionLemmas.{at_place}
+use Rattle.alone.specs.Checks.{violation}
+use Rattle.modes.proofs.Ones.{all_ones}
+use Rattle.commit.proofs.Accepting.{tables_state}
+use Rattle.commit.specs.Admission.{created}
 use Rattle.commit.proofs.admission.false_at_creation.Goals as goal
 
-pub returns-in-Some-clause-first : goal.returns-in-Some-clause-first
-returns-in-Some-clause-first c =
-    ap (λ o. or_else o (false_at_creation (layouts_in c.args.view.now.declared) c.args.view.now.state (drop (c.loop-place.place + 1) c.args.view.now.declared.assertions))) (sym c.in-Some.is)
-    ∙ sym (at_place (layouts_in c.args.view.now.declared) c.args.view.now.state c.args.view.now.declared.assertions c.loop-place.place (rw (c.assertions-place-end.ensures.value) at c.loop-place-test.true) c.in_ok-refusal.field-0 c.in_ok-refusal.ensures.found)
-    ∙ c.loop-place.invariant
+pub returns-in-None-clause-first : goal.returns-in-None-clause-first
+returns-in-None-clause-first c =
+    ap created (sym c.in-None.is
+    ∙ (rw (c.as_slice.ensures, c.in_ok-meant.ensures.modes, c.assertions.ensures.value) at c.in_ok-violation.ensures.first)
+    ∙ ap (λ ones. violation (layouts_in c.args.view.now.declared) ones c.args.view.now.state) (all_ones c.args.view.now.declared.assertions))
 
-pub loop-place-preserved : goal.loop-place-preserved
-loop-place-preserved c =
-    ap (λ o. or_else o (false_at_creation (layouts_in c.args.view.now.declared) c.args.view.now.state (drop (c.loop-place.place + 1) c.args.view.now.declared.assertions))) (sym c.in_default.is)
-    ∙ sym (at_place (layouts_in c.args.view.now.declared) c.args.view.now.state c.args.view.now.declared.assertions c.loop-place.place (rw (c.assertions-place-end.ensures.value) at c.loop-place-test.true) c.in_ok-refusal.field-0 c.in_ok-refusal.ensures.found)
-    ∙ c.loop-place.invariant
+pub returns-in-None-clause-sound : goal.returns-in-None-clause-sound
+returns-in-None-clause-sound c = λ none. record {
+  fit = tables_state (layouts_in c.args.view.now.declared) c.args.view.now.state c.catalog.ensures.tables;
+  good = sym (sym c.in-None.is
+      ∙ (rw (c.as_slice.ensures, c.in_ok-meant.ensures.modes, c.assertions.ensures.value) at c.in_ok-violation.ensures.first)
+      ∙ ap (λ ones. violation (layouts_in c.args.view.now.declared) ones c.args.view.now.state) (all_ones c.args.view.now.declared.assertions));
+}
+
+pub returns-clause-first : goal.returns-clause-first
+returns-clause-first c =
+    ap Some c.at_creation.ensures
+    ∙ ap created (sym c.in-Some.is
+    ∙ (rw (c.as_slice.ensures, c.in_ok-meant.ensures.modes, c.assertions.ensures.value) at c.in_ok-violation.ensures.first)
+    ∙ ap (λ ones. violation (layouts_in c.args.view.now.declared) ones c.args.view.now.state) (all_ones c.args.view.now.declared.assertions))

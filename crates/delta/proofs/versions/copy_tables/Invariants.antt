@@ -1,6 +1,7 @@
 use Rattle.std.proofs.Common.{◌≡◌, take}
+use Rattle.delta.specs.Kept.{AreShort}
 use Rattle.delta.proofs.versions.copy_tables.Given as goal
 
--- the copies so far are the tables so far
-abbrev pub invariant-loop-rows : goal.invariant-loop-rows
-invariant-loop-rows l = l.made.items ≡ take l.rows-index l.tables
+-- the tables so far, which can be counted
+abbrev pub invariant-loop-table : goal.invariant-loop-table
+invariant-loop-table l = record { equal : l.made.items ≡ take l.table l.tables; short : AreShort l.made.items }

@@ -1,4 +1,4 @@
-use Rattle.std.proofs.Common.{◌∙◌, sym, subst}
+use Rattle.std.proofs.Common.{◌∙◌, subst}
 use Rattle.assertion.specs.Declarations.{Declared, layouts_in}
 use Rattle.delta.specs.Views.{AreTables}
 use Rattle.net.proofs.Places.{differences_net}

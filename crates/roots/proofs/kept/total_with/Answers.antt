@@ -1,5 +1,5 @@
 use Rattle.std.proofs.lemmas.Result.{IfOk-weaker}
-use Rattle.std.proofs.Common.{List, [], ◌∷◌, ◌++◌}
+use Rattle.std.proofs.Common.{[], ◌∷◌, ◌++◌}
 use Rattle.groups.specs.Totals.{Entries}
 use Rattle.groups.proofs.RowLemmas.{members_added}
 use Rattle.roots.specs.Shown.{shown}

@@ -1,4 +1,4 @@
-use Rattle.std.proofs.Common.{◌≡◌, ℕ, refl, ◌∙◌, ap, sym, subst, get_or, List, []}
+use Rattle.std.proofs.Common.{◌≡◌, ℕ, refl, ◌∙◌, ap, sym, subst, List, []}
 use Rattle.std.proofs.lemmas.List.{get_or_default}
 use Rattle.value.specs.Ordered.{HasKey, IsAscending}
 use Rattle.value.specs.ValueOrder.{value_cmp}

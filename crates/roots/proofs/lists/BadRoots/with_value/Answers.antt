@@ -1,4 +1,3 @@
-use Rattle.std.proofs.Common.{◌∙◌, ap}
 use Rattle.roots.proofs.ListedLemmas.{under-put, value-put}
 use Rattle.roots.proofs.lists.BadRoots.with_value.Goals as goal
 

@@ -1,7 +1,3 @@
-use Rattle.std.proofs.Common.{◌∙◌, ap, subst, sym}
-use Rattle.value.specs.declared.values.Root.TheVariants.{All}
-use Rattle.value.specs.Ordered.{HoldsOf}
-use Rattle.roots.specs.Listed.{roots_in, AreInPlace}
 use Rattle.roots.proofs.ListedLemmas.{whole-put, whole-kept}
 use Rattle.roots.proofs.lists.BadRoots.with_whole.Goals as goal
 

@@ -1,6 +1,6 @@
 use Rattle.std.proofs.Common.{subst, sym}
 use Rattle.siread.specs.Locks.{readers_at, AreBelow}
-use Rattle.siread.proofs.Steps.{not_in_nil}
+use Rattle.siread.proofs.Members.{not_in_nil}
 use Rattle.siread.proofs.locks.LockTable.new.Goals as goal
 
 pub returns-clause-below : goal.returns-clause-below

@@ -1,0 +1,25 @@
+use Rattle.std.proofs.Common.{◌≡◌, ◌∙◌, false, length, Some, None, ap, sym, subst}
+use Rattle.std.specs.Prelude.{◌==◌}
+use Rattle.std.proofs.lemmas.Bool.{ne_eqb}
+use Rattle.value.specs.declared.refusals.Refusal.{Refusal}
+use Rattle.assertion.specs.Declarations.{layouts_in}
+use Rattle.txn.specs.Transactions.{outcome_of, own_view}
+use Rattle.commit.specs.Cores.{CoreState, record_of}
+use Rattle.commit.specs.Decisions.{IsDecision, IsJudgment}
+use Rattle.commit.specs.contracts.cores.Core as core
+use Rattle.commit.proofs.Deciding.{by_assertion, decided_by, violation_named}
+use Rattle.commit.proofs.cores.Core.decide.Goals as goal
+
+pub returns-in-Some-clause-decided : goal.returns-in-Some-clause-decided
+returns-in-Some-clause-decided c = λ session.
+    let first : Some c.in_ok-refusal.refusal ≡ (outcome_of c.args.closed.now).refused = ap Some c.in_ok-refusal.ensures.equal ∙ c.in-Some.ensures in (
+      by_assertion c.args.self.now (record_of c.args.self.now session c.args.closed.now) (outcome_of c.args.closed.now).refused _ c.in_ok-refusal.refusal first,
+      λ none. violation_named (layouts_in c.args.closed.now.declared) c.args.closed.now.declared.assertions (own_view c.args.closed.now).state (sym first ∙ ap Some none),
+    )
+
+pub returns-clause-decided : goal.returns-clause-decided
+returns-clause-decided c = λ session.
+    subst (λ (s : CoreState). IsDecision s session c.args.closed.now c.in_ok-decision.decision) c.self.view_is
+    (decided_by (core.the_view c.self.inside) session c.args.closed.now c.in_ok-decision.decision c.in_default.ensures
+    (sym (ne_eqb _ _ (λ e. c.if-as_slice-self.false (ap length c.as_slice.ensures.value ∙ e))))
+    (subst (λ (s : CoreState). IsJudgment s (record_of s session c.args.closed.now) c.in_ok-decision.decision) (sym c.self.view_is) (c.in_ok-decision.ensures.judged session)))

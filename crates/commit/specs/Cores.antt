@@ -1,0 +1,110 @@
+-- The committed transactions, and what the next one is answered (Cahill, Röhm and Fekete 2008; Ports and Grittner 2012; that the
+-- first of two writers of a row to commit wins is the rule of snapshot isolation: Berenson and others 1995).
+use Rattle.std.specs.Prelude.{◌≡◌, ◌≢◌, ◌≤◌, ◌+◌, ◌==◌, ◌++◌, ℕ, Bool, true, false, List, [], ◌∷◌, length, map, reverse, slice_get, Option, Some, None, Result, Ok, Err, IsPermutation}
+use Rattle.value.specs.declared.refusals.Party.{Party}
+use Rattle.value.specs.declared.refusals.Party.TheVariants.{This, Number as Numbered}
+use Rattle.value.specs.declared.refusals.Refusal.{Refusal}
+use Rattle.value.specs.declared.refusals.Refusal.TheVariants.{NoMemory, EpochFull, WriteConflict, Dangerous}
+use Rattle.value.specs.declared.values.Value.{Value}
+use Rattle.table.specs.Rows.{names_of}
+use Rattle.assertion.specs.Declarations.{Declared}
+use Rattle.assertion.specs.Meaning.{State}
+use Rattle.answer.specs.declared.answers.RefusedCommit.{RefusedCommit}
+use Rattle.delta.specs.Views.{Shown}
+use Rattle.serial.specs.declared.records.Record.{Record}
+use Rattle.serial.specs.Answer.{IsAnswer, Number, WriteConflict as Overwrites, Dangerous as Triple}
+use Rattle.serial.specs.Epoch.{AnswersAgain, AreRecorded, AreSound, EndsNewest, newest, state_of}
+use Rattle.serial.specs.Order.{serial_order}
+use Rattle.txn.specs.Transactions.{OpenTransaction, keys_of, outcome_of}
+
+-- what was declared and the rows to begin with, the commits in the order of their numbers, and the commits that were refused
+pub record CoreState : Type 0 where
+  pub limit : ℕ
+  pub declared : Declared
+  pub start : State
+  pub records : List Record
+  pub refused : List RefusedCommit
+
+-- the commits, the newest first
+abbrev pub log_of : CoreState → List Record
+log_of c = reverse c.records
+
+-- the tables after so many commits, and after all
+abbrev pub tables_at : CoreState → ℕ → Shown
+tables_at c number = record { declared = c.declared; state = state_of c.declared c.start (log_of c) number }
+
+abbrev pub newest_tables : CoreState → Shown
+newest_tables c = record { declared = c.declared; state = newest c.declared c.start (log_of c) }
+
+-- the numbers of the commits in their serial order
+abbrev pub order_of : CoreState → List ℕ
+order_of c = map (λ (r : Record). r.number) (serial_order (log_of c))
+
+-- a transaction that began on the tables after so many commits
+pub record IsLive (c : CoreState) (t : OpenTransaction) : Type 0 where
+  pub declared_is : t.declared ≡ c.declared
+  pub within : t.snapshot ≤ length c.records
+  pub start_is : t.start ≡ state_of c.declared c.start (log_of c) t.snapshot
+
+-- a transaction as the commit that it would be
+abbrev pub record_of : CoreState → List ℕ → OpenTransaction → Record
+record_of c session t = record {
+  number = length c.records + 1;
+  snapshot = t.snapshot;
+  session = session;
+  trace = t.trace;
+  reads = keys_of t;
+  changes = (outcome_of t).changes;
+}
+
+-- the commit is the pivot of the triple that is named, or its reader
+abbrev pub IsDangerNamed : List Record → Record → Party → Party → Party → Type 0
+IsDangerNamed log commit (Numbered reader) This (Numbered writer) = IsAnswer log commit (Triple reader commit.number writer)
+IsDangerNamed log commit This (Numbered pivot) (Numbered writer) = IsAnswer log commit (Triple commit.number pivot writer)
+IsDangerNamed log commit reader pivot writer = ⊥
+
+-- the row of a write conflict, by the name of its table
+pub record IsConflictNamed (c : CoreState) (commit : Record) (name : List ℕ) (key : Value) (by : ℕ) : Type 0 where
+  pub table : ℕ
+  pub named : slice_get (names_of c.declared.tables) table ≡ Some name
+  pub answer : IsAnswer (log_of c) commit (Overwrites (record { table = table; key = key }) by)
+
+-- what the commits before it make of the next: its number, or the write conflict, or the dangerous triple that it would complete
+abbrev pub IsJudged : CoreState → Record → Result ℕ Refusal → Type 0
+IsJudged c commit (Ok number) = IsAnswer (log_of c) commit (Number number)
+IsJudged c commit (Err (WriteConflict name key by)) = IsConflictNamed c commit name key by
+IsJudged c commit (Err (Dangerous reader pivot writer)) = IsDangerNamed (log_of c) commit reader pivot writer
+IsJudged c commit (Err refusal) = ⊥
+
+-- the first that holds: an assertion is false on the transaction's own view, the epoch is full, or what the commits before it make of it
+abbrev pub IsDecided : CoreState → Record → Option Refusal → Bool → Result ℕ Refusal → Type 0
+IsDecided c commit (Some refusal) full answer = answer ≡ Err refusal
+IsDecided c commit None true answer = answer ≡ Err EpochFull
+IsDecided c commit None false answer = IsJudged c commit answer
+
+-- what COMMIT is answered
+abbrev pub IsCommitAnswer : CoreState → List ℕ → OpenTransaction → Result ℕ Refusal → Type 0
+IsCommitAnswer c session t answer =
+    IsDecided c (record_of c session t) (outcome_of t).refused (length c.records == c.limit) answer
+
+-- one commit more, or one refused commit more
+abbrev pub with_commit : CoreState → Record → CoreState
+with_commit c commit = record c { records = c.records ++ commit ∷ [] }
+
+abbrev pub with_refusal : CoreState → List ℕ → Refusal → CoreState
+with_refusal c session refusal = record c { refused = c.refused ++ record { session = session; refusal = refusal } ∷ [] }
+
+-- a refused COMMIT gives the transaction back where it found no memory, and nothing has changed; else it has ended the transaction
+abbrev pub IsUncommitted : CoreState → List ℕ → OpenTransaction → Refusal → Option OpenTransaction → CoreState → Type 0
+IsUncommitted c session t refusal (Some back) after = (refusal ≡ NoMemory) × (back ≡ t) × (after ≡ c)
+IsUncommitted c session t refusal None after =
+    (refusal ≢ NoMemory) × IsCommitAnswer c session t (Err refusal) × (after ≡ with_refusal c session refusal)
+
+-- The serial order has each commit once. The tables after each number of commits make no assertion false. The committed
+-- transactions, run alone in the serial order, answer what they were answered on their snapshots, and leave the newest tables.
+pub record IsSerializable (c : CoreState) : Type 0 where
+  pub once : IsPermutation (log_of c) (serial_order (log_of c))
+  pub sound : AreSound c.declared c.start (log_of c)
+  pub again : AnswersAgain c.declared c.start (log_of c)
+  pub newest : EndsNewest c.declared c.start (log_of c)
+  pub recorded : AreRecorded c.declared c.start (log_of c)

@@ -1,0 +1,145 @@
+-- What each event of a session is answered, and what it leaves.
+use Rattle.std.specs.Prelude.{◌≡◌, ◌⊎◌, ◌+◌, ℕ, Bool, true, false, List, [], ◌∷◌, ◌++◌, length, All, slice_get, slice_set, Option, Some, None, Result, Ok, Err, if◌then◌else◌}
+use Rattle.std.specs.List.{list_any, position}
+use Rattle.std.specs.Str.{bytes_eq}
+use Rattle.value.specs.Ordered.{HoldsOf}
+use Rattle.value.specs.declared.refusals.Refusal.{Refusal}
+use Rattle.value.specs.declared.refusals.Refusal.TheVariants.{NoMemory, NoTransaction, TooManySessions, TransactionOpen}
+use Rattle.statement_syntax.specs.declared.statements.Statement.{Statement}
+use Rattle.statement_syntax.specs.declared.statements.Step.{Step}
+use Rattle.statement_syntax.specs.declared.statements.Event.{Event}
+use Rattle.statement_syntax.specs.declared.statements.Event.TheVariants.{Begin, Commit, Rollback, Run}
+use Rattle.answer.specs.declared.answers.Answer.{Answer}
+use Rattle.answer.specs.declared.answers.Answer.TheVariants.{Begun, Committed, Refused, Replied, RolledBack}
+use Rattle.answer.specs.declared.answers.Reply.{Reply}
+use Rattle.alone.specs.Resolve.{resolved}
+use Rattle.delta.specs.Views.{Shown}
+use Rattle.txn.specs.Transactions.{OpenTransaction, begun, step_of, with_statement}
+use Rattle.commit.specs.declared.seats.Seat.{Seat}
+use Rattle.commit.specs.Cores.{CoreState, IsCommitAnswer, IsLive, newest_tables, record_of, with_commit, with_refusal}
+
+-- the committed transactions, and the sessions with the open ones
+pub record EngineState : Type 0 where
+  pub core : CoreState
+  pub seats : List Seat
+
+-- the place of a session's seat
+abbrev pub seat_of : List Seat → List ℕ → Option ℕ
+seat_of seats session = position (λ seat. bytes_eq seat.session session) seats
+
+-- the open transaction of a seat, if one is open
+abbrev pub txn_of : Option Seat → Option OpenTransaction
+txn_of None = None
+txn_of (Some seat) = seat.txn
+
+-- each open transaction began on the tables after some number of commits
+pub record AreLive (core : CoreState) (seats : List Seat) : Type 0 where
+  pub each : All (λ (seat : Seat). HoldsOf (IsLive core) seat.txn) seats
+
+-- the answer to a statement
+abbrev pub answer_of : Result Reply Refusal → Answer
+answer_of (Ok reply) = Replied reply
+answer_of (Err refusal) = Refused refusal
+
+-- the answer to a COMMIT
+abbrev pub commit_answer : Result ℕ Refusal → Answer
+commit_answer (Ok number) = Committed number
+commit_answer (Err refusal) = Refused refusal
+
+-- a COMMIT is answered as the commits before it decide
+pub record IsCommitted (core : CoreState) (session : List ℕ) (t : OpenTransaction) (answer : Answer) : Type 0 where
+  pub result : Result ℕ Refusal
+  pub decided : IsCommitAnswer core session t result
+  pub is : answer ≡ commit_answer result
+
+-- a transaction begins on the newest tables
+abbrev pub begin_answer : CoreState → Option OpenTransaction → Answer
+begin_answer core None = Begun (length core.records)
+begin_answer core (Some t) = Refused TransactionOpen
+
+-- a statement is answered as alone in the transaction, whose trace then holds it
+abbrev pub run_answer : Statement → Option OpenTransaction → Answer
+run_answer statement None = Refused NoTransaction
+run_answer statement (Some t) = answer_of (step_of t (resolved t.declared statement)).reply
+
+abbrev pub txn_with : Statement → Option OpenTransaction → Option OpenTransaction
+txn_with statement None = None
+txn_with statement (Some t) = Some (with_statement t (resolved t.declared statement))
+
+abbrev pub rollback_answer : Option OpenTransaction → Answer
+rollback_answer None = Refused NoTransaction
+rollback_answer (Some t) = RolledBack
+
+-- what an event is answered in a session with this transaction open, or none
+abbrev pub IsReply : CoreState → List ℕ → Event → Option OpenTransaction → Answer → Type 0
+IsReply core session Begin txn answer = answer ≡ begin_answer core txn
+IsReply core session (Run statement) txn answer = answer ≡ run_answer statement txn
+IsReply core session Commit None answer = answer ≡ Refused NoTransaction
+IsReply core session Commit (Some t) answer = IsCommitted core session t answer
+IsReply core session Rollback txn answer = answer ≡ rollback_answer txn
+
+-- the transaction that is open then, if one is
+abbrev pub txn_after : CoreState → Event → Option OpenTransaction → Option OpenTransaction
+txn_after core Begin None = Some (begun 0 (length core.records) (newest_tables core))
+txn_after core Begin (Some t) = Some t
+txn_after core (Run statement) txn = txn_with statement txn
+txn_after core Commit txn = None
+txn_after core Rollback txn = None
+
+-- the commits then
+abbrev pub decided_core : CoreState → List ℕ → OpenTransaction → Answer → CoreState
+decided_core core session t (Committed number) = with_commit core (record_of core session t)
+decided_core core session t (Refused refusal) = with_refusal core session refusal
+decided_core core session t answer = core
+
+abbrev pub core_after : CoreState → List ℕ → Event → Option OpenTransaction → Answer → CoreState
+core_after core session Commit None answer = core
+core_after core session Commit (Some t) answer = decided_core core session t answer
+core_after core session Begin txn answer = core
+core_after core session (Run statement) txn answer = core
+core_after core session Rollback txn answer = core
+
+-- the seats with this transaction in one of them, or none there
+abbrev pub seats_set : List Seat → ℕ → Option OpenTransaction → Option Seat → List Seat
+seats_set seats place txn None = seats
+seats_set seats place txn (Some seat) = slice_set seats place (record seat { txn = txn })
+
+abbrev pub seats_with : List Seat → ℕ → Option OpenTransaction → List Seat
+seats_with seats place txn = seats_set seats place txn (slice_get seats place)
+
+-- what an event of the session in a seat is answered; a session without a seat is refused
+abbrev pub IsAnsweredAt : EngineState → List ℕ → Event → Option ℕ → Answer → Type 0
+IsAnsweredAt now session event None answer = answer ≡ Refused TooManySessions
+IsAnsweredAt now session event (Some place) answer = IsReply now.core session event (txn_of (slice_get now.seats place)) answer
+
+-- what it leaves
+abbrev pub after_at : EngineState → List ℕ → Event → Option ℕ → Answer → EngineState
+after_at now session event None answer = now
+after_at now session event (Some place) answer = record {
+  core = core_after now.core session event (txn_of (slice_get now.seats place)) answer;
+  seats = seats_with now.seats place (txn_after now.core event (txn_of (slice_get now.seats place)));
+}
+
+-- an answer, or the refusal for which there is none
+abbrev pub told : Result Answer Refusal → Answer
+told (Ok answer) = answer
+told (Err refusal) = Refused refusal
+
+-- whether no memory was found
+abbrev pub is_no_memory : Refusal → Bool
+is_no_memory NoMemory = true
+is_no_memory refusal = false
+
+abbrev pub found_no_memory : Answer → Bool
+found_no_memory (Refused refusal) = is_no_memory refusal
+found_no_memory answer = false
+
+-- what an event of a session is answered, unless it finds no memory
+abbrev pub IsAnswered : EngineState → Step → Answer → Type 0
+IsAnswered now step answer =
+    (answer ≡ Refused NoMemory) ⊎ IsAnsweredAt now step.session step.event (seat_of now.seats step.session) answer
+
+-- what it leaves; where it found no memory, all as it was
+abbrev pub after : EngineState → Step → Answer → EngineState
+after now step answer =
+    if found_no_memory answer then now else after_at now step.session step.event (seat_of now.seats step.session) answer

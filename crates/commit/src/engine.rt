@@ -1,0 +1,147 @@
+//! Events of many sessions, one after the other.
+
+ghost use Rattle.std.specs.Prelude.{◌≡◌, ◌≤◌, [], true, false, length, take, IfOk, IsOkUnless};
+ghost use Rattle.value.specs.declared.refusals.Refusal.TheVariants.{NoMemory};
+ghost use Rattle.alone.specs.Alone.{IsSound};
+ghost use Rattle.commit.specs.Cores.{IsSerializable};
+ghost use Rattle.commit.specs.Events.{IsAnswered, after, told};
+ghost use Rattle.commit.specs.Runs.{AreAnswers, IsNext, beginning, led_to};
+
+use crate::cores::Core;
+use crate::seats::{Seat, answer_event, place_of, seats_for};
+use answer::Answer;
+use delta::View;
+use statement_syntax::Step;
+use std::alloc::Global;
+use std::marker::Model;
+use value::Refusal;
+
+/// What stands between two events: the committed transactions, and the sessions with the open ones.
+#[derive(Drop)]
+pub struct Engine {
+    core: Core,
+    seats: Vec<Seat>,
+}
+
+impl Model for Engine {
+    ghost use Rattle.cond.specs.contracts.conds.Cond as cond_type;
+    ghost use Rattle.cond.specs.contracts.exprs.Expr as expr_type;
+    ghost use Rattle.std.specs.Coded.{codes};
+    ghost use Rattle.commit.specs.Events.{AreLive, EngineState};
+
+    ghost Value = { EngineState };
+
+    ghost coded = { Prim.hlevel (codes, cond_type.the_row.coded, expr_type.the_row.coded) };
+
+    ghost view = { λ e. record { core = e.core; seats = e.seats.items } };
+
+    ghost invariant = { λ e. AreLive e.core e.seats.items };
+}
+
+/// The answers to events, and what they leave.
+#[derive(Drop)]
+pub struct Outcome {
+    pub answers: Vec<Answer>,
+    pub engine: Engine,
+}
+
+impl Engine {
+    /// Before the first of these events, whose sessions get a seat each, over tables on which no assertion is false, with at most
+    /// so many commits, up to 4,294,967,295. NoMemory is the only error.
+    pub fn new(alloc: Global, limit: u64, loaded: View, steps: &[Step]) -> Result<Engine, Refusal>
+        requires sound { IsSound loaded.declared loaded.state }
+        requires within { limit ≤ 4294967295 }
+        ensures only_memory { IsOkUnless result NoMemory }
+        ensures beginning { IfOk result (λ engine. engine ≡ beginning limit loaded steps.now) }
+    {
+        let seats = seats_for(alloc, steps)?;
+        let core = Core::new(alloc, limit, loaded)?;
+        Ok(Engine { core, seats })
+    }
+
+    /// Answers an event. Where no memory is found, that is the answer, and nothing has changed.
+    pub fn answer(&mut self, step: &Step) -> Answer
+        ensures answered { IsAnswered self.old step.now result }
+        ensures after { self.new ≡ after self.old step.now result }
+    {
+        let Some(place) = place_of(self.seats.as_slice(), &step.session) else {
+            return Answer::Refused(Refusal::TooManySessions);
+        };
+        let answered = answer_event(&mut self.core, &mut self.seats[place], step);
+        told(answered)
+    }
+
+    /// The committed transactions.
+    pub fn core(&self) -> &Core
+        ensures { result.now ≡ self.now.core }
+    {
+        &self.core
+    }
+
+    /// The sessions, in the order of their first events, each with its open transaction, if one is open.
+    pub fn seats(&self) -> &[Seat]
+        ensures { result.now ≡ self.now.seats }
+    {
+        self.seats.as_slice()
+    }
+}
+
+/// Answers events of any sessions, one after the other, from tables on which no assertion is false, with at most so many commits, up
+/// to 4,294,967,295. Should the answers themselves find no memory, the run ends there, and what is answered is the beginning of the
+/// list.
+///
+/// # Errors
+///
+/// [`Refusal::NoMemory`] alone, where it was found before the first event.
+pub fn run(alloc: Global, limit: u64, loaded: View, steps: &[Step]) -> Result<Outcome, Refusal>
+    requires sound { IsSound loaded.declared loaded.state }
+    requires within { limit ≤ 4294967295 }
+    ensures only_memory { IsOkUnless result NoMemory }
+    ensures within { IfOk result (λ outcome. length outcome.answers.items ≤ length steps.now) }
+    ensures answers { IfOk result (λ outcome. AreAnswers (beginning limit loaded steps.now) (take (length outcome.answers.items) steps.now) outcome.answers.items) }
+    ensures left { IfOk result (λ outcome. outcome.engine ≡ led_to (beginning limit loaded steps.now) (take (length outcome.answers.items) steps.now) outcome.answers.items) }
+    ensures serializable { IfOk result (λ outcome. IsSerializable outcome.engine.core) }
+{
+    let mut engine = Engine::new(alloc, limit, loaded, steps)?;
+    let mut answers = Vec::new(alloc);
+    answer_all(&mut engine, steps, &mut answers);
+    engine.core().is_serializable();
+    Ok(Outcome { answers, engine })
+}
+
+/// Answers events up to the first for whose answer there is no room.
+fn answer_all(engine: &mut Engine, steps: &[Step], answers: &mut Vec<Answer>)
+    requires { answers.old.items ≡ [] }
+    ensures within { length answers.new.items ≤ length steps.now }
+    ensures answers { AreAnswers engine.old (take (length answers.new.items) steps.now) answers.new.items }
+    ensures left { engine.new ≡ led_to engine.old (take (length answers.new.items) steps.now) answers.new.items }
+{
+    for step in steps {
+        if !answer_next(engine, step, answers) {
+            return;
+        }
+    }
+}
+
+/// Answers an event, if there is room for the answer.
+fn answer_next(engine: &mut Engine, step: &Step, answers: &mut Vec<Answer>) -> bool
+    ensures answered { result ≡ true → IsNext engine.old step.now answers.old.items engine.new answers.new.items }
+    ensures same { result ≡ false → (engine.new ≡ engine.old) × (answers.new.items ≡ answers.old.items) }
+{
+    if answers.reserve(1).is_err() {
+        return false;
+    }
+    let answer = engine.answer(step);
+    answers.push_reserved(answer);
+    true
+}
+
+/// An answer, or that no memory was found.
+fn told(answered: Result<Answer, Refusal>) -> Answer
+    ensures { result ≡ told answered }
+{
+    match answered {
+        Ok(answer) => answer,
+        Err(refusal) => Answer::Refused(refusal),
+    }
+}

@@ -1,0 +1,179 @@
+//! The sessions' seats, and what an event does in one.
+
+ghost use Rattle.std.specs.Prelude.{◌≡◌, ◌<◌, [], false, length, IfSome, IfOk, IsOkUnless, OnErr, OnOk, Some, None};
+ghost use Rattle.value.specs.Ordered.{HoldsOf};
+ghost use Rattle.value.specs.declared.refusals.Refusal.TheVariants.{NoMemory};
+ghost use Rattle.commit.specs.Cores.{IsLive};
+ghost use Rattle.statement_syntax.specs.declared.statements.Event.TheVariants.{Begin, Commit};
+ghost use Rattle.commit.specs.Events.{IsReply, begin_answer, core_after, found_no_memory, rollback_answer, run_answer, seat_of, txn_after, txn_with};
+ghost use Rattle.commit.specs.Runs.{all_seated, seated};
+
+use crate::cores::{Core, Uncommitted};
+use answer::Answer;
+use statement_syntax::{Event, Statement, Step};
+use std::alloc::Global;
+use std::mem;
+use txn::Txn;
+use value::{Refusal, Text};
+
+/// A session, with its open transaction, if one is open. One that is let go is rolled back.
+pub struct Seat {
+    pub session: Text,
+    pub txn: Option<Txn>,
+}
+
+impl Drop for Seat {
+    fn drop(self) {
+        let Seat { session: _, txn } = self;
+        match txn {
+            Some(txn) => let_go(txn.abandon()),
+            None => {}
+        }
+    }
+}
+
+fn let_go<T: Drop>(_value: T) {}
+
+/// Seats a transaction, or none. One that was open is rolled back.
+fn set_txn(seat: &mut Seat, txn: Option<Txn>)
+    ensures { seat.new ≡ record seat.old { txn = txn } }
+{
+    match mem::replace(&mut seat.txn, txn) {
+        None => {}
+        Some(old) => let_go(old.abandon()),
+    }
+}
+
+/// A seat for each session of some events, in the order of their first events. NoMemory is the only error.
+pub fn seats_for(alloc: Global, steps: &[Step]) -> Result<Vec<Seat>, Refusal>
+    ensures only_memory { IsOkUnless result NoMemory }
+    ensures seats { IfOk result (λ seats. seats.items ≡ all_seated [] steps.now) }
+{
+    let mut seats = Vec::new(alloc);
+    seat_all(&mut seats, steps)?;
+    Ok(seats)
+}
+
+fn seat_all(seats: &mut Vec<Seat>, steps: &[Step]) -> Result<(), Refusal>
+    ensures only_memory { IsOkUnless result NoMemory }
+    ensures seated { OnOk result (seats.new.items ≡ all_seated seats.old.items steps.now) }
+{
+    for step in steps {
+        seat_session(seats, &step.session)?;
+    }
+    Ok(())
+}
+
+/// A seat for a session, if it has none.
+fn seat_session(seats: &mut Vec<Seat>, session: &Text) -> Result<(), Refusal>
+    ensures only_memory { IsOkUnless result NoMemory }
+    ensures seated { OnOk result (seats.new.items ≡ seated seats.old.items session.now) }
+{
+    if place_of(seats, session).is_none() {
+        seats.push(Seat {
+            session: session.copy()?,
+            txn: None,
+        })?;
+    }
+    Ok(())
+}
+
+/// The place of a session's seat. It takes no memory.
+pub fn place_of(seats: &[Seat], session: &Text) -> Option<usize>
+    ensures found { result ≡ seat_of seats.now session.now }
+    ensures within { IfSome result (λ place. place < length seats.now) }
+{
+    seats.iter().position(|seat| seat.session == *session)
+}
+
+/// Answers an event of the session in a seat.
+pub fn answer_event(core: &mut Core, seat: &mut Seat, step: &Step) -> Result<Answer, Refusal>
+    requires live { HoldsOf (IsLive core.old) seat.old.txn }
+    ensures only_memory { IsOkUnless result NoMemory }
+    ensures answered { IfOk result (IsReply core.old step.now.session step.now.event seat.old.txn) }
+    ensures known { IfOk result (λ answer. found_no_memory answer ≡ false) }
+    ensures commits { IfOk result (λ answer. core.new ≡ core_after core.old step.now.session step.now.event seat.old.txn answer) }
+    ensures seat { OnOk result (seat.new ≡ record seat.old { txn = txn_after core.old step.now.event seat.old.txn }) }
+    ensures same { OnErr result ((core.new ≡ core.old) × (seat.new ≡ seat.old)) }
+    ensures live { HoldsOf (IsLive core.new) seat.new.txn }
+{
+    match &step.event {
+        Event::Begin => begin(core, seat),
+        Event::Run(statement) => run(seat, statement),
+        Event::Commit => commit(core, seat, &step.session),
+        Event::Rollback => Ok(roll_back(seat)),
+    }
+}
+
+/// BEGIN: a transaction begins on the newest tables.
+fn begin(core: &Core, seat: &mut Seat) -> Result<Answer, Refusal>
+    requires live { HoldsOf (IsLive core.now) seat.old.txn }
+    ensures only_memory { IsOkUnless result NoMemory }
+    ensures answered { IfOk result (λ answer. answer ≡ begin_answer core.now seat.old.txn) }
+    ensures known { IfOk result (λ answer. found_no_memory answer ≡ false) }
+    ensures seat { OnOk result (seat.new ≡ record seat.old { txn = txn_after core.now Begin seat.old.txn }) }
+    ensures same { OnErr result (seat.new ≡ seat.old) }
+    ensures live { HoldsOf (IsLive core.now) seat.new.txn }
+{
+    if seat.txn.is_some() {
+        return Ok(Answer::Refused(Refusal::TransactionOpen));
+    }
+    let txn = core.begin()?;
+    set_txn(seat, Some(txn));
+    Ok(Answer::Begun(core.records().len() as u64))
+}
+
+/// A statement, in the open transaction.
+fn run(seat: &mut Seat, statement: &Statement) -> Result<Answer, Refusal>
+    ensures only_memory { IsOkUnless result NoMemory }
+    ensures answered { IfOk result (λ answer. answer ≡ run_answer statement.now seat.old.txn) }
+    ensures known { IfOk result (λ answer. found_no_memory answer ≡ false) }
+    ensures seat { OnOk result (seat.new ≡ record seat.old { txn = txn_with statement.now seat.old.txn }) }
+    ensures same { OnErr result (seat.new ≡ seat.old) }
+{
+    match &mut seat.txn {
+        None => Ok(Answer::Refused(Refusal::NoTransaction)),
+        Some(txn) => match txn.execute(statement) {
+            Ok(reply) => Ok(Answer::Replied(reply)),
+            Err(Refusal::NoMemory) => Err(Refusal::NoMemory),
+            Err(refusal) => Ok(Answer::Refused(refusal)),
+        },
+    }
+}
+
+/// COMMIT of the open transaction.
+fn commit(core: &mut Core, seat: &mut Seat, session: &Text) -> Result<Answer, Refusal>
+    requires live { HoldsOf (IsLive core.old) seat.old.txn }
+    ensures only_memory { IsOkUnless result NoMemory }
+    ensures answered { IfOk result (IsReply core.old session.now Commit seat.old.txn) }
+    ensures known { IfOk result (λ answer. found_no_memory answer ≡ false) }
+    ensures commits { IfOk result (λ answer. core.new ≡ core_after core.old session.now Commit seat.old.txn answer) }
+    ensures seat { OnOk result (seat.new ≡ record seat.old { txn = None }) }
+    ensures same { OnErr result ((core.new ≡ core.old) × (seat.new ≡ seat.old)) }
+{
+    let Some(txn) = seat.txn.take() else {
+        return Ok(Answer::Refused(Refusal::NoTransaction));
+    };
+    match core.commit(session, txn) {
+        Ok(number) => Ok(Answer::Committed(number)),
+        Err(Uncommitted { refusal, txn: None }) => Ok(Answer::Refused(refusal)),
+        Err(Uncommitted { refusal, txn }) => {
+            set_txn(seat, txn);
+            Err(refusal)
+        }
+    }
+}
+
+/// ROLLBACK: the open transaction is ended, and nothing of it kept.
+fn roll_back(seat: &mut Seat) -> Answer
+    ensures answered { result ≡ rollback_answer seat.old.txn }
+    ensures seat { seat.new ≡ record seat.old { txn = None } }
+{
+    match seat.txn.take() {
+        None => Answer::Refused(Refusal::NoTransaction),
+        Some(txn) => {
+            let_go(txn.abandon());
+            Answer::RolledBack
+        }
+    }
+}

@@ -1,0 +1,18 @@
+use Rattle.std.proofs.Common.{[], ◌∷◌, nat_eq, refl, sym, ap, ◌∙◌, subst}
+use Rattle.std.specs.List.{IsDistinct}
+use Rattle.conflict.specs.Ordered.{put_number_before}
+use Rattle.conflict.proofs.tests.a_commit_stands_before_its_writer.Goals as goal
+
+one : IsDistinct nat_eq (1 ∷ [])
+unfolding IsDistinct
+one = (tt, tt)
+
+two : IsDistinct nat_eq (2 ∷ 1 ∷ [])
+unfolding IsDistinct
+two = ((refl, tt), (tt, tt))
+
+pub put_in_order-requires : goal.put_in_order-requires
+put_in_order-requires g c = subst (IsDistinct nat_eq) (sym c.in_ok-order.ensures.items) one
+
+pub put_in_order-requires-2 : goal.put_in_order-requires-2
+put_in_order-requires-2 g c = subst (IsDistinct nat_eq) (sym (c.in_ok-put_in_order.ensures.put ∙ ap (put_number_before 1 2) c.in_ok-order.ensures.items)) two

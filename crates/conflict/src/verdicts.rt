@@ -1,0 +1,58 @@
+//! What a candidate is answered by the commits before it.
+
+ghost use Rattle.std.specs.Prelude.{◌≡◌, ◌<◌, ◌+◌, length, map, reverse};
+ghost use Rattle.serial.specs.declared.records.Record.{Record as Commit};
+ghost use Rattle.serial.specs.Commits.{IsLog};
+ghost use Rattle.serial.specs.Order.{least_out};
+ghost use Rattle.conflict.specs.Candidates.{IsOf};
+ghost use Rattle.conflict.specs.Judged.{IsVerdict};
+
+use crate::candidates::Candidate;
+use crate::dangers::{Danger, find_pivot};
+use crate::numbers::{greatest_in, least_out};
+use crate::overwrites::find_write_conflict;
+use serial::{Record, numbers};
+
+/// What a candidate is answered by the commits before it.
+#[derive(Clone, Copy, Debug, PartialEq, Eq)]
+pub enum Verdict {
+    /// It may join them. `place` is the least commit to which it conflicts, or its own number where there is none.
+    Fine { place: u64 },
+    /// `changes[row]` is the first of its changes whose row a commit after the snapshot changed, and `by` the least such
+    /// commit.
+    WriteConflict { row: usize, by: u64 },
+    /// A dangerous triple would have it in it.
+    Dangerous(Danger),
+}
+
+/// What the next candidate is answered by those committed: a write conflict, else a dangerous triple, else that it may
+/// join them. `places` are the least conflicts out of those committed, each kept since that one was judged. It takes no
+/// memory.
+pub fn judge(committed: &[Record], places: &[u64], candidate: &Candidate) -> Verdict
+    requires log { IsLog (reverse committed.now) }
+    requires next { candidate.now.number ≡ length committed.now + 1 }
+    requires after_snapshot { candidate.now.snapshot < candidate.now.number }
+    requires places { places.now ≡ map (least_out (reverse committed.now)) committed.now }
+    ensures { (commit : Commit) → IsOf candidate.now commit → IsVerdict (reverse committed.now) commit result }
+{
+    numbers();
+    let recent = &committed[candidate.snapshot as usize..];
+    if let Some((row, by)) = find_write_conflict(recent, candidate.changes) {
+        return Verdict::WriteConflict { row, by };
+    }
+    let place = least_out(recent, candidate);
+    let reader = greatest_in(recent, candidate);
+    if place <= reader {
+        return Verdict::Dangerous(Danger::AsPivot {
+            reader,
+            writer: place,
+        });
+    }
+    match find_pivot(committed, places, candidate) {
+        None => Verdict::Fine { place },
+        Some((pivot, writer)) => Verdict::Dangerous(Danger::AsReader {
+            pivot: pivot.number,
+            writer,
+        }),
+    }
+}

@@ -1,7 +1,0 @@
-use Rattle.std.proofs.Common.{◌≡◌, take}
-use Rattle.delta.specs.Kept.{AreShort}
-use Rattle.delta.proofs.versions.tables_of.Given as goal
-
--- the tables so far, which can be counted
-abbrev pub invariant-loop-table : goal.invariant-loop-table
-invariant-loop-table l = record { equal : l.made.items ≡ take l.table l.rows; short : AreShort l.made.items }

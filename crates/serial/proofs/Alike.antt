@@ -1,0 +1,72 @@
+-- Of a transaction, conflicts look at its number, its snapshot, its reads and its changes alone.
+use Rattle.std.proofs.Common.{◌≡◌, ℕ, Bool, cond, ltb, leb, eqb, not, min, max, List, [], ◌∷◌, inl, inr, refl, sym, ap, ◌∙◌, ne_eqb, eq-eqb}
+use Rattle.std.specs.Prelude.{Contains, ◌&&◌}
+use Rattle.std.specs.List.{list_any}
+use Rattle.std.proofs.Math.Bool.{and_comm}
+use Rattle.std.proofs.lemmas.Bool.{cases_eq}
+use Rattle.table.specs.declared.rows.Change.{Change}
+use Rattle.siread.specs.declared.keys.LockKey.{LockKey}
+use Rattle.serial.specs.declared.records.Record.{Record}
+use Rattle.serial.specs.Commits.{conflicts_to, overlap, touch_any}
+use Rattle.serial.specs.Numbers.{greatest_in, is_reader, is_reader_of, IsLeastPivot}
+use Rattle.serial.specs.Order.{least_out}
+
+-- they differ in their sessions and statements at most
+pub record Alike (one other : Record) : Type 0 where
+  pub number : one.number ≡ other.number
+  pub snapshot : one.snapshot ≡ other.snapshot
+  pub reads : one.reads ≡ other.reads
+  pub changes : one.changes ≡ other.changes
+
+out_alike : (a b w : Record) → Alike a b → conflicts_to a w ≡ conflicts_to b w
+unfolding conflicts_to
+out_alike a b w e = λ i.
+    (not (eqb (e.number i) w.number) && (ltb w.snapshot (e.number i) && ltb (e.snapshot i) w.number)) && touch_any w.changes (e.reads i)
+
+in_alike : (a b w : Record) → Alike a b → conflicts_to w a ≡ conflicts_to w b
+unfolding conflicts_to
+in_alike a b w e = λ i.
+    (not (eqb w.number (e.number i)) && (ltb (e.snapshot i) w.number && ltb w.snapshot (e.number i))) && touch_any (e.changes i) w.reads
+
+pub least_out_alike : (log : List Record) (a b : Record) → Alike a b → least_out log a ≡ least_out log b
+least_out_alike [] a b e = e.number
+least_out_alike (w ∷ log) a b e =
+    let out = out_alike a b w e in
+    let rest = least_out_alike log a b e in
+    λ i. cond (ltb w.number (e.number i) && out i) (min w.number (rest i)) (rest i)
+
+pub greatest_in_alike : (log : List Record) (a b : Record) → Alike a b → greatest_in log a ≡ greatest_in log b
+greatest_in_alike [] a b e = refl
+greatest_in_alike (w ∷ log) a b e =
+    let from = in_alike a b w e in
+    let rest = greatest_in_alike log a b e in
+    λ i. cond (from i) (max w.number (rest i)) (rest i)
+
+pivot_alike : (log : List Record) (a b p : Record) → Alike a b → is_reader_of log a p ≡ is_reader_of log b p
+pivot_alike log a b p e =
+    let out = out_alike a b p e in
+    λ i. out i && (ltb (least_out log p) p.number && leb (least_out log p) (e.number i))
+
+any_same : {X : Type 0} (test other : X → Bool) (xs : List X) → ((x : X) → test x ≡ other x) → list_any test xs ≡ list_any other xs
+any_same test other xs same = ap (λ t. list_any t xs) (λ i x. same x i)
+
+pub is_reader_alike : (log : List Record) (a b : Record) → Alike a b → is_reader log a ≡ is_reader log b
+is_reader_alike log a b e = any_same (is_reader_of log a) (is_reader_of log b) log (λ p. pivot_alike log a b p e)
+
+pub least_pivot_alike : (log : List Record) (a b p : Record) → Alike a b → IsLeastPivot log a p → IsLeastPivot log b p
+least_pivot_alike log a b p e h = record {
+  listed = h.listed;
+  passes = sym (pivot_alike log a b p e) ∙ h.passes;
+  least = λ other m t. h.least other m (pivot_alike log a b other e ∙ t);
+}
+
+eqb_turned : (m n : ℕ) → eqb m n ≡ eqb n m
+eqb_turned m n = elim (cases_eq m n) [
+  | inl same ↦ eq-eqb m n same ∙ sym (eq-eqb n m (sym same))
+  | inr apart ↦ ne_eqb m n apart ∙ sym (ne_eqb n m (λ e. apart (sym e)))
+]
+
+pub overlap_turned : (a b : Record) → overlap a b ≡ overlap b a
+overlap_turned a b =
+    (λ i. not (eqb_turned a.number b.number i) && (ltb b.snapshot a.number && ltb a.snapshot b.number))
+    ∙ ap (λ x. not (eqb b.number a.number) && x) (and_comm (ltb b.snapshot a.number) (ltb a.snapshot b.number))

@@ -1,0 +1,102 @@
+-- The commits after a snapshot. A number is a place in the log, and a commit conflicts with none that its snapshot holds.
+use Rattle.std.proofs.Common.{◌≡◌, ℕ, suc, ◌<◌, ◌≤◌, Bool, true, false, cond, ltb, leb, min, max, List, [], ◌∷◌, ◌++◌, length, take, drop, refl, sym, ap, ◌∙◌, subst, arith, length-append}
+use Rattle.std.specs.Prelude.{Contains, ◌&&◌}
+use Rattle.std.specs.List.{list_any}
+use mathlib.Core.List.{reverse}
+use Rattle.std.proofs.lemmas.Bool.{false_from_ne_true, or_from, and_right}
+use Rattle.std.proofs.lemmas.List.{take-append-drop, reverse-append, length-reverse, length-take-le}
+use Rattle.alone.proofs.Lists.{Each, Pairs, each_weaker, each_at}
+use Rattle.alone.proofs.Members.{in_left, in_either}
+use Rattle.serial.specs.declared.records.Record.{Record}
+use Rattle.serial.specs.Commits.{IsLog, conflicts_to}
+use Rattle.serial.specs.Numbers.{greatest_in, is_reader_of}
+use Rattle.serial.specs.Order.{least_out}
+use Rattle.serial.proofs.Arranged.{conflict_overlaps}
+use Rattle.serial.proofs.Ranks.{numbers_below, log_falls}
+use Rattle.serial.proofs.Turned.{in_turned, from_turned, pairs_right, pairs_turned}
+
+log_right : (newer older : List Record) → IsLog (newer ++ older) → IsLog older
+log_right [] older h = h
+log_right (c ∷ newer) older h = log_right newer older h.1
+
+numbers_above : (newer older : List Record) → IsLog (newer ++ older) → Each (λ w. length older < w.number) newer
+numbers_above [] older h = tt
+numbers_above (c ∷ newer) older h = (omega (arith, h.0.numbered, length-append newer older), numbers_above newer older h.1)
+
+-- commits in the order of their numbers: those that a snapshot holds, and those after it
+pub record Parts (commits : List Record) (snapshot : ℕ) : Type 0 where
+  pub whole : reverse commits ≡ reverse (drop snapshot commits) ++ reverse (take snapshot commits)
+  pub held : Each (λ w. w.number ≤ snapshot) (reverse (take snapshot commits))
+  pub past : Each (λ w. snapshot < w.number) (reverse (drop snapshot commits))
+  pub rises : Pairs (λ a b. a.number < b.number) (drop snapshot commits)
+
+pub parts : (commits : List Record) (snapshot : ℕ) → IsLog (reverse commits) → snapshot ≤ length commits → Parts commits snapshot
+parts commits snapshot log within =
+    let newer : List Record = reverse (drop snapshot commits) in
+    let older : List Record = reverse (take snapshot commits) in
+    let whole : reverse commits ≡ newer ++ older = ap reverse (sym (take-append-drop snapshot commits)) ∙ reverse-append (take snapshot commits) (drop snapshot commits) in
+    let split : IsLog (newer ++ older) = subst IsLog whole log in
+    let long : length older ≡ snapshot = length-reverse (take snapshot commits) ∙ length-take-le snapshot commits within in
+    let all : Pairs (λ (a b : Record). a.number < b.number) commits = pairs_turned (λ a b. b.number < a.number) commits (log_falls (reverse commits) log) in
+    record {
+      whole = whole;
+      held = each_weaker (λ w. w.number < suc (length older)) (λ w. w.number ≤ snapshot) (λ w l. omega arith) older (numbers_below older (log_right newer older split));
+      past = each_weaker (λ w. length older < w.number) (λ w. snapshot < w.number) (λ w l. omega arith) newer (numbers_above newer older split);
+      rises = pairs_right (λ a b. a.number < b.number) (take snapshot commits) (drop snapshot commits) (subst (Pairs (λ (a b : Record). a.number < b.number)) (sym (take-append-drop snapshot commits)) all);
+    }
+
+pub in_recent : (commits : List Record) (snapshot : ℕ) → Parts commits snapshot → (w : Record) → Contains (reverse commits) w → snapshot < w.number → Contains (drop snapshot commits) w
+in_recent commits snapshot p w m l =
+    in_either (Contains (drop snapshot commits) w) (reverse (drop snapshot commits)) (reverse (take snapshot commits)) w
+    (from_turned (drop snapshot commits) w)
+    (λ o. let k : w.number ≤ snapshot = each_at (λ x. x.number ≤ snapshot) (reverse (take snapshot commits)) p.held w o in absurd (omega arith))
+    (subst (λ o. Contains o w) p.whole m)
+
+pub recent_in : (commits : List Record) (snapshot : ℕ) → Parts commits snapshot → (w : Record) → Contains (drop snapshot commits) w → Contains (reverse commits) w
+recent_in commits snapshot p w m =
+    subst (λ o. Contains o w) (sym p.whole) (in_left (reverse (drop snapshot commits)) (reverse (take snapshot commits)) w (in_turned (drop snapshot commits) w m))
+
+pub recent_past : (commits : List Record) (snapshot : ℕ) → Parts commits snapshot → (w : Record) → Contains (drop snapshot commits) w → snapshot < w.number
+recent_past commits snapshot p w m = each_at (λ x. snapshot < x.number) (reverse (drop snapshot commits)) p.past w (in_turned (drop snapshot commits) w m)
+
+-- what the snapshot holds is in no conflict with the commit
+no_conflict_out : (c w : Record) → w.number ≤ c.snapshot → conflicts_to c w ≡ false
+no_conflict_out c w l = false_from_ne_true (conflicts_to c w) (λ e. let o = conflict_overlaps c w e in omega (arith, o.second))
+
+no_conflict_in : (c w : Record) → w.number ≤ c.snapshot → conflicts_to w c ≡ false
+no_conflict_in c w l = false_from_ne_true (conflicts_to w c) (λ e. let o = conflict_overlaps w c e in omega (arith, o.first))
+
+least_out_held : (older : List Record) (c : Record) → Each (λ w. w.number ≤ c.snapshot) older → least_out older c ≡ c.number
+least_out_held [] c e = refl
+least_out_held (w ∷ older) c e =
+    ap (λ b. cond b (min w.number (least_out older c)) (least_out older c)) (and_right (ltb w.number c.number) (conflicts_to c w) (no_conflict_out c w e.0))
+    ∙ least_out_held older c e.1
+
+least_out_past : (newer older : List Record) (c : Record) → Each (λ w. w.number ≤ c.snapshot) older → least_out (newer ++ older) c ≡ least_out newer c
+least_out_past [] older c e = least_out_held older c e
+least_out_past (v ∷ newer) older c e =
+    ap (λ n. cond (ltb v.number c.number && conflicts_to c v) (min v.number n) n) (least_out_past newer older c e)
+
+greatest_in_held : (older : List Record) (c : Record) → Each (λ w. w.number ≤ c.snapshot) older → greatest_in older c ≡ 0
+greatest_in_held [] c e = refl
+greatest_in_held (w ∷ older) c e =
+    ap (λ b. cond b (max w.number (greatest_in older c)) (greatest_in older c)) (no_conflict_in c w e.0) ∙ greatest_in_held older c e.1
+
+greatest_in_past : (newer older : List Record) (c : Record) → Each (λ w. w.number ≤ c.snapshot) older → greatest_in (newer ++ older) c ≡ greatest_in newer c
+greatest_in_past [] older c e = greatest_in_held older c e
+greatest_in_past (v ∷ newer) older c e = ap (λ n. cond (conflicts_to v c) (max v.number n) n) (greatest_in_past newer older c e)
+
+pub least_out_recent : (commits : List Record) (c : Record) → Parts commits c.snapshot → least_out (reverse commits) c ≡ least_out (reverse (drop c.snapshot commits)) c
+least_out_recent commits c p =
+    ap (λ o. least_out o c) p.whole ∙ least_out_past (reverse (drop c.snapshot commits)) (reverse (take c.snapshot commits)) c p.held
+
+pub greatest_in_recent : (commits : List Record) (c : Record) → Parts commits c.snapshot → greatest_in (reverse commits) c ≡ greatest_in (reverse (drop c.snapshot commits)) c
+greatest_in_recent commits c p =
+    ap (λ o. greatest_in o c) p.whole ∙ greatest_in_past (reverse (drop c.snapshot commits)) (reverse (take c.snapshot commits)) c p.held
+
+pub no_pivot_held : (log : List Record) (c : Record) (older : List Record) → Each (λ w. w.number ≤ c.snapshot) older → list_any (is_reader_of log c) older ≡ false
+no_pivot_held log c [] e = refl
+no_pivot_held log c (w ∷ older) e =
+    or_from (is_reader_of log c w) (list_any (is_reader_of log c) older)
+    (ap (λ b. b && (ltb (least_out log w) w.number && leb (least_out log w) c.number)) (no_conflict_out c w e.0))
+    (no_pivot_held log c older e.1)
