@@ -10,7 +10,7 @@ use Rattle.threeval.specs.declared.Truth.TheVariants.{False}
 use Rattle.threeval.specs.Truths.{is_of}
 use Rattle.table.specs.declared.rows.Change.{Change}
 use Rattle.table.specs.Rows.{RowValues, Layout, value_in}
-use Rattle.table.specs.Aggregates.{is_there, aggregate, group_of}
+use Rattle.table.specs.Aggregates.{is_there, aggregate, rows_of_group}
 use Rattle.cond.specs.declared.conds.Cond.{Cond}
 use Rattle.cond.specs.Eval.{truth, keeps}
 use Rattle.assertion.specs.declared.linked_queries.Linked.{Linked}
@@ -80,7 +80,7 @@ module _ (layouts : List Layout) (one other : State) (f : IsOrdered layouts one)
   bad_row c queries k None e = refl
   bad_row c queries k (Some row) e = ap (λ slots. keeps row slots c) e
 
-  group_same : (table : ℕ) (kept : Cond) (group : ℕ) (v : Value) → Same (InColumn table group v) → group_of group v (kept_rows kept (rows_of table one)) ≡ group_of group v (kept_rows kept (rows_of table other))
+  group_same : (table : ℕ) (kept : Cond) (group : ℕ) (v : Value) → Same (InColumn table group v) → rows_of_group group v (kept_rows kept (rows_of table one)) ≡ rows_of_group group v (kept_rows kept (rows_of table other))
   group_same table kept group v h =
       filter-filter (λ row. same_value v (value_in group row)) (λ row. keeps row [] kept) (rows_of table one)
       ∙ kept_same layouts one other f g table (InColumn table group v) (λ row. keeps row [] kept && same_value v (value_in group row))

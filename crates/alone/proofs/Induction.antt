@@ -25,7 +25,7 @@ use Rattle.alone.specs.declared.statements.Resolved.{Resolved}
 use Rattle.alone.specs.declared.statements.Resolved.TheVariants.{Refused as Refuse, Insert, Update, Delete, Select, SetModes, Verdict}
 use Rattle.answer.specs.declared.answers.Reply.{Reply}
 use Rattle.answer.specs.declared.answers.Reply.TheVariants.{Rows, ModesSet, Verdict as Truthful, Updated}
-use Rattle.alone.specs.Statements.{Effect, columns_of, place_in, found_rows, inserted_at, insert_effect, update_fault, renewal, update_effect, delete_effect, sets_key, listed}
+use Rattle.alone.specs.Statements.{Effect, columns_of, place_in, found_rows, inserted_at, insert_effect, update_fault, renewal, update_effect, delete_effect, sets_key, selected_rows}
 use Rattle.assertion.specs.Declarations.{Declared, layouts_in}
 use Rattle.modes.specs.Modes.{Immediates, is_immediate, is_named, modes_with, assertion_of, initial_modes, immediate_ones, named_ones}
 use Rattle.alone.specs.Alone.{Standing, Step, refused_step, unless_violated, effected, verdict_step, modes_step, unless_key, key_name, stepped, Run, ran, run_on, transaction, transaction_keys, IsSound}
@@ -267,7 +267,7 @@ module _ (declared : Declared) (s o : State) (sound : IsSound declared s) (sound
     statement_same (Select x) under =
         let read : LockKey = where_key x.table (key_of x.table lays) x.kept in
         record {
-          reply = ap (λ rows. Ok (Rows (listed x.columns rows))) (found_same lays u v t.fit.ordered t.fit'.ordered x.table x.kept (alike_under lays s o u v t.alike read (under read (in_head read []))));
+          reply = ap (λ rows. Ok (Rows (selected_rows x.columns rows))) (found_same lays u v t.fit.ordered t.fit'.ordered x.table x.kept (alike_under lays s o u v t.alike read (under read (in_head read []))));
           reads = refl;
           after = (refl, t);
         }

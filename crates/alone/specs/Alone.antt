@@ -18,7 +18,7 @@ use Rattle.alone.specs.declared.statements.Resolved.{Resolved}
 use Rattle.alone.specs.declared.statements.Resolved.TheVariants.{Refused as Refuse, Insert, Update, Delete, Select, SetModes, Verdict}
 use Rattle.answer.specs.declared.answers.Reply.{Reply}
 use Rattle.answer.specs.declared.answers.Reply.TheVariants.{Rows, ModesSet, Verdict as Truthful}
-use Rattle.alone.specs.Statements.{Effect, columns_of, no_column, place_in, found_rows, insert_effect, update_effect, delete_effect, sets_key, listed}
+use Rattle.alone.specs.Statements.{Effect, columns_of, no_column, place_in, found_rows, insert_effect, update_effect, delete_effect, sets_key, selected_rows}
 
 -- a transaction between two statements
 pub record Standing : Type 0 where
@@ -92,7 +92,7 @@ stepped declared start now (Delete d) =
     effected declared now (where_key d.table (key_of d.table (layouts_in declared)) d.kept)
     (Ok (delete_effect d.table (key_of d.table (layouts_in declared)) (found_rows now.view d.table d.kept)))
 stepped declared start now (Select s) = record {
-  reply = Ok (Rows (listed s.columns (found_rows now.view s.table s.kept)));
+  reply = Ok (Rows (selected_rows s.columns (found_rows now.view s.table s.kept)));
   after = now;
   reads = where_key s.table (key_of s.table (layouts_in declared)) s.kept ∷ [];
 }

@@ -102,11 +102,11 @@ abbrev pub sets_key : ℕ → List Setting → Bool
 sets_key key sets = list_any (λ setting. setting.column == key) sets
 
 -- what a SELECT lists of some rows
-abbrev pub listed_row : List ℕ → RowValues → RowValues
-listed_row columns row = map (λ column. value_in column row) columns
+abbrev pub selected_values : List ℕ → RowValues → RowValues
+selected_values columns row = map (λ column. value_in column row) columns
 
-abbrev pub listed : List ℕ → List RowValues → List RowValues
-listed columns rows = map (listed_row columns) rows
+abbrev pub selected_rows : List ℕ → List RowValues → List RowValues
+selected_rows columns rows = map (selected_values columns) rows
 
 -- the rows of a table that a condition keeps, in key order
 abbrev pub found_rows : State → ℕ → Cond → List RowValues

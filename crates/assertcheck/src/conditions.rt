@@ -14,7 +14,7 @@ use sqlite_items::Items;
 use std::alloc::Global;
 use syntax::Condition;
 use table::Catalog;
-use type_check::is_typed;
+use type_check::is_well_typed;
 use value::{Refusal, Text};
 
 /// The table that a statement names.
@@ -58,7 +58,7 @@ fn sound(scope: Scope, made: Cond) -> Result<Cond, Refusal>
     ensures sound { result ≡ sound_condition (shown scope.entry) made }
     ensures bounded { IfOk result (λ made. IsTrue (is_bounded [] made)) }
 {
-    if !is_typed(&made, scope.schema.columns(), &[]) {
+    if !is_well_typed(&made, scope.schema.columns(), &[]) {
         return Err(Refusal::TypeMismatch);
     }
     if !is_bounded(&made, &[]) {

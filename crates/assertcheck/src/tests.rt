@@ -5,7 +5,7 @@ use sqlite_items::{Boxed, Items};
 use statement_syntax::{Attributes, Insert, Mode};
 use std::alloc::Global;
 use std::test::Fail;
-use syntax::{ColumnName, Condition, Expression, Listed, Query};
+use syntax::{ColumnName, Condition, Expression, Query, SelectList};
 use table::{Catalog, Column, Schema};
 use value::{ColType, Comparison, Refusal, Text, Value};
 
@@ -43,7 +43,7 @@ fn equals_seven(alloc: Global, name: &str) -> Result<Condition, Refusal> {
 /// `NOT EXISTS (SELECT * FROM D WHERE name = 7)`.
 fn none(alloc: Global, name: &str) -> Result<Condition, Refusal> {
     let query = Query {
-        listed: Listed::Star,
+        select_list: SelectList::Star,
         table: Text::from_str(alloc, "D")?,
         alias: None,
         keeps: Some(equals_seven(alloc, name)?),

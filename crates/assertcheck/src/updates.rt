@@ -15,7 +15,7 @@ use statement_syntax::Assignment;
 use std::alloc::Global;
 use syntax::Condition;
 use table::{Catalog, Column};
-use type_check::is_typed;
+use type_check::is_well_typed;
 use value::{Refusal, Text};
 
 /// What an UPDATE gives to a column of a row that it keeps.
@@ -99,7 +99,7 @@ fn sound(columns: &[Column], update: Update) -> Result<Update, Refusal>
     ensures bounded_condition { IfOk result (λ made. IsTrue (is_bounded_of [] made.kept)) }
 {
     let sets = update.sets.as_slice();
-    if !all_fit(columns, sets) || !is_typed(&update.kept, columns, &[]) {
+    if !all_fit(columns, sets) || !is_well_typed(&update.kept, columns, &[]) {
         return Err(Refusal::TypeMismatch);
     }
     if !are_bounded(sets) || !is_bounded(&update.kept, &[]) {

@@ -15,7 +15,7 @@ use Rattle.value.proofs.ValueOrders.{value_cmp_total, value_exact}
 use Rattle.threeval.specs.declared.Truth.TheVariants.{False}
 use Rattle.threeval.specs.Truths.{is_of}
 use Rattle.table.specs.Rows.{RowValues, Layout, value_in, row_at}
-use Rattle.table.specs.Aggregates.{group_of}
+use Rattle.table.specs.Aggregates.{rows_of_group}
 use Rattle.assertion.specs.declared.forms.Form.{Form}
 use Rattle.assertion.specs.declared.forms.Form.TheVariants.{ByRow, ByGroup, Single}
 use Rattle.assertion.specs.Meaning.{State, rows_of, key_of, kept_rows, lists_row, lists_group, single_truth, bad_roots}
@@ -82,9 +82,9 @@ member p v w row vs ms more false e true d = rw (d, e) more
 member p v w row vs ms more false e false d = rw (d, e) more
 
 -- a group is listed where it has a row and passes
-pub has-group : (p : Value → Bool) (group : ℕ) (v : Value) (rows : List RowValues) → has root_cmp (Of v) (map Of (filter p (map (value_in group) rows))) ≡ nat_lt 0 (length (group_of group v rows)) && p v
+pub has-group : (p : Value → Bool) (group : ℕ) (v : Value) (rows : List RowValues) → has root_cmp (Of v) (map Of (filter p (map (value_in group) rows))) ≡ nat_lt 0 (length (rows_of_group group v rows)) && p v
 has-group p group v [] = refl
-has-group p group v (row ∷ rows) = member p v (value_in group row) row (filter p (map (value_in group) rows)) (group_of group v rows) (has-group p group v rows) (eq_by_cmp value_cmp v (value_in group row)) refl (p (value_in group row)) refl
+has-group p group v (row ∷ rows) = member p v (value_in group row) row (filter p (map (value_in group) rows)) (rows_of_group group v rows) (has-group p group v rows) (eq_by_cmp value_cmp v (value_in group row)) refl (p (value_in group row)) refl
 
 -- the list of bad roots has the roots that are bad
 pub has-bad : (layouts : List Layout) (form : Form) (state : State) → IsOrdered layouts state → (r : Root) → has root_cmp r (bad_roots layouts form state) ≡ is_bad_root layouts form state r

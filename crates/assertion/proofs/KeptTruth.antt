@@ -17,7 +17,7 @@ use Rattle.threeval.specs.declared.Truth.TheVariants.{True, False}
 use Rattle.threeval.specs.Truths.{is_of, known}
 use Rattle.table.specs.declared.rows.Change.{Change}
 use Rattle.table.specs.Rows.{RowValues, Layout, value_in, row_at, put_row}
-use Rattle.table.specs.Aggregates.{is_there, aggregate, group_of}
+use Rattle.table.specs.Aggregates.{is_there, aggregate, rows_of_group}
 use Rattle.cond.specs.declared.conds.Cond.{Cond}
 use Rattle.cond.specs.Eval.{truth, keeps}
 use Rattle.cond.specs.Values.{compared}
@@ -149,7 +149,7 @@ module _ (layouts : List Layout) (change : Change) (state : State) where
 
   -- the rows of a group that neither row of the change is of
   pub group-same : IsChangeOf layouts change state → (t group : ℕ) (kept : Cond) (v : Value) → has root_cmp (Of v) (if t == change.table then group_candidates group (touched change) else []) ≡ false
-      → group_of group v (kept_rows kept (rows_of t (state_after layouts change state))) ≡ group_of group v (kept_rows kept (rows_of t state))
+      → rows_of_group group v (kept_rows kept (rows_of t (state_after layouts change state))) ≡ rows_of_group group v (kept_rows kept (rows_of t state))
   group-same is t group kept v h =
       filter-filter (λ row. eq_by_cmp value_cmp v (value_in group row)) (λ row. keeps row [] kept) (rows_of t (state_after layouts change state))
       ∙ filtered-same is t (λ row. keeps row [] kept && eq_by_cmp value_cmp v (value_in group row))

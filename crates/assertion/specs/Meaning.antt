@@ -11,7 +11,7 @@ use Rattle.threeval.specs.declared.Truth.TheVariants.{True, False}
 use Rattle.threeval.specs.Truths.{is_of}
 use Rattle.table.specs.declared.aggregates.Aggregate.{Aggregate}
 use Rattle.table.specs.Rows.{RowValues, Layout, value_in}
-use Rattle.table.specs.Aggregates.{aggregate, group_of}
+use Rattle.table.specs.Aggregates.{aggregate, rows_of_group}
 use Rattle.cond.specs.declared.conds.Cond.{Cond}
 use Rattle.cond.specs.Eval.{truth, keeps}
 use Rattle.cond.specs.Values.{compared}
@@ -57,7 +57,7 @@ kept_rows kept rows = filter (λ row. keeps row [] kept) rows
 
 -- whether a group of rows is listed: HAVING is true of its value, with the aggregates of its rows in the slots
 abbrev pub lists_group : List RowValues → ℕ → Cond → List Aggregate → Value → Bool
-lists_group rows group having aggregates v = keeps (v ∷ []) (map (λ a. aggregate a (group_of group v rows)) aggregates) having
+lists_group rows group having aggregates v = keeps (v ∷ []) (map (λ a. aggregate a (rows_of_group group v rows)) aggregates) having
 
 -- the values of the listed groups of rows, each as often as it has rows
 abbrev pub group_roots : List RowValues → ℕ → Cond → List Aggregate → List Root

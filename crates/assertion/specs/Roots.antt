@@ -10,7 +10,7 @@ use Rattle.threeval.specs.declared.Truth.TheVariants.{False}
 use Rattle.table.specs.declared.aggregates.Aggregate.{Aggregate}
 use Rattle.table.specs.declared.rows.Change.{Change}
 use Rattle.table.specs.Rows.{RowValues, Layout, value_in, row_at, put_row}
-use Rattle.table.specs.Aggregates.{group_of}
+use Rattle.table.specs.Aggregates.{rows_of_group}
 use Rattle.cond.specs.declared.conds.Cond.{Cond}
 use Rattle.assertion.specs.declared.linked_queries.Linked.{Linked}
 use Rattle.assertion.specs.declared.forms.Form.{Form}
@@ -24,7 +24,7 @@ is_bad_row state condition queries key (Some row) = lists_row state condition qu
 
 -- whether a group has a row and is listed
 abbrev pub is_bad_group : List RowValues → ℕ → Cond → List Aggregate → Value → Bool
-is_bad_group rows group having aggregates v = nat_lt 0 (length (group_of group v rows)) && lists_group rows group having aggregates v
+is_bad_group rows group having aggregates v = nat_lt 0 (length (rows_of_group group v rows)) && lists_group rows group having aggregates v
 
 -- whether an assertion is false at a root
 abbrev pub is_bad_root : List Layout → Form → State → Root → Bool

@@ -7,7 +7,7 @@
 //! - A DELETE takes out the rows of which its condition is true ([`removals`]).
 //! - An UPDATE gives such rows other values. Each is evaluated on the row as it was, and the first fault, by rows in
 //!   key order and then by assignments as they are written, refuses the whole ([`renewals`]).
-//! - A SELECT changes nothing, and lists what stands in such rows ([`listed_rows`]).
+//! - A SELECT changes nothing, and lists what stands in such rows ([`selected_rows`]).
 //!
 //! A DELETE and an UPDATE whose condition has `key = literal` among the parts that AND joins at its top look that one
 //! row up, and else test all rows.
@@ -38,7 +38,7 @@ mod updates;
 pub use deletions::removals;
 pub use insertions::insertion;
 pub use schemas::{name_at, schema_at};
-pub use selections::listed_rows;
+pub use selections::selected_rows;
 pub use updates::renewals;
 
 #[cfg(test)]

@@ -1,10 +1,10 @@
-//! Rows that are listed.
+//! Rows that are selected.
 
 ghost use Rattle.std.specs.Prelude.{◌≡◌, [], All, IfOk, IsOkUnless, IsTrue};
 ghost use Rattle.value.specs.declared.refusals.Refusal.TheVariants.{NoMemory};
 ghost use Rattle.cond.specs.Bounds.{IsSmallRow, is_bounded};
 ghost use Rattle.assertion.specs.Meaning.{kept_rows};
-ghost use Rattle.alone.specs.Statements.{listed, listed_row};
+ghost use Rattle.alone.specs.Statements.{selected_rows, selected_values};
 
 use crate::kept::is_kept;
 use cond::Cond;
@@ -20,7 +20,7 @@ use value::Refusal;
 /// # Errors
 ///
 /// [`Refusal::NoMemory`] alone.
-pub fn listed_rows(
+pub fn selected_rows(
     alloc: Global,
     rows: &Rows,
     columns: &[usize],
@@ -29,21 +29,21 @@ pub fn listed_rows(
     requires bounded { IsTrue (is_bounded [] kept.now) }
     requires small { All IsSmallRow rows.now }
     ensures only_memory { IsOkUnless result NoMemory }
-    ensures listed { IfOk result (λ made. made.items ≡ listed columns.now (kept_rows kept.now rows.now)) }
+    ensures listed { IfOk result (λ made. made.items ≡ selected_rows columns.now (kept_rows kept.now rows.now)) }
 {
     let mut made = Vec::new(alloc);
     for row in rows.iter() {
         if is_kept(alloc, kept, row) {
-            made.push(listed_row(alloc, columns, row)?)?;
+            made.push(selected_values(alloc, columns, row)?)?;
         }
     }
     Ok(made)
 }
 
 /// What stands in these columns of a row.
-fn listed_row(alloc: Global, columns: &[usize], row: &Row) -> Result<Row, Refusal>
+fn selected_values(alloc: Global, columns: &[usize], row: &Row) -> Result<Row, Refusal>
     ensures only_memory { IsOkUnless result NoMemory }
-    ensures listed { IfOk result (λ made. made ≡ listed_row columns.now row.now) }
+    ensures listed { IfOk result (λ made. made ≡ selected_values columns.now row.now) }
 {
     let mut values = Vec::with_capacity(alloc, columns.len())?;
     for column in columns {

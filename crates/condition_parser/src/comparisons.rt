@@ -116,11 +116,11 @@ impl<F: Fn(Global, &mut Cursor<'_>, usize, Want) -> Result<Found, Stop>> Level<F
     }
 
     /// `IN "(" expr { "," expr } ")"`
-    #[tactic(auto, unfolding(syntax::specs::Readers::listed))]
-    fn listed(&self, cursor: &mut Cursor<'_>, left: Expression) -> Result<Boxed<Condition>, Stop>
+    #[tactic(auto, unfolding(syntax::specs::Readers::in_list))]
+    fn in_list(&self, cursor: &mut Cursor<'_>, left: Expression) -> Result<Boxed<Condition>, Stop>
         requires nests { Nests self.now.depth (F.pre self.now.inner) (F.post self.now.inner) }
         requires at { IsAt kinds.In cursor.old }
-        ensures { Reads (reader.listed self.now.depth (inside self.now.depth) left cursor.old) result cursor.new }
+        ensures { Reads (reader.in_list self.now.depth (inside self.now.depth) left cursor.old) result cursor.new }
     {
         cursor.take(Kind::In);
         match parens_list(self.alloc, &InnerExpression(self), cursor, self.depth) {
@@ -141,7 +141,7 @@ impl<F: Fn(Global, &mut Cursor<'_>, usize, Want) -> Result<Found, Stop>> Level<F
     {
         match cursor.peek() {
             Kind::Between => self.between(cursor, left),
-            Kind::In => self.listed(cursor, left),
+            Kind::In => self.in_list(cursor, left),
             _ => Err(stopped(Stop::Syntax, left)),
         }
     }

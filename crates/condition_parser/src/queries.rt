@@ -10,23 +10,23 @@ use crate::levels::Level;
 use leaf_parser::{Cursor, Stop, alias, group_by, name, stopped};
 use sqlite_items::Boxed;
 use std::alloc::Global;
-use syntax::{ColumnName, Condition, Found, Listed, Query, Want};
+use syntax::{ColumnName, Condition, Found, Query, SelectList, Want};
 use token::Kind;
 use value::Text;
 
 impl<F: Fn(Global, &mut Cursor<'_>, usize, Want) -> Result<Found, Stop>> Level<F> {
     /// `"*" | expr`
     #[tactic(auto, unfolding(syntax::specs::Readers::selected))]
-    pub fn selected(&self, cursor: &mut Cursor<'_>) -> Result<Listed, Stop>
+    pub fn selected(&self, cursor: &mut Cursor<'_>) -> Result<SelectList, Stop>
         requires { Nests self.now.depth (F.pre self.now.inner) (F.post self.now.inner) }
         ensures { Reads (reader.selected self.now.depth (inside self.now.depth) cursor.old) result cursor.new }
     {
         match cursor.peek() {
             Kind::Star => {
                 cursor.take(Kind::Star);
-                Ok(Listed::Star)
+                Ok(SelectList::Star)
             }
-            _ => Ok(Listed::One(self.expr(cursor)?)),
+            _ => Ok(SelectList::One(self.expr(cursor)?)),
         }
     }
 
@@ -61,27 +61,27 @@ impl<F: Fn(Global, &mut Cursor<'_>, usize, Want) -> Result<Found, Stop>> Level<F
     pub fn query_rest(
         &self,
         cursor: &mut Cursor<'_>,
-        listed: Listed,
+        select_list: SelectList,
         table: Text,
         alias: Option<Text>,
     ) -> Result<Boxed<Query>, Stop>
         requires { Nests self.now.depth (F.pre self.now.inner) (F.post self.now.inner) }
-        ensures { Reads (reader.query_rest self.now.depth (inside self.now.depth) listed table alias cursor.old) result cursor.new }
+        ensures { Reads (reader.query_rest self.now.depth (inside self.now.depth) select_list table alias cursor.old) result cursor.new }
     {
         let keeps = match self.where_(cursor) {
             Ok(keeps) => keeps,
-            Err(stop) => return Err(stopped(stop, (listed, table, alias))),
+            Err(stop) => return Err(stopped(stop, (select_list, table, alias))),
         };
         let group = match group_by(self.alloc, cursor) {
             Ok(group) => group,
-            Err(stop) => return Err(stopped(stop, (listed, table, alias, keeps))),
+            Err(stop) => return Err(stopped(stop, (select_list, table, alias, keeps))),
         };
         let having = match self.having(cursor) {
             Ok(having) => having,
-            Err(stop) => return Err(stopped(stop, (listed, table, alias, keeps, group))),
+            Err(stop) => return Err(stopped(stop, (select_list, table, alias, keeps, group))),
         };
         let query = Query {
-            listed,
+            select_list,
             table,
             alias,
             keeps,
@@ -93,17 +93,21 @@ impl<F: Fn(Global, &mut Cursor<'_>, usize, Want) -> Result<Found, Stop>> Level<F
 
     /// What follows FROM.
     #[tactic(auto, unfolding(syntax::specs::Readers::query_from))]
-    pub fn query_from(&self, cursor: &mut Cursor<'_>, listed: Listed) -> Result<Boxed<Query>, Stop>
+    pub fn query_from(
+        &self,
+        cursor: &mut Cursor<'_>,
+        select_list: SelectList,
+    ) -> Result<Boxed<Query>, Stop>
         requires { Nests self.now.depth (F.pre self.now.inner) (F.post self.now.inner) }
-        ensures { Reads (reader.query_from self.now.depth (inside self.now.depth) listed cursor.old) result cursor.new }
+        ensures { Reads (reader.query_from self.now.depth (inside self.now.depth) select_list cursor.old) result cursor.new }
     {
         let table = match name(self.alloc, cursor) {
             Ok(table) => table,
-            Err(stop) => return Err(stopped(stop, listed)),
+            Err(stop) => return Err(stopped(stop, select_list)),
         };
         match alias(self.alloc, cursor) {
-            Ok(alias) => self.query_rest(cursor, listed, table, alias),
-            Err(stop) => Err(stopped(stop, (listed, table))),
+            Ok(alias) => self.query_rest(cursor, select_list, table, alias),
+            Err(stop) => Err(stopped(stop, (select_list, table))),
         }
     }
 
@@ -114,10 +118,10 @@ impl<F: Fn(Global, &mut Cursor<'_>, usize, Want) -> Result<Found, Stop>> Level<F
         ensures { Reads (reader.query self.now.depth (inside self.now.depth) cursor.old) result cursor.new }
     {
         cursor.expect(Kind::Select)?;
-        let listed = self.selected(cursor)?;
+        let select_list = self.selected(cursor)?;
         match cursor.expect(Kind::From) {
-            Ok(_) => self.query_from(cursor, listed),
-            Err(stop) => Err(stopped(stop, listed)),
+            Ok(_) => self.query_from(cursor, select_list),
+            Err(stop) => Err(stopped(stop, select_list)),
         }
     }
 

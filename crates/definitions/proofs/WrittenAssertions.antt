@@ -23,7 +23,7 @@ use Rattle.meaning.proofs.Steps.{and_then_ok, ok_same}
 use Rattle.delta.specs.Views.{Shown}
 use Rattle.changes.specs.Insertions.{inserted}
 use Rattle.definitions.specs.Tables.{layout_from}
-use Rattle.definitions.specs.Taken.{nothing, is_asserted, taken, with_all, with_assertion, with_definition, with_table}
+use Rattle.definitions.specs.Taken.{empty_database, is_asserted, taken, with_all, with_assertion, with_definition, with_table}
 use Rattle.definitions.specs.Written.{AreWritten, IsDefined, is_assertion}
 
 provided_ok : {A : Type 0} (c : Bool) (refusal : Refusal) (r : Result A Refusal) (a : A) → provided c refusal r ≡ Ok a → r ≡ Ok a
@@ -105,7 +105,7 @@ all_add (d ∷ rest) now made e =
 
 taken_written : (definitions : List Definition) (made : Shown) → taken definitions ≡ Ok made → AreWritten definitions made.declared
 taken_written definitions made e =
-    let adds = all_add definitions nothing made e in
+    let adds = all_add definitions empty_database made e in
     subst (λ (all : List Assertion). Pairs (IsDefined made.declared.tables) (filter is_assertion definitions) all) (sym adds.assertions) adds.written
 
 none_left : {X : Type 0} (xs : List X) (n : ℕ) → length xs ≤ n → drop n xs ≡ []

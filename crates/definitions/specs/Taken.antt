@@ -17,8 +17,8 @@ use Rattle.value.specs.Results.{and_then, provided}
 use Rattle.assertcheck.specs.Assertions.{checked}
 use Rattle.definitions.specs.Tables.{layout_from}
 
-abbrev pub nothing : Shown
-nothing = record { declared = record { tables = []; assertions = [] }; state = [] }
+abbrev pub empty_database : Shown
+empty_database = record { declared = record { tables = []; assertions = [] }; state = [] }
 
 -- CREATE TABLE: its name is free among the tables
 abbrev pub with_table : List ℕ → List ColumnDefinition → Shown → Result Shown Refusal
@@ -53,4 +53,4 @@ with_all (d ∷ rest) now = and_then (with_definition d now) (with_all rest)
 
 -- what definitions define, or their first fault in the order in which they stand
 abbrev pub taken : List Definition → Result Shown Refusal
-taken definitions = with_all definitions nothing
+taken definitions = with_all definitions empty_database

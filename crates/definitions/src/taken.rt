@@ -2,7 +2,7 @@
 
 ghost use Rattle.std.specs.Prelude.{◌≡◌, ◌≢◌, ◌<◌, [], ◌∷◌, IfOk, IfErr, IsOkUnless, Ok, Err, length};
 ghost use Rattle.value.specs.declared.refusals.Refusal.TheVariants.{NoMemory};
-ghost use Rattle.definitions.specs.Taken.{is_asserted, nothing, taken, with_assertion, with_definition, with_table};
+ghost use Rattle.definitions.specs.Taken.{is_asserted, empty_database, taken, with_assertion, with_definition, with_table};
 ghost use Rattle.definitions.specs.Written.{AreWritten};
 ghost use Rattle.assertion.specs.Declarations.{layouts_in};
 ghost use Rattle.assertion.specs.Roots.{IsChangeOf, state_after};
@@ -68,7 +68,7 @@ impl Definitions {
         ensures refused { IfErr result (λ refusal. refusal ≢ NoMemory → taken definitions.now ≡ Err refusal) }
         ensures written { IfOk result (λ made. AreWritten definitions.now made.declared) }
     {
-        let mut made = Definitions::nothing(alloc);
+        let mut made = Definitions::empty_database(alloc);
         for definition in definitions {
             made = made.with(alloc, definition)?;
         }
@@ -100,8 +100,8 @@ impl Definitions {
     }
 
     /// No table and no assertion.
-    fn nothing(alloc: Global) -> Definitions
-        ensures { result ≡ nothing }
+    fn empty_database(alloc: Global) -> Definitions
+        ensures { result ≡ empty_database }
     {
         Definitions {
             catalog: Catalog::new(alloc),

@@ -5,7 +5,7 @@ use sqlite_items::{Boxed, Items};
 use statement_syntax::{Attributes, ColumnDefinition, Definition, Insert, Marks};
 use std::alloc::Global;
 use std::test::Fail;
-use syntax::{Condition, Expression, Listed, Query};
+use syntax::{Condition, Expression, Query, SelectList};
 use value::{ColType, Comparison, Refusal, Root, Text, Value};
 
 fn let_go<T: Drop>(_value: T) {}
@@ -38,7 +38,7 @@ fn shift(alloc: Global, id: Value) -> Result<Definition, Refusal> {
 /// `(SELECT COUNT(*) FROM SHIFTS)`
 fn count_of_shifts(alloc: Global) -> Result<Expression, Refusal> {
     let query = Query {
-        listed: Listed::One(Expression::CountRows),
+        select_list: SelectList::One(Expression::CountRows),
         table: Text::from_str(alloc, "SHIFTS")?,
         alias: None,
         keeps: None,

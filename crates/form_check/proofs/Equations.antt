@@ -11,7 +11,7 @@ use Rattle.syntax.specs.declared.trees.Condition.TheOpen.{Condition-F, Expressio
 use Rattle.syntax.specs.declared.trees.Condition.TheFolds.{map-Condition, map-Expression, para-roll-Condition, para-roll-Expression}
 use Rattle.syntax.specs.declared.trees.Expression.{Expression, roll-Expression}
 use Rattle.syntax.specs.declared.trees.Expression.TheVariants as e
-use Rattle.syntax.specs.declared.trees.Listed.{Listed}
+use Rattle.syntax.specs.declared.trees.SelectList.{SelectList}
 use Rattle.syntax.specs.declared.trees.Query.{Query}
 use Rattle.cond.specs.declared.exprs.Expr.{Expr}
 use Rattle.cond.specs.declared.exprs.Expr.TheVariants as expr
@@ -21,19 +21,19 @@ use Rattle.cond.specs.declared.conds.Cond.TheVariants as cond
 use Rattle.cond.specs.declared.conds.Cond.TheViews as cond_of
 use Rattle.cond.specs.Conditions.{between_of, in_of}
 use Rattle.value.specs.Results.{and_then}
-use Rattle.form_check.specs.Leaves.{Leaves, Numbered, Rows, Of, Exists, Value, placed, slot, then_made, both, all, numbered, numbered_expression, numbered_conditions, numbered_expressions, expression_step, condition_step, listed_step, query_step}
+use Rattle.form_check.specs.Leaves.{Leaves, Numbered, Rows, Of, Exists, Value, placed, slot, then_made, both, all, numbered, numbered_expression, numbered_conditions, numbered_expressions, expression_step, condition_step, select_list_step, query_step}
 
 -- an expression by its layer
-expression_rolled : (place : ColumnName → Option ℕ) (layer : Expression-F Condition Expression Listed Query) (leaves : Leaves)
-    → numbered_expression place (roll-Expression layer) leaves ≡ expression_step place (map-Expression Condition Expression Listed Query (Condition × Numbered Cond) (Expression × Numbered Expr) (Listed × Unit {0}) (Query × Unit {0}) (λ c. (c, numbered place c)) (λ e. (e, numbered_expression place e)) (λ l. (l, tt)) (λ q. (q, tt)) layer) leaves
+expression_rolled : (place : ColumnName → Option ℕ) (layer : Expression-F Condition Expression SelectList Query) (leaves : Leaves)
+    → numbered_expression place (roll-Expression layer) leaves ≡ expression_step place (map-Expression Condition Expression SelectList Query (Condition × Numbered Cond) (Expression × Numbered Expr) (SelectList × Unit {0}) (Query × Unit {0}) (λ c. (c, numbered place c)) (λ e. (e, numbered_expression place e)) (λ l. (l, tt)) (λ q. (q, tt)) layer) leaves
 unfolding numbered numbered_expression
-expression_rolled place layer leaves = ap (λ made. made leaves) (para-roll-Expression (Numbered Cond) (Numbered Expr) (Unit {0}) (Unit {0}) (condition_step place) (expression_step place) listed_step query_step layer)
+expression_rolled place layer leaves = ap (λ made. made leaves) (para-roll-Expression (Numbered Cond) (Numbered Expr) (Unit {0}) (Unit {0}) (condition_step place) (expression_step place) select_list_step query_step layer)
 
 -- a condition by its layer
-condition_rolled : (place : ColumnName → Option ℕ) (layer : Condition-F Condition Expression Listed Query) (leaves : Leaves)
-    → numbered place (roll-Condition layer) leaves ≡ condition_step place (map-Condition Condition Expression Listed Query (Condition × Numbered Cond) (Expression × Numbered Expr) (Listed × Unit {0}) (Query × Unit {0}) (λ c. (c, numbered place c)) (λ e. (e, numbered_expression place e)) (λ l. (l, tt)) (λ q. (q, tt)) layer) leaves
+condition_rolled : (place : ColumnName → Option ℕ) (layer : Condition-F Condition Expression SelectList Query) (leaves : Leaves)
+    → numbered place (roll-Condition layer) leaves ≡ condition_step place (map-Condition Condition Expression SelectList Query (Condition × Numbered Cond) (Expression × Numbered Expr) (SelectList × Unit {0}) (Query × Unit {0}) (λ c. (c, numbered place c)) (λ e. (e, numbered_expression place e)) (λ l. (l, tt)) (λ q. (q, tt)) layer) leaves
 unfolding numbered numbered_expression
-condition_rolled place layer leaves = ap (λ made. made leaves) (para-roll-Condition (Numbered Cond) (Numbered Expr) (Unit {0}) (Unit {0}) (condition_step place) (expression_step place) listed_step query_step layer)
+condition_rolled place layer leaves = ap (λ made. made leaves) (para-roll-Condition (Numbered Cond) (Numbered Expr) (Unit {0}) (Unit {0}) (condition_step place) (expression_step place) select_list_step query_step layer)
 
 pub expression_number : (place : ColumnName → Option ℕ) (n : ℤ) (leaves : Leaves) → numbered_expression place (e.Number n) leaves ≡ Ok (expr.Literal (value.Int n), leaves)
 expression_number place n leaves = ap (λ x. numbered_expression place x leaves) (sym (e.rolls-Number n)) ∙ expression_rolled place (Expression-F.Number n) leaves

@@ -11,7 +11,7 @@ use Rattle.syntax.specs.declared.trees.ColumnName.{ColumnName}
 use Rattle.syntax.specs.declared.trees.Condition.{Condition, out-Condition}
 use Rattle.syntax.specs.declared.trees.Condition.TheOpen.{Condition-F, Query-F}
 use Rattle.syntax.specs.declared.trees.Expression.{Expression}
-use Rattle.syntax.specs.declared.trees.Listed.{Listed}
+use Rattle.syntax.specs.declared.trees.SelectList.{SelectList}
 use Rattle.syntax.specs.declared.trees.Query.{Query, out-Query}
 use Rattle.assertion.specs.declared.linked_queries.Linked.{Linked}
 use Rattle.assertion.specs.declared.plain_queries.Plain.{Plain}
@@ -27,7 +27,7 @@ use Rattle.form_check.specs.Links.{top_parts, links_in, only_one, kept_parts}
 
 -- a query's clauses, with its conditions and its list as trees
 abbrev pub Clauses : Type 0
-Clauses = Query-F Condition Expression Listed Query
+Clauses = Query-F Condition Expression SelectList Query
 
 -- ---- queries of a row
 
@@ -47,12 +47,12 @@ linked_where child root aggregate (Some condition) None (Some having) = Err Outs
 abbrev pub linked_exists : Tables → Scope → Clauses → Result Linked Refusal
 linked_exists tables root query =
     in_class (source_of tables query.table query.alias) (λ child.
-    only_if (may_be_selected (own_column child.scope) query.listed) (linked_where child root CountRows query.keeps query.group query.having))
+    only_if (may_be_selected (own_column child.scope) query.select_list) (linked_where child root CountRows query.keeps query.group query.having))
 
 abbrev pub linked_value : Tables → Scope → Clauses → Result Linked Refusal
 linked_value tables root query =
     in_class (source_of tables query.table query.alias) (λ child.
-    in_class (selected_aggregate child.scope query.listed) (λ aggregate. linked_where child root aggregate query.keeps query.group query.having))
+    in_class (selected_aggregate child.scope query.select_list) (λ aggregate. linked_where child root aggregate query.keeps query.group query.having))
 
 -- what stands in a slot of a condition over a row
 abbrev pub linked : Tables → Scope → Leaf → Result Linked Refusal
@@ -71,7 +71,7 @@ plain_by source aggregate keeps None (Some having) = Err OutsideClass
 
 abbrev pub plain_value : Tables → Clauses → Result Plain Refusal
 plain_value tables query =
-    in_class (source_of tables query.table query.alias) (λ source. plain_by source (selected_aggregate source.scope query.listed) query.keeps query.group query.having)
+    in_class (source_of tables query.table query.alias) (λ source. plain_by source (selected_aggregate source.scope query.select_list) query.keeps query.group query.having)
 
 -- what stands in a slot of a single condition
 abbrev pub plain : Tables → Leaf → Result Plain Refusal
@@ -96,7 +96,7 @@ row_where scope (Some condition) = numbered (own_column scope) condition []
 
 abbrev pub by_row : Tables → Source → Clauses → Result Form Refusal
 by_row tables source query =
-    only_if (may_be_selected (own_column source.scope) query.listed) (
+    only_if (may_be_selected (own_column source.scope) query.select_list) (
     and_then (row_where source.scope query.keeps) (λ made.
     and_then (each (linked tables source.scope) made.1) (λ queries. Ok (ByRow source.table made.0 queries))))
 
@@ -108,7 +108,7 @@ having_over source group kept having =
 abbrev pub by_group : Source → Clauses → ColumnName → Condition → Result Form Refusal
 by_group source query column having =
     in_class (own_column source.scope column) (λ group.
-    only_if (may_be_selected (grouping_column source.scope group) query.listed) (
+    only_if (may_be_selected (grouping_column source.scope group) query.select_list) (
     and_then (row_filter source.scope query.keeps) (λ kept. having_over source group kept having)))
 
 -- without GROUP BY and HAVING by rows, with both by groups
@@ -127,11 +127,11 @@ single tables condition =
     and_then (each (plain tables) made.1) (λ queries. Ok (Single made.0 queries)))
 
 -- the condition under a NOT
-abbrev pub denied : Tables → Condition → Condition-F Condition Expression Listed Query → Result Form Refusal
+abbrev pub denied : Tables → Condition → Condition-F Condition Expression SelectList Query → Result Form Refusal
 denied tables whole (Condition-F.Exists query) = not_exists tables (out-Query query)
 denied tables whole other = single tables whole
 
-abbrev pub form_in : Tables → Condition → Condition-F Condition Expression Listed Query → Result Form Refusal
+abbrev pub form_in : Tables → Condition → Condition-F Condition Expression SelectList Query → Result Form Refusal
 form_in tables whole (Condition-F.Not part) = denied tables whole (out-Condition part)
 form_in tables whole other = single tables whole
 

@@ -8,14 +8,14 @@ use Rattle.syntax.specs.declared.trees.ColumnName.{ColumnName}
 use Rattle.syntax.specs.declared.trees.Condition.{Condition, out-Condition}
 use Rattle.syntax.specs.declared.trees.Condition.TheOpen.{Condition-F, Expression-F}
 use Rattle.syntax.specs.declared.trees.Expression.{Expression, out-Expression}
-use Rattle.syntax.specs.declared.trees.Listed.{Listed}
+use Rattle.syntax.specs.declared.trees.SelectList.{SelectList}
 use Rattle.syntax.specs.declared.trees.Query.{Query}
 use Rattle.name_check.specs.Scopes.{Scope, is_name_of, own_column}
 use Rattle.value.specs.Results.{each}
 use Rattle.form_check.specs.Queries.{row_condition}
 
 -- the parts that AND joins at the top of a condition
-abbrev pub parts_in : Condition → Condition-F Condition Expression Listed Query → List Condition
+abbrev pub parts_in : Condition → Condition-F Condition Expression SelectList Query → List Condition
 parts_in whole (Condition-F.And parts) = parts
 parts_in whole other = whole ∷ []
 
@@ -23,7 +23,7 @@ abbrev pub top_parts : Condition → List Condition
 top_parts condition = parts_in condition (out-Condition condition)
 
 -- the column that an expression is, where it is one
-abbrev pub name_in : Expression-F Condition Expression Listed Query → Option ColumnName
+abbrev pub name_in : Expression-F Condition Expression SelectList Query → Option ColumnName
 name_in (Expression-F.Column column) = Some column
 name_in other = None
 
@@ -50,7 +50,7 @@ link_between child root None right = None
 link_between child root (Some left) None = None
 link_between child root (Some left) (Some right) = either (linked_column child root left right) (linked_column child root right left)
 
-abbrev pub link_in : Scope → Scope → Condition-F Condition Expression Listed Query → Option ℕ
+abbrev pub link_in : Scope → Scope → Condition-F Condition Expression SelectList Query → Option ℕ
 link_in child root (Condition-F.Compare left Equal right) = link_between child root (name_in (out-Expression left)) (name_in (out-Expression right))
 link_in child root other = None
 

@@ -10,9 +10,9 @@ use Rattle.syntax.specs.declared.trees.Aggregate.{Aggregate as Function}
 use Rattle.syntax.specs.declared.trees.Aggregate.TheVariants as function
 use Rattle.syntax.specs.declared.trees.ColumnName.{ColumnName}
 use Rattle.syntax.specs.declared.trees.Condition.{Condition}
-use Rattle.syntax.specs.declared.trees.Condition.TheOpen.{Expression-F, Listed-F}
+use Rattle.syntax.specs.declared.trees.Condition.TheOpen.{Expression-F, SelectList-F}
 use Rattle.syntax.specs.declared.trees.Expression.{Expression, out-Expression}
-use Rattle.syntax.specs.declared.trees.Listed.{Listed, out-Listed}
+use Rattle.syntax.specs.declared.trees.SelectList.{SelectList, out-SelectList}
 use Rattle.syntax.specs.declared.trees.Query.{Query}
 use Rattle.cond.specs.declared.exprs.Expr.{Expr}
 use Rattle.cond.specs.declared.conds.Cond.{Cond}
@@ -61,29 +61,29 @@ of_column function.Min column = Min column
 of_column function.Max column = Max column
 
 -- what an expression lists, where it is one set function
-abbrev pub aggregate_in : Scope → Expression-F Condition Expression Listed Query → Option Aggregate
+abbrev pub aggregate_in : Scope → Expression-F Condition Expression SelectList Query → Option Aggregate
 aggregate_in scope Expression-F.CountRows = Some CountRows
 aggregate_in scope (Expression-F.Aggregate function column) = option_map (of_column function) (own_column scope column)
 aggregate_in scope other = None
 
-abbrev pub aggregate_selected : Scope → Listed-F Condition Expression Listed Query → Option Aggregate
-aggregate_selected scope Listed-F.Star = None
-aggregate_selected scope (Listed-F.One expression) = aggregate_in scope (out-Expression expression)
+abbrev pub aggregate_selected : Scope → SelectList-F Condition Expression SelectList Query → Option Aggregate
+aggregate_selected scope SelectList-F.Star = None
+aggregate_selected scope (SelectList-F.One expression) = aggregate_in scope (out-Expression expression)
 
 -- the one set function that a query lists
-abbrev pub selected_aggregate : Scope → Listed → Option Aggregate
-selected_aggregate scope listed = aggregate_selected scope (out-Listed listed)
+abbrev pub selected_aggregate : Scope → SelectList → Option Aggregate
+selected_aggregate scope select_list = aggregate_selected scope (out-SelectList select_list)
 
 -- under EXISTS a query lists *, a literal or a column that may stand there
-abbrev pub expression_may_stand : (ColumnName → Option ℕ) → Expression-F Condition Expression Listed Query → Bool
+abbrev pub expression_may_stand : (ColumnName → Option ℕ) → Expression-F Condition Expression SelectList Query → Bool
 expression_may_stand place (Expression-F.Number n) = true
 expression_may_stand place (Expression-F.Text t) = true
 expression_may_stand place (Expression-F.Column column) = is_some (place column)
 expression_may_stand place other = false
 
-abbrev pub selection_may_stand : (ColumnName → Option ℕ) → Listed-F Condition Expression Listed Query → Bool
-selection_may_stand place Listed-F.Star = true
-selection_may_stand place (Listed-F.One expression) = expression_may_stand place (out-Expression expression)
+abbrev pub selection_may_stand : (ColumnName → Option ℕ) → SelectList-F Condition Expression SelectList Query → Bool
+selection_may_stand place SelectList-F.Star = true
+selection_may_stand place (SelectList-F.One expression) = expression_may_stand place (out-Expression expression)
 
-abbrev pub may_be_selected : (ColumnName → Option ℕ) → Listed → Bool
-may_be_selected place listed = selection_may_stand place (out-Listed listed)
+abbrev pub may_be_selected : (ColumnName → Option ℕ) → SelectList → Bool
+may_be_selected place select_list = selection_may_stand place (out-SelectList select_list)

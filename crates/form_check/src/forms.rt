@@ -59,7 +59,7 @@ fn by_row(alloc: Global, catalog: &Catalog, source: Source, query: &Query) -> Re
     ensures made { IfOk result (λ made. by_row catalog.now (shown_source source.entry) (out-Query query.now) ≡ Ok made) }
     ensures refused { IfErr result (λ refusal. refusal ≢ NoMemory → by_row catalog.now (shown_source source.entry) (out-Query query.now) ≡ Err refusal) }
 {
-    if !may_be_selected(&Columns::Own(source.scope), &query.listed) {
+    if !may_be_selected(&Columns::Own(source.scope), &query.select_list) {
         return Err(Refusal::OutsideClass);
     }
     let (condition, leaves) = row_where(alloc, source.scope, &query.keeps)?;
@@ -102,7 +102,7 @@ fn by_group(
     let Some(group) = source.scope.own(column) else {
         return Err(Refusal::OutsideClass);
     };
-    if !may_be_selected(&Columns::Grouping(source.scope, group), &query.listed) {
+    if !may_be_selected(&Columns::Grouping(source.scope, group), &query.select_list) {
         return Err(Refusal::OutsideClass);
     }
     let kept = row_filter(alloc, source.scope, &query.keeps)?;

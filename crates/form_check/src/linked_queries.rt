@@ -65,7 +65,7 @@ fn linked_exists(
     let Some(child) = Source::of(catalog, &query.table, &query.alias) else {
         return Err(Refusal::OutsideClass);
     };
-    if !may_be_selected(&Columns::Own(child.scope), &query.listed) {
+    if !may_be_selected(&Columns::Own(child.scope), &query.select_list) {
         return Err(Refusal::OutsideClass);
     }
     linked_where(
@@ -92,7 +92,7 @@ fn linked_value(
     let Some(child) = Source::of(catalog, &query.table, &query.alias) else {
         return Err(Refusal::OutsideClass);
     };
-    let Some(aggregate) = selected_aggregate(child.scope, &query.listed) else {
+    let Some(aggregate) = selected_aggregate(child.scope, &query.select_list) else {
         return Err(Refusal::OutsideClass);
     };
     linked_where(

@@ -46,7 +46,7 @@ fn plain_value(alloc: Global, catalog: &Catalog, query: &Query) -> Result<Plain,
     let Some(source) = Source::of(catalog, &query.table, &query.alias) else {
         return Err(Refusal::OutsideClass);
     };
-    let aggregate = selected_aggregate(source.scope, &query.listed);
+    let aggregate = selected_aggregate(source.scope, &query.select_list);
     plain_by(
         alloc,
         source,

@@ -13,7 +13,7 @@ use cond::{Cond, Expr};
 use name_check::{Scope, correlation_name};
 use sqlite_items::Items;
 use std::alloc::Global;
-use syntax::{Condition, Expression, Listed};
+use syntax::{Condition, Expression, SelectList};
 use table::{Aggregate, Catalog};
 use value::{Refusal, Text};
 
@@ -114,15 +114,15 @@ pub fn row_filter(
 }
 
 /// The one set function that a query lists, over a column of its own table.
-pub fn selected_aggregate(scope: Scope, listed: &Listed) -> Option<Aggregate>
-    ensures { result ≡ selected_aggregate (shown scope.entry) listed.now }
+pub fn selected_aggregate(scope: Scope, select_list: &SelectList) -> Option<Aggregate>
+    ensures { result ≡ selected_aggregate (shown scope.entry) select_list.now }
 {
-    match listed {
-        Listed::One(Expression::CountRows) => Some(Aggregate::CountRows),
-        Listed::One(Expression::Aggregate(function, column)) => {
+    match select_list {
+        SelectList::One(Expression::CountRows) => Some(Aggregate::CountRows),
+        SelectList::One(Expression::Aggregate(function, column)) => {
             Some(of_column(*function, scope.own(column)?))
         }
-        Listed::One(_) | Listed::Star => None,
+        SelectList::One(_) | SelectList::Star => None,
     }
 }
 
@@ -139,12 +139,12 @@ pub fn of_column(function: syntax::Aggregate, column: usize) -> Aggregate
 }
 
 /// Whether a query under EXISTS may list this: `*`, a literal, or one of these columns.
-pub fn may_be_selected(columns: &Columns, listed: &Listed) -> bool
-    ensures { result ≡ may_be_selected (place columns.now) listed.now }
+pub fn may_be_selected(columns: &Columns, select_list: &SelectList) -> bool
+    ensures { result ≡ may_be_selected (place columns.now) select_list.now }
 {
-    match listed {
-        Listed::Star | Listed::One(Expression::Number(_) | Expression::Text(_)) => true,
-        Listed::One(Expression::Column(column)) => columns.place(column).is_some(),
-        Listed::One(_) => false,
+    match select_list {
+        SelectList::Star | SelectList::One(Expression::Number(_) | Expression::Text(_)) => true,
+        SelectList::One(Expression::Column(column)) => columns.place(column).is_some(),
+        SelectList::One(_) => false,
     }
 }

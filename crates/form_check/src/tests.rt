@@ -6,7 +6,7 @@ use name_check::Scope;
 use sqlite_items::Boxed;
 use std::alloc::Global;
 use std::test::Fail;
-use syntax::{ColumnName, Condition, Expression, Listed, Query};
+use syntax::{ColumnName, Condition, Expression, Query, SelectList};
 use table::{Aggregate, Catalog, Column, Schema};
 use value::{ColType, Comparison, Refusal, Text};
 
@@ -45,9 +45,9 @@ fn column(alloc: Global, name: &str) -> Result<ColumnName, Refusal> {
 }
 
 /// `SELECT listed FROM D`.
-fn query(alloc: Global, listed: Listed) -> Result<Query, Refusal> {
+fn query(alloc: Global, select_list: SelectList) -> Result<Query, Refusal> {
     Ok(Query {
-        listed,
+        select_list,
         table: Text::from_str(alloc, "D")?,
         alias: None,
         keeps: None,
@@ -81,17 +81,17 @@ fn told(alloc: Global, condition: &Condition) -> Result<(&'static str, usize), R
 #[test]
 fn three_forms(rt: HostRuntime) -> Result<(), Fail> {
     let alloc = rt.alloc();
-    let rows = not_exists(alloc, query(alloc, Listed::Star)?)?;
+    let rows = not_exists(alloc, query(alloc, SelectList::Star)?)?;
     assert_eq!(rt; told(alloc, &rows)?, ("rows", 0));
-    let mut grouped = query(alloc, Listed::Star)?;
+    let mut grouped = query(alloc, SelectList::Star)?;
     grouped.group = Some(column(alloc, "SHIFT")?);
     grouped.having = Some(at_most_two(Expression::CountRows));
     assert_eq!(rt; told(alloc, &not_exists(alloc, grouped)?)?, ("groups", 1));
     let sum = Expression::Aggregate(syntax::Aggregate::Sum, column(alloc, "SHIFT")?);
-    let value = Boxed::new(alloc, query(alloc, Listed::One(sum))?)?;
+    let value = Boxed::new(alloc, query(alloc, SelectList::One(sum))?)?;
     let single = at_most_two(Expression::Subquery(value));
     assert_eq!(rt; told(alloc, &single)?, ("single", 1));
-    let exists = Condition::Exists(Boxed::new(alloc, query(alloc, Listed::Star)?)?);
+    let exists = Condition::Exists(Boxed::new(alloc, query(alloc, SelectList::Star)?)?);
     assert_eq!(rt; told(alloc, &exists)?, ("outside", 0));
     Ok(())
 }

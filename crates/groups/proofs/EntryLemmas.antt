@@ -12,7 +12,7 @@ use Rattle.value.proofs.OrderedLists.{at-put, IsAscending-put, equal_from}
 use Rattle.pages.specs.Reach.{key_of, value_of as kept_value, entry_of}
 use Rattle.groups.specs.declared.members.Member.{Member}
 use Rattle.groups.specs.Figures.{Figures}
-use Rattle.groups.specs.Steps.{nothing, one_more, one_less, put_entry, kept_total, figures_at, entries_more, entries_less}
+use Rattle.groups.specs.Steps.{no_figures, one_more, one_less, put_entry, kept_total, figures_at, entries_more, entries_less}
 use Rattle.groups.specs.Totals.{Entry, Entries, Members, entry_from, group_in, entry_at, total_at, IsTotalOf, IsEntryOf, AreTotalsOf, HaveOneMore, AreWithin, IsChange}
 use Rattle.groups.proofs.Carried.{at-made, put-made}
 use Rattle.groups.proofs.MemberLemmas.{within_fewer}
@@ -43,8 +43,8 @@ kept-key : (g : Value) (t : Figures) → HasKey value_cmp group_in g (kept_total
 kept-key g t = elim (t.rows == 0) as (λ b. HasKey value_cmp group_in g (if b then None else Some (record { group = g; total = t }))) [ true ↦ tt | false ↦ refl ]
 
 -- what stands for a group, or where nothing stands the total of no rows, is the total of its rows
-pub figures-right : (vs : List Value) (o : Option Figures) → IsEntryOf vs o → IsTotalOf vs (unwrap_or o nothing)
-figures-right vs None e = subst (λ us. IsTotalOf us nothing) (sym e) IsTotalOf-none
+pub figures-right : (vs : List Value) (o : Option Figures) → IsEntryOf vs o → IsTotalOf vs (unwrap_or o no_figures)
+figures-right vs None e = subst (λ us. IsTotalOf us no_figures) (sym e) IsTotalOf-none
 figures-right vs (Some t) k = k.0
 
 -- the totals after one is set

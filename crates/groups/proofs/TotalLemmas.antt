@@ -13,7 +13,7 @@ use Rattle.value.specs.ValueOrder.{value_cmp}
 use Rattle.table.specs.Aggregates.{is_there, number_of, sum_of}
 use Rattle.groups.specs.Counts.{Count, count_at, one_up}
 use Rattle.groups.specs.Figures.{Figures}
-use Rattle.groups.specs.Steps.{nothing, there_of, one_more, one_less}
+use Rattle.groups.specs.Steps.{no_figures, there_of, one_more, one_less}
 use Rattle.groups.specs.Totals.{IsTotalOf, IsOneMore, IsWithin}
 use Rattle.groups.proofs.CountLemmas.{one_up-small, counts_more-at, counts_less-at, counts_more-ordered, counts_less-ordered, counts_more-positive, counts_less-positive}
 use Rattle.groups.proofs.MemberLemmas.{longer, counted, summed, sum_within}
@@ -73,5 +73,5 @@ IsTotalOf-less x vs ws t m k w = record {
     taken s n a b e f = omega (arith, ints, e, f)
 
 -- the total of no rows
-pub IsTotalOf-none : IsTotalOf [] nothing
+pub IsTotalOf-none : IsTotalOf [] no_figures
 IsTotalOf-none = record { rows = refl; there = refl; sum = refl; in_order = tt; positive = All-nil (λ (c : Count). 0 < c.count); counts = λ v. refl }

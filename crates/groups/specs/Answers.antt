@@ -5,8 +5,6 @@ use Rattle.value.specs.declared.values.Value.TheVariants as value
 use Rattle.table.specs.declared.aggregates.Aggregate.{Aggregate}
 use Rattle.table.specs.declared.aggregates.Aggregate.TheVariants.{CountRows, Count, Sum, Min, Max}
 use Rattle.table.specs.Rows.{RowValues, value_in}
-use Rattle.cond.specs.declared.slots.SlotKind.{SlotKind}
-use Rattle.cond.specs.declared.slots.SlotKind.TheVariants as kind
 use Rattle.cond.specs.declared.slots.SlotValue.{SlotValue}
 use Rattle.cond.specs.declared.slots.SlotValue.TheVariants as slot
 use Rattle.groups.specs.Counts.{first_value, last_value}
@@ -19,14 +17,6 @@ value_for (Count column) row = value_in column row
 value_for (Sum column) row = value_in column row
 value_for (Min column) row = value_in column row
 value_for (Max column) row = value_in column row
-
--- the kind of slot that holds what a set function gives
-abbrev pub kind_for : Aggregate → SlotKind
-kind_for CountRows = kind.Count
-kind_for (Count column) = kind.Count
-kind_for (Sum column) = kind.Sum
-kind_for (Min column) = kind.Extreme
-kind_for (Max column) = kind.Extreme
 
 -- what a set function gives, by a total
 abbrev pub answer_from : Aggregate → Figures → SlotValue

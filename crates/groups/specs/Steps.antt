@@ -12,8 +12,8 @@ use Rattle.groups.specs.Figures.{Figures}
 use Rattle.groups.specs.Totals.{Entry, Entries, group_in, total_at}
 
 -- the total of no rows
-abbrev pub nothing : Figures
-nothing = record { rows = 0; there = 0; sum = pos 0; values = [] }
+abbrev pub no_figures : Figures
+no_figures = record { rows = 0; there = 0; sum = pos 0; values = [] }
 
 -- how many values that are not NULL a value is
 abbrev pub there_of : Value → ℕ
@@ -47,7 +47,7 @@ kept_total group t = if t.rows == 0 then None else Some (record { group = group;
 
 -- the total of a group, where none stands for it that of no rows
 abbrev pub figures_at : Value → Entries → Figures
-figures_at group entries = unwrap_or (total_at group entries) nothing
+figures_at group entries = unwrap_or (total_at group entries) no_figures
 
 -- the entries with one row more, or one less
 abbrev pub entries_more : Member → Entries → Entries

@@ -6,8 +6,9 @@ ghost use Rattle.value.specs.declared.refusals.Refusal.TheVariants.{NoMemory};
 ghost use Rattle.value.specs.declared.values.Value.{Value as values};
 ghost use Rattle.table.specs.Aggregates.{aggregate as aggregate_of};
 ghost use Rattle.table.specs.Rows.{RowValues};
+ghost use Rattle.cond.specs.Kinds.{kind_of_aggregate};
 ghost use Rattle.cond.specs.Slots.{IsWithinKind, kind_of, value_of};
-ghost use Rattle.groups.specs.Answers.{kind_for, value_for};
+ghost use Rattle.groups.specs.Answers.{value_for};
 ghost use Rattle.groups.specs.Steps.{put_entry, kept_total, entries_more, entries_less};
 ghost use Rattle.groups.specs.Totals.{Members, total_at, IsEntryOf, AreTotalsOf, AreWithin, IsWithin, IsChange};
 
@@ -60,7 +61,7 @@ impl Totals {
     /// nothing else takes memory.
     pub fn answer(&self, group: &Value, aggregate: Aggregate) -> Result<SlotValue, Refusal>
         ensures only_memory { IsOkUnless result NoMemory }
-        ensures kind { IfOk result (λ answer. kind_of answer ≡ kind_for aggregate) }
+        ensures kind { IfOk result (λ answer. kind_of answer ≡ kind_of_aggregate aggregate) }
         // It is what the set function gives of the group's rows from scratch.
         ensures answer { IfOk result (λ answer. (rows : values → List RowValues)
             → AreTotalsOf (λ v. map (value_for aggregate) (rows v)) self.now

@@ -3,7 +3,7 @@
 ghost use Rattle.std.specs.Prelude.{◌≡◌, ℕ, ◌<◌, ◌^◌, All, List, length, Option, Some};
 ghost use Rattle.value.specs.declared.values.Value.{Value};
 ghost use Rattle.table.specs.declared.aggregates.Aggregate.{Aggregate};
-ghost use Rattle.table.specs.Aggregates.{group_of};
+ghost use Rattle.table.specs.Aggregates.{rows_of_group};
 ghost use Rattle.table.specs.Rows.{RowValues, row_at, put_row, value_in};
 ghost use Rattle.cond.specs.Bounds.{IsSmallRow};
 ghost use Rattle.groups.specs.Answers.{value_for};
@@ -24,5 +24,5 @@ pub fn members_follow_rows()
 /// Where each row goes to the group of its value in a column, the groups are those of GROUP BY.
 pub fn column_makes_groups()
     ensures { (column : ℕ) (rows : List RowValues) (group : Value)
-        → rows_in (λ row. Some (value_in column row)) rows group ≡ group_of column group rows }
+        → rows_in (λ row. Some (value_in column row)) rows group ≡ rows_of_group column group rows }
 {}

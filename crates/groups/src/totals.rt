@@ -5,9 +5,10 @@ ghost use Rattle.value.specs.declared.refusals.Refusal.TheVariants.{NoMemory};
 ghost use Rattle.value.specs.declared.values.Value.{Value as values};
 ghost use Rattle.table.specs.Aggregates.{number_of, aggregate as aggregate_of};
 ghost use Rattle.table.specs.Rows.{RowValues};
+ghost use Rattle.cond.specs.Kinds.{kind_of_aggregate};
 ghost use Rattle.cond.specs.Slots.{IsWithinKind, kind_of, value_of};
-ghost use Rattle.groups.specs.Answers.{answer_from, kind_for, value_for};
-ghost use Rattle.groups.specs.Steps.{nothing, there_of, one_more, one_less};
+ghost use Rattle.groups.specs.Answers.{answer_from, value_for};
+ghost use Rattle.groups.specs.Steps.{no_figures, there_of, one_more, one_less};
 ghost use Rattle.groups.specs.Totals.{IsTotalOf, IsWithin};
 
 use crate::counts::Counts;
@@ -38,7 +39,7 @@ impl Model for Total {
 impl Total {
     /// The total of no rows. It takes no memory.
     pub fn new(alloc: Global) -> Total
-        ensures { result ≡ nothing }
+        ensures { result ≡ no_figures }
     {
         Total {
             rows: 0,
@@ -65,7 +66,7 @@ impl Total {
     /// What a set function gives of the rows. MIN or MAX of texts copies one, and nothing else takes memory.
     pub fn answer(&self, aggregate: Aggregate) -> Result<SlotValue, Refusal>
         ensures only_memory { IsOkUnless result NoMemory }
-        ensures kind { IfOk result (λ answer. kind_of answer ≡ kind_for aggregate) }
+        ensures kind { IfOk result (λ answer. kind_of answer ≡ kind_of_aggregate aggregate) }
         // It is what the set function gives of the rows from scratch.
         ensures answer { IfOk result (λ answer. (rows : List RowValues)
             → IsTotalOf (map (value_for aggregate) rows) self.now → value_of answer ≡ aggregate_of aggregate rows) }

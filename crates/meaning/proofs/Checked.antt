@@ -188,7 +188,7 @@ record Selects (tables : Tables) (columns : Which) (name : List ℕ) (condition 
   target : Source
   found : source_of tables name None ≡ Some target
   places : List ℕ
-  listed : selected target.scope.layout.columns columns ≡ Ok places
+  select_list : selected target.scope.layout.columns columns ≡ Ok places
   kept : Cond
   keeps : row_filter target.scope condition ≡ Ok kept
   made : ◌≡◌ {A = Select} (record { table = target.table; columns = places; kept = kept }) select
@@ -199,7 +199,7 @@ selects tables columns name condition select e =
     let (target, (is, more)) = and_then_ok (target_of tables name) (λ target. and_then (selected target.scope.layout.columns columns) (λ places. and_then (where_of tables target.scope condition) (λ kept. let r : Result Select Refusal = Ok (make target places kept) in r))) select e in
     let (places, (are, rest)) = and_then_ok (selected target.scope.layout.columns columns) (λ places. and_then (where_of tables target.scope condition) (λ kept. let r : Result Select Refusal = Ok (make target places kept) in r)) select more in
     let (kept, (keeps, makes)) = and_then_ok (where_of tables target.scope condition) (λ kept. let r : Result Select Refusal = Ok (make target places kept) in r) select rest in
-    record { target = target; found = found_ok name (source_of tables name None) target is; places = places; listed = are; kept = kept; keeps = where_filter tables target.scope condition kept keeps; made = ok_same (make target places kept) select makes }
+    record { target = target; found = found_ok name (source_of tables name None) target is; places = places; select_list = are; kept = kept; keeps = where_filter tables target.scope condition kept keeps; made = ok_same (make target places kept) select makes }
 
 pub SelectsRows-law : law.SelectsRows
 SelectsRows-law tables columns name condition select e state =
@@ -217,7 +217,7 @@ pub ListsColumns-law : law.ListsColumns
 ListsColumns-law tables columns name condition select e state =
     let s = selects tables columns name condition select e in
     subst (λ (made : Select). IsListOf (table_of tables state name None).table columns made.columns) s.made
-    (subst (λ scope. IsListOf scope columns s.places) (scope_is tables state name s.target s.found) (selected_are s.target.scope columns s.places s.listed))
+    (subst (λ scope. IsListOf scope columns s.places) (scope_is tables state name s.target s.found) (selected_are s.target.scope columns s.places s.select_list))
 
 -- the parts of an UPDATE that is taken
 record Updates (tables : Tables) (name : List ℕ) (sets : List Assignment) (condition : Option Condition) (update : Update) : Type 0 where

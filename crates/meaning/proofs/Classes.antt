@@ -16,9 +16,9 @@ use Rattle.assertion.specs.declared.forms.Form.{Form}
 use Rattle.assertion.specs.declared.forms.Form.TheVariants.{ByRow, ByGroup, Single}
 use Rattle.syntax.specs.declared.trees.ColumnName.{ColumnName}
 use Rattle.syntax.specs.declared.trees.Condition.{Condition, out-Condition, roll-out-Condition}
-use Rattle.syntax.specs.declared.trees.Condition.TheOpen.{Condition-F, Expression-F, Listed-F}
+use Rattle.syntax.specs.declared.trees.Condition.TheOpen.{Condition-F, Expression-F, SelectList-F}
 use Rattle.syntax.specs.declared.trees.Expression.{Expression, out-Expression}
-use Rattle.syntax.specs.declared.trees.Listed.{Listed, out-Listed}
+use Rattle.syntax.specs.declared.trees.SelectList.{SelectList, out-SelectList}
 use Rattle.syntax.specs.declared.trees.Query.{Query, out-Query}
 use Rattle.name_check.specs.Scopes.{Scope, named_in, is_name_of, own_column}
 use Rattle.value.specs.Results.{and_then, each}
@@ -151,7 +151,7 @@ scope_reads tables query scope e =
 -- ---- select lists
 
 module _ (place : ColumnName → Option ℕ) (P : ColumnName → Type 0) (of_place : (c : ColumnName) → IsSome (place c) → P c) (to_place : (c : ColumnName) → P c → IsSome (place c)) where
-  simple_layer : (layer : Expression-F Condition Expression Listed Query) → expression_may_stand place layer ≡ true → IsSimple P layer
+  simple_layer : (layer : Expression-F Condition Expression SelectList Query) → expression_may_stand place layer ≡ true → IsSimple P layer
   simple_layer (Expression-F.Number n) e = tt
   simple_layer (Expression-F.Text t) e = tt
   simple_layer (Expression-F.Column c) e = of_place c e
@@ -162,7 +162,7 @@ module _ (place : ColumnName → Option ℕ) (P : ColumnName → Type 0) (of_pla
   simple_layer (Expression-F.Sum parts) e = cc
   simple_layer (Expression-F.Product parts) e = cc
 
-  layer_simple : (layer : Expression-F Condition Expression Listed Query) → IsSimple P layer → expression_may_stand place layer ≡ true
+  layer_simple : (layer : Expression-F Condition Expression SelectList Query) → IsSimple P layer → expression_may_stand place layer ≡ true
   layer_simple (Expression-F.Number n) h = refl
   layer_simple (Expression-F.Text t) h = refl
   layer_simple (Expression-F.Column c) h = to_place c h
@@ -173,24 +173,24 @@ module _ (place : ColumnName → Option ℕ) (P : ColumnName → Type 0) (of_pla
   layer_simple (Expression-F.Sum parts) h = absurd h
   layer_simple (Expression-F.Product parts) h = absurd h
 
-  list_layer : (layer : Listed-F Condition Expression Listed Query) → selection_may_stand place layer ≡ true → IsSimpleList P layer
-  list_layer Listed-F.Star e = tt
-  list_layer (Listed-F.One x) e = simple_layer (out-Expression x) e
+  list_layer : (layer : SelectList-F Condition Expression SelectList Query) → selection_may_stand place layer ≡ true → IsSimpleList P layer
+  list_layer SelectList-F.Star e = tt
+  list_layer (SelectList-F.One x) e = simple_layer (out-Expression x) e
 
-  layer_list : (layer : Listed-F Condition Expression Listed Query) → IsSimpleList P layer → selection_may_stand place layer ≡ true
-  layer_list Listed-F.Star h = refl
-  layer_list (Listed-F.One x) h = layer_simple (out-Expression x) h
+  layer_list : (layer : SelectList-F Condition Expression SelectList Query) → IsSimpleList P layer → selection_may_stand place layer ≡ true
+  layer_list SelectList-F.Star h = refl
+  layer_list (SelectList-F.One x) h = layer_simple (out-Expression x) h
 
-  simple_list : (list : Listed) → may_be_selected place list ≡ true → IsSimpleList P (out-Listed list)
-  simple_list list e = list_layer (out-Listed list) e
+  simple_list : (list : SelectList) → may_be_selected place list ≡ true → IsSimpleList P (out-SelectList list)
+  simple_list list e = list_layer (out-SelectList list) e
 
-  list_simple : (list : Listed) → IsSimpleList P (out-Listed list) → may_be_selected place list ≡ true
-  list_simple list h = layer_list (out-Listed list) h
+  list_simple : (list : SelectList) → IsSimpleList P (out-SelectList list) → may_be_selected place list ≡ true
+  list_simple list h = layer_list (out-SelectList list) h
 
-own_list : (scope : Scope) (list : Listed) → may_be_selected (own_column scope) list ≡ true → IsSimpleList (IsOwn scope) (out-Listed list)
+own_list : (scope : Scope) (list : SelectList) → may_be_selected (own_column scope) list ≡ true → IsSimpleList (IsOwn scope) (out-SelectList list)
 own_list scope list e = simple_list (own_column scope) (IsOwn scope) (λ c h. h) (λ c h. h) list e
 
-list_own : (scope : Scope) (list : Listed) → IsSimpleList (IsOwn scope) (out-Listed list) → may_be_selected (own_column scope) list ≡ true
+list_own : (scope : Scope) (list : SelectList) → IsSimpleList (IsOwn scope) (out-SelectList list) → may_be_selected (own_column scope) list ≡ true
 list_own scope list h = list_simple (own_column scope) (IsOwn scope) (λ c h. h) (λ c h. h) list h
 
 -- the grouping column
@@ -200,10 +200,10 @@ grouped_at group o h = let (c, is) = some_is no_column (in_group group o) h in (
 at_group : (group : ℕ) (o : Option ℕ) → o ≡ Some group → IsSome (in_group group o)
 at_group group o e = ap (λ o. is_some (in_group group o)) e ∙ ap (λ b. let o : Option ℕ = cond b (Some 0) None in is_some o) (equal_itself group)
 
-group_list : (scope : Scope) (group : ℕ) (list : Listed) → may_be_selected (grouping_column scope group) list ≡ true → IsSimpleList (IsColumnAt scope group) (out-Listed list)
+group_list : (scope : Scope) (group : ℕ) (list : SelectList) → may_be_selected (grouping_column scope group) list ≡ true → IsSimpleList (IsColumnAt scope group) (out-SelectList list)
 group_list scope group list e = simple_list (grouping_column scope group) (IsColumnAt scope group) (λ c h. grouped_at group (own_column scope c) h) (λ c h. at_group group (own_column scope c) h) list e
 
-list_group : (scope : Scope) (group : ℕ) (list : Listed) → IsSimpleList (IsColumnAt scope group) (out-Listed list) → may_be_selected (grouping_column scope group) list ≡ true
+list_group : (scope : Scope) (group : ℕ) (list : SelectList) → IsSimpleList (IsColumnAt scope group) (out-SelectList list) → may_be_selected (grouping_column scope group) list ≡ true
 list_group scope group list h = list_simple (grouping_column scope group) (IsColumnAt scope group) (λ c h. grouped_at group (own_column scope c) h) (λ c h. at_group group (own_column scope c) h) list h
 
 -- one set function
@@ -211,7 +211,7 @@ some_mapped : {A B : Type 0} (f : A → B) (o : Option A) → is_some (option_ma
 some_mapped f None = refl
 some_mapped f (Some a) = refl
 
-set_layer : (scope : Scope) (layer : Expression-F Condition Expression Listed Query) → is_some (aggregate_in scope layer) ≡ true → IsSet scope layer
+set_layer : (scope : Scope) (layer : Expression-F Condition Expression SelectList Query) → is_some (aggregate_in scope layer) ≡ true → IsSet scope layer
 set_layer scope (Expression-F.Number n) e = cc
 set_layer scope (Expression-F.Text t) e = cc
 set_layer scope (Expression-F.Column c) e = cc
@@ -222,7 +222,7 @@ set_layer scope (Expression-F.Negation part) e = cc
 set_layer scope (Expression-F.Sum parts) e = cc
 set_layer scope (Expression-F.Product parts) e = cc
 
-layer_set : (scope : Scope) (layer : Expression-F Condition Expression Listed Query) → IsSet scope layer → is_some (aggregate_in scope layer) ≡ true
+layer_set : (scope : Scope) (layer : Expression-F Condition Expression SelectList Query) → IsSet scope layer → is_some (aggregate_in scope layer) ≡ true
 layer_set scope (Expression-F.Number n) h = absurd h
 layer_set scope (Expression-F.Text t) h = absurd h
 layer_set scope (Expression-F.Column c) h = absurd h
@@ -233,28 +233,28 @@ layer_set scope (Expression-F.Negation part) h = absurd h
 layer_set scope (Expression-F.Sum parts) h = absurd h
 layer_set scope (Expression-F.Product parts) h = absurd h
 
-set_list_layer : (scope : Scope) (layer : Listed-F Condition Expression Listed Query) → is_some (aggregate_selected scope layer) ≡ true → IsSetList scope layer
-set_list_layer scope Listed-F.Star e = cc
-set_list_layer scope (Listed-F.One x) e = set_layer scope (out-Expression x) e
+set_list_layer : (scope : Scope) (layer : SelectList-F Condition Expression SelectList Query) → is_some (aggregate_selected scope layer) ≡ true → IsSetList scope layer
+set_list_layer scope SelectList-F.Star e = cc
+set_list_layer scope (SelectList-F.One x) e = set_layer scope (out-Expression x) e
 
-layer_set_list : (scope : Scope) (layer : Listed-F Condition Expression Listed Query) → IsSetList scope layer → is_some (aggregate_selected scope layer) ≡ true
-layer_set_list scope Listed-F.Star h = absurd h
-layer_set_list scope (Listed-F.One x) h = layer_set scope (out-Expression x) h
+layer_set_list : (scope : Scope) (layer : SelectList-F Condition Expression SelectList Query) → IsSetList scope layer → is_some (aggregate_selected scope layer) ≡ true
+layer_set_list scope SelectList-F.Star h = absurd h
+layer_set_list scope (SelectList-F.One x) h = layer_set scope (out-Expression x) h
 
-set_list : (scope : Scope) (list : Listed) → IsSome (selected_aggregate scope list) → IsSetList scope (out-Listed list)
-set_list scope list e = set_list_layer scope (out-Listed list) e
+set_list : (scope : Scope) (list : SelectList) → IsSome (selected_aggregate scope list) → IsSetList scope (out-SelectList list)
+set_list scope list e = set_list_layer scope (out-SelectList list) e
 
-list_set : (scope : Scope) (list : Listed) → IsSetList scope (out-Listed list) → IsSome (selected_aggregate scope list)
-list_set scope list h = layer_set_list scope (out-Listed list) h
+list_set : (scope : Scope) (list : SelectList) → IsSetList scope (out-SelectList list) → IsSome (selected_aggregate scope list)
+list_set scope list h = layer_set_list scope (out-SelectList list) h
 
 -- ---- single conditions
 
 plain_query : (tables : Tables) (query : Query) → Answers (plain_value tables (out-Query query)) → IsPlainQuery tables query
 plain_query tables query (p, e) =
     let q = out-Query query in
-    let (source, (found, more)) = in_class_ok (source_of tables q.table q.alias) (λ source. plain_by source (selected_aggregate source.scope q.listed) q.keeps q.group q.having) p e in
-    let (no_group, (no_having, (function, (lists, (kept, (filters, makes)))))) = plain_by_ok source (selected_aggregate source.scope q.listed) q.keeps q.group q.having p more in
-    record { scope = source.scope; reads = reads_scope tables query source found; lists = set_list source.scope q.listed (ap is_some lists); kept = over_filter source.scope q.keeps (kept, filters); ungrouped = ap is_some no_group; whole = ap is_some no_having }
+    let (source, (found, more)) = in_class_ok (source_of tables q.table q.alias) (λ source. plain_by source (selected_aggregate source.scope q.select_list) q.keeps q.group q.having) p e in
+    let (no_group, (no_having, (function, (lists, (kept, (filters, makes)))))) = plain_by_ok source (selected_aggregate source.scope q.select_list) q.keeps q.group q.having p more in
+    record { scope = source.scope; reads = reads_scope tables query source found; lists = set_list source.scope q.select_list (ap is_some lists); kept = over_filter source.scope q.keeps (kept, filters); ungrouped = ap is_some no_group; whole = ap is_some no_having }
 
 query_plain : (tables : Tables) (query : Query) → IsPlainQuery tables query → Answers (plain_value tables (out-Query query))
 query_plain tables query is =
@@ -262,13 +262,13 @@ query_plain tables query is =
     let scope = is.scope in
     let (t, reads) = scope_reads tables query scope is.reads in
     let source : Source = record { table = t; scope = scope } in
-    let (a, lists) = some_is no_column (selected_aggregate scope q.listed) (list_set scope q.listed is.lists) in
+    let (a, lists) = some_is no_column (selected_aggregate scope q.select_list) (list_set scope q.select_list is.lists) in
     let (kept, filters) = filter_over scope q.keeps is.kept in
     let make : Aggregate → Cond → Plain = λ a kept. record { table = t; kept = kept; aggregate = a } in (
       make a kept,
-      ap (λ o. in_class o (λ source. plain_by source (selected_aggregate source.scope q.listed) q.keeps q.group q.having)) reads
-          ∙ ap (λ g. plain_by source (selected_aggregate scope q.listed) q.keeps g q.having) (none_is q.group is.ungrouped)
-          ∙ ap (λ h. plain_by source (selected_aggregate scope q.listed) q.keeps None h) (none_is q.having is.whole)
+      ap (λ o. in_class o (λ source. plain_by source (selected_aggregate source.scope q.select_list) q.keeps q.group q.having)) reads
+          ∙ ap (λ g. plain_by source (selected_aggregate scope q.select_list) q.keeps g q.having) (none_is q.group is.ungrouped)
+          ∙ ap (λ h. plain_by source (selected_aggregate scope q.select_list) q.keeps None h) (none_is q.having is.whole)
           ∙ ap (λ o. plain_by source o q.keeps None None) lists
           ∙ ap (λ r. and_then r (λ kept. let r : Result Plain Refusal = Ok (make a kept) in r)) filters,
     )
@@ -323,18 +323,18 @@ leaf_set scope (class.Exists query) h = absurd h
 leaf_set scope (class.Value query) h = absurd h
 
 group_class : (source : Source) (query : Clauses) (column : ColumnName) (having : Condition) → Answers (by_group source query column having)
-    → (group : ℕ) × ((own_column source.scope column ≡ Some group) × (IsSimpleList (IsColumnAt source.scope group) (out-Listed query.listed) × (IfWritten (IsOverRows source.scope) query.keeps × (Each (IsColumnAt source.scope group) (columns_in having) × Each (IsSetFunction source.scope) (pieces_in having)))))
+    → (group : ℕ) × ((own_column source.scope column ≡ Some group) × (IsSimpleList (IsColumnAt source.scope group) (out-SelectList query.select_list) × (IfWritten (IsOverRows source.scope) query.keeps × (Each (IsColumnAt source.scope group) (columns_in having) × Each (IsSetFunction source.scope) (pieces_in having)))))
 group_class source query column having (form, e) =
     let scope = source.scope in
-    let (group, (own, more)) = in_class_ok (own_column scope column) (λ group. only_if (may_be_selected (grouping_column scope group) query.listed) (and_then (row_filter scope query.keeps) (λ kept. having_over source group kept having))) form e in
-    let (lists, rest) = only_if_ok (may_be_selected (grouping_column scope group) query.listed) (and_then (row_filter scope query.keeps) (λ kept. having_over source group kept having)) form more in
+    let (group, (own, more)) = in_class_ok (own_column scope column) (λ group. only_if (may_be_selected (grouping_column scope group) query.select_list) (and_then (row_filter scope query.keeps) (λ kept. having_over source group kept having))) form e in
+    let (lists, rest) = only_if_ok (may_be_selected (grouping_column scope group) query.select_list) (and_then (row_filter scope query.keeps) (λ kept. having_over source group kept having)) form more in
     let (kept, (filters, over)) = and_then_ok (row_filter scope query.keeps) (λ kept. having_over source group kept having) form rest in
     let (m, (is, made)) = and_then_ok (numbered (grouping_column scope group) having []) (λ made. and_then (each (aggregate_of scope) made.1) (λ aggregates. let r : Result Form Refusal = Ok (ByGroup source.table kept group made.0 aggregates) in r)) form over in
     let (aggregates, (are, makes)) = and_then_ok (each (aggregate_of scope) m.1) (λ aggregates. let r : Result Form Refusal = Ok (ByGroup source.table kept group m.0 aggregates) in r) form made in
     let (columns, leaves) = (condition_numbers (grouping_column scope group) having).says [] m.0 m.1 is in
-    (group, (own, (group_list scope group query.listed lists, (over_filter scope query.keeps (kept, filters), (each_other (MayStand (grouping_column scope group)) (IsColumnAt scope group) (λ c h. grouped_at group (own_column scope c) h) (columns_in having) columns, pieces_of (aggregate_of scope) (IsSetFunction scope) (set_leaf scope) m.1 (pieces_in having) leaves (aggregates, are))))))
+    (group, (own, (group_list scope group query.select_list lists, (over_filter scope query.keeps (kept, filters), (each_other (MayStand (grouping_column scope group)) (IsColumnAt scope group) (λ c h. grouped_at group (own_column scope c) h) (columns_in having) columns, pieces_of (aggregate_of scope) (IsSetFunction scope) (set_leaf scope) m.1 (pieces_in having) leaves (aggregates, are))))))
 
-class_group : (source : Source) (query : Clauses) (column : ColumnName) (having : Condition) (group : ℕ) → own_column source.scope column ≡ Some group → IsSimpleList (IsColumnAt source.scope group) (out-Listed query.listed) → IfWritten (IsOverRows source.scope) query.keeps
+class_group : (source : Source) (query : Clauses) (column : ColumnName) (having : Condition) (group : ℕ) → own_column source.scope column ≡ Some group → IsSimpleList (IsColumnAt source.scope group) (out-SelectList query.select_list) → IfWritten (IsOverRows source.scope) query.keeps
     → Each (IsColumnAt source.scope group) (columns_in having) → Each (IsSetFunction source.scope) (pieces_in having) → Answers (by_group source query column having)
 class_group source query column having group own lists keeps columns leaves =
     let scope = source.scope in
@@ -342,8 +342,8 @@ class_group source query column having group own lists keeps columns leaves =
     let (made, is) = (condition_numbers (grouping_column scope group) having).finds [] (each_other (IsColumnAt scope group) (MayStand (grouping_column scope group)) (λ c h. at_group group (own_column scope c) h) (columns_in having) columns) in
     let (aggregates, are) = of_pieces (aggregate_of scope) (IsSetFunction scope) (leaf_set scope) (pieces_in having) leaves in (
       ByGroup source.table kept group made aggregates,
-      ap (λ o. in_class o (λ group. only_if (may_be_selected (grouping_column scope group) query.listed) (and_then (row_filter scope query.keeps) (λ kept. having_over source group kept having)))) own
-          ∙ ap (λ b. only_if b (and_then (row_filter scope query.keeps) (λ kept. having_over source group kept having))) (list_group scope group query.listed lists)
+      ap (λ o. in_class o (λ group. only_if (may_be_selected (grouping_column scope group) query.select_list) (and_then (row_filter scope query.keeps) (λ kept. having_over source group kept having)))) own
+          ∙ ap (λ b. only_if b (and_then (row_filter scope query.keeps) (λ kept. having_over source group kept having))) (list_group scope group query.select_list lists)
           ∙ ap (λ r. and_then r (λ kept. having_over source group kept having)) filters
           ∙ ap (λ r. and_then r (λ made. and_then (each (aggregate_of scope) made.1) (λ aggregates. let r : Result Form Refusal = Ok (ByGroup source.table kept group made.0 aggregates) in r))) is
           ∙ ap (λ r. and_then r (λ aggregates. let r : Result Form Refusal = Ok (ByGroup source.table kept group made aggregates) in r)) are,
@@ -351,10 +351,10 @@ class_group source query column having group own lists keeps columns leaves =
 
 -- ---- links
 
-named : (layer : Expression-F Condition Expression Listed Query) (column : ColumnName) → name_in layer ≡ Some column → layer ≡ Expression-F.Column column
+named : (layer : Expression-F Condition Expression SelectList Query) (column : ColumnName) → name_in layer ≡ Some column → layer ≡ Expression-F.Column column
 named (Expression-F.Number n) column e = cc
 named (Expression-F.Text t) column e = cc
-named (Expression-F.Column c) column e = ap (λ c. let l : Expression-F Condition Expression Listed Query = Expression-F.Column c in l) (ap (λ o. elim o [ None ↦ c | Some x ↦ x ]) e)
+named (Expression-F.Column c) column e = ap (λ c. let l : Expression-F Condition Expression SelectList Query = Expression-F.Column c in l) (ap (λ o. elim o [ None ↦ c | Some x ↦ x ]) e)
 named Expression-F.CountRows column e = cc
 named (Expression-F.Aggregate f c) column e = cc
 named (Expression-F.Subquery query) column e = cc
@@ -377,7 +377,7 @@ module _ (child root : Scope) where
         (either_is (linked_column child root l r) (linked_column child root r l) c is);
   }
 
-  link_layer : (part : Condition) (layer : Condition-F Condition Expression Listed Query) → out-Condition part ≡ layer → (c : ℕ) → link_in child root layer ≡ Some c → IsLink child root part
+  link_layer : (part : Condition) (layer : Condition-F Condition Expression SelectList Query) → out-Condition part ≡ layer → (c : ℕ) → link_in child root layer ≡ Some c → IsLink child root part
   link_layer part (Condition-F.Or parts) out c e = cc
   link_layer part (Condition-F.And parts) out c e = cc
   link_layer part (Condition-F.Not inner) out c e = cc
@@ -427,12 +427,12 @@ module _ (child root : Scope) where
   name_columns : (x : Expression) (name : ColumnName) → out-Expression x ≡ Expression-F.Column name → columns_of x ≡ name ∷ []
   name_columns x name e =
       fold_out-Expression (List ColumnName) (List ColumnName) (Unit {0}) (Unit {0}) condition_columns expression_columns (λ l. tt) (λ q. tt) x
-      ∙ ap (λ layer. expression_columns (map-Expression Condition Expression Listed Query (List ColumnName) (List ColumnName) (Unit {0}) (Unit {0}) columns_in columns_of (λ l. tt) (λ q. tt) layer)) e
+      ∙ ap (λ layer. expression_columns (map-Expression Condition Expression SelectList Query (List ColumnName) (List ColumnName) (Unit {0}) (Unit {0}) columns_in columns_of (λ l. tt) (λ q. tt) layer)) e
 
   sides_columns : (part : Condition) (left right : Expression) → out-Condition part ≡ Condition-F.Compare left Equal right → columns_in part ≡ columns_of left ++ columns_of right
   sides_columns part left right e =
       fold_out-Condition (List ColumnName) (List ColumnName) (Unit {0}) (Unit {0}) condition_columns expression_columns (λ l. tt) (λ q. tt) part
-      ∙ ap (λ layer. condition_columns (map-Condition Condition Expression Listed Query (List ColumnName) (List ColumnName) (Unit {0}) (Unit {0}) columns_in columns_of (λ l. tt) (λ q. tt) layer)) e
+      ∙ ap (λ layer. condition_columns (map-Condition Condition Expression SelectList Query (List ColumnName) (List ColumnName) (Unit {0}) (Unit {0}) columns_in columns_of (λ l. tt) (λ q. tt) layer)) e
 
   hidden : (name : ColumnName) → IsOwn child name → is_name_of name.qualifier name.name child ≡ false → ⊥
   hidden name own none = let e : is_some (own_column child name) ≡ false = ap (λ b. is_some (if b then named_in name.name child else None)) none in let k : true ≡ false = sym own ∙ e in cc
@@ -537,16 +537,16 @@ linked_leaf_class tables root class.Rows (q, e) = cc
 linked_leaf_class tables root (class.Of f c) (q, e) = cc
 linked_leaf_class tables root (class.Exists query) (q, e) =
     let c = out-Query query in
-    let (child, (found, more)) = in_class_ok (source_of tables c.table c.alias) (λ child. only_if (may_be_selected (own_column child.scope) c.listed) (linked_where child root CountRows c.keeps c.group c.having)) q e in
-    let (lists, rest) = only_if_ok (may_be_selected (own_column child.scope) c.listed) (linked_where child root CountRows c.keeps c.group c.having) q more in
+    let (child, (found, more)) = in_class_ok (source_of tables c.table c.alias) (λ child. only_if (may_be_selected (own_column child.scope) c.select_list) (linked_where child root CountRows c.keeps c.group c.having)) q e in
+    let (lists, rest) = only_if_ok (may_be_selected (own_column child.scope) c.select_list) (linked_where child root CountRows c.keeps c.group c.having) q more in
     let (condition, (is, (where_is, (g, h)))) = linked_where_class child root CountRows c.keeps c.group c.having (q, rest) in
-    record { scope = child.scope; condition = condition; reads = reads_scope tables query child found; lists = own_list child.scope c.listed lists; kept = is; linked = where_is; ungrouped = g; whole = h }
+    record { scope = child.scope; condition = condition; reads = reads_scope tables query child found; lists = own_list child.scope c.select_list lists; kept = is; linked = where_is; ungrouped = g; whole = h }
 linked_leaf_class tables root (class.Value query) (q, e) =
     let c = out-Query query in
-    let (child, (found, more)) = in_class_ok (source_of tables c.table c.alias) (λ child. in_class (selected_aggregate child.scope c.listed) (λ a. linked_where child root a c.keeps c.group c.having)) q e in
-    let (a, (lists, rest)) = in_class_ok (selected_aggregate child.scope c.listed) (λ a. linked_where child root a c.keeps c.group c.having) q more in
+    let (child, (found, more)) = in_class_ok (source_of tables c.table c.alias) (λ child. in_class (selected_aggregate child.scope c.select_list) (λ a. linked_where child root a c.keeps c.group c.having)) q e in
+    let (a, (lists, rest)) = in_class_ok (selected_aggregate child.scope c.select_list) (λ a. linked_where child root a c.keeps c.group c.having) q more in
     let (condition, (is, (where_is, (g, h)))) = linked_where_class child root a c.keeps c.group c.having (q, rest) in
-    record { scope = child.scope; condition = condition; reads = reads_scope tables query child found; lists = set_list child.scope c.listed (ap is_some lists); kept = is; linked = where_is; ungrouped = g; whole = h }
+    record { scope = child.scope; condition = condition; reads = reads_scope tables query child found; lists = set_list child.scope c.select_list (ap is_some lists); kept = is; linked = where_is; ungrouped = g; whole = h }
 
 class_linked_leaf : (tables : Tables) (root : Scope) (p : Piece) → IsLinkedPiece tables root p → Answers (linked tables root (leaf_of p))
 class_linked_leaf tables root class.Rows h = absurd h
@@ -557,17 +557,17 @@ class_linked_leaf tables root (class.Exists query) h =
     let child : Source = record { table = t; scope = h.scope } in
     let (q, is) = class_linked_where child root CountRows c.keeps c.group c.having (h.condition, (h.kept, (h.linked, (h.ungrouped, h.whole)))) in (
       q,
-      ap (λ o. in_class o (λ child. only_if (may_be_selected (own_column child.scope) c.listed) (linked_where child root CountRows c.keeps c.group c.having))) reads
-          ∙ ap (λ b. only_if b (linked_where child root CountRows c.keeps c.group c.having)) (list_own h.scope c.listed h.lists) ∙ is,
+      ap (λ o. in_class o (λ child. only_if (may_be_selected (own_column child.scope) c.select_list) (linked_where child root CountRows c.keeps c.group c.having))) reads
+          ∙ ap (λ b. only_if b (linked_where child root CountRows c.keeps c.group c.having)) (list_own h.scope c.select_list h.lists) ∙ is,
     )
 class_linked_leaf tables root (class.Value query) h =
     let c = out-Query query in
     let (t, reads) = scope_reads tables query h.scope h.reads in
     let child : Source = record { table = t; scope = h.scope } in
-    let (a, lists) = some_is no_column (selected_aggregate h.scope c.listed) (list_set h.scope c.listed h.lists) in
+    let (a, lists) = some_is no_column (selected_aggregate h.scope c.select_list) (list_set h.scope c.select_list h.lists) in
     let (q, is) = class_linked_where child root a c.keeps c.group c.having (h.condition, (h.kept, (h.linked, (h.ungrouped, h.whole)))) in (
       q,
-      ap (λ o. in_class o (λ child. in_class (selected_aggregate child.scope c.listed) (λ a. linked_where child root a c.keeps c.group c.having))) reads
+      ap (λ o. in_class o (λ child. in_class (selected_aggregate child.scope c.select_list) (λ a. linked_where child root a c.keeps c.group c.having))) reads
           ∙ ap (λ o. in_class o (λ a. linked_where child root a c.keeps c.group c.having)) lists ∙ is,
     )
 
@@ -583,20 +583,20 @@ class_row_where tables root (Some c) h =
     let (made, is) = (condition_numbers (own_column root) c).finds [] h.columns in
     (made, (map leaf_of (pieces_in c), (is, of_pieces (linked tables root) (IsLinkedPiece tables root) (class_linked_leaf tables root) (pieces_in c) h.queries)))
 
-row_class : (tables : Tables) (source : Source) (query : Clauses) → Answers (by_row tables source query) → IsSimpleList (IsOwn source.scope) (out-Listed query.listed) × IfWritten (IsRowWhere tables source.scope) query.keeps
+row_class : (tables : Tables) (source : Source) (query : Clauses) → Answers (by_row tables source query) → IsSimpleList (IsOwn source.scope) (out-SelectList query.select_list) × IfWritten (IsRowWhere tables source.scope) query.keeps
 row_class tables source query (form, e) =
     let scope = source.scope in
-    let (lists, rest) = only_if_ok (may_be_selected (own_column scope) query.listed) (and_then (row_where scope query.keeps) (λ made. and_then (each (linked tables scope) made.1) (λ queries. let r : Result Form Refusal = Ok (ByRow source.table made.0 queries) in r))) form e in
+    let (lists, rest) = only_if_ok (may_be_selected (own_column scope) query.select_list) (and_then (row_where scope query.keeps) (λ made. and_then (each (linked tables scope) made.1) (λ queries. let r : Result Form Refusal = Ok (ByRow source.table made.0 queries) in r))) form e in
     let (m, (is, more)) = and_then_ok (row_where scope query.keeps) (λ made. and_then (each (linked tables scope) made.1) (λ queries. let r : Result Form Refusal = Ok (ByRow source.table made.0 queries) in r)) form rest in
     let (queries, (are, makes)) = and_then_ok (each (linked tables scope) m.1) (λ queries. let r : Result Form Refusal = Ok (ByRow source.table m.0 queries) in r) form more in
-    (own_list scope query.listed lists, row_where_class tables scope query.keeps m.0 m.1 is (queries, are))
+    (own_list scope query.select_list lists, row_where_class tables scope query.keeps m.0 m.1 is (queries, are))
 
-class_row : (tables : Tables) (source : Source) (query : Clauses) → IsSimpleList (IsOwn source.scope) (out-Listed query.listed) → IfWritten (IsRowWhere tables source.scope) query.keeps → Answers (by_row tables source query)
+class_row : (tables : Tables) (source : Source) (query : Clauses) → IsSimpleList (IsOwn source.scope) (out-SelectList query.select_list) → IfWritten (IsRowWhere tables source.scope) query.keeps → Answers (by_row tables source query)
 class_row tables source query lists keeps =
     let scope = source.scope in
     let (made, (leaves, (is, (queries, are)))) = class_row_where tables scope query.keeps keeps in (
       ByRow source.table made queries,
-      ap (λ b. only_if b (and_then (row_where scope query.keeps) (λ made. and_then (each (linked tables scope) made.1) (λ queries. let r : Result Form Refusal = Ok (ByRow source.table made.0 queries) in r)))) (list_own scope query.listed lists)
+      ap (λ b. only_if b (and_then (row_where scope query.keeps) (λ made. and_then (each (linked tables scope) made.1) (λ queries. let r : Result Form Refusal = Ok (ByRow source.table made.0 queries) in r)))) (list_own scope query.select_list lists)
           ∙ ap (λ r. and_then r (λ made. and_then (each (linked tables scope) made.1) (λ queries. let r : Result Form Refusal = Ok (ByRow source.table made.0 queries) in r))) is
           ∙ ap (λ r. and_then r (λ queries. let r : Result Form Refusal = Ok (ByRow source.table made queries) in r)) are,
     )
@@ -632,7 +632,7 @@ class_groups tables query h =
 
 -- ---- all
 
-denied_class : (tables : Tables) (c part : Condition) (layer : Condition-F Condition Expression Listed Query) → out-Condition c ≡ Condition-F.Not part → out-Condition part ≡ layer → Answers (denied tables c layer) → IsInClass tables c
+denied_class : (tables : Tables) (c part : Condition) (layer : Condition-F Condition Expression SelectList Query) → out-Condition c ≡ Condition-F.Not part → out-Condition part ≡ layer → Answers (denied tables c layer) → IsInClass tables c
 denied_class tables c part (Condition-F.Or parts) n p h = inr (inr (single_class tables c h))
 denied_class tables c part (Condition-F.And parts) n p h = inr (inr (single_class tables c h))
 denied_class tables c part (Condition-F.Not inner) n p h = inr (inr (single_class tables c h))
@@ -645,7 +645,7 @@ denied_class tables c part (Condition-F.IsNull x) n p h = inr (inr (single_class
 denied_class tables c part (Condition-F.Between x low high) n p h = inr (inr (single_class tables c h))
 denied_class tables c part (Condition-F.In x list) n p h = inr (inr (single_class tables c h))
 
-whole_class : (tables : Tables) (c : Condition) (layer : Condition-F Condition Expression Listed Query) → out-Condition c ≡ layer → Answers (form_in tables c layer) → IsInClass tables c
+whole_class : (tables : Tables) (c : Condition) (layer : Condition-F Condition Expression SelectList Query) → out-Condition c ≡ layer → Answers (form_in tables c layer) → IsInClass tables c
 whole_class tables c (Condition-F.Or parts) e h = inr (inr (single_class tables c h))
 whole_class tables c (Condition-F.And parts) e h = inr (inr (single_class tables c h))
 whole_class tables c (Condition-F.Not part) e h = denied_class tables c part (out-Condition part) e refl h
@@ -670,14 +670,14 @@ rows_form tables c h = denied_form tables c h.0 h.1 (class_rows tables h.0 h.2)
 pub groups_form : (tables : Tables) (c : Condition) → IsByGroups tables c → Answers (form_of tables c)
 groups_form tables c h = denied_form tables c h.0 h.1 (class_groups tables h.0 h.2)
 
-leaves_out : (c : Condition) → pieces_in c ≡ condition_pieces (map-Condition Condition Expression Listed Query (Condition × Pieces) (Expression × Pieces) (Listed × Unit {0}) (Query × Unit {0}) (λ c. (c, pieces_in c)) (λ e. (e, pieces_at e)) (λ l. (l, tt)) (λ q. (q, tt)) (out-Condition c))
+leaves_out : (c : Condition) → pieces_in c ≡ condition_pieces (map-Condition Condition Expression SelectList Query (Condition × Pieces) (Expression × Pieces) (SelectList × Unit {0}) (Query × Unit {0}) (λ c. (c, pieces_in c)) (λ e. (e, pieces_at e)) (λ l. (l, tt)) (λ q. (q, tt)) (out-Condition c))
 leaves_out c = ap pieces_in (sym (roll-out-Condition c)) ∙ condition_pieces_rolled (out-Condition c)
 
-leaves_layer : (c : Condition) (layer : Condition-F Condition Expression Listed Query) → out-Condition c ≡ layer → pieces_in c ≡ condition_pieces (map-Condition Condition Expression Listed Query (Condition × Pieces) (Expression × Pieces) (Listed × Unit {0}) (Query × Unit {0}) (λ c. (c, pieces_in c)) (λ e. (e, pieces_at e)) (λ l. (l, tt)) (λ q. (q, tt)) layer)
-leaves_layer c layer e = leaves_out c ∙ ap (λ layer. condition_pieces (map-Condition Condition Expression Listed Query (Condition × Pieces) (Expression × Pieces) (Listed × Unit {0}) (Query × Unit {0}) (λ c. (c, pieces_in c)) (λ e. (e, pieces_at e)) (λ l. (l, tt)) (λ q. (q, tt)) layer)) e
+leaves_layer : (c : Condition) (layer : Condition-F Condition Expression SelectList Query) → out-Condition c ≡ layer → pieces_in c ≡ condition_pieces (map-Condition Condition Expression SelectList Query (Condition × Pieces) (Expression × Pieces) (SelectList × Unit {0}) (Query × Unit {0}) (λ c. (c, pieces_in c)) (λ e. (e, pieces_at e)) (λ l. (l, tt)) (λ q. (q, tt)) layer)
+leaves_layer c layer e = leaves_out c ∙ ap (λ layer. condition_pieces (map-Condition Condition Expression SelectList Query (Condition × Pieces) (Expression × Pieces) (SelectList × Unit {0}) (Query × Unit {0}) (λ c. (c, pieces_in c)) (λ e. (e, pieces_at e)) (λ l. (l, tt)) (λ q. (q, tt)) layer)) e
 
 -- a single condition is no NOT EXISTS
-denied_single : (tables : Tables) (c part : Condition) (layer : Condition-F Condition Expression Listed Query) → out-Condition c ≡ Condition-F.Not part → out-Condition part ≡ layer → IsSingle tables c → Answers (denied tables c layer)
+denied_single : (tables : Tables) (c part : Condition) (layer : Condition-F Condition Expression SelectList Query) → out-Condition c ≡ Condition-F.Not part → out-Condition part ≡ layer → IsSingle tables c → Answers (denied tables c layer)
 denied_single tables c part (Condition-F.Or parts) n p h = class_single tables c h
 denied_single tables c part (Condition-F.And parts) n p h = class_single tables c h
 denied_single tables c part (Condition-F.Not inner) n p h = class_single tables c h
@@ -690,7 +690,7 @@ denied_single tables c part (Condition-F.IsNull x) n p h = class_single tables c
 denied_single tables c part (Condition-F.Between x low high) n p h = class_single tables c h
 denied_single tables c part (Condition-F.In x list) n p h = class_single tables c h
 
-whole_single : (tables : Tables) (c : Condition) (layer : Condition-F Condition Expression Listed Query) → out-Condition c ≡ layer → IsSingle tables c → Answers (form_in tables c layer)
+whole_single : (tables : Tables) (c : Condition) (layer : Condition-F Condition Expression SelectList Query) → out-Condition c ≡ layer → IsSingle tables c → Answers (form_in tables c layer)
 whole_single tables c (Condition-F.Or parts) e h = class_single tables c h
 whole_single tables c (Condition-F.And parts) e h = class_single tables c h
 whole_single tables c (Condition-F.Not part) e h = denied_single tables c part (out-Condition part) e refl h

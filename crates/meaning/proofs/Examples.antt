@@ -16,9 +16,9 @@ use Rattle.assertion.specs.Meaning.{State}
 use Rattle.syntax.specs.declared.trees.Aggregate.TheVariants as function
 use Rattle.syntax.specs.declared.trees.ColumnName.{ColumnName}
 use Rattle.syntax.specs.declared.trees.Condition.{Condition, roll-Condition, out-roll-Condition}
-use Rattle.syntax.specs.declared.trees.Condition.TheOpen.{Condition-F, Expression-F, Listed-F, Query-F}
+use Rattle.syntax.specs.declared.trees.Condition.TheOpen.{Condition-F, Expression-F, SelectList-F, Query-F}
 use Rattle.syntax.specs.declared.trees.Expression.{Expression, roll-Expression}
-use Rattle.syntax.specs.declared.trees.Listed.{Listed, roll-Listed}
+use Rattle.syntax.specs.declared.trees.SelectList.{SelectList, roll-SelectList}
 use Rattle.syntax.specs.declared.trees.Query.{Query, roll-Query, out-roll-Query}
 use Rattle.meaning.specs.Meaning as written
 use Rattle.meaning.specs.Meaning.{Reference, References, Valued, Answer, answers, simple, first_value, column_values, rows_counted, set_of_column, only_value, is_any, written_bad_roots, written_truth}
@@ -104,11 +104,11 @@ compare l c r = roll-Condition (Condition-F.Compare l c r)
 abbrev not_exists : Query → Condition
 not_exists q = roll-Condition (Condition-F.Not (roll-Condition (Condition-F.Exists q)))
 
-abbrev star : Listed
-star = roll-Listed Listed-F.Star
+abbrev star : SelectList
+star = roll-SelectList SelectList-F.Star
 
 abbrev star_value : Valued
-star_value = written.listed_step Listed-F.Star
+star_value = written.select_list_step SelectList-F.Star
 
 abbrev value_named : ColumnName → Valued
 value_named c = simple (λ around. first_value (column_values c around))
@@ -117,7 +117,7 @@ abbrev value_number : ℕ → Valued
 value_number n = simple (λ around. number n)
 
 -- the bad roots of NOT EXISTS of a query are what the query gives
-denied : (state : State) (q : Query-F Condition Expression Listed Query) (a : References → List Answer) → answers both state (roll-Query q) ≡ a
+denied : (state : State) (q : Query-F Condition Expression SelectList Query) (a : References → List Answer) → answers both state (roll-Query q) ≡ a
     → written_bad_roots both state (not_exists (roll-Query q)) ≡ written.roots_of_answers q.group (written.table_of both state q.table q.alias) (a [])
 denied state q a e =
     let whole = written_truth both state (not_exists (roll-Query q)) in
@@ -129,10 +129,10 @@ denied state q a e =
 -- ---- by rows
 
 -- NOT EXISTS (SELECT * FROM S WHERE NOT EXISTS (SELECT * FROM D WHERE D.S = S.I AND D.O = 1))
-abbrev duty : Query-F Condition Expression Listed Query
+abbrev duty : Query-F Condition Expression SelectList Query
 duty = clauses star (D ∷ []) (Some (roll-Condition (Condition-F.And (compare (column (of D S)) Equal (column (of S I)) ∷ compare (column (of D O)) Equal (literal 1) ∷ [])))) None None
 
-abbrev uncovered : Query-F Condition Expression Listed Query
+abbrev uncovered : Query-F Condition Expression SelectList Query
 uncovered = clauses star (S ∷ []) (Some (not_exists (roll-Query duty))) None None
 
 abbrev duty_where : References → Truth
@@ -171,7 +171,7 @@ on_call = compare (column (bare O)) Equal (literal 1)
 abbrev crowded : Condition
 crowded = compare (roll-Expression Expression-F.CountRows) Greater (literal 1)
 
-abbrev groups : Query-F Condition Expression Listed Query
+abbrev groups : Query-F Condition Expression SelectList Query
 groups = clauses star (D ∷ []) (Some on_call) (Some (bare S)) (Some crowded)
 
 abbrev on_call_truth : References → Truth
@@ -206,7 +206,7 @@ by_groups = denied crowd groups (groups_given crowd) (groups_are crowd)
 
 -- (SELECT f FROM D WHERE O = 1) <= n
 abbrev taken : Expression → Query
-taken f = roll-Query (clauses (roll-Listed (Listed-F.One f)) (D ∷ []) (Some on_call) None None)
+taken f = roll-Query (clauses (roll-SelectList (SelectList-F.One f)) (D ∷ []) (Some on_call) None None)
 
 abbrev at_most : Expression → ℕ → Condition
 at_most f n = compare (roll-Expression (Expression-F.Subquery (taken f))) AtMost (literal n)
@@ -218,7 +218,7 @@ single_truth : (state : State) (f : Expression) (v : Valued) (n : ℕ) → writt
 single_truth state f v n is =
     ap (λ (t : References → Truth). t [])
     (compare_is both state (roll-Expression (Expression-F.Subquery (taken f))) AtMost (literal n) (simple (λ around. only_value (taken_given state v around))) (value_number n)
-    (value_is both state (taken f) (taken_given state v) (filtered_is both state (roll-Listed (Listed-F.One f)) (D ∷ []) on_call v on_call_truth (one_is both state f v is) (on_call_is state))) (number_is both state (pos n)))
+    (value_is both state (taken f) (taken_given state v) (filtered_is both state (roll-SelectList (SelectList-F.One f)) (D ∷ []) on_call v on_call_truth (one_is both state f v is) (on_call_is state))) (number_is both state (pos n)))
 
 single_roots : (state : State) (f : Expression) (n : ℕ) (t : Truth) → written_truth both state (at_most f n) ≡ t → written_bad_roots both state (at_most f n) ≡ written.roots_of_whole t
 single_roots state f n t e =

@@ -15,7 +15,7 @@ use Rattle.value.proofs.ValueOrders.{value_cmp_total, value_exact}
 use Rattle.threeval.specs.declared.Truth.TheVariants.{True}
 use Rattle.threeval.specs.Truths.{is_of}
 use Rattle.table.specs.Rows.{RowValues, Tables, value_in}
-use Rattle.table.specs.Aggregates.{aggregate, group_of}
+use Rattle.table.specs.Aggregates.{aggregate, rows_of_group}
 use Rattle.table.specs.declared.aggregates.Aggregate.{Aggregate}
 use Rattle.table.specs.declared.aggregates.Aggregate.TheVariants.{CountRows}
 use Rattle.cond.specs.declared.conds.Cond.{Cond}
@@ -101,12 +101,12 @@ has_passing q vs (Of w) =
 -- ---- groups of rows
 
 -- the rows of a value that some row has are of that value
-value_first : (g : ℕ) (v : Value) (row : RowValues) (rows : List RowValues) → (has value_cmp v (map (value_in g) rows) ≡ true → first_value (map (value_in g) (group_of g v rows)) ≡ v) → (b : Bool) → eq_by_cmp value_cmp v (value_in g row) ≡ b
-    → b || has value_cmp v (map (value_in g) rows) ≡ true → first_value (map (value_in g) (cond b (row ∷ group_of g v rows) (group_of g v rows))) ≡ v
+value_first : (g : ℕ) (v : Value) (row : RowValues) (rows : List RowValues) → (has value_cmp v (map (value_in g) rows) ≡ true → first_value (map (value_in g) (rows_of_group g v rows)) ≡ v) → (b : Bool) → eq_by_cmp value_cmp v (value_in g row) ≡ b
+    → b || has value_cmp v (map (value_in g) rows) ≡ true → first_value (map (value_in g) (cond b (row ∷ rows_of_group g v rows) (rows_of_group g v rows))) ≡ v
 value_first g v row rows more true e h = sym (same_value v (value_in g row) e)
 value_first g v row rows more false e h = more h
 
-pub first_of_group : (g : ℕ) (v : Value) (rows : List RowValues) → has value_cmp v (map (value_in g) rows) ≡ true → first_value (map (value_in g) (group_of g v rows)) ≡ v
+pub first_of_group : (g : ℕ) (v : Value) (rows : List RowValues) → has value_cmp v (map (value_in g) rows) ≡ true → first_value (map (value_in g) (rows_of_group g v rows)) ≡ v
 first_of_group g v [] h = cc
 first_of_group g v (row ∷ rows) h = value_first g v row rows (first_of_group g v rows) (eq_by_cmp value_cmp v (value_in g row)) refl h
 
@@ -189,7 +189,7 @@ group_roots_are tables state scope rows l list keeps kept column group having ma
     let answer : List RowValues → Answer = λ rows. record { rows = rows; value = list.value (with_rows table rows []) } in
     ap (λ rows. has root_cmp r (map (root_of (Some f) l) (map answer (groups_in rows)))) kept_same
     ∙ ap (has root_cmp r) (map_twice answer (root_of (Some f) l) (groups_in k) ∙ regrouped f (value_in group) same p k
-    ∙ passing (λ v. group_of group v k) (λ rows. first_value (map (value_in group) rows)) p q (distinct (map (value_in group) k)) (λ w h.
+    ∙ passing (λ v. rows_of_group group v k) (λ rows. first_value (map (value_in group) rows)) p q (distinct (map (value_in group) k)) (λ w h.
     let named = first_of_group group w k (sym (has_distinct w (map (value_in group) k)) ∙ h) in
-    (named, ap (λ t. is_of t True) (having_keeps tables state scope group having made leaves aggregates is are (group_of group w k) w named))))
+    (named, ap (λ t. is_of t True) (having_keeps tables state scope group having made leaves aggregates is are (rows_of_group group w k) w named))))
     ∙ has_passing q (map (value_in group) k) r

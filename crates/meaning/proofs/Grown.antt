@@ -15,7 +15,7 @@ use Rattle.syntax.specs.declared.trees.ColumnName.{ColumnName}
 use Rattle.syntax.specs.declared.trees.Condition.{Condition, out-Condition}
 use Rattle.syntax.specs.declared.trees.Condition.TheOpen.{Condition-F}
 use Rattle.syntax.specs.declared.trees.Expression.{Expression}
-use Rattle.syntax.specs.declared.trees.Listed.{Listed}
+use Rattle.syntax.specs.declared.trees.SelectList.{SelectList}
 use Rattle.syntax.specs.declared.trees.Query.{Query, out-Query}
 use Rattle.name_check.specs.Scopes.{Scope, own_column}
 use Rattle.form_check.specs.Results.{in_class, only_if}
@@ -80,15 +80,15 @@ module _ (tables more : Tables) where
   linked_grown root Rows q e = cc
   linked_grown root (Of f c) q e = cc
   linked_grown root (Exists query) q e =
-      let c = out-Query query in goes_on query (λ child. only_if (may_be_selected (own_column child.scope) c.listed) (linked_where child root CountRows c.keeps c.group c.having)) q e
+      let c = out-Query query in goes_on query (λ child. only_if (may_be_selected (own_column child.scope) c.select_list) (linked_where child root CountRows c.keeps c.group c.having)) q e
   linked_grown root (Value query) q e =
-      let c = out-Query query in goes_on query (λ child. in_class (selected_aggregate child.scope c.listed) (λ a. linked_where child root a c.keeps c.group c.having)) q e
+      let c = out-Query query in goes_on query (λ child. in_class (selected_aggregate child.scope c.select_list) (λ a. linked_where child root a c.keeps c.group c.having)) q e
 
   plain_grown : (leaf : Leaf) (p : Plain) → plain tables leaf ≡ Ok p → plain (tables ++ more) leaf ≡ Ok p
   plain_grown Rows p e = cc
   plain_grown (Of f c) p e = cc
   plain_grown (Exists query) p e = cc
-  plain_grown (Value query) p e = let c = out-Query query in goes_on query (λ source. plain_by source (selected_aggregate source.scope c.listed) c.keeps c.group c.having) p e
+  plain_grown (Value query) p e = let c = out-Query query in goes_on query (λ source. plain_by source (selected_aggregate source.scope c.select_list) c.keeps c.group c.having) p e
 
   -- ---- forms
 
@@ -96,7 +96,7 @@ module _ (tables more : Tables) where
   by_row_grown source query form e =
       let scope = source.scope in
       let make : Tables → Result Form Refusal = λ ts. and_then (row_where scope query.keeps) (λ made. and_then (each (linked ts scope) made.1) (λ queries. let r : Result Form Refusal = Ok (ByRow source.table made.0 queries) in r)) in
-      let (lists, rest) = only_if_ok (may_be_selected (own_column scope) query.listed) (make tables) form e in
+      let (lists, rest) = only_if_ok (may_be_selected (own_column scope) query.select_list) (make tables) form e in
       let (m, (is, next)) = and_then_ok (row_where scope query.keeps) (λ made. and_then (each (linked tables scope) made.1) (λ queries. let r : Result Form Refusal = Ok (ByRow source.table made.0 queries) in r)) form rest in
       let (queries, (are, makes)) = and_then_ok (each (linked tables scope) m.1) (λ queries. let r : Result Form Refusal = Ok (ByRow source.table m.0 queries) in r) form next in
       ap (λ b. only_if b (make (tables ++ more))) lists
@@ -122,7 +122,7 @@ module _ (tables more : Tables) where
       ap (λ r. and_then r (λ m. and_then (each (plain (tables ++ more)) m.1) (λ queries. let r : Result Form Refusal = Ok (Single m.0 queries) in r))) is
       ∙ ap (λ r. and_then r (λ queries. let r : Result Form Refusal = Ok (Single m.0 queries) in r)) (each_grown (plain tables) (plain (tables ++ more)) plain_grown m.1 queries are) ∙ makes
 
-  denied_grown : (c : Condition) (layer : Condition-F Condition Expression Listed Query) (form : Form) → denied tables c layer ≡ Ok form → denied (tables ++ more) c layer ≡ Ok form
+  denied_grown : (c : Condition) (layer : Condition-F Condition Expression SelectList Query) (form : Form) → denied tables c layer ≡ Ok form → denied (tables ++ more) c layer ≡ Ok form
   denied_grown c (Condition-F.Or parts) form e = single_grown c form e
   denied_grown c (Condition-F.And parts) form e = single_grown c form e
   denied_grown c (Condition-F.Not part) form e = single_grown c form e
@@ -133,7 +133,7 @@ module _ (tables more : Tables) where
   denied_grown c (Condition-F.Between x low high) form e = single_grown c form e
   denied_grown c (Condition-F.In x list) form e = single_grown c form e
 
-  form_grown : (c : Condition) (layer : Condition-F Condition Expression Listed Query) (form : Form) → form_in tables c layer ≡ Ok form → form_in (tables ++ more) c layer ≡ Ok form
+  form_grown : (c : Condition) (layer : Condition-F Condition Expression SelectList Query) (form : Form) → form_in tables c layer ≡ Ok form → form_in (tables ++ more) c layer ≡ Ok form
   form_grown c (Condition-F.Or parts) form e = single_grown c form e
   form_grown c (Condition-F.And parts) form e = single_grown c form e
   form_grown c (Condition-F.Not part) form e = denied_grown c (out-Condition part) form e

@@ -25,10 +25,10 @@ use Rattle.assertion.specs.declared.linked_queries.Linked.{Linked}
 use Rattle.assertion.specs.Meaning.{State, rows_of, links, linked_answer}
 use Rattle.syntax.specs.declared.trees.ColumnName.{ColumnName}
 use Rattle.syntax.specs.declared.trees.Condition.{Condition, out-Condition}
-use Rattle.syntax.specs.declared.trees.Condition.TheOpen.{Condition-F, Expression-F, Listed-F}
-use Rattle.syntax.specs.declared.trees.Condition.TheFolds.{map-Condition, map-Expression, map-Listed, fold_out-Condition, fold_out-Expression, fold_out-Listed}
+use Rattle.syntax.specs.declared.trees.Condition.TheOpen.{Condition-F, Expression-F, SelectList-F}
+use Rattle.syntax.specs.declared.trees.Condition.TheFolds.{map-Condition, map-Expression, map-SelectList, fold_out-Condition, fold_out-Expression, fold_out-SelectList}
 use Rattle.syntax.specs.declared.trees.Expression.{Expression, out-Expression}
-use Rattle.syntax.specs.declared.trees.Listed.{Listed, out-Listed}
+use Rattle.syntax.specs.declared.trees.SelectList.{SelectList, out-SelectList}
 use Rattle.syntax.specs.declared.trees.Query.{Query, out-Query}
 use Rattle.name_check.specs.Scopes as names
 use Rattle.name_check.specs.Scopes.{is_name_of, own_column}
@@ -39,7 +39,7 @@ use Rattle.form_check.specs.Queries.{Source, source_of, row_condition, selected_
 use Rattle.form_check.specs.Links.{parts_in, top_parts, name_in, is_key, outer_column, linked_column, either, link_between, link_in, link_of, links_in, only_one, own_parts, kept_parts}
 use Rattle.form_check.specs.Forms.{linked_where, linked_exists, linked_value, linked}
 use Rattle.meaning.specs.Meaning as written
-use Rattle.meaning.specs.Meaning.{References, Valued, Answer, column_values, first_value, only_value, with_rows, passes, truth, valued, listed, answers}
+use Rattle.meaning.specs.Meaning.{References, Valued, Answer, column_values, first_value, only_value, with_rows, passes, truth, valued, select_list, answers}
 use Rattle.meaning.specs.Laws.{seen}
 use Rattle.meaning.proofs.Steps.{and_then_ok, in_class_ok, only_if_ok, ok_same}
 use Rattle.meaning.proofs.Numbering.{leaf_value, truth-And}
@@ -118,12 +118,12 @@ either_is (Some x) b c e = inl e
 -- ---- a query's WHERE
 
 module _ (tables : Tables) (state : State) where
-  pub condition_out : (c : Condition) → truth tables state c ≡ written.condition_step (map-Condition Condition Expression Listed Query (References → Truth) Valued Valued (References → List Answer) (truth tables state) (valued tables state) (listed tables state) (answers tables state) (out-Condition c))
-  condition_out c = fold_out-Condition (References → Truth) Valued Valued (References → List Answer) written.condition_step written.expression_step written.listed_step (written.query_step tables state) c
+  pub condition_out : (c : Condition) → truth tables state c ≡ written.condition_step (map-Condition Condition Expression SelectList Query (References → Truth) Valued Valued (References → List Answer) (truth tables state) (valued tables state) (select_list tables state) (answers tables state) (out-Condition c))
+  condition_out c = fold_out-Condition (References → Truth) Valued Valued (References → List Answer) written.condition_step written.expression_step written.select_list_step (written.query_step tables state) c
 
   -- a name's value
-  name_layer : (layer : Expression-F Condition Expression Listed Query) (column : ColumnName) (scopes : References) → name_in layer ≡ Some column
-      → (written.expression_step (map-Expression Condition Expression Listed Query (References → Truth) Valued Valued (References → List Answer) (truth tables state) (valued tables state) (listed tables state) (answers tables state) layer)).value scopes ≡ first_value (column_values column scopes)
+  name_layer : (layer : Expression-F Condition Expression SelectList Query) (column : ColumnName) (scopes : References) → name_in layer ≡ Some column
+      → (written.expression_step (map-Expression Condition Expression SelectList Query (References → Truth) Valued Valued (References → List Answer) (truth tables state) (valued tables state) (select_list tables state) (answers tables state) layer)).value scopes ≡ first_value (column_values column scopes)
   name_layer (Expression-F.Number n) column scopes e = cc
   name_layer (Expression-F.Text t) column scopes e = cc
   name_layer (Expression-F.Column c) column scopes e = ap (λ c. first_value (column_values c scopes)) (some_same c column e)
@@ -136,13 +136,13 @@ module _ (tables : Tables) (state : State) where
 
   name_value : (x : Expression) (column : ColumnName) (scopes : References) → name_in (out-Expression x) ≡ Some column → (valued tables state x).value scopes ≡ first_value (column_values column scopes)
   name_value x column scopes e =
-      ap (λ v. v.value scopes) (fold_out-Expression (References → Truth) Valued Valued (References → List Answer) written.condition_step written.expression_step written.listed_step (written.query_step tables state) x) ∙ name_layer (out-Expression x) column scopes e
+      ap (λ v. v.value scopes) (fold_out-Expression (References → Truth) Valued Valued (References → List Answer) written.condition_step written.expression_step written.select_list_step (written.query_step tables state) x) ∙ name_layer (out-Expression x) column scopes e
 
   -- the parts that AND joins at the top
-  parts_layer : (c : Condition) (scopes : References) (layer : Condition-F Condition Expression Listed Query) → out-Condition c ≡ layer → truth tables state c scopes ≡ sql.all_of (map (λ part. truth tables state part scopes) (parts_in c layer))
+  parts_layer : (c : Condition) (scopes : References) (layer : Condition-F Condition Expression SelectList Query) → out-Condition c ≡ layer → truth tables state c scopes ≡ sql.all_of (map (λ part. truth tables state part scopes) (parts_in c layer))
   parts_layer c scopes (Condition-F.Or parts) e = and_true (truth tables state c scopes)
   parts_layer c scopes (Condition-F.And parts) e =
-      ap (λ t. t scopes) (condition_out c) ∙ ap (λ layer. written.condition_step (map-Condition Condition Expression Listed Query (References → Truth) Valued Valued (References → List Answer) (truth tables state) (valued tables state) (listed tables state) (answers tables state) layer) scopes) e
+      ap (λ t. t scopes) (condition_out c) ∙ ap (λ layer. written.condition_step (map-Condition Condition Expression SelectList Query (References → Truth) Valued Valued (References → List Answer) (truth tables state) (valued tables state) (select_list tables state) (answers tables state) layer) scopes) e
       ∙ ap sql.all_of (map_twice (truth tables state) (λ t. t scopes) parts)
   parts_layer c scopes (Condition-F.Not part) e = and_true (truth tables state c scopes)
   parts_layer c scopes (Condition-F.Is part wanted) e = and_true (truth tables state c scopes)
@@ -178,8 +178,8 @@ module _ (tables : Tables) (state : State) where
         (λ two. let (inner, outer) = sides r l c two in ap (λ v. sql.compared Equal v (first_value (column_values r around))) outer ∙ ap (sql.compared Equal key) inner)
         (either_is (linked_column child root l r) (linked_column child root r l) c is)
 
-    link_layer : (layer : Condition-F Condition Expression Listed Query) (c : ℕ) → link_in child root layer ≡ Some c
-        → written.condition_step (map-Condition Condition Expression Listed Query (References → Truth) Valued Valued (References → List Answer) (truth tables state) (valued tables state) (listed tables state) (answers tables state) layer) around ≡ sql.compared Equal key (value_in c drow)
+    link_layer : (layer : Condition-F Condition Expression SelectList Query) (c : ℕ) → link_in child root layer ≡ Some c
+        → written.condition_step (map-Condition Condition Expression SelectList Query (References → Truth) Valued Valued (References → List Answer) (truth tables state) (valued tables state) (select_list tables state) (answers tables state) layer) around ≡ sql.compared Equal key (value_in c drow)
     link_layer (Condition-F.Or parts) c e = cc
     link_layer (Condition-F.And parts) c e = cc
     link_layer (Condition-F.Not part) c e = cc
@@ -263,8 +263,8 @@ pub is_plain : (table : written.Reference) (list : Valued) (keeps : Option (Refe
 is_plain table list keeps outer none = rw none refl
 
 -- what may be listed under EXISTS has no set function
-plain_layer : (tables : Tables) (state : State) (place : ColumnName → Option ℕ) (layer : Expression-F Condition Expression Listed Query) → expression_may_stand place layer ≡ true
-    → (written.expression_step (map-Expression Condition Expression Listed Query (References → Truth) Valued Valued (References → List Answer) (truth tables state) (valued tables state) (listed tables state) (answers tables state) layer)).sets ≡ false
+plain_layer : (tables : Tables) (state : State) (place : ColumnName → Option ℕ) (layer : Expression-F Condition Expression SelectList Query) → expression_may_stand place layer ≡ true
+    → (written.expression_step (map-Expression Condition Expression SelectList Query (References → Truth) Valued Valued (References → List Answer) (truth tables state) (valued tables state) (select_list tables state) (answers tables state) layer)).sets ≡ false
 plain_layer tables state place (Expression-F.Number n) e = refl
 plain_layer tables state place (Expression-F.Text t) e = refl
 plain_layer tables state place (Expression-F.Column column) e = refl
@@ -275,15 +275,15 @@ plain_layer tables state place (Expression-F.Negation part) e = cc
 plain_layer tables state place (Expression-F.Sum parts) e = cc
 plain_layer tables state place (Expression-F.Product parts) e = cc
 
-plain_list_layer : (tables : Tables) (state : State) (place : ColumnName → Option ℕ) (layer : Listed-F Condition Expression Listed Query) → selection_may_stand place layer ≡ true
-    → (written.listed_step (map-Listed Condition Expression Listed Query (References → Truth) Valued Valued (References → List Answer) (truth tables state) (valued tables state) (listed tables state) (answers tables state) layer)).sets ≡ false
-plain_list_layer tables state place Listed-F.Star e = refl
-plain_list_layer tables state place (Listed-F.One x) e =
-    ap (λ v. v.sets) (fold_out-Expression (References → Truth) Valued Valued (References → List Answer) written.condition_step written.expression_step written.listed_step (written.query_step tables state) x) ∙ plain_layer tables state place (out-Expression x) e
+plain_list_layer : (tables : Tables) (state : State) (place : ColumnName → Option ℕ) (layer : SelectList-F Condition Expression SelectList Query) → selection_may_stand place layer ≡ true
+    → (written.select_list_step (map-SelectList Condition Expression SelectList Query (References → Truth) Valued Valued (References → List Answer) (truth tables state) (valued tables state) (select_list tables state) (answers tables state) layer)).sets ≡ false
+plain_list_layer tables state place SelectList-F.Star e = refl
+plain_list_layer tables state place (SelectList-F.One x) e =
+    ap (λ v. v.sets) (fold_out-Expression (References → Truth) Valued Valued (References → List Answer) written.condition_step written.expression_step written.select_list_step (written.query_step tables state) x) ∙ plain_layer tables state place (out-Expression x) e
 
-pub plain_list : (tables : Tables) (state : State) (place : ColumnName → Option ℕ) (list : Listed) → may_be_selected place list ≡ true → (listed tables state list).sets ≡ false
+pub plain_list : (tables : Tables) (state : State) (place : ColumnName → Option ℕ) (list : SelectList) → may_be_selected place list ≡ true → (select_list tables state list).sets ≡ false
 plain_list tables state place list e =
-    ap (λ v. v.sets) (fold_out-Listed (References → Truth) Valued Valued (References → List Answer) written.condition_step written.expression_step written.listed_step (written.query_step tables state) list) ∙ plain_list_layer tables state place (out-Listed list) e
+    ap (λ v. v.sets) (fold_out-SelectList (References → Truth) Valued Valued (References → List Answer) written.condition_step written.expression_step written.select_list_step (written.query_step tables state) list) ∙ plain_list_layer tables state place (out-SelectList list) e
 
 -- what a linked query is made of
 pub linked_where_ok : (child : Source) (root : names.Scope) (a : Aggregate) (keeps : Option Condition) (g : Option ColumnName) (h : Option Condition) (q : Linked) → linked_where child root a keeps g h ≡ Ok q
@@ -314,11 +314,11 @@ module _ (tables : Tables) (state : State) (root : names.Scope) (row : RowValues
 
   -- a query of these clauses, without GROUP BY and HAVING
   clauses_are : (query : Query) (child : Source) (condition : Condition) → source_of tables (out-Query query).table (out-Query query).alias ≡ Some child → (out-Query query).group ≡ None → (out-Query query).having ≡ None → (out-Query query).keeps ≡ Some condition
-      → answers tables state query outer_row ≡ answers_by (seen child.scope (rows_of child.table state)) (listed tables state (out-Query query).listed) (Some (truth tables state condition)) None None outer_row
+      → answers tables state query outer_row ≡ answers_by (seen child.scope (rows_of child.table state)) (select_list tables state (out-Query query).select_list) (Some (truth tables state condition)) None None outer_row
   clauses_are query child condition found no_group no_having keeps =
       let q = out-Query query in
       let table = seen child.scope (rows_of child.table state) in
-      let list = listed tables state q.listed in
+      let list = select_list tables state q.select_list in
       answers_at tables state query child outer_row found
       ∙ ap (λ g. answers_by table list (option_map (truth tables state) q.keeps) g (option_map (truth tables state) q.having) outer_row) no_group
       ∙ ap (λ h. answers_by table list (option_map (truth tables state) q.keeps) None (option_map (truth tables state) h) outer_row) no_having
@@ -327,14 +327,14 @@ module _ (tables : Tables) (state : State) (root : names.Scope) (row : RowValues
   exists_is : (query : Query) (q : Linked) → linked_exists tables root (out-Query query) ≡ Ok q → ◌≡◌ {A = Value} (Int (pos (length (answers tables state query outer_row)))) (linked_answer state root_key q)
   exists_is query q e =
       let c = out-Query query in
-      let (child, (found, more)) = in_class_ok (source_of tables c.table c.alias) (λ child. only_if (may_be_selected (own_column child.scope) c.listed) (linked_where child root CountRows c.keeps c.group c.having)) q e in
-      let (lists, rest) = only_if_ok (may_be_selected (own_column child.scope) c.listed) (linked_where child root CountRows c.keeps c.group c.having) q more in
+      let (child, (found, more)) = in_class_ok (source_of tables c.table c.alias) (λ child. only_if (may_be_selected (own_column child.scope) c.select_list) (linked_where child root CountRows c.keeps c.group c.having)) q e in
+      let (lists, rest) = only_if_ok (may_be_selected (own_column child.scope) c.select_list) (linked_where child root CountRows c.keeps c.group c.having) q more in
       let (no_group, (no_having, (condition, (keeps, (link, (one, (kept, (are, makes)))))))) = linked_where_ok child root CountRows c.keeps c.group c.having q rest in
       let table = seen child.scope (rows_of child.table state) in
-      let list = listed tables state c.listed in
+      let list = select_list tables state c.select_list in
       let f : List RowValues → Answer = λ rows. record { rows = rows; value = list.value (with_rows table rows outer_row) } in
       ap (λ (n : ℕ). Int (pos n)) (
-      ap length (clauses_are query child condition found no_group no_having keeps ∙ is_plain table list (Some (truth tables state condition)) outer_row (plain_list tables state (own_column child.scope) c.listed lists))
+      ap length (clauses_are query child condition found no_group no_having keeps ∙ is_plain table list (Some (truth tables state condition)) outer_row (plain_list tables state (own_column child.scope) c.select_list lists))
       ∙ ones f (filter (λ drow. passes (Some (truth tables state condition)) (with_rows table (drow ∷ []) outer_row)) (rows_of child.table state))
       ∙ ap length (kept_rows_are child condition link kept one are))
       ∙ ap (linked_answer state root_key) makes
@@ -342,12 +342,12 @@ module _ (tables : Tables) (state : State) (root : names.Scope) (row : RowValues
   value_is : (query : Query) (q : Linked) → linked_value tables root (out-Query query) ≡ Ok q → only_value (answers tables state query outer_row) ≡ linked_answer state root_key q
   value_is query q e =
       let c = out-Query query in
-      let (child, (found, more)) = in_class_ok (source_of tables c.table c.alias) (λ child. in_class (selected_aggregate child.scope c.listed) (λ a. linked_where child root a c.keeps c.group c.having)) q e in
-      let (a, (lists, rest)) = in_class_ok (selected_aggregate child.scope c.listed) (λ a. linked_where child root a c.keeps c.group c.having) q more in
+      let (child, (found, more)) = in_class_ok (source_of tables c.table c.alias) (λ child. in_class (selected_aggregate child.scope c.select_list) (λ a. linked_where child root a c.keeps c.group c.having)) q e in
+      let (a, (lists, rest)) = in_class_ok (selected_aggregate child.scope c.select_list) (λ a. linked_where child root a c.keeps c.group c.having) q more in
       let (no_group, (no_having, (condition, (keeps, (link, (one, (kept, (are, makes)))))))) = linked_where_ok child root a c.keeps c.group c.having q rest in
       let table = seen child.scope (rows_of child.table state) in
-      let list = listed tables state c.listed in
-      let (sets, gives) = list_set tables state child.scope a c.listed lists in
+      let list = select_list tables state c.select_list in
+      let (sets, gives) = list_set tables state child.scope a c.select_list lists in
       ap only_value (clauses_are query child condition found no_group no_having keeps)
       ∙ only_set table list (Some (truth tables state condition)) outer_row sets
       ∙ gives (filter (λ drow. passes (Some (truth tables state condition)) (with_rows table (drow ∷ []) outer_row)) (rows_of child.table state)) outer_row

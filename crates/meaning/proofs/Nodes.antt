@@ -11,30 +11,30 @@ use Rattle.assertion.specs.Meaning.{State}
 use Rattle.syntax.specs.declared.trees.Aggregate.{Aggregate}
 use Rattle.syntax.specs.declared.trees.ColumnName.{ColumnName}
 use Rattle.syntax.specs.declared.trees.Condition.{Condition, roll-Condition}
-use Rattle.syntax.specs.declared.trees.Condition.TheFolds.{map-Condition, map-Expression, map-Listed, map-Query, fold-roll-Condition, fold-roll-Expression, fold-roll-Listed, fold-roll-Query}
-use Rattle.syntax.specs.declared.trees.Condition.TheOpen.{Condition-F, Expression-F, Listed-F, Query-F}
+use Rattle.syntax.specs.declared.trees.Condition.TheFolds.{map-Condition, map-Expression, map-SelectList, map-Query, fold-roll-Condition, fold-roll-Expression, fold-roll-SelectList, fold-roll-Query}
+use Rattle.syntax.specs.declared.trees.Condition.TheOpen.{Condition-F, Expression-F, SelectList-F, Query-F}
 use Rattle.syntax.specs.declared.trees.Expression.{Expression, roll-Expression}
-use Rattle.syntax.specs.declared.trees.Listed.{Listed, roll-Listed}
+use Rattle.syntax.specs.declared.trees.SelectList.{SelectList, roll-SelectList}
 use Rattle.syntax.specs.declared.trees.Query.{Query, roll-Query}
 use Rattle.meaning.specs.Meaning as written
-use Rattle.meaning.specs.Meaning.{References, Valued, Answer, truth, valued, listed, answers, simple, first_value, column_values, rows_counted, set_of_column, only_value, is_any}
+use Rattle.meaning.specs.Meaning.{References, Valued, Answer, truth, valued, select_list, answers, simple, first_value, column_values, rows_counted, set_of_column, only_value, is_any}
 
 -- a query of these clauses
 abbrev pub clauses : {C E L Q : Type 0} → L → List ℕ → Option C → Option ColumnName → Option C → Query-F C E L Q
-clauses list table keeps group having = record { listed = list; table = table; alias = None; keeps = keeps; group = group; having = having }
+clauses list table keeps group having = record { select_list = list; table = table; alias = None; keeps = keeps; group = group; having = having }
 
 module _ (tables : Tables) (state : State) where
-  condition_rolls : (layer : Condition-F Condition Expression Listed Query) → truth tables state (roll-Condition layer) ≡ written.condition_step (map-Condition Condition Expression Listed Query (References → Truth) Valued Valued (References → List Answer) (truth tables state) (valued tables state) (listed tables state) (answers tables state) layer)
-  condition_rolls layer = fold-roll-Condition (References → Truth) Valued Valued (References → List Answer) written.condition_step written.expression_step written.listed_step (written.query_step tables state) layer
+  condition_rolls : (layer : Condition-F Condition Expression SelectList Query) → truth tables state (roll-Condition layer) ≡ written.condition_step (map-Condition Condition Expression SelectList Query (References → Truth) Valued Valued (References → List Answer) (truth tables state) (valued tables state) (select_list tables state) (answers tables state) layer)
+  condition_rolls layer = fold-roll-Condition (References → Truth) Valued Valued (References → List Answer) written.condition_step written.expression_step written.select_list_step (written.query_step tables state) layer
 
-  expression_rolls : (layer : Expression-F Condition Expression Listed Query) → valued tables state (roll-Expression layer) ≡ written.expression_step (map-Expression Condition Expression Listed Query (References → Truth) Valued Valued (References → List Answer) (truth tables state) (valued tables state) (listed tables state) (answers tables state) layer)
-  expression_rolls layer = fold-roll-Expression (References → Truth) Valued Valued (References → List Answer) written.condition_step written.expression_step written.listed_step (written.query_step tables state) layer
+  expression_rolls : (layer : Expression-F Condition Expression SelectList Query) → valued tables state (roll-Expression layer) ≡ written.expression_step (map-Expression Condition Expression SelectList Query (References → Truth) Valued Valued (References → List Answer) (truth tables state) (valued tables state) (select_list tables state) (answers tables state) layer)
+  expression_rolls layer = fold-roll-Expression (References → Truth) Valued Valued (References → List Answer) written.condition_step written.expression_step written.select_list_step (written.query_step tables state) layer
 
-  listed_rolls : (layer : Listed-F Condition Expression Listed Query) → listed tables state (roll-Listed layer) ≡ written.listed_step (map-Listed Condition Expression Listed Query (References → Truth) Valued Valued (References → List Answer) (truth tables state) (valued tables state) (listed tables state) (answers tables state) layer)
-  listed_rolls layer = fold-roll-Listed (References → Truth) Valued Valued (References → List Answer) written.condition_step written.expression_step written.listed_step (written.query_step tables state) layer
+  select_list_rolls : (layer : SelectList-F Condition Expression SelectList Query) → select_list tables state (roll-SelectList layer) ≡ written.select_list_step (map-SelectList Condition Expression SelectList Query (References → Truth) Valued Valued (References → List Answer) (truth tables state) (valued tables state) (select_list tables state) (answers tables state) layer)
+  select_list_rolls layer = fold-roll-SelectList (References → Truth) Valued Valued (References → List Answer) written.condition_step written.expression_step written.select_list_step (written.query_step tables state) layer
 
-  query_rolls : (layer : Query-F Condition Expression Listed Query) → answers tables state (roll-Query layer) ≡ written.query_step tables state (map-Query Condition Expression Listed Query (References → Truth) Valued Valued (References → List Answer) (truth tables state) (valued tables state) (listed tables state) (answers tables state) layer)
-  query_rolls layer = fold-roll-Query (References → Truth) Valued Valued (References → List Answer) written.condition_step written.expression_step written.listed_step (written.query_step tables state) layer
+  query_rolls : (layer : Query-F Condition Expression SelectList Query) → answers tables state (roll-Query layer) ≡ written.query_step tables state (map-Query Condition Expression SelectList Query (References → Truth) Valued Valued (References → List Answer) (truth tables state) (valued tables state) (select_list tables state) (answers tables state) layer)
+  query_rolls layer = fold-roll-Query (References → Truth) Valued Valued (References → List Answer) written.condition_step written.expression_step written.select_list_step (written.query_step tables state) layer
 
   -- ---- expressions
 
@@ -66,18 +66,18 @@ module _ (tables : Tables) (state : State) where
 
   -- ---- queries
 
-  pub star_is : listed tables state (roll-Listed Listed-F.Star) ≡ written.listed_step Listed-F.Star
-  star_is = listed_rolls Listed-F.Star
+  pub star_is : select_list tables state (roll-SelectList SelectList-F.Star) ≡ written.select_list_step SelectList-F.Star
+  star_is = select_list_rolls SelectList-F.Star
 
-  pub one_is : (e : Expression) (v : Valued) → valued tables state e ≡ v → listed tables state (roll-Listed (Listed-F.One e)) ≡ v
-  one_is e v is = listed_rolls (Listed-F.One e) ∙ is
+  pub one_is : (e : Expression) (v : Valued) → valued tables state e ≡ v → select_list tables state (roll-SelectList (SelectList-F.One e)) ≡ v
+  one_is e v is = select_list_rolls (SelectList-F.One e) ∙ is
 
-  pub filtered_is : (l : Listed) (table : List ℕ) (c : Condition) (v : Valued) (t : References → Truth) → listed tables state l ≡ v → truth tables state c ≡ t
+  pub filtered_is : (l : SelectList) (table : List ℕ) (c : Condition) (v : Valued) (t : References → Truth) → select_list tables state l ≡ v → truth tables state c ≡ t
       → answers tables state (roll-Query (clauses l table (Some c) None None)) ≡ written.query_step tables state (clauses v table (Some t) None None)
   filtered_is l table c v t a b =
       query_rolls (clauses l table (Some c) None None) ∙ ap (λ (v : Valued). written.query_step tables state (clauses v table (Some (truth tables state c)) None None)) a ∙ ap (λ (t : References → Truth). written.query_step tables state (clauses v table (Some t) None None)) b
 
-  pub grouped_is : (l : Listed) (table : List ℕ) (c : Condition) (g : ColumnName) (h : Condition) (v : Valued) (t u : References → Truth) → listed tables state l ≡ v → truth tables state c ≡ t → truth tables state h ≡ u
+  pub grouped_is : (l : SelectList) (table : List ℕ) (c : Condition) (g : ColumnName) (h : Condition) (v : Valued) (t u : References → Truth) → select_list tables state l ≡ v → truth tables state c ≡ t → truth tables state h ≡ u
       → answers tables state (roll-Query (clauses l table (Some c) (Some g) (Some h))) ≡ written.query_step tables state (clauses v table (Some t) (Some g) (Some u))
   grouped_is l table c g h v t u a b d =
       query_rolls (clauses l table (Some c) (Some g) (Some h)) ∙ ap (λ (v : Valued). written.query_step tables state (clauses v table (Some (truth tables state c)) (Some g) (Some (truth tables state h)))) a

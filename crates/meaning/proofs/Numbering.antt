@@ -34,7 +34,7 @@ use Rattle.syntax.specs.declared.trees.Condition.{Condition, roll-Condition}
 use Rattle.syntax.specs.declared.trees.Condition.TheOpen.{Condition-F, Expression-F}
 use Rattle.syntax.specs.declared.trees.Condition.TheFolds.{map-Condition, map-Expression, para-roll-Condition, para-roll-Expression, fold-roll-Condition, fold-roll-Expression, ind-Condition, ind-Expression}
 use Rattle.syntax.specs.declared.trees.Expression.{Expression, roll-Expression}
-use Rattle.syntax.specs.declared.trees.Listed.{Listed}
+use Rattle.syntax.specs.declared.trees.SelectList.{SelectList}
 use Rattle.syntax.specs.declared.trees.Query.{Query}
 use Rattle.value.specs.Results.{and_then}
 use Rattle.form_check.specs.Leaves.{Leaf, Leaves, Numbered, Rows, Of, Exists, Value as Worth, placed, slot, then_made, both, all, numbered, numbered_expression}
@@ -45,15 +45,15 @@ use Rattle.meaning.proofs.Steps.{and_then_ok, in_class_ok, then_ok, ok_pair}
 
 -- ---- the layers
 
-pub expression_rolled : (place : ColumnName → Option ℕ) (layer : Expression-F Condition Expression Listed Query)
-    → numbered_expression place (roll-Expression layer) ≡ leaves_of.expression_step place (map-Expression Condition Expression Listed Query (Condition × Numbered Cond) (Expression × Numbered Expr) (Listed × Unit {0}) (Query × Unit {0}) (λ c. (c, numbered place c)) (λ e. (e, numbered_expression place e)) (λ l. (l, tt)) (λ q. (q, tt)) layer)
+pub expression_rolled : (place : ColumnName → Option ℕ) (layer : Expression-F Condition Expression SelectList Query)
+    → numbered_expression place (roll-Expression layer) ≡ leaves_of.expression_step place (map-Expression Condition Expression SelectList Query (Condition × Numbered Cond) (Expression × Numbered Expr) (SelectList × Unit {0}) (Query × Unit {0}) (λ c. (c, numbered place c)) (λ e. (e, numbered_expression place e)) (λ l. (l, tt)) (λ q. (q, tt)) layer)
 unfolding numbered numbered_expression
-expression_rolled place layer = para-roll-Expression (Numbered Cond) (Numbered Expr) (Unit {0}) (Unit {0}) (leaves_of.condition_step place) (leaves_of.expression_step place) leaves_of.listed_step leaves_of.query_step layer
+expression_rolled place layer = para-roll-Expression (Numbered Cond) (Numbered Expr) (Unit {0}) (Unit {0}) (leaves_of.condition_step place) (leaves_of.expression_step place) leaves_of.select_list_step leaves_of.query_step layer
 
-pub condition_rolled : (place : ColumnName → Option ℕ) (layer : Condition-F Condition Expression Listed Query)
-    → numbered place (roll-Condition layer) ≡ leaves_of.condition_step place (map-Condition Condition Expression Listed Query (Condition × Numbered Cond) (Expression × Numbered Expr) (Listed × Unit {0}) (Query × Unit {0}) (λ c. (c, numbered place c)) (λ e. (e, numbered_expression place e)) (λ l. (l, tt)) (λ q. (q, tt)) layer)
+pub condition_rolled : (place : ColumnName → Option ℕ) (layer : Condition-F Condition Expression SelectList Query)
+    → numbered place (roll-Condition layer) ≡ leaves_of.condition_step place (map-Condition Condition Expression SelectList Query (Condition × Numbered Cond) (Expression × Numbered Expr) (SelectList × Unit {0}) (Query × Unit {0}) (λ c. (c, numbered place c)) (λ e. (e, numbered_expression place e)) (λ l. (l, tt)) (λ q. (q, tt)) layer)
 unfolding numbered numbered_expression
-condition_rolled place layer = para-roll-Condition (Numbered Cond) (Numbered Expr) (Unit {0}) (Unit {0}) (leaves_of.condition_step place) (leaves_of.expression_step place) leaves_of.listed_step leaves_of.query_step layer
+condition_rolled place layer = para-roll-Condition (Numbered Cond) (Numbered Expr) (Unit {0}) (Unit {0}) (leaves_of.condition_step place) (leaves_of.expression_step place) leaves_of.select_list_step leaves_of.query_step layer
 
 -- ---- slots that hold what stands in them
 
@@ -241,18 +241,18 @@ module _ (tables : Tables) (state : State) (scopes : References) where
       abbrev of_expression : Type 0
       of_expression = (e : Expression) × IsFaithfulExpression e
 
-      abbrev of_listed : Type 0
-      of_listed = Listed × Unit {0}
+      abbrev of_select_list : Type 0
+      of_select_list = SelectList × Unit {0}
 
       abbrev of_query : Type 0
       of_query = Query × Unit {0}
 
-      expression_layer : (y : Expression-F of_condition of_expression of_listed of_query)
+      expression_layer : (y : Expression-F of_condition of_expression of_select_list of_query)
           → Faithful (resolved.answer row slots)
-          ((written.expression_step (map-Expression Condition Expression Listed Query (References → Truth) Valued Valued (References → List Answer) (truth tables state) (valued tables state) (written.listed tables state) (answers tables state)
-          (map-Expression of_condition of_expression of_listed of_query Condition Expression Listed Query (λ e. e.0) (λ e. e.0) (λ e. e.0) (λ e. e.0) y))).value scopes)
-          (leaves_of.expression_step place (map-Expression Condition Expression Listed Query (Condition × Numbered Cond) (Expression × Numbered Expr) (Listed × Unit {0}) (Query × Unit {0}) (λ c. (c, numbered place c)) (λ e. (e, numbered_expression place e)) (λ l. (l, tt)) (λ q. (q, tt))
-          (map-Expression of_condition of_expression of_listed of_query Condition Expression Listed Query (λ e. e.0) (λ e. e.0) (λ e. e.0) (λ e. e.0) y)))
+          ((written.expression_step (map-Expression Condition Expression SelectList Query (References → Truth) Valued Valued (References → List Answer) (truth tables state) (valued tables state) (written.select_list tables state) (answers tables state)
+          (map-Expression of_condition of_expression of_select_list of_query Condition Expression SelectList Query (λ e. e.0) (λ e. e.0) (λ e. e.0) (λ e. e.0) y))).value scopes)
+          (leaves_of.expression_step place (map-Expression Condition Expression SelectList Query (Condition × Numbered Cond) (Expression × Numbered Expr) (SelectList × Unit {0}) (Query × Unit {0}) (λ c. (c, numbered place c)) (λ e. (e, numbered_expression place e)) (λ l. (l, tt)) (λ q. (q, tt))
+          (map-Expression of_condition of_expression of_select_list of_query Condition Expression SelectList Query (λ e. e.0) (λ e. e.0) (λ e. e.0) (λ e. e.0) y)))
       expression_layer (Expression-F.Number n) = literal_faithful (value.Int n)
       expression_layer (Expression-F.Text t) = literal_faithful (value.Text t)
       expression_layer (Expression-F.Column column) = column_faithful column
@@ -278,12 +278,12 @@ module _ (tables : Tables) (state : State) (scopes : References) where
           let (subject, earlier) = x.1 before s.0 s.1 is held in
           (ap (λ u. and_of (sql.compared AtLeast u low_value) (sql.compared AtMost u high_value)) subject ∙ means, earlier)
 
-      condition_layer : (y : Condition-F of_condition of_expression of_listed of_query)
+      condition_layer : (y : Condition-F of_condition of_expression of_select_list of_query)
           → Faithful (resolved.truth row slots)
-          (written.condition_step (map-Condition Condition Expression Listed Query (References → Truth) Valued Valued (References → List Answer) (truth tables state) (valued tables state) (written.listed tables state) (answers tables state)
-          (map-Condition of_condition of_expression of_listed of_query Condition Expression Listed Query (λ e. e.0) (λ e. e.0) (λ e. e.0) (λ e. e.0) y)) scopes)
-          (leaves_of.condition_step place (map-Condition Condition Expression Listed Query (Condition × Numbered Cond) (Expression × Numbered Expr) (Listed × Unit {0}) (Query × Unit {0}) (λ c. (c, numbered place c)) (λ e. (e, numbered_expression place e)) (λ l. (l, tt)) (λ q. (q, tt))
-          (map-Condition of_condition of_expression of_listed of_query Condition Expression Listed Query (λ e. e.0) (λ e. e.0) (λ e. e.0) (λ e. e.0) y)))
+          (written.condition_step (map-Condition Condition Expression SelectList Query (References → Truth) Valued Valued (References → List Answer) (truth tables state) (valued tables state) (written.select_list tables state) (answers tables state)
+          (map-Condition of_condition of_expression of_select_list of_query Condition Expression SelectList Query (λ e. e.0) (λ e. e.0) (λ e. e.0) (λ e. e.0) y)) scopes)
+          (leaves_of.condition_step place (map-Condition Condition Expression SelectList Query (Condition × Numbered Cond) (Expression × Numbered Expr) (SelectList × Unit {0}) (Query × Unit {0}) (λ c. (c, numbered place c)) (λ e. (e, numbered_expression place e)) (λ l. (l, tt)) (λ q. (q, tt))
+          (map-Condition of_condition of_expression of_select_list of_query Condition Expression SelectList Query (λ e. e.0) (λ e. e.0) (λ e. e.0) (λ e. e.0) y)))
       condition_layer (Condition-F.Or parts) =
           then_faithful (map (resolved.truth row slots)) (resolved.truth row slots) cond_of.Or sql.any_of (λ a. sym (truth-Or a)) (map (λ part. part scopes) (map (truth tables state) (map (λ e. e.0) parts))) (all (map (λ c. (c, numbered place c)) (map (λ e. e.0) parts)))
           (all_faithful (resolved.truth row slots) (truth tables state) (λ part. part scopes) (numbered place) parts)
@@ -299,21 +299,21 @@ module _ (tables : Tables) (state : State) (scopes : References) where
       condition_layer (Condition-F.In x list) = both_faithful (resolved.answer row slots) (map (resolved.answer row slots)) (resolved.truth row slots) in_of (λ v vs. sql.any_of (map (sql.compared Equal v) vs)) truth-in ((valued tables state x.0).value scopes) (map (λ part. part.value scopes) (map (valued tables state) (map (λ e. e.0) list))) (numbered_expression place x.0) (all (map (λ e. (e, numbered_expression place e)) (map (λ e. e.0) list)))
           x.1 (all_faithful (resolved.answer row slots) (valued tables state) (λ part. part.value scopes) (numbered_expression place) list)
 
-      expression_at : (x : Expression-F Condition Expression Listed Query) (y : Expression-F of_condition of_expression of_listed of_query) → map-Expression of_condition of_expression of_listed of_query Condition Expression Listed Query (λ e. e.0) (λ e. e.0) (λ e. e.0) (λ e. e.0) y ≡ x → IsFaithfulExpression (roll-Expression x)
+      expression_at : (x : Expression-F Condition Expression SelectList Query) (y : Expression-F of_condition of_expression of_select_list of_query) → map-Expression of_condition of_expression of_select_list of_query Condition Expression SelectList Query (λ e. e.0) (λ e. e.0) (λ e. e.0) (λ e. e.0) y ≡ x → IsFaithfulExpression (roll-Expression x)
       expression_at x y is =
-          let layer = map-Expression of_condition of_expression of_listed of_query Condition Expression Listed Query (λ e. e.0) (λ e. e.0) (λ e. e.0) (λ e. e.0) y in
-          let meant = map-Expression Condition Expression Listed Query (References → Truth) Valued Valued (References → List Answer) (truth tables state) (valued tables state) (written.listed tables state) (answers tables state) layer in
-          let made = map-Expression Condition Expression Listed Query (Condition × Numbered Cond) (Expression × Numbered Expr) (Listed × Unit {0}) (Query × Unit {0}) (λ c. (c, numbered place c)) (λ e. (e, numbered_expression place e)) (λ l. (l, tt)) (λ q. (q, tt)) layer in
+          let layer = map-Expression of_condition of_expression of_select_list of_query Condition Expression SelectList Query (λ e. e.0) (λ e. e.0) (λ e. e.0) (λ e. e.0) y in
+          let meant = map-Expression Condition Expression SelectList Query (References → Truth) Valued Valued (References → List Answer) (truth tables state) (valued tables state) (written.select_list tables state) (answers tables state) layer in
+          let made = map-Expression Condition Expression SelectList Query (Condition × Numbered Cond) (Expression × Numbered Expr) (SelectList × Unit {0}) (Query × Unit {0}) (λ c. (c, numbered place c)) (λ e. (e, numbered_expression place e)) (λ l. (l, tt)) (λ q. (q, tt)) layer in
           subst (λ x. IsFaithfulExpression (roll-Expression x)) is (moved (resolved.answer row slots) ((valued tables state (roll-Expression layer)).value scopes) ((written.expression_step meant).value scopes) (numbered_expression place (roll-Expression layer)) (leaves_of.expression_step place made)
-          (ap (λ v. v.value scopes) (fold-roll-Expression (References → Truth) Valued Valued (References → List Answer) written.condition_step written.expression_step written.listed_step (written.query_step tables state) layer)) (expression_rolled place layer) (expression_layer y))
+          (ap (λ v. v.value scopes) (fold-roll-Expression (References → Truth) Valued Valued (References → List Answer) written.condition_step written.expression_step written.select_list_step (written.query_step tables state) layer)) (expression_rolled place layer) (expression_layer y))
 
-      condition_at : (x : Condition-F Condition Expression Listed Query) (y : Condition-F of_condition of_expression of_listed of_query) → map-Condition of_condition of_expression of_listed of_query Condition Expression Listed Query (λ e. e.0) (λ e. e.0) (λ e. e.0) (λ e. e.0) y ≡ x → IsFaithful (roll-Condition x)
+      condition_at : (x : Condition-F Condition Expression SelectList Query) (y : Condition-F of_condition of_expression of_select_list of_query) → map-Condition of_condition of_expression of_select_list of_query Condition Expression SelectList Query (λ e. e.0) (λ e. e.0) (λ e. e.0) (λ e. e.0) y ≡ x → IsFaithful (roll-Condition x)
       condition_at x y is =
-          let layer = map-Condition of_condition of_expression of_listed of_query Condition Expression Listed Query (λ e. e.0) (λ e. e.0) (λ e. e.0) (λ e. e.0) y in
-          let meant = map-Condition Condition Expression Listed Query (References → Truth) Valued Valued (References → List Answer) (truth tables state) (valued tables state) (written.listed tables state) (answers tables state) layer in
-          let made = map-Condition Condition Expression Listed Query (Condition × Numbered Cond) (Expression × Numbered Expr) (Listed × Unit {0}) (Query × Unit {0}) (λ c. (c, numbered place c)) (λ e. (e, numbered_expression place e)) (λ l. (l, tt)) (λ q. (q, tt)) layer in
+          let layer = map-Condition of_condition of_expression of_select_list of_query Condition Expression SelectList Query (λ e. e.0) (λ e. e.0) (λ e. e.0) (λ e. e.0) y in
+          let meant = map-Condition Condition Expression SelectList Query (References → Truth) Valued Valued (References → List Answer) (truth tables state) (valued tables state) (written.select_list tables state) (answers tables state) layer in
+          let made = map-Condition Condition Expression SelectList Query (Condition × Numbered Cond) (Expression × Numbered Expr) (SelectList × Unit {0}) (Query × Unit {0}) (λ c. (c, numbered place c)) (λ e. (e, numbered_expression place e)) (λ l. (l, tt)) (λ q. (q, tt)) layer in
           subst (λ x. IsFaithful (roll-Condition x)) is (moved (resolved.truth row slots) (truth tables state (roll-Condition layer) scopes) (written.condition_step meant scopes) (numbered place (roll-Condition layer)) (leaves_of.condition_step place made)
-          (ap (λ t. t scopes) (fold-roll-Condition (References → Truth) Valued Valued (References → List Answer) written.condition_step written.expression_step written.listed_step (written.query_step tables state) layer)) (condition_rolled place layer) (condition_layer y))
+          (ap (λ t. t scopes) (fold-roll-Condition (References → Truth) Valued Valued (References → List Answer) written.condition_step written.expression_step written.select_list_step (written.query_step tables state) layer)) (condition_rolled place layer) (condition_layer y))
 
       -- what is made of a condition means what the condition means
       pub condition_faithful : (c : Condition) → IsFaithful c

@@ -17,10 +17,10 @@ use Rattle.syntax.specs.declared.trees.Aggregate.{Aggregate as Function}
 use Rattle.syntax.specs.declared.trees.Aggregate.TheVariants as function
 use Rattle.syntax.specs.declared.trees.ColumnName.{ColumnName}
 use Rattle.syntax.specs.declared.trees.Condition.{Condition}
-use Rattle.syntax.specs.declared.trees.Condition.TheOpen.{Expression-F, Listed-F, Query-F}
-use Rattle.syntax.specs.declared.trees.Condition.TheFolds.{map-Expression, map-Listed, map-Query, fold_out-Expression, fold_out-Listed, fold_out-Query}
+use Rattle.syntax.specs.declared.trees.Condition.TheOpen.{Expression-F, SelectList-F, Query-F}
+use Rattle.syntax.specs.declared.trees.Condition.TheFolds.{map-Expression, map-SelectList, map-Query, fold_out-Expression, fold_out-SelectList, fold_out-Query}
 use Rattle.syntax.specs.declared.trees.Expression.{Expression, out-Expression}
-use Rattle.syntax.specs.declared.trees.Listed.{Listed, out-Listed}
+use Rattle.syntax.specs.declared.trees.SelectList.{SelectList, out-SelectList}
 use Rattle.syntax.specs.declared.trees.Query.{Query, out-Query}
 use Rattle.name_check.specs.Scopes as names
 use Rattle.name_check.specs.Scopes.{own_column}
@@ -29,7 +29,7 @@ use Rattle.form_check.specs.Leaves.{Leaf, Leaves, Rows, Of, Exists, Value as Wor
 use Rattle.form_check.specs.Queries.{Source, sourced, source_of, row_filter, of_column, aggregate_in, aggregate_selected, selected_aggregate}
 use Rattle.form_check.specs.Forms.{Clauses, plain, plain_by, plain_value}
 use Rattle.meaning.specs.Meaning as written
-use Rattle.meaning.specs.Meaning.{Reference, References, Valued, Answer, no_layout, rows_at, table_of, column_values, set_function, only_value, with_rows, passes, grouped, grouping, truth, valued, listed, answers}
+use Rattle.meaning.specs.Meaning.{Reference, References, Valued, Answer, no_layout, rows_at, table_of, column_values, set_function, only_value, with_rows, passes, grouped, grouping, truth, valued, select_list, answers}
 use Rattle.meaning.specs.Laws.{seen}
 use Rattle.meaning.proofs.Steps.{and_then_ok, in_class_ok, ok_same}
 use Rattle.meaning.proofs.Numbering.{leaf_value}
@@ -55,7 +55,7 @@ source_seen tables state table alias source e = sourced_seen (unwrap_or alias ta
 -- ---- the clauses
 
 abbrev pub mapped : Tables → State → Clauses → Query-F (References → Truth) Valued Valued (References → List Answer)
-mapped tables state = map-Query Condition Expression Listed Query (References → Truth) Valued Valued (References → List Answer) (truth tables state) (valued tables state) (listed tables state) (answers tables state)
+mapped tables state = map-Query Condition Expression SelectList Query (References → Truth) Valued Valued (References → List Answer) (truth tables state) (valued tables state) (select_list tables state) (answers tables state)
 
 -- what a query gives, by its clauses
 abbrev pub answers_by : Reference → Valued → Option (References → Truth) → Option ColumnName → Option (References → Truth) → References → List Answer
@@ -66,36 +66,36 @@ answers_by table list keeps group having outer =
     filter (λ row. passes keeps (with_rows table (row ∷ []) outer)) table.rows)))
 
 -- a query of these parts
-abbrev clauses_of : Listed → List ℕ → Option (List ℕ) → Option Condition → Option ColumnName → Option Condition → Clauses
-clauses_of list table alias keeps group having = record { listed = list; table = table; alias = alias; keeps = keeps; group = group; having = having }
+abbrev clauses_of : SelectList → List ℕ → Option (List ℕ) → Option Condition → Option ColumnName → Option Condition → Clauses
+clauses_of list table alias keeps group having = record { select_list = list; table = table; alias = alias; keeps = keeps; group = group; having = having }
 
-mapped_keeps : (tables : Tables) (state : State) (list : Listed) (table : List ℕ) (alias : Option (List ℕ)) (keeps : Option Condition) (group : Option ColumnName) (having : Option Condition)
+mapped_keeps : (tables : Tables) (state : State) (list : SelectList) (table : List ℕ) (alias : Option (List ℕ)) (keeps : Option Condition) (group : Option ColumnName) (having : Option Condition)
     → (mapped tables state (clauses_of list table alias keeps group having)).keeps ≡ option_map (truth tables state) keeps
 mapped_keeps tables state list table alias None group having = refl
 mapped_keeps tables state list table alias (Some c) group having = refl
 
-mapped_having : (tables : Tables) (state : State) (list : Listed) (table : List ℕ) (alias : Option (List ℕ)) (keeps : Option Condition) (group : Option ColumnName) (having : Option Condition)
+mapped_having : (tables : Tables) (state : State) (list : SelectList) (table : List ℕ) (alias : Option (List ℕ)) (keeps : Option Condition) (group : Option ColumnName) (having : Option Condition)
     → (mapped tables state (clauses_of list table alias keeps group having)).having ≡ option_map (truth tables state) having
 mapped_having tables state list table alias keeps group None = refl
 mapped_having tables state list table alias keeps group (Some c) = refl
 
 mapped_option : (tables : Tables) (state : State) (query : Clauses) (outer : References)
     → written.query_step tables state (mapped tables state query) outer
-    ≡ answers_by (table_of tables state query.table query.alias) (listed tables state query.listed) (option_map (truth tables state) query.keeps) query.group (option_map (truth tables state) query.having) outer
+    ≡ answers_by (table_of tables state query.table query.alias) (select_list tables state query.select_list) (option_map (truth tables state) query.keeps) query.group (option_map (truth tables state) query.having) outer
 mapped_option tables state query outer =
     let table = table_of tables state query.table query.alias in
-    let list = listed tables state query.listed in
-    ap (λ k. answers_by table list k query.group (mapped tables state query).having outer) (mapped_keeps tables state query.listed query.table query.alias query.keeps query.group query.having)
-    ∙ ap (λ h. answers_by table list (option_map (truth tables state) query.keeps) query.group h outer) (mapped_having tables state query.listed query.table query.alias query.keeps query.group query.having)
+    let list = select_list tables state query.select_list in
+    ap (λ k. answers_by table list k query.group (mapped tables state query).having outer) (mapped_keeps tables state query.select_list query.table query.alias query.keeps query.group query.having)
+    ∙ ap (λ h. answers_by table list (option_map (truth tables state) query.keeps) query.group h outer) (mapped_having tables state query.select_list query.table query.alias query.keeps query.group query.having)
 
 pub answers_at : (tables : Tables) (state : State) (query : Query) (source : Source) (outer : References) → source_of tables (out-Query query).table (out-Query query).alias ≡ Some source
     → answers tables state query outer
-    ≡ answers_by (seen source.scope (rows_of source.table state)) (listed tables state (out-Query query).listed) (option_map (truth tables state) (out-Query query).keeps) (out-Query query).group (option_map (truth tables state) (out-Query query).having) outer
+    ≡ answers_by (seen source.scope (rows_of source.table state)) (select_list tables state (out-Query query).select_list) (option_map (truth tables state) (out-Query query).keeps) (out-Query query).group (option_map (truth tables state) (out-Query query).having) outer
 answers_at tables state query source outer e =
     let q = out-Query query in
-    ap (λ a. a outer) (fold_out-Query (References → Truth) Valued Valued (References → List Answer) written.condition_step written.expression_step written.listed_step (written.query_step tables state) query)
+    ap (λ a. a outer) (fold_out-Query (References → Truth) Valued Valued (References → List Answer) written.condition_step written.expression_step written.select_list_step (written.query_step tables state) query)
     ∙ mapped_option tables state q outer
-    ∙ ap (λ t. answers_by t (listed tables state q.listed) (option_map (truth tables state) q.keeps) q.group (option_map (truth tables state) q.having) outer) (source_seen tables state q.table q.alias source e)
+    ∙ ap (λ t. answers_by t (select_list tables state q.select_list) (option_map (truth tables state) q.keeps) q.group (option_map (truth tables state) q.having) outer) (source_seen tables state q.table q.alias source e)
 
 -- ---- set functions
 
@@ -118,8 +118,8 @@ mapped_some f (Some a) b e = (a, (refl, some_same (f a) b e))
 abbrev IsSet : names.Scope → Aggregate → Valued → Type 0
 IsSet scope a v = (v.sets ≡ true) × ((rows : List RowValues) (outer : References) → v.value (seen scope rows ∷ outer) ≡ aggregate a rows)
 
-set_in : (tables : Tables) (state : State) (scope : names.Scope) (a : Aggregate) (layer : Expression-F Condition Expression Listed Query) → aggregate_in scope layer ≡ Some a
-    → IsSet scope a (written.expression_step (map-Expression Condition Expression Listed Query (References → Truth) Valued Valued (References → List Answer) (truth tables state) (valued tables state) (listed tables state) (answers tables state) layer))
+set_in : (tables : Tables) (state : State) (scope : names.Scope) (a : Aggregate) (layer : Expression-F Condition Expression SelectList Query) → aggregate_in scope layer ≡ Some a
+    → IsSet scope a (written.expression_step (map-Expression Condition Expression SelectList Query (References → Truth) Valued Valued (References → List Answer) (truth tables state) (valued tables state) (select_list tables state) (answers tables state) layer))
 set_in tables state scope a (Expression-F.Number n) e = cc
 set_in tables state scope a (Expression-F.Text t) e = cc
 set_in tables state scope a (Expression-F.Column column) e = cc
@@ -132,15 +132,15 @@ set_in tables state scope a (Expression-F.Negation part) e = cc
 set_in tables state scope a (Expression-F.Sum parts) e = cc
 set_in tables state scope a (Expression-F.Product parts) e = cc
 
-list_in : (tables : Tables) (state : State) (scope : names.Scope) (a : Aggregate) (layer : Listed-F Condition Expression Listed Query) → aggregate_selected scope layer ≡ Some a
-    → IsSet scope a (written.listed_step (map-Listed Condition Expression Listed Query (References → Truth) Valued Valued (References → List Answer) (truth tables state) (valued tables state) (listed tables state) (answers tables state) layer))
-list_in tables state scope a Listed-F.Star e = cc
-list_in tables state scope a (Listed-F.One x) e =
-    subst (IsSet scope a) (sym (fold_out-Expression (References → Truth) Valued Valued (References → List Answer) written.condition_step written.expression_step written.listed_step (written.query_step tables state) x)) (set_in tables state scope a (out-Expression x) e)
+list_in : (tables : Tables) (state : State) (scope : names.Scope) (a : Aggregate) (layer : SelectList-F Condition Expression SelectList Query) → aggregate_selected scope layer ≡ Some a
+    → IsSet scope a (written.select_list_step (map-SelectList Condition Expression SelectList Query (References → Truth) Valued Valued (References → List Answer) (truth tables state) (valued tables state) (select_list tables state) (answers tables state) layer))
+list_in tables state scope a SelectList-F.Star e = cc
+list_in tables state scope a (SelectList-F.One x) e =
+    subst (IsSet scope a) (sym (fold_out-Expression (References → Truth) Valued Valued (References → List Answer) written.condition_step written.expression_step written.select_list_step (written.query_step tables state) x)) (set_in tables state scope a (out-Expression x) e)
 
-pub list_set : (tables : Tables) (state : State) (scope : names.Scope) (a : Aggregate) (list : Listed) → selected_aggregate scope list ≡ Some a → IsSet scope a (listed tables state list)
+pub list_set : (tables : Tables) (state : State) (scope : names.Scope) (a : Aggregate) (list : SelectList) → selected_aggregate scope list ≡ Some a → IsSet scope a (select_list tables state list)
 list_set tables state scope a list e =
-    subst (IsSet scope a) (sym (fold_out-Listed (References → Truth) Valued Valued (References → List Answer) written.condition_step written.expression_step written.listed_step (written.query_step tables state) list)) (list_in tables state scope a (out-Listed list) e)
+    subst (IsSet scope a) (sym (fold_out-SelectList (References → Truth) Valued Valued (References → List Answer) written.condition_step written.expression_step written.select_list_step (written.query_step tables state) list)) (list_in tables state scope a (out-SelectList list) e)
 
 -- the one value of a query that lists a set function
 pub only_set : (table : Reference) (list : Valued) (keeps : Option (References → Truth)) (outer : References) → list.sets ≡ true
@@ -162,13 +162,13 @@ plain_by_ok source a keeps None (Some h) p e = cc
 plain_is : (tables : Tables) (state : State) (scopes : References) (query : Query) (p : Plain) → plain_value tables (out-Query query) ≡ Ok p → only_value (answers tables state query scopes) ≡ plain_answer state p
 plain_is tables state scopes query p e =
     let q = out-Query query in
-    let (source, (found, more)) = in_class_ok (source_of tables q.table q.alias) (λ source. plain_by source (selected_aggregate source.scope q.listed) q.keeps q.group q.having) p e in
-    let (no_group, (no_having, (function, (lists, (kept, (filters, makes)))))) = plain_by_ok source (selected_aggregate source.scope q.listed) q.keeps q.group q.having p more in
+    let (source, (found, more)) = in_class_ok (source_of tables q.table q.alias) (λ source. plain_by source (selected_aggregate source.scope q.select_list) q.keeps q.group q.having) p e in
+    let (no_group, (no_having, (function, (lists, (kept, (filters, makes)))))) = plain_by_ok source (selected_aggregate source.scope q.select_list) q.keeps q.group q.having p more in
     let rows = rows_of source.table state in
     let table = seen source.scope rows in
-    let list = listed tables state q.listed in
+    let list = select_list tables state q.select_list in
     let keeps = option_map (truth tables state) q.keeps in
-    let (sets, gives) = list_set tables state source.scope function q.listed lists in
+    let (sets, gives) = list_set tables state source.scope function q.select_list lists in
     let where_rows = filter (λ row. passes keeps (with_rows table (row ∷ []) scopes)) rows in
     ap only_value (answers_at tables state query source scopes found ∙ ap (λ g. answers_by table list keeps g (option_map (truth tables state) q.having) scopes) no_group ∙ ap (λ h. answers_by table list keeps None (option_map (truth tables state) h) scopes) no_having)
     ∙ only_set table list keeps scopes sets

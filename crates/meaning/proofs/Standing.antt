@@ -15,7 +15,7 @@ use Rattle.syntax.specs.declared.trees.Condition.{Condition, roll-Condition}
 use Rattle.syntax.specs.declared.trees.Condition.TheOpen.{Condition-F, Expression-F}
 use Rattle.syntax.specs.declared.trees.Condition.TheFolds.{map-Condition, map-Expression, fold-Expression, para-Expression, para-roll-Condition, para-roll-Expression, fold-roll-Condition, fold-roll-Expression, ind-Condition}
 use Rattle.syntax.specs.declared.trees.Expression.{Expression, roll-Expression}
-use Rattle.syntax.specs.declared.trees.Listed.{Listed}
+use Rattle.syntax.specs.declared.trees.SelectList.{SelectList}
 use Rattle.syntax.specs.declared.trees.Query.{Query}
 use Rattle.value.specs.Results.{and_then}
 use Rattle.form_check.specs.Results.{in_class}
@@ -33,11 +33,11 @@ columns_of = fold-Expression (List ColumnName) (List ColumnName) (Unit {0}) (Uni
 unfoldable pub pieces_at : Expression → Pieces
 pieces_at = para-Expression Pieces Pieces (Unit {0}) (Unit {0}) condition_pieces expression_pieces (λ l. tt) (λ q. tt)
 
-pub condition_pieces_rolled : (layer : Condition-F Condition Expression Listed Query) → pieces_in (roll-Condition layer) ≡ condition_pieces (map-Condition Condition Expression Listed Query (Condition × Pieces) (Expression × Pieces) (Listed × Unit {0}) (Query × Unit {0}) (λ c. (c, pieces_in c)) (λ e. (e, pieces_at e)) (λ l. (l, tt)) (λ q. (q, tt)) layer)
+pub condition_pieces_rolled : (layer : Condition-F Condition Expression SelectList Query) → pieces_in (roll-Condition layer) ≡ condition_pieces (map-Condition Condition Expression SelectList Query (Condition × Pieces) (Expression × Pieces) (SelectList × Unit {0}) (Query × Unit {0}) (λ c. (c, pieces_in c)) (λ e. (e, pieces_at e)) (λ l. (l, tt)) (λ q. (q, tt)) layer)
 unfolding pieces_in pieces_at
 condition_pieces_rolled layer = para-roll-Condition Pieces Pieces (Unit {0}) (Unit {0}) condition_pieces expression_pieces (λ l. tt) (λ q. tt) layer
 
-expression_pieces_rolled : (layer : Expression-F Condition Expression Listed Query) → pieces_at (roll-Expression layer) ≡ expression_pieces (map-Expression Condition Expression Listed Query (Condition × Pieces) (Expression × Pieces) (Listed × Unit {0}) (Query × Unit {0}) (λ c. (c, pieces_in c)) (λ e. (e, pieces_at e)) (λ l. (l, tt)) (λ q. (q, tt)) layer)
+expression_pieces_rolled : (layer : Expression-F Condition Expression SelectList Query) → pieces_at (roll-Expression layer) ≡ expression_pieces (map-Expression Condition Expression SelectList Query (Condition × Pieces) (Expression × Pieces) (SelectList × Unit {0}) (Query × Unit {0}) (λ c. (c, pieces_in c)) (λ e. (e, pieces_at e)) (λ l. (l, tt)) (λ q. (q, tt)) layer)
 unfolding pieces_in pieces_at
 expression_pieces_rolled layer = para-roll-Expression Pieces Pieces (Unit {0}) (Unit {0}) condition_pieces expression_pieces (λ l. tt) (λ q. tt) layer
 
@@ -138,22 +138,22 @@ module _ (place : ColumnName → Option ℕ) where
   abbrev of_expression : Type 0
   of_expression = (e : Expression) × IsNumberedExpression e
 
-  abbrev of_listed : Type 0
-  of_listed = Listed × Unit {0}
+  abbrev of_select_list : Type 0
+  of_select_list = SelectList × Unit {0}
 
   abbrev of_query : Type 0
   of_query = Query × Unit {0}
 
-  abbrev under_condition : Condition-F of_condition of_expression of_listed of_query → Condition-F Condition Expression Listed Query
-  under_condition y = map-Condition of_condition of_expression of_listed of_query Condition Expression Listed Query (λ e. e.0) (λ e. e.0) (λ e. e.0) (λ e. e.0) y
+  abbrev under_condition : Condition-F of_condition of_expression of_select_list of_query → Condition-F Condition Expression SelectList Query
+  under_condition y = map-Condition of_condition of_expression of_select_list of_query Condition Expression SelectList Query (λ e. e.0) (λ e. e.0) (λ e. e.0) (λ e. e.0) y
 
-  abbrev under_expression : Expression-F of_condition of_expression of_listed of_query → Expression-F Condition Expression Listed Query
-  under_expression y = map-Expression of_condition of_expression of_listed of_query Condition Expression Listed Query (λ e. e.0) (λ e. e.0) (λ e. e.0) (λ e. e.0) y
+  abbrev under_expression : Expression-F of_condition of_expression of_select_list of_query → Expression-F Condition Expression SelectList Query
+  under_expression y = map-Expression of_condition of_expression of_select_list of_query Condition Expression SelectList Query (λ e. e.0) (λ e. e.0) (λ e. e.0) (λ e. e.0) y
 
-  expression_layer : (y : Expression-F of_condition of_expression of_listed of_query)
-      → Numbers (expression_columns (map-Expression Condition Expression Listed Query (List ColumnName) (List ColumnName) (Unit {0}) (Unit {0}) columns_in columns_of (λ l. tt) (λ q. tt) (under_expression y)))
-      (expression_pieces (map-Expression Condition Expression Listed Query (Condition × Pieces) (Expression × Pieces) (Listed × Unit {0}) (Query × Unit {0}) (λ c. (c, pieces_in c)) (λ e. (e, pieces_at e)) (λ l. (l, tt)) (λ q. (q, tt)) (under_expression y)))
-      (leaves_of.expression_step place (map-Expression Condition Expression Listed Query (Condition × Numbered Cond) (Expression × Numbered Expr) (Listed × Unit {0}) (Query × Unit {0}) (λ c. (c, numbered place c)) (λ e. (e, numbered_expression place e)) (λ l. (l, tt)) (λ q. (q, tt)) (under_expression y)))
+  expression_layer : (y : Expression-F of_condition of_expression of_select_list of_query)
+      → Numbers (expression_columns (map-Expression Condition Expression SelectList Query (List ColumnName) (List ColumnName) (Unit {0}) (Unit {0}) columns_in columns_of (λ l. tt) (λ q. tt) (under_expression y)))
+      (expression_pieces (map-Expression Condition Expression SelectList Query (Condition × Pieces) (Expression × Pieces) (SelectList × Unit {0}) (Query × Unit {0}) (λ c. (c, pieces_in c)) (λ e. (e, pieces_at e)) (λ l. (l, tt)) (λ q. (q, tt)) (under_expression y)))
+      (leaves_of.expression_step place (map-Expression Condition Expression SelectList Query (Condition × Numbered Cond) (Expression × Numbered Expr) (SelectList × Unit {0}) (Query × Unit {0}) (λ c. (c, numbered place c)) (λ e. (e, numbered_expression place e)) (λ l. (l, tt)) (λ q. (q, tt)) (under_expression y)))
   expression_layer (Expression-F.Number n) = plain_numbers (expr.Literal (value.Int n))
   expression_layer (Expression-F.Text t) = plain_numbers (expr.Literal (value.Text t))
   expression_layer (Expression-F.Column column) = column_numbers column
@@ -164,10 +164,10 @@ module _ (place : ColumnName → Option ℕ) where
   expression_layer (Expression-F.Sum parts) = then_numbers expr_of.Sum (flat_map (λ cs. cs) (map columns_of (map (λ e. e.0) parts))) (flat_map (λ (p : Expression × Pieces). p.1) (map (λ x. (x, pieces_at x)) (map (λ e. e.0) parts))) (all (map (λ e. (e, numbered_expression place e)) (map (λ e. e.0) parts))) (all_numbers (numbered_expression place) columns_of pieces_at parts)
   expression_layer (Expression-F.Product parts) = then_numbers expr_of.Product (flat_map (λ cs. cs) (map columns_of (map (λ e. e.0) parts))) (flat_map (λ (p : Expression × Pieces). p.1) (map (λ x. (x, pieces_at x)) (map (λ e. e.0) parts))) (all (map (λ e. (e, numbered_expression place e)) (map (λ e. e.0) parts))) (all_numbers (numbered_expression place) columns_of pieces_at parts)
 
-  condition_layer : (y : Condition-F of_condition of_expression of_listed of_query)
-      → Numbers (condition_columns (map-Condition Condition Expression Listed Query (List ColumnName) (List ColumnName) (Unit {0}) (Unit {0}) columns_in columns_of (λ l. tt) (λ q. tt) (under_condition y)))
-      (condition_pieces (map-Condition Condition Expression Listed Query (Condition × Pieces) (Expression × Pieces) (Listed × Unit {0}) (Query × Unit {0}) (λ c. (c, pieces_in c)) (λ e. (e, pieces_at e)) (λ l. (l, tt)) (λ q. (q, tt)) (under_condition y)))
-      (leaves_of.condition_step place (map-Condition Condition Expression Listed Query (Condition × Numbered Cond) (Expression × Numbered Expr) (Listed × Unit {0}) (Query × Unit {0}) (λ c. (c, numbered place c)) (λ e. (e, numbered_expression place e)) (λ l. (l, tt)) (λ q. (q, tt)) (under_condition y)))
+  condition_layer : (y : Condition-F of_condition of_expression of_select_list of_query)
+      → Numbers (condition_columns (map-Condition Condition Expression SelectList Query (List ColumnName) (List ColumnName) (Unit {0}) (Unit {0}) columns_in columns_of (λ l. tt) (λ q. tt) (under_condition y)))
+      (condition_pieces (map-Condition Condition Expression SelectList Query (Condition × Pieces) (Expression × Pieces) (SelectList × Unit {0}) (Query × Unit {0}) (λ c. (c, pieces_in c)) (λ e. (e, pieces_at e)) (λ l. (l, tt)) (λ q. (q, tt)) (under_condition y)))
+      (leaves_of.condition_step place (map-Condition Condition Expression SelectList Query (Condition × Numbered Cond) (Expression × Numbered Expr) (SelectList × Unit {0}) (Query × Unit {0}) (λ c. (c, numbered place c)) (λ e. (e, numbered_expression place e)) (λ l. (l, tt)) (λ q. (q, tt)) (under_condition y)))
   condition_layer (Condition-F.Or parts) = then_numbers cond_of.Or (flat_map (λ cs. cs) (map columns_in (map (λ e. e.0) parts))) (flat_map (λ (p : Condition × Pieces). p.1) (map (λ x. (x, pieces_in x)) (map (λ e. e.0) parts))) (all (map (λ c. (c, numbered place c)) (map (λ e. e.0) parts))) (all_numbers (numbered place) columns_in pieces_in parts)
   condition_layer (Condition-F.And parts) = then_numbers cond_of.And (flat_map (λ cs. cs) (map columns_in (map (λ e. e.0) parts))) (flat_map (λ (p : Condition × Pieces). p.1) (map (λ x. (x, pieces_in x)) (map (λ e. e.0) parts))) (all (map (λ c. (c, numbered place c)) (map (λ e. e.0) parts))) (all_numbers (numbered place) columns_in pieces_in parts)
   condition_layer (Condition-F.Not part) = then_numbers cond_of.Not (columns_in part.0) (pieces_in part.0) (numbered place part.0) part.1
@@ -182,21 +182,21 @@ module _ (place : ColumnName → Option ℕ) where
   moved : {A : Type 0} (c1 c2 : List ColumnName) (l1 l2 : Pieces) (m n : Numbered A) → c1 ≡ c2 → l1 ≡ l2 → m ≡ n → Numbers c2 l2 n → Numbers c1 l1 m
   moved c1 c2 l1 l2 m n c l e good = subst (λ cs. Numbers cs l1 m) (sym c) (subst (λ ls. Numbers c2 ls m) (sym l) (subst (λ k. Numbers c2 l2 k) (sym e) good))
 
-  expression_at : (x : Expression-F Condition Expression Listed Query) (y : Expression-F of_condition of_expression of_listed of_query) → under_expression y ≡ x → IsNumberedExpression (roll-Expression x)
+  expression_at : (x : Expression-F Condition Expression SelectList Query) (y : Expression-F of_condition of_expression of_select_list of_query) → under_expression y ≡ x → IsNumberedExpression (roll-Expression x)
   expression_at x y is =
       let layer = under_expression y in
-      let columns = expression_columns (map-Expression Condition Expression Listed Query (List ColumnName) (List ColumnName) (Unit {0}) (Unit {0}) columns_in columns_of (λ l. tt) (λ q. tt) layer) in
-      let leaves = expression_pieces (map-Expression Condition Expression Listed Query (Condition × Pieces) (Expression × Pieces) (Listed × Unit {0}) (Query × Unit {0}) (λ c. (c, pieces_in c)) (λ e. (e, pieces_at e)) (λ l. (l, tt)) (λ q. (q, tt)) layer) in
-      let made = leaves_of.expression_step place (map-Expression Condition Expression Listed Query (Condition × Numbered Cond) (Expression × Numbered Expr) (Listed × Unit {0}) (Query × Unit {0}) (λ c. (c, numbered place c)) (λ e. (e, numbered_expression place e)) (λ l. (l, tt)) (λ q. (q, tt)) layer) in
+      let columns = expression_columns (map-Expression Condition Expression SelectList Query (List ColumnName) (List ColumnName) (Unit {0}) (Unit {0}) columns_in columns_of (λ l. tt) (λ q. tt) layer) in
+      let leaves = expression_pieces (map-Expression Condition Expression SelectList Query (Condition × Pieces) (Expression × Pieces) (SelectList × Unit {0}) (Query × Unit {0}) (λ c. (c, pieces_in c)) (λ e. (e, pieces_at e)) (λ l. (l, tt)) (λ q. (q, tt)) layer) in
+      let made = leaves_of.expression_step place (map-Expression Condition Expression SelectList Query (Condition × Numbered Cond) (Expression × Numbered Expr) (SelectList × Unit {0}) (Query × Unit {0}) (λ c. (c, numbered place c)) (λ e. (e, numbered_expression place e)) (λ l. (l, tt)) (λ q. (q, tt)) layer) in
       subst (λ x. IsNumberedExpression (roll-Expression x)) is (moved (columns_of (roll-Expression layer)) columns (pieces_at (roll-Expression layer)) leaves (numbered_expression place (roll-Expression layer)) made
       (fold-roll-Expression (List ColumnName) (List ColumnName) (Unit {0}) (Unit {0}) condition_columns expression_columns (λ l. tt) (λ q. tt) layer) (expression_pieces_rolled layer) (expression_rolled place layer) (expression_layer y))
 
-  condition_at : (x : Condition-F Condition Expression Listed Query) (y : Condition-F of_condition of_expression of_listed of_query) → under_condition y ≡ x → IsNumbered (roll-Condition x)
+  condition_at : (x : Condition-F Condition Expression SelectList Query) (y : Condition-F of_condition of_expression of_select_list of_query) → under_condition y ≡ x → IsNumbered (roll-Condition x)
   condition_at x y is =
       let layer = under_condition y in
-      let columns = condition_columns (map-Condition Condition Expression Listed Query (List ColumnName) (List ColumnName) (Unit {0}) (Unit {0}) columns_in columns_of (λ l. tt) (λ q. tt) layer) in
-      let leaves = condition_pieces (map-Condition Condition Expression Listed Query (Condition × Pieces) (Expression × Pieces) (Listed × Unit {0}) (Query × Unit {0}) (λ c. (c, pieces_in c)) (λ e. (e, pieces_at e)) (λ l. (l, tt)) (λ q. (q, tt)) layer) in
-      let made = leaves_of.condition_step place (map-Condition Condition Expression Listed Query (Condition × Numbered Cond) (Expression × Numbered Expr) (Listed × Unit {0}) (Query × Unit {0}) (λ c. (c, numbered place c)) (λ e. (e, numbered_expression place e)) (λ l. (l, tt)) (λ q. (q, tt)) layer) in
+      let columns = condition_columns (map-Condition Condition Expression SelectList Query (List ColumnName) (List ColumnName) (Unit {0}) (Unit {0}) columns_in columns_of (λ l. tt) (λ q. tt) layer) in
+      let leaves = condition_pieces (map-Condition Condition Expression SelectList Query (Condition × Pieces) (Expression × Pieces) (SelectList × Unit {0}) (Query × Unit {0}) (λ c. (c, pieces_in c)) (λ e. (e, pieces_at e)) (λ l. (l, tt)) (λ q. (q, tt)) layer) in
+      let made = leaves_of.condition_step place (map-Condition Condition Expression SelectList Query (Condition × Numbered Cond) (Expression × Numbered Expr) (SelectList × Unit {0}) (Query × Unit {0}) (λ c. (c, numbered place c)) (λ e. (e, numbered_expression place e)) (λ l. (l, tt)) (λ q. (q, tt)) layer) in
       subst (λ x. IsNumbered (roll-Condition x)) is (moved (columns_in (roll-Condition layer)) columns (pieces_in (roll-Condition layer)) leaves (numbered place (roll-Condition layer)) made
       (fold-roll-Condition (List ColumnName) (List ColumnName) (Unit {0}) (Unit {0}) condition_columns expression_columns (λ l. tt) (λ q. tt) layer) (condition_pieces_rolled layer) (condition_rolled place layer) (condition_layer y))
 

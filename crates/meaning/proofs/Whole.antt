@@ -22,7 +22,7 @@ use Rattle.syntax.specs.declared.trees.Condition.{Condition, out-Condition}
 use Rattle.syntax.specs.declared.trees.Condition.TheOpen.{Condition-F}
 use Rattle.syntax.specs.declared.trees.Condition.TheFolds.{map-Condition}
 use Rattle.syntax.specs.declared.trees.Expression.{Expression}
-use Rattle.syntax.specs.declared.trees.Listed.{Listed}
+use Rattle.syntax.specs.declared.trees.SelectList.{SelectList}
 use Rattle.syntax.specs.declared.trees.Query.{Query, out-Query}
 use Rattle.name_check.specs.Scopes.{own_column}
 use Rattle.value.specs.Results.{and_then, each}
@@ -32,7 +32,7 @@ use Rattle.form_check.specs.Leaves.{numbered}
 use Rattle.form_check.specs.Queries.{Source, source_of, row_filter, may_be_selected}
 use Rattle.form_check.specs.Forms.{Clauses, linked, aggregate_of, row_where, by_row, having_over, by_group, by_clauses, not_exists, single, denied, form_in}
 use Rattle.meaning.specs.Meaning as written
-use Rattle.meaning.specs.Meaning.{References, Valued, Answer, is_any, truth, valued, listed, answers, table_of, grouping, root_of, roots_of_answers, query_roots, roots_in, denied_roots, written_truth, written_bad_roots}
+use Rattle.meaning.specs.Meaning.{References, Valued, Answer, is_any, truth, valued, select_list, answers, table_of, grouping, root_of, roots_of_answers, query_roots, roots_in, denied_roots, written_truth, written_bad_roots}
 use Rattle.meaning.specs.Laws as law
 use Rattle.meaning.specs.Laws.{seen}
 use Rattle.meaning.proofs.Steps.{and_then_ok, in_class_ok, only_if_ok, ok_same}
@@ -88,11 +88,11 @@ by_clauses_ok tables source query (Some column) None form e = cc
 roots_by : (tables : Tables) (state : State) (query : Query) (source : Source) → source_of tables (out-Query query).table (out-Query query).alias ≡ Some source
     → (g : Option ColumnName) (h : Option Condition) → (out-Query query).group ≡ g → (out-Query query).having ≡ h
     → query_roots tables state query (out-Query query)
-    ≡ roots_of_answers g (seen source.scope (rows_of source.table state)) (answers_by (seen source.scope (rows_of source.table state)) (listed tables state (out-Query query).listed) (option_map (truth tables state) (out-Query query).keeps) g (option_map (truth tables state) h) [])
+    ≡ roots_of_answers g (seen source.scope (rows_of source.table state)) (answers_by (seen source.scope (rows_of source.table state)) (select_list tables state (out-Query query).select_list) (option_map (truth tables state) (out-Query query).keeps) g (option_map (truth tables state) h) [])
 roots_by tables state query source found g h is_g is_h =
     let q = out-Query query in
     let table = seen source.scope (rows_of source.table state) in
-    let list = listed tables state q.listed in
+    let list = select_list tables state q.select_list in
     let keeps = option_map (truth tables state) q.keeps in
     ap (λ t. roots_of_answers q.group t (answers tables state query [])) (source_seen tables state q.table q.alias source found)
     ∙ ap (roots_of_answers q.group table) (answers_at tables state query source [] found)
@@ -108,12 +108,12 @@ row_agrees : (tables : Tables) (state : State) (query : Query) (source : Source)
     → (r : Root) → has root_cmp r (query_roots tables state query (out-Query query)) ≡ has root_cmp r (bad_roots (layouts_of tables) form state)
 row_agrees tables state query source form found no_group no_having e r =
     let q = out-Query query in
-    let (lists, rest) = only_if_ok (may_be_selected (own_column source.scope) q.listed) (and_then (row_where source.scope q.keeps) (λ made. and_then (each (linked tables source.scope) made.1) (λ queries. let r : Result Form Refusal = Ok (ByRow source.table made.0 queries) in r))) form e in
+    let (lists, rest) = only_if_ok (may_be_selected (own_column source.scope) q.select_list) (and_then (row_where source.scope q.keeps) (λ made. and_then (each (linked tables source.scope) made.1) (λ queries. let r : Result Form Refusal = Ok (ByRow source.table made.0 queries) in r))) form e in
     let (m, (is, more)) = and_then_ok (row_where source.scope q.keeps) (λ made. and_then (each (linked tables source.scope) made.1) (λ queries. let r : Result Form Refusal = Ok (ByRow source.table made.0 queries) in r)) form rest in
     let (queries, (are, makes)) = and_then_ok (each (linked tables source.scope) m.1) (λ queries. let r : Result Form Refusal = Ok (ByRow source.table m.0 queries) in r) form more in
     ap (has root_cmp r) (
     roots_by tables state query source found None None no_group no_having
-    ∙ row_roots_are tables state source.scope source.table (listed tables state q.listed) q.keeps m.0 m.1 queries (plain_list tables state (own_column source.scope) q.listed lists) is are
+    ∙ row_roots_are tables state source.scope source.table (select_list tables state q.select_list) q.keeps m.0 m.1 queries (plain_list tables state (own_column source.scope) q.select_list lists) is are
     ∙ ap (λ key. row_roots state source.table key m.0 queries) (sym (key_at tables q.table q.alias source found)))
     ∙ ap (λ form. has root_cmp r (bad_roots (layouts_of tables) form state)) (ok_same (ByRow source.table m.0 queries) form makes)
 
@@ -121,13 +121,13 @@ group_agrees : (tables : Tables) (state : State) (query : Query) (source : Sourc
     → (r : Root) → has root_cmp r (query_roots tables state query (out-Query query)) ≡ has root_cmp r (bad_roots (layouts_of tables) form state)
 group_agrees tables state query source column having form found is_group is_having e r =
     let q = out-Query query in
-    let (group, (own, more)) = in_class_ok (own_column source.scope column) (λ group. only_if (may_be_selected (grouping_column source.scope group) q.listed) (and_then (row_filter source.scope q.keeps) (λ kept. having_over source group kept having))) form e in
-    let (lists, rest) = only_if_ok (may_be_selected (grouping_column source.scope group) q.listed) (and_then (row_filter source.scope q.keeps) (λ kept. having_over source group kept having)) form more in
+    let (group, (own, more)) = in_class_ok (own_column source.scope column) (λ group. only_if (may_be_selected (grouping_column source.scope group) q.select_list) (and_then (row_filter source.scope q.keeps) (λ kept. having_over source group kept having))) form e in
+    let (lists, rest) = only_if_ok (may_be_selected (grouping_column source.scope group) q.select_list) (and_then (row_filter source.scope q.keeps) (λ kept. having_over source group kept having)) form more in
     let (kept, (filters, over)) = and_then_ok (row_filter source.scope q.keeps) (λ kept. having_over source group kept having) form rest in
     let (m, (is, made)) = and_then_ok (numbered (grouping_column source.scope group) having []) (λ made. and_then (each (aggregate_of source.scope) made.1) (λ aggregates. let r : Result Form Refusal = Ok (ByGroup source.table kept group made.0 aggregates) in r)) form over in
     let (aggregates, (are, makes)) = and_then_ok (each (aggregate_of source.scope) m.1) (λ aggregates. let r : Result Form Refusal = Ok (ByGroup source.table kept group m.0 aggregates) in r) form made in
     ap (has root_cmp r) (roots_by tables state query source found (Some column) (Some having) is_group is_having)
-    ∙ group_roots_are tables state source.scope (rows_of source.table state) source.scope.layout.key (listed tables state q.listed) q.keeps kept column group having m.0 m.1 aggregates filters own is are r
+    ∙ group_roots_are tables state source.scope (rows_of source.table state) source.scope.layout.key (select_list tables state q.select_list) q.keeps kept column group having m.0 m.1 aggregates filters own is are r
     ∙ ap (λ form. has root_cmp r (bad_roots (layouts_of tables) form state)) (ok_same (ByGroup source.table kept group m.0 aggregates) form makes)
 
 -- a form that NOT EXISTS makes has the truth of its roots
@@ -136,15 +136,15 @@ IsOfRoots tables state form = verdict_of (layouts_of tables) form state ≡ trut
 
 by_row_of_roots : (tables : Tables) (state : State) (source : Source) (query : Clauses) (form : Form) → by_row tables source query ≡ Ok form → IsOfRoots tables state form
 by_row_of_roots tables state source query form e =
-    let (lists, rest) = only_if_ok (may_be_selected (own_column source.scope) query.listed) (and_then (row_where source.scope query.keeps) (λ made. and_then (each (linked tables source.scope) made.1) (λ queries. let r : Result Form Refusal = Ok (ByRow source.table made.0 queries) in r))) form e in
+    let (lists, rest) = only_if_ok (may_be_selected (own_column source.scope) query.select_list) (and_then (row_where source.scope query.keeps) (λ made. and_then (each (linked tables source.scope) made.1) (λ queries. let r : Result Form Refusal = Ok (ByRow source.table made.0 queries) in r))) form e in
     let (m, (is, more)) = and_then_ok (row_where source.scope query.keeps) (λ made. and_then (each (linked tables source.scope) made.1) (λ queries. let r : Result Form Refusal = Ok (ByRow source.table made.0 queries) in r)) form rest in
     let (queries, (are, makes)) = and_then_ok (each (linked tables source.scope) m.1) (λ queries. let r : Result Form Refusal = Ok (ByRow source.table m.0 queries) in r) form more in
     subst (IsOfRoots tables state) (ok_same (ByRow source.table m.0 queries) form makes) refl
 
 by_group_of_roots : (tables : Tables) (state : State) (source : Source) (query : Clauses) (column : ColumnName) (having : Condition) (form : Form) → by_group source query column having ≡ Ok form → IsOfRoots tables state form
 by_group_of_roots tables state source query column having form e =
-    let (group, (own, more)) = in_class_ok (own_column source.scope column) (λ group. only_if (may_be_selected (grouping_column source.scope group) query.listed) (and_then (row_filter source.scope query.keeps) (λ kept. having_over source group kept having))) form e in
-    let (lists, rest) = only_if_ok (may_be_selected (grouping_column source.scope group) query.listed) (and_then (row_filter source.scope query.keeps) (λ kept. having_over source group kept having)) form more in
+    let (group, (own, more)) = in_class_ok (own_column source.scope column) (λ group. only_if (may_be_selected (grouping_column source.scope group) query.select_list) (and_then (row_filter source.scope query.keeps) (λ kept. having_over source group kept having))) form e in
+    let (lists, rest) = only_if_ok (may_be_selected (grouping_column source.scope group) query.select_list) (and_then (row_filter source.scope query.keeps) (λ kept. having_over source group kept having)) form more in
     let (kept, (filters, over)) = and_then_ok (row_filter source.scope query.keeps) (λ kept. having_over source group kept having) form rest in
     let (m, (is, made)) = and_then_ok (numbered (grouping_column source.scope group) having []) (λ made. and_then (each (aggregate_of source.scope) made.1) (λ aggregates. let r : Result Form Refusal = Ok (ByGroup source.table kept group made.0 aggregates) in r)) form over in
     let (aggregates, (are, makes)) = and_then_ok (each (aggregate_of source.scope) m.1) (λ aggregates. let r : Result Form Refusal = Ok (ByGroup source.table kept group m.0 aggregates) in r) form made in
@@ -163,10 +163,10 @@ exists_agrees tables query form e state =
 
 -- ---- all
 
-abbrev step_at : Tables → State → Condition-F Condition Expression Listed Query → Truth
-step_at tables state layer = written.condition_step (map-Condition Condition Expression Listed Query (References → Truth) Valued Valued (References → List Answer) (truth tables state) (valued tables state) (listed tables state) (answers tables state) layer) []
+abbrev step_at : Tables → State → Condition-F Condition Expression SelectList Query → Truth
+step_at tables state layer = written.condition_step (map-Condition Condition Expression SelectList Query (References → Truth) Valued Valued (References → List Answer) (truth tables state) (valued tables state) (select_list tables state) (answers tables state) layer) []
 
-denied_agrees : (tables : Tables) (condition part : Condition) (form : Form) (layer : Condition-F Condition Expression Listed Query) → out-Condition condition ≡ Condition-F.Not part → out-Condition part ≡ layer → denied tables condition layer ≡ Ok form
+denied_agrees : (tables : Tables) (condition part : Condition) (form : Form) (layer : Condition-F Condition Expression SelectList Query) → out-Condition condition ≡ Condition-F.Not part → out-Condition part ≡ layer → denied tables condition layer ≡ Ok form
     → (state : State) → Agrees tables state form (denied_roots tables state (written_truth tables state condition) layer) (written_truth tables state condition)
 denied_agrees tables condition part form (Condition-F.Or parts) n p e state = single_agrees tables condition form e state
 denied_agrees tables condition part form (Condition-F.And parts) n p e state = single_agrees tables condition form e state
@@ -180,7 +180,7 @@ denied_agrees tables condition part form (Condition-F.IsNull x) n p e state = si
 denied_agrees tables condition part form (Condition-F.Between x low high) n p e state = single_agrees tables condition form e state
 denied_agrees tables condition part form (Condition-F.In x list) n p e state = single_agrees tables condition form e state
 
-whole_agrees : (tables : Tables) (condition : Condition) (form : Form) (layer : Condition-F Condition Expression Listed Query) → out-Condition condition ≡ layer → form_in tables condition layer ≡ Ok form
+whole_agrees : (tables : Tables) (condition : Condition) (form : Form) (layer : Condition-F Condition Expression SelectList Query) → out-Condition condition ≡ layer → form_in tables condition layer ≡ Ok form
     → (state : State) → Agrees tables state form (roots_in tables state (written_truth tables state condition) layer) (written_truth tables state condition)
 whole_agrees tables condition form (Condition-F.Or parts) is e state = single_agrees tables condition form e state
 whole_agrees tables condition form (Condition-F.And parts) is e state = single_agrees tables condition form e state

@@ -8,10 +8,10 @@ use Rattle.table.specs.Rows.{Layout, Tables, layout_of}
 use Rattle.syntax.specs.declared.trees.Aggregate.{Aggregate}
 use Rattle.syntax.specs.declared.trees.ColumnName.{ColumnName}
 use Rattle.syntax.specs.declared.trees.Condition.{Condition, out-Condition}
-use Rattle.syntax.specs.declared.trees.Condition.TheOpen.{Condition-F, Expression-F, Listed-F}
+use Rattle.syntax.specs.declared.trees.Condition.TheOpen.{Condition-F, Expression-F, SelectList-F}
 use Rattle.syntax.specs.declared.trees.Condition.TheFolds.{fold-Condition, para-Condition}
 use Rattle.syntax.specs.declared.trees.Expression.{Expression, out-Expression}
-use Rattle.syntax.specs.declared.trees.Listed.{Listed, out-Listed}
+use Rattle.syntax.specs.declared.trees.SelectList.{SelectList, out-SelectList}
 use Rattle.syntax.specs.declared.trees.Query.{Query, out-Query}
 use Rattle.name_check.specs.Scopes.{Scope, is_name_of, own_column}
 
@@ -69,7 +69,7 @@ columns_in =
 
 -- its set functions and queries, and not what stands in those
 abbrev pub expression_pieces :
-    Expression-F (Condition × Pieces) (Expression × Pieces) (Listed × Unit {0}) (Query × Unit {0}) → Pieces
+    Expression-F (Condition × Pieces) (Expression × Pieces) (SelectList × Unit {0}) (Query × Unit {0}) → Pieces
 expression_pieces (Expression-F.Number n) = []
 expression_pieces (Expression-F.Text t) = []
 expression_pieces (Expression-F.Column column) = []
@@ -81,7 +81,7 @@ expression_pieces (Expression-F.Sum parts) = flat_map (λ part. part.1) parts
 expression_pieces (Expression-F.Product parts) = flat_map (λ part. part.1) parts
 
 abbrev pub condition_pieces :
-    Condition-F (Condition × Pieces) (Expression × Pieces) (Listed × Unit {0}) (Query × Unit {0}) → Pieces
+    Condition-F (Condition × Pieces) (Expression × Pieces) (SelectList × Unit {0}) (Query × Unit {0}) → Pieces
 condition_pieces (Condition-F.Or parts) = flat_map (λ part. part.1) parts
 condition_pieces (Condition-F.And parts) = flat_map (λ part. part.1) parts
 condition_pieces (Condition-F.Not part) = part.1
@@ -113,27 +113,27 @@ abbrev pub IsColumnAt : Scope → ℕ → ColumnName → Type 0
 IsColumnAt scope place column = own_column scope column ≡ Some place
 
 -- a literal, or a column that is so
-abbrev pub IsSimple : (ColumnName → Type 0) → Expression-F Condition Expression Listed Query → Type 0
+abbrev pub IsSimple : (ColumnName → Type 0) → Expression-F Condition Expression SelectList Query → Type 0
 IsSimple P (Expression-F.Number n) = Unit {0}
 IsSimple P (Expression-F.Text t) = Unit {0}
 IsSimple P (Expression-F.Column column) = P column
 IsSimple P other = ⊥
 
 -- what EXISTS may list: *, or one literal or column that is so
-abbrev pub IsSimpleList : (ColumnName → Type 0) → Listed-F Condition Expression Listed Query → Type 0
-IsSimpleList P Listed-F.Star = Unit {0}
-IsSimpleList P (Listed-F.One expression) = IsSimple P (out-Expression expression)
+abbrev pub IsSimpleList : (ColumnName → Type 0) → SelectList-F Condition Expression SelectList Query → Type 0
+IsSimpleList P SelectList-F.Star = Unit {0}
+IsSimpleList P (SelectList-F.One expression) = IsSimple P (out-Expression expression)
 
 -- one set function over a table's rows
-abbrev pub IsSet : Scope → Expression-F Condition Expression Listed Query → Type 0
+abbrev pub IsSet : Scope → Expression-F Condition Expression SelectList Query → Type 0
 IsSet scope Expression-F.CountRows = Unit {0}
 IsSet scope (Expression-F.Aggregate function column) = IsOwn scope column
 IsSet scope other = ⊥
 
 -- what a query lists that stands for its value: one set function
-abbrev pub IsSetList : Scope → Listed-F Condition Expression Listed Query → Type 0
-IsSetList scope Listed-F.Star = ⊥
-IsSetList scope (Listed-F.One expression) = IsSet scope (out-Expression expression)
+abbrev pub IsSetList : Scope → SelectList-F Condition Expression SelectList Query → Type 0
+IsSetList scope SelectList-F.Star = ⊥
+IsSetList scope (SelectList-F.One expression) = IsSet scope (out-Expression expression)
 
 -- ---- conditions of one table
 
@@ -148,7 +148,7 @@ pub record IsOverRows (scope : Scope) (condition : Condition) : Type 0 where
 pub record IsPlainQuery (tables : Tables) (query : Query) : Type 0 where
   pub scope : Scope
   pub reads : read_by tables (out-Query query).table (out-Query query).alias ≡ Some scope
-  pub lists : IsSetList scope (out-Listed (out-Query query).listed)
+  pub lists : IsSetList scope (out-SelectList (out-Query query).select_list)
   pub kept : IfWritten (IsOverRows scope) (out-Query query).keeps
   pub ungrouped : IsNone (out-Query query).group
   pub whole : IsNone (out-Query query).having
@@ -181,7 +181,7 @@ pub record IsGroupQuery (tables : Tables) (query : Query) : Type 0 where
   pub reads : read_by tables (out-Query query).table (out-Query query).alias ≡ Some scope
   pub grouped : (out-Query query).group ≡ Some column
   pub is_own : IsColumnAt scope group column
-  pub lists : IsSimpleList (IsColumnAt scope group) (out-Listed (out-Query query).listed)
+  pub lists : IsSimpleList (IsColumnAt scope group) (out-SelectList (out-Query query).select_list)
   pub kept : IfWritten (IsOverRows scope) (out-Query query).keeps
   pub filtered : (out-Query query).having ≡ Some having
   pub columns : Each (IsColumnAt scope group) (columns_in having)
@@ -210,7 +210,7 @@ pub record IsLink (child root : Scope) (part : Condition) : Type 0 where
   pub sides : JoinsKey child root left right ⊎ JoinsKey child root right left
 
 -- the parts that AND joins at the top; a condition without one is its only part
-abbrev pub parts_of : Condition → Condition-F Condition Expression Listed Query → List Condition
+abbrev pub parts_of : Condition → Condition-F Condition Expression SelectList Query → List Condition
 parts_of whole (Condition-F.And parts) = parts
 parts_of whole other = whole ∷ []
 
@@ -225,14 +225,14 @@ pub record IsLinkedWhere (child root : Scope) (condition : Condition) : Type 0 w
 
 -- what a query over a table may list
 abbrev pub MayList : Type 1
-MayList = Scope → Listed-F Condition Expression Listed Query → Type 0
+MayList = Scope → SelectList-F Condition Expression SelectList Query → Type 0
 
 -- SELECT .. FROM d WHERE d.column = r.key AND f
 pub record IsLinkedQuery (tables : Tables) (root : Scope) (Lists : MayList) (query : Query) : Type 0 where
   pub scope : Scope
   pub condition : Condition
   pub reads : read_by tables (out-Query query).table (out-Query query).alias ≡ Some scope
-  pub lists : Lists scope (out-Listed (out-Query query).listed)
+  pub lists : Lists scope (out-SelectList (out-Query query).select_list)
   pub kept : (out-Query query).keeps ≡ Some condition
   pub linked : IsLinkedWhere scope root condition
   pub ungrouped : IsNone (out-Query query).group
@@ -253,7 +253,7 @@ pub record IsRowWhere (tables : Tables) (root : Scope) (condition : Condition) :
 pub record IsRowQuery (tables : Tables) (query : Query) : Type 0 where
   pub scope : Scope
   pub reads : read_by tables (out-Query query).table (out-Query query).alias ≡ Some scope
-  pub lists : IsSimpleList (IsOwn scope) (out-Listed (out-Query query).listed)
+  pub lists : IsSimpleList (IsOwn scope) (out-SelectList (out-Query query).select_list)
   pub kept : IfWritten (IsRowWhere tables scope) (out-Query query).keeps
   pub ungrouped : IsNone (out-Query query).group
   pub whole : IsNone (out-Query query).having

@@ -20,10 +20,10 @@ use Rattle.syntax.specs.declared.trees.Aggregate.{Aggregate}
 use Rattle.syntax.specs.declared.trees.Aggregate.TheVariants.{Count, Sum, Min, Max}
 use Rattle.syntax.specs.declared.trees.ColumnName.{ColumnName}
 use Rattle.syntax.specs.declared.trees.Condition.{Condition, out-Condition}
-use Rattle.syntax.specs.declared.trees.Condition.TheOpen.{Condition-F, Expression-F, Listed-F, Query-F}
-use Rattle.syntax.specs.declared.trees.Condition.TheFolds.{fold-Condition, fold-Expression, fold-Listed, fold-Query}
+use Rattle.syntax.specs.declared.trees.Condition.TheOpen.{Condition-F, Expression-F, SelectList-F, Query-F}
+use Rattle.syntax.specs.declared.trees.Condition.TheFolds.{fold-Condition, fold-Expression, fold-SelectList, fold-Query}
 use Rattle.syntax.specs.declared.trees.Expression.{Expression}
-use Rattle.syntax.specs.declared.trees.Listed.{Listed}
+use Rattle.syntax.specs.declared.trees.SelectList.{SelectList}
 use Rattle.syntax.specs.declared.trees.Query.{Query, out-Query}
 use Rattle.assertion.specs.Meaning.{State, rows_of}
 use Rattle.name_check.specs.Scopes.{Scope, named_in, innermost}
@@ -90,8 +90,8 @@ MeantCondition = Condition-F (References → Truth) Valued Valued (References �
 abbrev pub MeantExpression : Type 0
 MeantExpression = Expression-F (References → Truth) Valued Valued (References → List Answer)
 
-abbrev pub MeantListed : Type 0
-MeantListed = Listed-F (References → Truth) Valued Valued (References → List Answer)
+abbrev pub MeantSelectList : Type 0
+MeantSelectList = SelectList-F (References → Truth) Valued Valued (References → List Answer)
 
 abbrev pub MeantQuery : Type 0
 MeantQuery = Query-F (References → Truth) Valued Valued (References → List Answer)
@@ -200,15 +200,15 @@ grouping (Some column) table outer = Some (λ row. first_value (column_values co
 -- FROM, WHERE, GROUP BY, HAVING and the select list, one after the other
 abbrev pub answers_over : Reference → MeantQuery → References → List Answer
 answers_over table query outer =
-    map (λ rows. record { rows = rows; value = query.listed.value (with_rows table rows outer) }) (
+    map (λ rows. record { rows = rows; value = query.select_list.value (with_rows table rows outer) }) (
     filter (λ rows. passes query.having (with_rows table rows outer)) (
-    grouped (grouping query.group table outer) (is_some query.having || query.listed.sets) (
+    grouped (grouping query.group table outer) (is_some query.having || query.select_list.sets) (
     filter (λ row. passes query.keeps (with_rows table (row ∷ []) outer)) table.rows)))
 
 -- what a select list gives; the one column of *
-abbrev pub listed_step : MeantListed → Valued
-listed_step Listed-F.Star = simple (λ around. first_value (map (value_in 0) (rows_at_hand around)))
-listed_step (Listed-F.One part) = part
+abbrev pub select_list_step : MeantSelectList → Valued
+select_list_step SelectList-F.Star = simple (λ around. first_value (map (value_in 0) (rows_at_hand around)))
+select_list_step (SelectList-F.One part) = part
 
 -- ---- the tables (6.3, 7.4)
 
@@ -234,22 +234,22 @@ query_step tables state query = answers_over (table_of tables state query.table 
 abbrev pub truth : Tables → State → Condition → References → Truth
 truth tables state =
     fold-Condition (References → Truth) Valued Valued (References → List Answer)
-    condition_step expression_step listed_step (query_step tables state)
+    condition_step expression_step select_list_step (query_step tables state)
 
 abbrev pub valued : Tables → State → Expression → Valued
 valued tables state =
     fold-Expression (References → Truth) Valued Valued (References → List Answer)
-    condition_step expression_step listed_step (query_step tables state)
+    condition_step expression_step select_list_step (query_step tables state)
 
-abbrev pub listed : Tables → State → Listed → Valued
-listed tables state =
-    fold-Listed (References → Truth) Valued Valued (References → List Answer)
-    condition_step expression_step listed_step (query_step tables state)
+abbrev pub select_list : Tables → State → SelectList → Valued
+select_list tables state =
+    fold-SelectList (References → Truth) Valued Valued (References → List Answer)
+    condition_step expression_step select_list_step (query_step tables state)
 
 abbrev pub answers : Tables → State → Query → References → List Answer
 answers tables state =
     fold-Query (References → Truth) Valued Valued (References → List Answer)
-    condition_step expression_step listed_step (query_step tables state)
+    condition_step expression_step select_list_step (query_step tables state)
 
 -- ---- assertions (11.34)
 
@@ -265,7 +265,7 @@ root_of (Some value) key answer = Of (first_value (map value answer.rows))
 abbrev pub roots_of_answers : Option ColumnName → Reference → List Answer → List Root
 roots_of_answers group table given = map (root_of (grouping group table []) table.table.layout.key) given
 
-abbrev pub query_roots : Tables → State → Query → Query-F Condition Expression Listed Query → List Root
+abbrev pub query_roots : Tables → State → Query → Query-F Condition Expression SelectList Query → List Root
 query_roots tables state whole query =
     roots_of_answers query.group (table_of tables state query.table query.alias) (answers tables state whole [])
 
@@ -273,11 +273,11 @@ query_roots tables state whole query =
 abbrev pub roots_of_whole : Truth → List Root
 roots_of_whole truth = if is_of truth False then All ∷ [] else []
 
-abbrev pub denied_roots : Tables → State → Truth → Condition-F Condition Expression Listed Query → List Root
+abbrev pub denied_roots : Tables → State → Truth → Condition-F Condition Expression SelectList Query → List Root
 denied_roots tables state whole (Condition-F.Exists query) = query_roots tables state query (out-Query query)
 denied_roots tables state whole other = roots_of_whole whole
 
-abbrev pub roots_in : Tables → State → Truth → Condition-F Condition Expression Listed Query → List Root
+abbrev pub roots_in : Tables → State → Truth → Condition-F Condition Expression SelectList Query → List Root
 roots_in tables state whole (Condition-F.Not part) = denied_roots tables state whole (out-Condition part)
 roots_in tables state whole other = roots_of_whole whole
 

@@ -6,10 +6,10 @@ use Rattle.table.specs.Rows.{Layout, Tables, layout_of}
 use Rattle.table.specs.Faults.{first_of}
 use Rattle.syntax.specs.declared.trees.ColumnName.{ColumnName}
 use Rattle.syntax.specs.declared.trees.Condition.{Condition}
-use Rattle.syntax.specs.declared.trees.Condition.TheOpen.{Condition-F, Expression-F, Listed-F, Query-F}
-use Rattle.syntax.specs.declared.trees.Condition.TheFolds.{fold-Condition, fold-Expression, fold-Listed, fold-Query}
+use Rattle.syntax.specs.declared.trees.Condition.TheOpen.{Condition-F, Expression-F, SelectList-F, Query-F}
+use Rattle.syntax.specs.declared.trees.Condition.TheFolds.{fold-Condition, fold-Expression, fold-SelectList, fold-Query}
 use Rattle.syntax.specs.declared.trees.Expression.{Expression}
-use Rattle.syntax.specs.declared.trees.Listed.{Listed}
+use Rattle.syntax.specs.declared.trees.SelectList.{SelectList}
 use Rattle.syntax.specs.declared.trees.Query.{Query}
 use Rattle.name_check.specs.Scopes.{Scopes, column_fault}
 
@@ -56,14 +56,14 @@ condition_step (Condition-F.Between subject low high) scopes = first_of (subject
 condition_step (Condition-F.In subject values) scopes = first_of (subject scopes) (parts_fault values scopes)
 
 -- what a query lists
-abbrev pub listed_step : Listed-F Fault Fault Fault Fault → Fault
-listed_step Listed-F.Star scopes = None
-listed_step (Listed-F.One part) scopes = part scopes
+abbrev pub select_list_step : SelectList-F Fault Fault Fault Fault → Fault
+select_list_step SelectList-F.Star scopes = None
+select_list_step (SelectList-F.One part) scopes = part scopes
 
 -- a query's list, WHERE, GROUP BY and HAVING, seen from its own table inside those around it
 abbrev pub clauses_fault : Query-F Fault Fault Fault Fault → Fault
 clauses_fault query scopes =
-    first_of (query.listed scopes) (first_of (part_fault query.keeps scopes) (first_of (group_fault query.group scopes) (part_fault query.having scopes)))
+    first_of (query.select_list scopes) (first_of (part_fault query.keeps scopes) (first_of (group_fault query.group scopes) (part_fault query.having scopes)))
 
 abbrev pub inner_fault : Option Layout → Query-F Fault Fault Fault Fault → Fault
 inner_fault None query scopes = Some (UnknownName query.table)
@@ -75,13 +75,13 @@ query_step tables query scopes = inner_fault (layout_of query.table tables) quer
 
 -- what is wrong with the names of a condition, an expression, a list or a query
 abbrev pub condition_fault : Tables → Condition → Fault
-condition_fault tables = fold-Condition Fault Fault Fault Fault condition_step expression_step listed_step (query_step tables)
+condition_fault tables = fold-Condition Fault Fault Fault Fault condition_step expression_step select_list_step (query_step tables)
 
 abbrev pub expression_fault : Tables → Expression → Fault
-expression_fault tables = fold-Expression Fault Fault Fault Fault condition_step expression_step listed_step (query_step tables)
+expression_fault tables = fold-Expression Fault Fault Fault Fault condition_step expression_step select_list_step (query_step tables)
 
-abbrev pub listed_fault : Tables → Listed → Fault
-listed_fault tables = fold-Listed Fault Fault Fault Fault condition_step expression_step listed_step (query_step tables)
+abbrev pub select_list_fault : Tables → SelectList → Fault
+select_list_fault tables = fold-SelectList Fault Fault Fault Fault condition_step expression_step select_list_step (query_step tables)
 
 abbrev pub query_fault : Tables → Query → Fault
-query_fault tables = fold-Query Fault Fault Fault Fault condition_step expression_step listed_step (query_step tables)
+query_fault tables = fold-Query Fault Fault Fault Fault condition_step expression_step select_list_step (query_step tables)

@@ -4,7 +4,7 @@ use super::*;
 use sqlite_items::Boxed;
 use std::alloc::Global;
 use std::test::Fail;
-use syntax::{ColumnName, Condition, Expression, Listed, Query};
+use syntax::{ColumnName, Condition, Expression, Query, SelectList};
 use table::{Catalog, Column, Schema};
 use value::{ColType, Comparison, Refusal, Text};
 
@@ -45,7 +45,7 @@ fn column(alloc: Global, qualifier: &str, name: &str) -> Result<ColumnName, Refu
 /// `EXISTS (SELECT * FROM D AS X WHERE column IS NULL)`.
 fn exists(alloc: Global, column: ColumnName) -> Result<Condition, Refusal> {
     let query = Query {
-        listed: Listed::Star,
+        select_list: SelectList::Star,
         table: Text::from_str(alloc, "D")?,
         alias: Some(Text::from_str(alloc, "X")?),
         keeps: Some(Condition::IsNull(Expression::Column(column))),

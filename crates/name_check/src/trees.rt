@@ -2,12 +2,12 @@
 
 ghost use Rattle.std.specs.Prelude.{◌≡◌, ◌≢◌, map, IfOk, IfErr, Some, None};
 ghost use Rattle.value.specs.declared.refusals.Refusal.TheVariants.{NoMemory};
-ghost use Rattle.name_check.specs.Names.{condition_fault, expression_fault, listed_fault, query_fault, part_fault, parts_fault, group_fault, clauses_fault};
+ghost use Rattle.name_check.specs.Names.{condition_fault, expression_fault, select_list_fault, query_fault, part_fault, parts_fault, group_fault, clauses_fault};
 ghost use Rattle.name_check.specs.Shown.{all_shown};
 
 use crate::scopes::{Scope, correlation_name, known_column, within};
 use std::alloc::Global;
-use syntax::{ColumnName, Condition, Expression, Listed, Query};
+use syntax::{ColumnName, Condition, Expression, Query, SelectList};
 use table::Catalog;
 use value::Refusal;
 
@@ -110,8 +110,8 @@ fn known_query(
         },
         scopes,
     )?;
-    if let Listed::One(listed) = &query.listed {
-        known_expression(alloc, catalog, &scopes, listed)?;
+    if let SelectList::One(select_list) = &query.select_list {
+        known_expression(alloc, catalog, &scopes, select_list)?;
     }
     if let Some(keeps) = &query.keeps {
         known_condition(alloc, catalog, &scopes, keeps)?;

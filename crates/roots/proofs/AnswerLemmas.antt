@@ -15,25 +15,18 @@ use Rattle.cond.specs.Kinds.{kind_of_aggregate}
 use Rattle.assertion.specs.Meaning.{State}
 use Rattle.assertion.specs.declared.forms.Form.{Form}
 use Rattle.assertion.specs.declared.forms.Form.TheVariants.{ByGroup}
-use Rattle.groups.specs.Answers.{kind_for, value_for}
+use Rattle.groups.specs.Answers.{value_for}
 use Rattle.groups.specs.Totals.{Entries, Members, AreTotalsOf, IsWithin}
 use Rattle.roots.specs.Answers.{SlotQuery, IsReadBy, IsReadFrom, kinds_in, queries_of, query_answer}
 use Rattle.roots.specs.Bad.{answers}
-use Rattle.roots.specs.Summaries.{GroupedTable, Summary, column_of, columns_of, columns_in, place_in, kept_columns, group_table, summaries_of, value_by, group_rows, members}
+use Rattle.roots.specs.Summaries.{GroupedTable, Summary, aggregated_column, columns_of, columns_in, place_in, kept_columns, group_table, summaries_of, value_by, group_rows, members}
 use Rattle.roots.proofs.ColumnLemmas.{column-among, kept-get, place-within, place-holds}
 use Rattle.roots.proofs.ItemLemmas.{item_of_map}
 use Rattle.roots.proofs.KeptLemmas.{members-within, totals-at}
 use Rattle.roots.specs.Kept.{AreSoFar, IsSmallState}
 
-pub kind-same : (a : Aggregate) → kind_for a ≡ kind_of_aggregate a
-kind-same CountRows = refl
-kind-same (Count c) = refl
-kind-same (Sum c) = refl
-kind-same (Min c) = refl
-kind-same (Max c) = refl
-
 -- what has no column is COUNT(*)
-rows-alone : (a : Aggregate) → column_of a ≡ None → CountRows ≡ a
+rows-alone : (a : Aggregate) → aggregated_column a ≡ None → CountRows ≡ a
 rows-alone CountRows e = refl
 rows-alone (Count c) e = cc
 rows-alone (Sum c) e = cc
@@ -41,14 +34,14 @@ rows-alone (Min c) e = cc
 rows-alone (Max c) e = cc
 
 -- it is the number of rows
-pub rows-counted : (a : Aggregate) (column : Option ℕ) (rows : List RowValues) (n : ℕ) → column_of a ≡ None → n ≡ length (map (value_by column) rows) → Int (pos n) ≡ aggregate a rows
+pub rows-counted : (a : Aggregate) (column : Option ℕ) (rows : List RowValues) (n : ℕ) → aggregated_column a ≡ None → n ≡ length (map (value_by column) rows) → Int (pos n) ≡ aggregate a rows
 rows-counted a column rows n e h = subst (λ b. Int (pos n) ≡ aggregate b rows) (rows-alone a e) (ap (λ m. Int (pos m)) (h ∙ length-map rows (value_by column)))
 
-pub rows-kind : (a : Aggregate) → column_of a ≡ None → kind_of_aggregate CountRows ≡ kind_of_aggregate a
+pub rows-kind : (a : Aggregate) → aggregated_column a ≡ None → kind_of_aggregate CountRows ≡ kind_of_aggregate a
 rows-kind a e = ap kind_of_aggregate (rows-alone a e)
 
 -- the value that a set function looks at is that of its column
-value-same : (a : Aggregate) → value_by (column_of a) ≡ value_for a
+value-same : (a : Aggregate) → value_by (aggregated_column a) ≡ value_for a
 value-same CountRows = refl
 value-same (Count c) = refl
 value-same (Sum c) = refl
@@ -56,18 +49,18 @@ value-same (Min c) = refl
 value-same (Max c) = refl
 
 -- totals by the column under a set function
-pub totals-read : (a : Aggregate) (c : ℕ) (column : Option ℕ) (rows : Value → List RowValues) (es : Entries) → column_of a ≡ Some c → IsReadBy a column → AreTotalsOf (λ v. map (value_by column) (rows v)) es → AreTotalsOf (λ v. map (value_for a) (rows v)) es
+pub totals-read : (a : Aggregate) (c : ℕ) (column : Option ℕ) (rows : Value → List RowValues) (es : Entries) → aggregated_column a ≡ Some c → IsReadBy a column → AreTotalsOf (λ v. map (value_by column) (rows v)) es → AreTotalsOf (λ v. map (value_for a) (rows v)) es
 totals-read a c column rows es f e t =
     subst (λ (value : RowValues → Value). AreTotalsOf (λ v. map value (rows v)) es) (value-same a)
     (subst (λ column. AreTotalsOf (λ v. map (value_by column) (rows v)) es) (e c f ∙ sym f) t)
 
 -- a form's subqueries have each totals of their own
 pub own-read : {Q : Type 0} (grouped : Q → GroupedTable) (set : Q → Aggregate) (qs : List Q) (i : ℕ) (q : Q) → i < length qs → q ≡ get_or qs i q → (summary : Summary) (query : SlotQuery)
-    → IsReadFrom (get_or (map (λ q. record { grouped = grouped q; column = column_of (set q) }) qs) i summary) (set q) (get_or (map (λ q. record { grouped = grouped q; aggregate = set q }) qs) i query)
+    → IsReadFrom (get_or (map (λ q. record { grouped = grouped q; column = aggregated_column (set q) }) qs) i summary) (set q) (get_or (map (λ q. record { grouped = grouped q; aggregate = set q }) qs) i query)
 own-read grouped set qs i q h e summary query =
-    let s : Summary = record { grouped = grouped q; column = column_of (set q) } in
+    let s : Summary = record { grouped = grouped q; column = aggregated_column (set q) } in
     let k : SlotQuery = record { grouped = grouped q; aggregate = set q } in
-    subst (λ (x : Summary). IsReadFrom x (set q) (get_or (map (λ q. record { grouped = grouped q; aggregate = set q }) qs) i query)) (sym (item_of_map (λ q. record { grouped = grouped q; column = column_of (set q) }) qs i q summary h e))
+    subst (λ (x : Summary). IsReadFrom x (set q) (get_or (map (λ q. record { grouped = grouped q; aggregate = set q }) qs) i query)) (sym (item_of_map (λ q. record { grouped = grouped q; column = aggregated_column (set q) }) qs i q summary h e))
     (subst (λ (y : SlotQuery). IsReadFrom s (set q) y) (sym (item_of_map (λ q. record { grouped = grouped q; aggregate = set q }) qs i q query h e))
     (record { aggregate = refl; grouped = refl; column = λ c e. e }))
 
@@ -78,20 +71,20 @@ module _ (table : ℕ) (kept : Cond) (group : ℕ) where
   abbrev asked : Aggregate → SlotQuery
   asked a = record { grouped = group_table table kept group; aggregate = a }
 
-  columns_reach : (aggregates : List Aggregate) (i : ℕ) (a : Aggregate) → i < length aggregates → a ≡ get_or aggregates i a → place_in (column_of a) (columns_of aggregates) < length (kept_columns (columns_of aggregates))
-  columns_reach aggregates i a h e = place-within (column_of a) (columns_of aggregates) (λ c f. column-among c aggregates i a h e f)
+  columns_reach : (aggregates : List Aggregate) (i : ℕ) (a : Aggregate) → i < length aggregates → a ≡ get_or aggregates i a → place_in (aggregated_column a) (columns_of aggregates) < length (kept_columns (columns_of aggregates))
+  columns_reach aggregates i a h e = place-within (aggregated_column a) (columns_of aggregates) (λ c f. column-among c aggregates i a h e f)
 
-  columns_serve : (aggregates : List Aggregate) (i : ℕ) (a : Aggregate) → i < length aggregates → a ≡ get_or aggregates i a → (d : Option ℕ) → IsReadBy a (get_or (kept_columns (columns_of aggregates)) (place_in (column_of a) (columns_of aggregates)) d)
+  columns_serve : (aggregates : List Aggregate) (i : ℕ) (a : Aggregate) → i < length aggregates → a ≡ get_or aggregates i a → (d : Option ℕ) → IsReadBy a (get_or (kept_columns (columns_of aggregates)) (place_in (aggregated_column a) (columns_of aggregates)) d)
   columns_serve aggregates i a h e d = λ c f.
       subst (λ o. get_or (kept_columns (columns_of aggregates)) (place_in o (columns_of aggregates)) d ≡ Some c) (sym f)
       (place-holds c (columns_of aggregates) d (column-among c aggregates i a h e f))
 
   -- the aggregates of groups read the totals by their columns
   group_read : (aggregates : List Aggregate) (i : ℕ) (a : Aggregate) → i < length aggregates → a ≡ get_or aggregates i a → (summary : Summary) (query : SlotQuery)
-      → IsReadFrom (get_or (map by_column (kept_columns (columns_of aggregates))) (place_in (column_of a) (columns_of aggregates)) summary) a (get_or (map asked aggregates) i query)
+      → IsReadFrom (get_or (map by_column (kept_columns (columns_of aggregates))) (place_in (aggregated_column a) (columns_of aggregates)) summary) a (get_or (map asked aggregates) i query)
   group_read aggregates i a h e summary query =
       let columns : List (Option ℕ) = kept_columns (columns_of aggregates) in
-      let p : ℕ = place_in (column_of a) (columns_of aggregates) in
+      let p : ℕ = place_in (aggregated_column a) (columns_of aggregates) in
       let column : Option ℕ = get_or columns p None in
       subst (λ (x : Summary). IsReadFrom x a (get_or (map asked aggregates) i query)) (sym (get_or-map by_column columns p None summary (columns_reach aggregates i a h e)))
       (subst (λ (y : SlotQuery). IsReadFrom (by_column column) a y) (sym (item_of_map asked aggregates i a query h e))
@@ -109,11 +102,11 @@ module _ (form : Form) (table : ℕ) (kept : Cond) (group : ℕ) (having : Cond)
   group-asked i = rw is (λ h. subst (λ n. i < n) (length-map aggregates (asked table kept group)) h)
 
   -- which of them a slot is answered from
-  pub group-within : (columns : List ℕ) → columns ≡ columns_in form → (i : ℕ) (a : Aggregate) → i < length aggregates → a ≡ get_or aggregates i a → place_in (column_of a) columns < length (summaries_of form)
-  group-within columns e i a h f = rw (e, is) (subst (λ n. place_in (column_of a) (columns_of aggregates) < n) (sym (length-map (kept_columns (columns_of aggregates)) (by_column table kept group))) (columns_reach table kept group aggregates i a h f))
+  pub group-within : (columns : List ℕ) → columns ≡ columns_in form → (i : ℕ) (a : Aggregate) → i < length aggregates → a ≡ get_or aggregates i a → place_in (aggregated_column a) columns < length (summaries_of form)
+  group-within columns e i a h f = rw (e, is) (subst (λ n. place_in (aggregated_column a) (columns_of aggregates) < n) (sym (length-map (kept_columns (columns_of aggregates)) (by_column table kept group))) (columns_reach table kept group aggregates i a h f))
 
   pub group-read : (columns : List ℕ) → columns ≡ columns_in form → (i : ℕ) (a : Aggregate) → i < length aggregates → a ≡ get_or aggregates i a → (summary : Summary) (query : SlotQuery)
-      → IsReadFrom (get_or (summaries_of form) (place_in (column_of a) columns) summary) a (get_or (queries_of form) i query)
+      → IsReadFrom (get_or (summaries_of form) (place_in (aggregated_column a) columns) summary) a (get_or (queries_of form) i query)
   group-read columns e i a h f summary query = rw (e, is) (group_read table kept group aggregates i a h f summary query)
 
 -- some item of a list that has one at a place

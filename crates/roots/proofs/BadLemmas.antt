@@ -13,7 +13,7 @@ use Rattle.value.specs.ValueOrder.{value_cmp}
 use Rattle.threeval.specs.declared.Truth.TheVariants.{False}
 use Rattle.threeval.specs.Truths.{is_of}
 use Rattle.table.specs.declared.aggregates.Aggregate.{Aggregate}
-use Rattle.table.specs.Aggregates.{is_there, aggregate, group_of}
+use Rattle.table.specs.Aggregates.{is_there, aggregate, rows_of_group}
 use Rattle.table.specs.Rows.{RowValues, Layout, value_in}
 use Rattle.cond.specs.declared.conds.Cond.{Cond}
 use Rattle.cond.specs.Eval.{truth, keeps}
@@ -64,16 +64,16 @@ group_by : (k : Bool) (v w : Value) → is_placed v (if k then Some w else None)
 group_by true v w = refl
 group_by false v w = refl
 
-group_are-rows : (state : State) (v : Value) (table : ℕ) (kept : Cond) (group : ℕ) → group_rows state (group_table table kept group) v ≡ group_of group v (kept_rows kept (rows_of table state))
+group_are-rows : (state : State) (v : Value) (table : ℕ) (kept : Cond) (group : ℕ) → group_rows state (group_table table kept group) v ≡ rows_of_group group v (kept_rows kept (rows_of table state))
 group_are-rows state v table kept group =
     filter_agree (λ row. is_placed v (place (group_table table kept group) row)) (λ row. keeps row [] kept && eq_by_cmp value_cmp v (value_in group row)) (λ row. group_by (keeps row [] kept) v (value_in group row)) (rows_of table state)
     ∙ sym (filter-filter (λ row. eq_by_cmp value_cmp v (value_in group row)) (λ row. keeps row [] kept) (rows_of table state))
 
-group_are : (state : State) (v : Value) (table : ℕ) (kept : Cond) (group : ℕ) (sets : List Aggregate) → answers state (map (λ a. record { grouped = group_table table kept group; aggregate = a }) sets) v ≡ map (λ a. aggregate a (group_of group v (kept_rows kept (rows_of table state)))) sets
+group_are : (state : State) (v : Value) (table : ℕ) (kept : Cond) (group : ℕ) (sets : List Aggregate) → answers state (map (λ a. record { grouped = group_table table kept group; aggregate = a }) sets) v ≡ map (λ a. aggregate a (rows_of_group group v (kept_rows kept (rows_of table state)))) sets
 group_are state v table kept group [] = refl
 group_are state v table kept group (a ∷ sets) =
     ap (λ rows. aggregate a rows ∷ answers state (map (λ a. record { grouped = group_table table kept group; aggregate = a }) sets) v) (group_are-rows state v table kept group)
-    ∙ ap (λ rest. aggregate a (group_of group v (kept_rows kept (rows_of table state))) ∷ rest) (group_are state v table kept group sets)
+    ∙ ap (λ rest. aggregate a (rows_of_group group v (kept_rows kept (rows_of table state))) ∷ rest) (group_are state v table kept group sets)
 
 -- a form by rows
 row_passes-is : (state : State) (c : Cond) (qs : List Linked) (v : Value) (o : Option RowValues) → row_passes state (map (λ (q : Linked). record { grouped = linked_table q; aggregate = q.aggregate }) qs) c v o ≡ is_bad_row state c qs v o
@@ -86,7 +86,7 @@ row-bad layouts state form root row t c qs v e r = rw (e, r) (λ is. row_passes-
 
 -- a form by groups
 group_members : (state : State) (v : Value) (table : ℕ) (kept : Cond) (group : ℕ) (columns : List (Option ℕ)) (d : Summary) → 0 < length columns
-    → length (members state (get_or (map (λ column. record { grouped = group_table table kept group; column = column }) columns) 0 d) v) ≡ length (group_of group v (kept_rows kept (rows_of table state)))
+    → length (members state (get_or (map (λ column. record { grouped = group_table table kept group; column = column }) columns) 0 d) v) ≡ length (rows_of_group group v (kept_rows kept (rows_of table state)))
 group_members state v table kept group [] d h = absurd (omega arith)
 group_members state v table kept group (column ∷ columns) d h = length-map (group_rows state (group_table table kept group) v) (value_by column) ∙ ap length (group_are-rows state v table kept group)
 
@@ -94,7 +94,7 @@ pub group-bad : (layouts : List Layout) (state : State) (form : Form) (root : Ro
     → group_passes state (get_or (summaries_of form) 0 d) (queries_of form) having v ≡ is_bad_root layouts form state root
 group-bad layouts state form root t kept group having sets v d e r = rw (e, r)
     (ap (λ n. nat_lt 0 n && keeps (v ∷ []) (answers state (map (λ a. record { grouped = group_table t kept group; aggregate = a }) sets) v) having) (group_members state v t kept group (kept_columns (columns_of sets)) d (kept-some (columns_of sets)))
-    ∙ ap (λ slots. nat_lt 0 (length (group_of group v (kept_rows kept (rows_of t state)))) && keeps (v ∷ []) slots having) (group_are state v t kept group sets))
+    ∙ ap (λ slots. nat_lt 0 (length (rows_of_group group v (kept_rows kept (rows_of t state)))) && keeps (v ∷ []) slots having) (group_are state v t kept group sets))
 
 pub group-some : (form : Form) (t : ℕ) (kept : Cond) (group : ℕ) (having : Cond) (sets : List Aggregate) → form ≡ ByGroup t kept group having sets → 0 < length (summaries_of form)
 group-some form t kept group having sets e =

@@ -11,7 +11,7 @@ use Rattle.cond.specs.Kinds.{kind_of_aggregate}
 use Rattle.assertion.specs.declared.linked_queries.Linked.{Linked}
 use Rattle.assertion.specs.declared.plain_queries.Plain.{Plain}
 use Rattle.roots.specs.Answers.{SlotQuery, kinds_in, queries_of}
-use Rattle.roots.specs.Summaries.{GroupedTable, Summary, group_table, linked_table, plain_table, kept_columns, columns_of, column_of, summaries_of}
+use Rattle.roots.specs.Summaries.{GroupedTable, Summary, group_table, linked_table, plain_table, kept_columns, columns_of, aggregated_column, summaries_of}
 
 abbrev IsKeptBounded : Summary → Type 0
 IsKeptBounded s = IsBoundedOver [] s.grouped.kept
@@ -20,9 +20,9 @@ all_group : (g : GroupedTable) (columns : List _) → IsBoundedOver [] g.kept �
 all_group g columns b = All-map IsKeptBounded (λ column. record { grouped = g; column = column }) columns (λ i d h. b)
 
 pub all-bounded : (form : Form) → IsBounded form → All IsKeptBounded (summaries_of form)
-all-bounded (ByRow table condition queries) b = All-map IsKeptBounded (λ (q : Linked). record { grouped = linked_table q; column = column_of q.aggregate }) queries b.1
+all-bounded (ByRow table condition queries) b = All-map IsKeptBounded (λ (q : Linked). record { grouped = linked_table q; column = aggregated_column q.aggregate }) queries b.1
 all-bounded (ByGroup table kept group having aggregates) b = all_group (group_table table kept group) (kept_columns (columns_of aggregates)) b.0
-all-bounded (Single condition queries) b = All-map IsKeptBounded (λ (q : Plain). record { grouped = plain_table q; column = column_of q.aggregate }) queries b.1
+all-bounded (Single condition queries) b = All-map IsKeptBounded (λ (q : Plain). record { grouped = plain_table q; column = aggregated_column q.aggregate }) queries b.1
 
 -- the WHERE of each summary is bounded
 pub summary-bounded : (form : Form) → IsBounded form → (i : ℕ) (s : Summary) → i < length (summaries_of form) → s ≡ get_or (summaries_of form) i s → IsBoundedOver [] s.grouped.kept

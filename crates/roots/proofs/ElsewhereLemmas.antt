@@ -23,7 +23,7 @@ use Rattle.assertion.proofs.ListLemmas.{or_false}
 use Rattle.groups.specs.Totals.{Entries}
 use Rattle.roots.specs.Kept.{AreKept}
 use Rattle.roots.specs.Over.{is_linked, is_over}
-use Rattle.roots.specs.Summaries.{Summary, summaries_of, linked_table, plain_table, group_table, column_of, columns_of, kept_columns}
+use Rattle.roots.specs.Summaries.{Summary, summaries_of, linked_table, plain_table, group_table, aggregated_column, columns_of, kept_columns}
 use Rattle.roots.proofs.KeptLemmas.{totals-same}
 
 -- such a change has no candidates
@@ -44,17 +44,17 @@ no-candidates change (Single c queries) h = rw h refl
 abbrev IsElsewhere : ℕ → Summary → Type 0
 IsElsewhere t s = s.grouped.table ≢ t
 
-linked-elsewhere : (t : ℕ) (qs : List Linked) → is_linked t qs ≡ false → All (IsElsewhere t) (map (λ q. record { grouped = linked_table q; column = column_of q.aggregate }) qs)
+linked-elsewhere : (t : ℕ) (qs : List Linked) → is_linked t qs ≡ false → All (IsElsewhere t) (map (λ q. record { grouped = linked_table q; column = aggregated_column q.aggregate }) qs)
 linked-elsewhere t [] h = All-nil (IsElsewhere t)
 linked-elsewhere t (q ∷ qs) h =
     let parts : ((q.table == t) ≡ false) × (is_linked t qs ≡ false) = or_false (q.table == t) (is_linked t qs) h in
-    All-cons (IsElsewhere t) (record { grouped = linked_table q; column = column_of q.aggregate }) (map (λ q. record { grouped = linked_table q; column = column_of q.aggregate }) qs) (unequal_of q.table t parts.0) (linked-elsewhere t qs parts.1)
+    All-cons (IsElsewhere t) (record { grouped = linked_table q; column = aggregated_column q.aggregate }) (map (λ q. record { grouped = linked_table q; column = aggregated_column q.aggregate }) qs) (unequal_of q.table t parts.0) (linked-elsewhere t qs parts.1)
 
-plain-elsewhere : (t : ℕ) (qs : List Plain) → is_named t qs ≡ false → All (IsElsewhere t) (map (λ q. record { grouped = plain_table q; column = column_of q.aggregate }) qs)
+plain-elsewhere : (t : ℕ) (qs : List Plain) → is_named t qs ≡ false → All (IsElsewhere t) (map (λ q. record { grouped = plain_table q; column = aggregated_column q.aggregate }) qs)
 plain-elsewhere t [] h = All-nil (IsElsewhere t)
 plain-elsewhere t (q ∷ qs) h =
     let parts : ((q.table == t) ≡ false) × (is_named t qs ≡ false) = or_false (q.table == t) (is_named t qs) h in
-    All-cons (IsElsewhere t) (record { grouped = plain_table q; column = column_of q.aggregate }) (map (λ q. record { grouped = plain_table q; column = column_of q.aggregate }) qs) (unequal_of q.table t parts.0) (plain-elsewhere t qs parts.1)
+    All-cons (IsElsewhere t) (record { grouped = plain_table q; column = aggregated_column q.aggregate }) (map (λ q. record { grouped = plain_table q; column = aggregated_column q.aggregate }) qs) (unequal_of q.table t parts.0) (plain-elsewhere t qs parts.1)
 
 group-elsewhere : (t table : ℕ) (kept : Cond) (group : ℕ) (columns : List (Option ℕ)) → table ≢ t → All (IsElsewhere t) (map (λ column. record { grouped = group_table table kept group; column = column }) columns)
 group-elsewhere t table kept group [] h = All-nil (IsElsewhere t)

@@ -12,21 +12,21 @@ use Rattle.assertion.specs.Roots.{IsChangeOf, state_after}
 use Rattle.roots.specs.Kept.{IsSmallState}
 
 -- one table without rows
-abbrev pub nothing : State
-nothing = [] ∷ []
+abbrev pub no_rows_yet : State
+no_rows_yet = [] ∷ []
 
-is-empty : (t : ℕ) → rows_of t nothing ≡ []
+is-empty : (t : ℕ) → rows_of t no_rows_yet ≡ []
 is-empty zero = refl
 is-empty (suc n) = refl
 
-pub nothing-small : IsSmallState nothing
-nothing-small = record {
+pub no_rows_yet-small : IsSmallState no_rows_yet
+no_rows_yet-small = record {
   small = λ t. subst (λ (rows : List RowValues). All IsSmallRow rows) (sym (is-empty t)) (All-nil IsSmallRow);
   short = λ t. subst (λ (rows : List RowValues). length rows < 2 ^ 63) (sym (is-empty t)) (omega arith);
 }
 
 one_small : (new : Option RowValues) → HoldsOf IsSmallRow new → IsSmallState (option_to_list new ∷ [])
-one_small None h = nothing-small
+one_small None h = no_rows_yet-small
 one_small (Some row) h = record {
   small = λ t. case_small t;
   short = λ t. case_short t;
@@ -41,11 +41,11 @@ one_small (Some row) h = record {
     case_short (suc n) = omega arith
 
 module _ (change : Change) (table : change.table ≡ 0) (old : change.old ≡ None) (keyed : HasKey value_cmp (value_in 0) change.key change.new) where
-  pub is-change : IsChangeOf [] change nothing
+  pub is-change : IsChangeOf [] change no_rows_yet
   is-change = record { table_in = omega (arith, table); stands = ap (row_at 0 change.key) (is-empty change.table) ∙ sym old; keyed = keyed }
 
-  pub after-change : state_after [] change nothing ≡ put_row 0 change.key change.new [] ∷ []
+  pub after-change : state_after [] change no_rows_yet ≡ put_row 0 change.key change.new [] ∷ []
   after-change = rw table refl
 
-  pub after-small : HoldsOf IsSmallRow change.new → IsSmallState (state_after [] change nothing)
+  pub after-small : HoldsOf IsSmallRow change.new → IsSmallState (state_after [] change no_rows_yet)
   after-small h = subst IsSmallState (sym after-change) (one_small change.new h)

@@ -12,7 +12,7 @@ use Rattle.value.specs.ValueOrder.{value_cmp, root_cmp}
 use Rattle.value.specs.Ordered.{by_order}
 use Rattle.value.proofs.OrderedLists.{has}
 use Rattle.table.specs.declared.aggregates.Aggregate.TheVariants.{CountRows, Count}
-use Rattle.table.specs.Aggregates.{group_of}
+use Rattle.table.specs.Aggregates.{rows_of_group}
 use Rattle.table.specs.Rows.{RowValues, Layout, value_in, row_at}
 use Rattle.cond.specs.declared.conds.Cond.{Cond}
 use Rattle.cond.specs.Bounds.{IsSmallRow}
@@ -100,7 +100,7 @@ dropped : (p : RowValues → Bool) (rows : List RowValues) → DropsAll p rows �
 dropped p [] d = refl
 dropped p (row ∷ rows) d = rw d.0 (dropped p rows d.1)
 
-no-group-of : (group : ℕ) (v : Value) (kept : Cond) (rows : List RowValues) → has root_cmp (Of v) (group_candidates group rows) ≡ false → group_of group v (kept_rows kept rows) ≡ []
+no-group-of : (group : ℕ) (v : Value) (kept : Cond) (rows : List RowValues) → has root_cmp (Of v) (group_candidates group rows) ≡ false → rows_of_group group v (kept_rows kept rows) ≡ []
 no-group-of group v kept rows h =
     filter-filter (λ row. eq_by_cmp value_cmp v (value_in group row)) (λ row. keeps row [] kept) rows
     ∙ dropped (λ row. keeps row [] kept && eq_by_cmp value_cmp v (value_in group row)) rows (not_of_group group v kept rows h)

@@ -8,7 +8,7 @@ use Rattle.assertion.specs.declared.forms.Form.{Form}
 use Rattle.assertion.specs.declared.forms.Form.TheVariants.{ByRow, ByGroup, Single}
 use Rattle.cond.specs.Kinds.{kind_of_aggregate}
 use Rattle.assertion.specs.Meaning.{State}
-use Rattle.roots.specs.Summaries.{GroupedTable, Summary, column_of, group_rows, linked_table, plain_table, group_table}
+use Rattle.roots.specs.Summaries.{GroupedTable, Summary, aggregated_column, group_rows, linked_table, plain_table, group_table}
 
 -- a set function of each group of a grouped table
 pub record SlotQuery : Type 0 where
@@ -33,7 +33,7 @@ query_answer state v query = aggregate query.aggregate (group_rows state query.g
 
 -- a set function is answered from totals by its own column; COUNT(*), which has none, from any
 abbrev pub IsReadBy : Aggregate → Option ℕ → Type 0
-IsReadBy a column = (c : ℕ) → column_of a ≡ Some c → column ≡ Some c
+IsReadBy a column = (c : ℕ) → aggregated_column a ≡ Some c → column ≡ Some c
 
 -- a query with this set function is answered from the totals of a summary
 pub record IsReadFrom (summary : Summary) (a : Aggregate) (query : SlotQuery) : Type 0 where

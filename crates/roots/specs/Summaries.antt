@@ -58,25 +58,25 @@ abbrev pub members : State → Summary → Members
 members state summary = row_members summary (rows_of summary.grouped.table state)
 
 -- the column under a set function; COUNT(*) has none
-abbrev pub column_of : Aggregate → Option ℕ
-column_of CountRows = None
-column_of (Count column) = Some column
-column_of (Sum column) = Some column
-column_of (Min column) = Some column
-column_of (Max column) = Some column
+abbrev pub aggregated_column : Aggregate → Option ℕ
+aggregated_column CountRows = None
+aggregated_column (Count column) = Some column
+aggregated_column (Sum column) = Some column
+aggregated_column (Min column) = Some column
+aggregated_column (Max column) = Some column
 
-abbrev pub is_among : ℕ → List ℕ → Bool
-is_among column [] = false
-is_among column (c ∷ cs) = (c == column) || is_among column cs
+abbrev pub has_column : ℕ → List ℕ → Bool
+has_column column [] = false
+has_column column (c ∷ cs) = (c == column) || has_column column cs
 
 -- the columns, and this one behind them if it isn't among them
 abbrev pub add_column : List ℕ → Option ℕ → List ℕ
 add_column columns None = columns
-add_column columns (Some column) = if is_among column columns then columns else columns ++ column ∷ []
+add_column columns (Some column) = if has_column column columns then columns else columns ++ column ∷ []
 
 abbrev pub add_columns : List ℕ → List Aggregate → List ℕ
 add_columns columns [] = columns
-add_columns columns (a ∷ aggregates) = add_columns (add_column columns (column_of a)) aggregates
+add_columns columns (a ∷ aggregates) = add_columns (add_column columns (aggregated_column a)) aggregates
 
 -- the columns under set functions, each once, in the order in which they first stand
 abbrev pub columns_of : List Aggregate → List ℕ
@@ -108,12 +108,12 @@ group_table table kept group = record { table = table; kept = kept; grouping = B
 -- the summaries of a form: one for each subquery; by groups, one for each column under a set function
 abbrev pub summaries_of : Form → List Summary
 summaries_of (ByRow table condition queries) =
-    map (λ q. record { grouped = linked_table q; column = column_of q.aggregate }) queries
+    map (λ q. record { grouped = linked_table q; column = aggregated_column q.aggregate }) queries
 summaries_of (ByGroup table kept group having aggregates) =
     map (λ column. record { grouped = group_table table kept group; column = column })
     (kept_columns (columns_of aggregates))
 summaries_of (Single condition queries) =
-    map (λ q. record { grouped = plain_table q; column = column_of q.aggregate }) queries
+    map (λ q. record { grouped = plain_table q; column = aggregated_column q.aggregate }) queries
 
 -- the columns under the set functions of a form by groups
 abbrev pub columns_in : Form → List ℕ

@@ -14,7 +14,7 @@ ghost use Rattle.roots.specs.Bad.{answers as answers_of};
 ghost use Rattle.roots.specs.Kept.{AreKept, AreOfTables};
 ghost use Rattle.roots.specs.Summaries.{Summary, columns_in, index_in, place_in, summaries_of, value_by};
 
-use crate::summaries::{column_of, columns};
+use crate::summaries::{aggregated_column, columns};
 use assertion::Form;
 use cond::{SlotValue, Slots};
 use groups::Totals;
@@ -75,7 +75,7 @@ fn slot_of(form: &Form, columns: &[usize], index: usize) -> Slot
             let aggregate = aggregates.as_slice()[index];
             Slot {
                 aggregate,
-                totals: place_of(columns, column_of(aggregate)),
+                totals: place_of(columns, aggregated_column(aggregate)),
             }
         }
         Form::Single { queries, .. } => Slot {
@@ -117,7 +117,7 @@ fn answer(totals: &Totals, group: &Value, aggregate: Aggregate) -> Result<SlotVa
         → IsReadBy aggregate column → AreTotalsOf (λ v. map (value_by column) (rows v)) totals.now
         → value_of answer ≡ aggregate_of aggregate (rows group.now)) }
 {
-    match column_of(aggregate) {
+    match aggregated_column(aggregate) {
         None => Ok(SlotValue::Count(count_of(totals, group))),
         Some(_) => totals.answer(group, aggregate),
     }

@@ -3,7 +3,7 @@
 ghost use Rattle.std.specs.Prelude.{◌≡◌, ◌<◌, IfOk, OnOk, IsOkUnless, length, slice_get, slice_index_or};
 ghost use Rattle.value.specs.declared.refusals.Refusal.TheVariants.{NoMemory};
 ghost use Rattle.roots.specs.Shown.{shown};
-ghost use Rattle.roots.specs.Summaries.{add_column, columns_in, columns_of, column_of as column_under, is_among as is_among_of, summaries_of};
+ghost use Rattle.roots.specs.Summaries.{add_column, columns_in, columns_of, aggregated_column as column_under, has_column as has_column_of, summaries_of};
 
 use crate::grouped::{GroupedTable, Grouping};
 use assertion::Form;
@@ -19,7 +19,7 @@ pub struct Summary<'a> {
 }
 
 /// The column under a set function.
-pub fn column_of(aggregate: Aggregate) -> Option<usize>
+pub fn aggregated_column(aggregate: Aggregate) -> Option<usize>
     ensures { result ≡ column_under aggregate }
 {
     match aggregate {
@@ -48,7 +48,7 @@ fn columns_under_all(alloc: Global, aggregates: &[Aggregate]) -> Result<Vec<usiz
 {
     let mut columns = Vec::new(alloc);
     for aggregate in aggregates {
-        push_new(&mut columns, column_of(*aggregate))?;
+        push_new(&mut columns, aggregated_column(*aggregate))?;
     }
     Ok(columns)
 }
@@ -59,15 +59,15 @@ fn push_new(columns: &mut Vec<usize>, column: Option<usize>) -> Result<(), Refus
     ensures pushed { OnOk result (columns.new.items ≡ add_column columns.old.items column) }
 {
     if let Some(column) = column {
-        if !is_among(columns, column) {
+        if !has_column(columns, column) {
             columns.push(column)?;
         }
     }
     Ok(())
 }
 
-fn is_among(columns: &[usize], column: usize) -> bool
-    ensures { result ≡ is_among_of column columns.now }
+fn has_column(columns: &[usize], column: usize) -> bool
+    ensures { result ≡ has_column_of column columns.now }
 {
     for other in columns {
         if *other == column {
@@ -104,7 +104,7 @@ pub fn summary_of<'a>(form: &'a Form, columns: &[usize], index: usize) -> Summar
                     kept: &query.kept,
                     grouping: Grouping::Linked(query.link),
                 },
-                column: column_of(query.aggregate),
+                column: aggregated_column(query.aggregate),
             }
         }
         Form::ByGroup {
@@ -128,7 +128,7 @@ pub fn summary_of<'a>(form: &'a Form, columns: &[usize], index: usize) -> Summar
                     kept: &query.kept,
                     grouping: Grouping::Whole,
                 },
-                column: column_of(query.aggregate),
+                column: aggregated_column(query.aggregate),
             }
         }
     }

@@ -80,7 +80,7 @@ marks_follows = follows_either 7 4 (follows_either 7 4 (follows_pure 7 4 (dg.mar
 
 col_f : (n : ℕ) → Finds rank 4 dg.col (r.col n)
 unfolding dg.col r.col
-col_f n = named 4 (λ name. then_f 7 4 (type_f 7 n) (λ w kind h. map_f 4 (dg.column_of name kind) marks_f) (λ kind. follows_map 7 4 (dg.column_of name kind) marks_follows))
+col_f n = named 4 (λ name. then_f 7 4 (type_f 7 n) (λ w kind h. map_f 4 (dg.column_definition name kind) marks_f) (λ kind. follows_map 7 4 (dg.column_definition name kind) marks_follows))
 
 initially_f : (m : ℕ) → Finds rank m dg.initially r.initially
 unfolding dg.initially r.initially

@@ -73,7 +73,7 @@ marks_s n = sound_by_kind n n dg.marks r.marks_by (marks_by_s n)
 
 col_s : (n : ℕ) → Sound n n dg.col (r.col n)
 unfolding dg.col r.col
-col_s n = then_s (name_s n) (λ w name h. then_s (type_s n) (λ w kind h. map_s (dg.column_of name kind) (marks_s n)))
+col_s n = then_s (name_s n) (λ w name h. then_s (type_s n) (λ w kind h. map_s (dg.column_definition name kind) (marks_s n)))
 
 initially_s : (n : ℕ) → Sound n n dg.initially r.initially
 unfolding dg.initially r.initially

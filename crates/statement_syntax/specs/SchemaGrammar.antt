@@ -47,12 +47,12 @@ marks =
     pure (marks_of false false) ∪ (not_null >> ((λ key. marks_of true (written key)) <$> optional primary_key))
     ∪ (primary_key >> ((λ other. marks_of (written other) true) <$> optional not_null))
 
-abbrev pub column_of : List ℕ → ColType → Marks → ColumnDefinition
-column_of name kind marks = record { name = name; kind = kind; marks = marks }
+abbrev pub column_definition : List ℕ → ColType → Marks → ColumnDefinition
+column_definition name kind marks = record { name = name; kind = kind; marks = marks }
 
 -- col: name type [..]
 unfoldable pub col : Language ColumnDefinition
-col = name >>= (λ name. column_type >>= (λ kind. column_of name kind <$> marks))
+col = name >>= (λ name. column_type >>= (λ kind. column_definition name kind <$> marks))
 
 -- when: INITIALLY ( DEFERRED | IMMEDIATE )
 unfoldable pub initially : Language Mode

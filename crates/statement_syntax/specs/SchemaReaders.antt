@@ -13,7 +13,7 @@ use Rattle.statement_syntax.specs.declared.definitions.Definition.TheVariants as
 use Rattle.statement_syntax.specs.declared.statements.Step.{Step}
 use Rattle.statement_syntax.specs.declared.statements.Insert.{Insert}
 use Rattle.syntax.specs.Readers.{name, cond_at}
-use Rattle.statement_syntax.specs.SchemaGrammar.{is_width, varchar_of, written, marks_of, column_of, attributes_of, step_of}
+use Rattle.statement_syntax.specs.SchemaGrammar.{is_width, varchar_of, written, marks_of, column_definition, attributes_of, step_of}
 use Rattle.statement_syntax.specs.Readers.{insert, when_, event_}
 use Rattle.reading.specs.Language.{Lexeme}
 use Rattle.reading.specs.Reading.{Reader, ◌>>=◌, ◌>>◌, ◌<$>◌, pure, refuse, by_kind, expect, expect_where, optional, list, all, parens}
@@ -88,7 +88,7 @@ module _ (n : ℕ) where
   column_type = by_kind type_by
 
   unfoldable pub col : Reader ColumnDefinition
-  col = name >>= (λ name. column_type >>= (λ kind. column_of name kind <$> marks))
+  col = name >>= (λ name. column_type >>= (λ kind. column_definition name kind <$> marks))
 
 -- what may be opened where no parenthesis of the definition is open
 module _ (n : ℕ) where

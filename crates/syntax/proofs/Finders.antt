@@ -7,8 +7,8 @@ use Rattle.threeval.specs.declared.Truth.{Truth}
 use Rattle.syntax.specs.declared.trees.Aggregate.{Aggregate}
 use Rattle.syntax.specs.declared.trees.Aggregate.TheVariants as a
 use Rattle.syntax.specs.declared.trees.ColumnName.{ColumnName}
-use Rattle.syntax.specs.declared.trees.Listed.{Listed}
-use Rattle.syntax.specs.declared.trees.Listed.TheVariants as which
+use Rattle.syntax.specs.declared.trees.SelectList.{SelectList}
+use Rattle.syntax.specs.declared.trees.SelectList.TheVariants as which
 use Rattle.syntax.specs.declared.trees.Query.{Query}
 use Rattle.syntax.specs.declared.trees.Expression.{Expression}
 use Rattle.syntax.specs.declared.trees.Expression.TheVariants as e
@@ -383,8 +383,8 @@ module _ (n : ℕ) (inner : Language Found) (reader : Want → Reader Found)
   unfolding r.between
   between_f left = seq_f 7 k.Between (then_f 7 7 expr_f (λ w low h. seq_f 7 k.And (map_f 7 (b.Between left low) expr_f)) (λ low. follows_opens 7 7 (opens_token (λ kind. rank kind ≤ 7) k.And (omega arith))))
 
-  listed_f : (left : Expression) → Finds rank 7 (lang.◌>>◌ (lang.token k.In) (lang.◌<$>◌ (b.In left) (lang.parens (lang.list (g.inner_expr inner))))) (r.listed n reader left)
-  unfolding r.listed
+  listed_f : (left : Expression) → Finds rank 7 (lang.◌>>◌ (lang.token k.In) (lang.◌<$>◌ (b.In left) (lang.parens (lang.list (g.inner_expr inner))))) (r.select_list n reader left)
+  unfolding r.select_list
   listed_f left = seq_f 7 k.In (map_f 7 (b.In left) (finds_parens rank 7 n (lang.list (g.inner_expr inner)) _ (omega arith) (λ i is. lower 0 3 (omega arith) (list_f (lower 4 7 (omega arith) (inner_expr_f i is))))))
 
   range_f : (left : Expression) → Finds rank 7 (g.range_or_list inner left) (r.range_or_list n reader left)
@@ -673,7 +673,7 @@ module _ (n : ℕ) (inner : Language Found) (reader : Want → Reader Found)
   unfolding g.selected r.selected
   selected_f = record { finds = go }
     where
-      go : (w rest : Lexemes) (x : Listed) → lang.◌∪◌ (lang.◌>>◌ (lang.token k.Star) (lang.pure which.Star)) (lang.◌<$>◌ which.One (g.expr inner)) w x → rank (kind_at rest) ≤ 0 → Accepts (by_kind (r.selected_by n reader) (w ++ rest)) x rest
+      go : (w rest : Lexemes) (x : SelectList) → lang.◌∪◌ (lang.◌>>◌ (lang.token k.Star) (lang.pure which.Star)) (lang.◌<$>◌ which.One (g.expr inner)) w x → rank (kind_at rest) ≤ 0 → Accepts (by_kind (r.selected_by n reader) (w ++ rest)) x rest
       go w rest x (inl h) small = pick (r.selected_by n reader) k.Star 0 refl (seq_f 0 k.Star (finds_pure rank 0 which.Star)) w rest x h small
       go w rest x (inr h) small =
           let P : Kind → Type 0 = Goes (r.selected_by n reader) (rd.◌<$>◌ which.One (r.expr n reader)) in
@@ -695,21 +695,21 @@ module _ (n : ℕ) (inner : Language Found) (reader : Want → Reader Found)
   unfolding g.having
   having_follows = optional_follows 1 0 k.Having (omega arith) (omega arith) (opens_token (λ next. next ≡ k.Having) k.Having refl)
 
-  group_having_follows : (list : Listed) (table : List ℕ) (other : Option (List ℕ)) (keeps : Option Condition) → Follows 2 0 (lang.◌>>=◌ g.group_by (λ group. lang.◌<$>◌ (g.query_of list table other keeps group) (g.having inner)))
+  group_having_follows : (list : SelectList) (table : List ℕ) (other : Option (List ℕ)) (keeps : Option Condition) → Follows 2 0 (lang.◌>>=◌ g.group_by (λ group. lang.◌<$>◌ (g.query_of list table other keeps group) (g.having inner)))
   group_having_follows list table other keeps = follows_then 2 1 0 group_by_follows (λ group. follows_map 1 0 (g.query_of list table other keeps group) having_follows)
 
-  query_rest_f : (list : Listed) (table : List ℕ) (other : Option (List ℕ)) → Finds rank 0 (g.query_rest inner list table other) (r.query_rest n reader list table other)
+  query_rest_f : (list : SelectList) (table : List ℕ) (other : Option (List ℕ)) → Finds rank 0 (g.query_rest inner list table other) (r.query_rest n reader list table other)
   unfolding g.query_rest r.query_rest
   query_rest_f list table other =
       then_f 2 0 where_f
       (λ w keeps h. then_f 1 0 group_by_f (λ w group h. map_f 0 (g.query_of list table other keeps group) having_f) (λ group. follows_map 1 0 (g.query_of list table other keeps group) having_follows))
       (group_having_follows list table other)
 
-  query_rest_follows : (list : Listed) (table : List ℕ) (other : Option (List ℕ)) → Follows 3 0 (g.query_rest inner list table other)
+  query_rest_follows : (list : SelectList) (table : List ℕ) (other : Option (List ℕ)) → Follows 3 0 (g.query_rest inner list table other)
   unfolding g.query_rest
   query_rest_follows list table other = follows_then 3 2 0 where_follows (group_having_follows list table other)
 
-  query_from_f : (list : Listed) → Finds rank 0 (g.query_from inner list) (r.query_from n reader list)
+  query_from_f : (list : SelectList) → Finds rank 0 (g.query_from inner list) (r.query_from n reader list)
   unfolding g.query_from r.query_from
   query_from_f list = finds_then (λ _. 0) rank 0 0 _ _ r.name _ (free_name) (λ w table h. then_f 3 0 alias_f (λ w other h. query_rest_f list table other) (query_rest_follows list table)) (λ x v rest b h small. omega arith)
 

@@ -4,8 +4,8 @@ use Rattle.token.specs.declared.kinds.Kind.{Kind}
 use Rattle.token.specs.declared.kinds.Kind.TheVariants as k
 use Rattle.syntax.specs.declared.trees.Aggregate.{Aggregate}
 use Rattle.syntax.specs.declared.trees.Aggregate.TheVariants as a
-use Rattle.syntax.specs.declared.trees.Listed.{Listed}
-use Rattle.syntax.specs.declared.trees.Listed.TheVariants as which
+use Rattle.syntax.specs.declared.trees.SelectList.{SelectList}
+use Rattle.syntax.specs.declared.trees.SelectList.TheVariants as which
 use Rattle.syntax.specs.declared.trees.Query.{Query}
 use Rattle.syntax.specs.declared.trees.Expression.{Expression}
 use Rattle.syntax.specs.declared.trees.Expression.TheVariants as e
@@ -330,7 +330,7 @@ module _ (n : ℕ) (inner : Language Found) (reader : Want → Reader Found) (so
   between_s left = weak (λ w a h. inl h) (seq_s k.Between refl (then_s expr_s (λ w low h. seq_s k.And refl (map_s (b.Between left low) expr_s))))
 
   range_by_s : (left : Expression) (kind : Kind) → Sound n n (g.range_or_list inner left) (r.range_by n reader left kind)
-  unfolding g.range_or_list r.listed
+  unfolding g.range_or_list r.select_list
   range_by_s left k.Between = between_s left
   range_by_s left k.In = weak (λ w a h. inr h) (seq_s k.In refl (map_s (b.In left) (sound_parens n (lang.list (g.inner_expr inner)) _ (some_list (g.inner_expr inner) some_e) (λ m is. list_s (inner_expr_s m is)))))
   range_by_s left _ = sound_refuse n n (g.range_or_list inner left) (between_s left).begins
@@ -603,11 +603,11 @@ module _ (n : ℕ) (inner : Language Found) (reader : Want → Reader Found) (so
   unfolding g.having r.having
   having_s = optional_s k.Having (seq_s k.Having refl condition_s)
 
-  query_rest_s : (list : Listed) (table : List ℕ) (other : Option (List ℕ)) → Sound n n (g.query_rest inner list table other) (r.query_rest n reader list table other)
+  query_rest_s : (list : SelectList) (table : List ℕ) (other : Option (List ℕ)) → Sound n n (g.query_rest inner list table other) (r.query_rest n reader list table other)
   unfolding g.query_rest r.query_rest
   query_rest_s list table other = then_s where_s (λ w keeps h. then_s (group_by_s n) (λ w group h. map_s (g.query_of list table other keeps group) having_s))
 
-  query_from_s : (list : Listed) → Sound n n (g.query_from inner list) (r.query_from n reader list)
+  query_from_s : (list : SelectList) → Sound n n (g.query_from inner list) (r.query_from n reader list)
   unfolding g.query_from r.query_from
   query_from_s list = then_s (name_s n) (λ w table h. then_s (alias_s n) (λ w other h. query_rest_s list table other))
 

@@ -13,8 +13,8 @@ use Rattle.threeval.specs.declared.Truth.TheVariants as t
 use Rattle.syntax.specs.declared.trees.Aggregate.{Aggregate}
 use Rattle.syntax.specs.declared.trees.Aggregate.TheVariants as a
 use Rattle.syntax.specs.declared.trees.ColumnName.{ColumnName}
-use Rattle.syntax.specs.declared.trees.Listed.{Listed}
-use Rattle.syntax.specs.declared.trees.Listed.TheVariants as which
+use Rattle.syntax.specs.declared.trees.SelectList.{SelectList}
+use Rattle.syntax.specs.declared.trees.SelectList.TheVariants as which
 use Rattle.syntax.specs.declared.trees.Query.{Query, roll-Query}
 use Rattle.syntax.specs.declared.trees.Expression.{Expression, out-Expression}
 use Rattle.syntax.specs.declared.trees.Expression.TheVariants as e
@@ -50,19 +50,19 @@ abbrev pub number_of : Bool → Lexeme → Expression
 number_of is_negative x = e.Number (signed is_negative (digits_value x))
 
 -- Lists of parts: one part stands for itself, and a part of the same kind is merged into the list around it.
-abbrev pub product_layer : Expression → Expression-F Condition Expression Listed Query → List Expression
+abbrev pub product_layer : Expression → Expression-F Condition Expression SelectList Query → List Expression
 product_layer x (Expression-F.Product parts) = parts
 product_layer x _ = x ∷ []
 
-abbrev pub sum_layer : Expression → Expression-F Condition Expression Listed Query → List Expression
+abbrev pub sum_layer : Expression → Expression-F Condition Expression SelectList Query → List Expression
 sum_layer x (Expression-F.Sum parts) = parts
 sum_layer x _ = x ∷ []
 
-abbrev pub and_layer : Condition → Condition-F Condition Expression Listed Query → List Condition
+abbrev pub and_layer : Condition → Condition-F Condition Expression SelectList Query → List Condition
 and_layer x (Condition-F.And parts) = parts
 and_layer x _ = x ∷ []
 
-abbrev pub or_layer : Condition → Condition-F Condition Expression Listed Query → List Condition
+abbrev pub or_layer : Condition → Condition-F Condition Expression SelectList Query → List Condition
 or_layer x (Condition-F.Or parts) = parts
 or_layer x _ = x ∷ []
 
@@ -143,8 +143,8 @@ unfoldable pub group_by : Language (Option ColumnName)
 group_by = optional (token k.Group >> (token k.By >> column))
 
 -- the tree of a query
-abbrev pub query_of : Listed → List ℕ → Option (List ℕ) → Option Condition → Option ColumnName → Option Condition → Query
-query_of list table alias keeps group having = roll-Query (record { listed = list; table = table; alias = alias; keeps = keeps; group = group; having = having })
+abbrev pub query_of : SelectList → List ℕ → Option (List ℕ) → Option Condition → Option ColumnName → Option Condition → Query
+query_of list table alias keeps group having = roll-Query (record { select_list = list; table = table; alias = alias; keeps = keeps; group = group; having = having })
 
 module _ (inner : Language Found) where
   -- what stands in parentheses: an expression, a condition, a query
@@ -236,7 +236,7 @@ module _ (inner : Language Found) where
   cond = bterm >>= or_after
 
   -- "*" | expr
-  unfoldable pub selected : Language Listed
+  unfoldable pub selected : Language SelectList
   selected = (token k.Star >> pure which.Star) ∪ (which.One <$> expr)
 
   -- [WHERE cond]
@@ -248,11 +248,11 @@ module _ (inner : Language Found) where
   having = optional (token k.Having >> cond)
 
   -- [WHERE cond] [GROUP BY colref] [HAVING cond]
-  unfoldable pub query_rest : Listed → List ℕ → Option (List ℕ) → Language Query
+  unfoldable pub query_rest : SelectList → List ℕ → Option (List ℕ) → Language Query
   query_rest list table other = where_ >>= (λ keeps. group_by >>= (λ group. query_of list table other keeps group <$> having))
 
   -- name [ [AS] name ] [WHERE cond] [GROUP BY colref] [HAVING cond]
-  unfoldable pub query_from : Listed → Language Query
+  unfoldable pub query_from : SelectList → Language Query
   query_from list = name >>= (λ table. alias >>= query_rest list table)
 
   -- SELECT ( "*" | expr ) FROM name [ [AS] name ] [WHERE cond] [GROUP BY colref] [HAVING cond]

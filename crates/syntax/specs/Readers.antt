@@ -9,8 +9,8 @@ use Rattle.threeval.specs.declared.Truth.TheVariants as t
 use Rattle.syntax.specs.declared.trees.Aggregate.{Aggregate}
 use Rattle.syntax.specs.declared.trees.Aggregate.TheVariants as a
 use Rattle.syntax.specs.declared.trees.ColumnName.{ColumnName}
-use Rattle.syntax.specs.declared.trees.Listed.{Listed}
-use Rattle.syntax.specs.declared.trees.Listed.TheVariants as which
+use Rattle.syntax.specs.declared.trees.SelectList.{SelectList}
+use Rattle.syntax.specs.declared.trees.SelectList.TheVariants as which
 use Rattle.syntax.specs.declared.trees.Query.{Query}
 use Rattle.syntax.specs.declared.trees.Expression.{Expression}
 use Rattle.syntax.specs.declared.trees.Expression.TheVariants as e
@@ -226,12 +226,12 @@ module _ (depth : ℕ) (inner : Want → Reader Found) where
   unfoldable pub between : Expression → Reader Condition
   between left = expect k.Between >> (expr >>= (λ low. expect k.And >> (b.Between left low <$> expr)))
 
-  unfoldable pub listed : Expression → Reader Condition
-  listed left = expect k.In >> (b.In left <$> parens depth (list inner_expr))
+  unfoldable pub in_list : Expression → Reader Condition
+  in_list left = expect k.In >> (b.In left <$> parens depth (list inner_expr))
 
   abbrev pub range_by : Expression → Kind → Reader Condition
   range_by left k.Between = between left
-  range_by left k.In = listed left
+  range_by left k.In = in_list left
   range_by left _ = refuse
 
   unfoldable pub range_or_list : Expression → Reader Condition
@@ -336,11 +336,11 @@ module _ (depth : ℕ) (inner : Want → Reader Found) where
 
   -- ---- queries
 
-  abbrev pub selected_by : Kind → Reader Listed
+  abbrev pub selected_by : Kind → Reader SelectList
   selected_by k.Star = expect k.Star >> pure which.Star
   selected_by _ = which.One <$> expr
 
-  unfoldable pub selected : Reader Listed
+  unfoldable pub selected : Reader SelectList
   selected = by_kind selected_by
 
   unfoldable pub where_ : Reader (Option Condition)
@@ -349,10 +349,10 @@ module _ (depth : ℕ) (inner : Want → Reader Found) where
   unfoldable pub having : Reader (Option Condition)
   having = optional k.Having (expect k.Having >> condition)
 
-  unfoldable pub query_rest : Listed → List ℕ → Option (List ℕ) → Reader Query
+  unfoldable pub query_rest : SelectList → List ℕ → Option (List ℕ) → Reader Query
   query_rest list table other = where_ >>= (λ keeps. group_by >>= (λ group. query_of list table other keeps group <$> having))
 
-  unfoldable pub query_from : Listed → Reader Query
+  unfoldable pub query_from : SelectList → Reader Query
   query_from list = name >>= (λ table. alias >>= query_rest list table)
 
   unfoldable pub query : Reader Query

@@ -40,5 +40,5 @@ mod trees;
 mod wants;
 
 pub use laws::condition_has_one_tree;
-pub use trees::{Aggregate, ColumnName, Condition, Expression, Listed, Query};
+pub use trees::{Aggregate, ColumnName, Condition, Expression, Query, SelectList};
 pub use wants::{Found, Want};

@@ -59,7 +59,7 @@ pub enum Condition {
 /// What a query lists.
 #[derive(Drop)]
 #[cycle(tree)]
-pub enum Listed {
+pub enum SelectList {
     Star,
     One(Expression),
 }
@@ -68,7 +68,7 @@ pub enum Listed {
 #[derive(Drop)]
 #[cycle(tree)]
 pub struct Query {
-    pub listed: Listed,
+    pub select_list: SelectList,
     pub table: Text,
     pub alias: Option<Text>,
     /// The condition of WHERE.

@@ -45,5 +45,5 @@ aggregate (Min column) rows = unwrap_or (least value_cmp (values_in column rows)
 aggregate (Max column) rows = unwrap_or (least (λ v w. value_cmp w v) (values_in column rows)) Null
 
 -- the rows of a group of GROUP BY; NULL is a group like another
-abbrev pub group_of : ℕ → Value → List RowValues → List RowValues
-group_of column v rows = filter (λ row. eq_by_cmp value_cmp v (value_in column row)) rows
+abbrev pub rows_of_group : ℕ → Value → List RowValues → List RowValues
+rows_of_group column v rows = filter (λ row. eq_by_cmp value_cmp v (value_in column row)) rows

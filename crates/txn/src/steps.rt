@@ -13,7 +13,7 @@ ghost use Rattle.answer.specs.declared.answers.Reply.TheVariants.{ModesSet};
 ghost use Rattle.alone.specs.Alone.{effected, modes_step, stepped, verdict_step};
 ghost use Rattle.alone.specs.Reads.{where_key};
 ghost use Rattle.alone.specs.States.{net_change};
-ghost use Rattle.alone.specs.Statements.{found_rows, listed, place_in};
+ghost use Rattle.alone.specs.Statements.{found_rows, selected_rows, place_in};
 ghost use Rattle.net.specs.Nets.{DifferAt};
 ghost use Rattle.txn.specs.Effects.{ArePutIn};
 ghost use Rattle.txn.specs.Runnable.{IsRunnable, IsRunnableDelete, IsRunnableSelect, IsRunnableUpdate};
@@ -24,7 +24,7 @@ use crate::effects::{Effect, delete_effect, has_table, in_order, insert_effect, 
 use alone::Resolved;
 use answer::Reply;
 use assertcheck::{Delete, NewRow, Select, Update};
-use changes::listed_rows;
+use changes::selected_rows;
 use cond::Cond;
 use delta::View;
 use modes::Modes;
@@ -283,13 +283,13 @@ fn modes_unless(violated: Option<Refusal>, modes: Modes, reads: Vec<LockKey>) ->
 fn list(alloc: Global, own: &View, select: &Select) -> Result<Done, Refusal>
     requires runnable { IsRunnableSelect own.now.declared select.now }
     ensures only_memory { IsOkUnless result NoMemory }
-    ensures reply { IfOk result (λ done. done.reply ≡ Ok (replies.Rows (listed select.now.columns (found_rows own.now.state select.now.table select.now.kept)))) }
+    ensures reply { IfOk result (λ done. done.reply ≡ Ok (replies.Rows (selected_rows select.now.columns (found_rows own.now.state select.now.table select.now.kept)))) }
     ensures same { IfOk result (λ done. (done.view ≡ None) × (done.modes ≡ None) × (done.changes.items ≡ [])) }
     ensures reads { IfOk result (λ done. done.reads.items ≡ where_key select.now.table (key_of select.now.table (layouts_in own.now.declared)) select.now.kept ∷ []) }
 {
     let reads = only(alloc, read_key(own, select.table, &select.kept)?)?;
     has_table(own, select.table);
-    let rows = listed_rows(
+    let rows = selected_rows(
         alloc,
         own.rows(select.table),
         select.columns.as_slice(),

@@ -106,8 +106,8 @@ fn expressions_and_conditions_have_types(rt: HostRuntime) -> Result<(), Fail> {
         Some(DataType::Number)
     );
     assert_eq!(rt; expression_type(&sum, &columns, &[DataType::Text]), None);
-    assert!(rt; is_typed(&is_one(Expr::Column(0)), &columns, &[]));
-    assert!(rt; !is_typed(&is_one(Expr::Column(1)), &columns, &[]));
+    assert!(rt; is_well_typed(&is_one(Expr::Column(0)), &columns, &[]));
+    assert!(rt; !is_well_typed(&is_one(Expr::Column(1)), &columns, &[]));
     Ok(())
 }
 

@@ -7,7 +7,7 @@ ghost use Rattle.type_check.specs.Types.{aggregate_type as aggregate_type_of};
 ghost use Rattle.type_check.specs.Forms.{all_types, columns_of as columns_of_layouts, group_columns as group_columns_of, is_typed_form, is_typed_over as is_typed_over_types, key_type as key_type_of, linked_type as linked_type_of, plain_type as plain_type_of};
 
 use crate::data_types::{DataType, aggregate_type, are_comparable, column_type};
-use crate::typed_trees::is_typed;
+use crate::typed_trees::is_well_typed;
 use assertion::{Form, Linked, Plain};
 use cond::Cond;
 use sqlite_items::Items;
@@ -44,7 +44,7 @@ pub fn form_is_typed(alloc: Global, catalog: &Catalog, form: &Form) -> Result<bo
             aggregates,
         } => {
             let columns = columns_of(catalog, *table);
-            if !is_typed(kept, columns, &[]) {
+            if !is_well_typed(kept, columns, &[]) {
                 return Ok(false);
             }
             let slots = aggregate_types(alloc, columns, aggregates.as_slice())?;
@@ -62,7 +62,7 @@ fn is_typed_over(cond: &Cond, columns: &[Column], slots: &Option<Items<DataType>
     ensures { result ≡ is_typed_over_types columns.now slots.now cond.now }
 {
     match slots {
-        Some(slots) => is_typed(cond, columns, slots.as_slice()),
+        Some(slots) => is_well_typed(cond, columns, slots.as_slice()),
         None => false,
     }
 }
@@ -123,7 +123,7 @@ fn linked_type(catalog: &Catalog, key: Option<DataType>, query: &Linked) -> Opti
 {
     let columns = columns_of(catalog, query.table);
     let link = column_type(columns, query.link);
-    if is_typed(&query.kept, columns, &[]) && are_comparable(key, link) {
+    if is_well_typed(&query.kept, columns, &[]) && are_comparable(key, link) {
         aggregate_type(columns, query.aggregate)
     } else {
         None
@@ -154,7 +154,7 @@ fn plain_type(catalog: &Catalog, query: &Plain) -> Option<DataType>
     ensures { result ≡ plain_type_of (layouts_of catalog.now) query.now }
 {
     let columns = columns_of(catalog, query.table);
-    if is_typed(&query.kept, columns, &[]) {
+    if is_well_typed(&query.kept, columns, &[]) {
         aggregate_type(columns, query.aggregate)
     } else {
         None

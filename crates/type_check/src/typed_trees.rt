@@ -43,7 +43,7 @@ fn slot_type(slots: &[DataType], slot: usize) -> Option<DataType>
 
 /// Whether each expression of a condition has a type, and each comparison is between two of the same. IS NULL takes
 /// either, and what EXISTS asks of is a count. It takes no memory.
-pub fn is_typed(cond: &Cond, columns: &[Column], slots: &[DataType]) -> bool
+pub fn is_well_typed(cond: &Cond, columns: &[Column], slots: &[DataType]) -> bool
     ensures { result ≡ is_typed_of columns.now slots.now cond.now }
 {
     match cond {
@@ -53,10 +53,10 @@ pub fn is_typed(cond: &Cond, columns: &[Column], slots: &[DataType]) -> bool
         ),
         Cond::IsNull(part) => expression_type(part, columns, slots).is_some(),
         Cond::Exists(_) => true,
-        Cond::Is(part, _) | Cond::Not(part) => is_typed(part.get(), columns, slots),
+        Cond::Is(part, _) | Cond::Not(part) => is_well_typed(part.get(), columns, slots),
         Cond::And(parts) | Cond::Or(parts) => {
             for part in parts.as_slice() {
-                if !is_typed(part, columns, slots) {
+                if !is_well_typed(part, columns, slots) {
                     return false;
                 }
             }

@@ -1,7 +1,7 @@
 use Rattle.std.proofs.Common.{◌≡◌, drop, map}
 use Rattle.cond.specs.Bounds.{all_true}
 use Rattle.type_check.specs.Types.{is_typed_condition}
-use Rattle.type_check.proofs.typed_trees.+is_typed.Given as goal
+use Rattle.type_check.proofs.typed_trees.+is_well_typed.Given as goal
 
 -- what is left decides
 abbrev pub invariant-loop-part : goal.invariant-loop-part
