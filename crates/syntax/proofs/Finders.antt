@@ -383,9 +383,9 @@ module _ (n : ℕ) (inner : Language Found) (reader : Want → Reader Found)
   unfolding r.between
   between_f left = seq_f 7 k.Between (then_f 7 7 expr_f (λ w low h. seq_f 7 k.And (map_f 7 (b.Between left low) expr_f)) (λ low. follows_opens 7 7 (opens_token (λ kind. rank kind ≤ 7) k.And (omega arith))))
 
-  listed_f : (left : Expression) → Finds rank 7 (lang.◌>>◌ (lang.token k.In) (lang.◌<$>◌ (b.In left) (lang.parens (lang.list (g.inner_expr inner))))) (r.select_list n reader left)
-  unfolding r.select_list
-  listed_f left = seq_f 7 k.In (map_f 7 (b.In left) (finds_parens rank 7 n (lang.list (g.inner_expr inner)) _ (omega arith) (λ i is. lower 0 3 (omega arith) (list_f (lower 4 7 (omega arith) (inner_expr_f i is))))))
+  in_list_f : (left : Expression) → Finds rank 7 (lang.◌>>◌ (lang.token k.In) (lang.◌<$>◌ (b.In left) (lang.parens (lang.list (g.inner_expr inner))))) (r.in_list n reader left)
+  unfolding r.in_list
+  in_list_f left = seq_f 7 k.In (map_f 7 (b.In left) (finds_parens rank 7 n (lang.list (g.inner_expr inner)) _ (omega arith) (λ i is. lower 0 3 (omega arith) (list_f (lower 4 7 (omega arith) (inner_expr_f i is))))))
 
   range_f : (left : Expression) → Finds rank 7 (g.range_or_list inner left) (r.range_or_list n reader left)
   unfolding g.range_or_list r.range_or_list
@@ -395,7 +395,7 @@ module _ (n : ℕ) (inner : Language Found) (reader : Want → Reader Found)
           → lang.◌∪◌ (lang.◌>>◌ (lang.token k.Between) (lang.◌>>=◌ (g.expr inner) (λ low. lang.◌>>◌ (lang.token k.And) (lang.◌<$>◌ (b.Between left low) (g.expr inner))))) (lang.◌>>◌ (lang.token k.In) (lang.◌<$>◌ (b.In left) (lang.parens (lang.list (g.inner_expr inner))))) w x
           → rank (kind_at rest) ≤ 7 → Accepts (by_kind (r.range_by n reader left) (w ++ rest)) x rest
       go left w rest x (inl h) small = pick (r.range_by n reader left) k.Between 7 refl (between_f left) w rest x h small
-      go left w rest x (inr h) small = pick (r.range_by n reader left) k.In 7 refl (listed_f left) w rest x h small
+      go left w rest x (inr h) small = pick (r.range_by n reader left) k.In 7 refl (in_list_f left) w rest x h small
 
   range_opens : (P : Kind → Type 0) (left : Expression) → P k.Between → P k.In → Opens (g.range_or_list inner left) P
   unfolding g.range_or_list

@@ -330,7 +330,7 @@ module _ (n : ℕ) (inner : Language Found) (reader : Want → Reader Found) (so
   between_s left = weak (λ w a h. inl h) (seq_s k.Between refl (then_s expr_s (λ w low h. seq_s k.And refl (map_s (b.Between left low) expr_s))))
 
   range_by_s : (left : Expression) (kind : Kind) → Sound n n (g.range_or_list inner left) (r.range_by n reader left kind)
-  unfolding g.range_or_list r.select_list
+  unfolding g.range_or_list r.in_list
   range_by_s left k.Between = between_s left
   range_by_s left k.In = weak (λ w a h. inr h) (seq_s k.In refl (map_s (b.In left) (sound_parens n (lang.list (g.inner_expr inner)) _ (some_list (g.inner_expr inner) some_e) (λ m is. list_s (inner_expr_s m is)))))
   range_by_s left _ = sound_refuse n n (g.range_or_list inner left) (between_s left).begins
