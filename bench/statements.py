@@ -1,17 +1,24 @@
 #!/usr/bin/env python3
-"""Statements a second with assertions maintained by skewguard, beside the same assertions evaluated from scratch.
+"""Time of a statement with assertions maintained by skewguard, beside SQLite, from scratch and with triggers.
 
-    python3 bench/statements.py [--program PATH] [--rows 100,1000,10000] [--repetitions 3]
+    python3 bench/statements.py [--program PATH] [--rows 1000,10000,100000,1000000] [--repetitions 3]
+                                [--repetitions-large 1]
 
-Without --program the program is built first by `rt run` in crates/skewguard, which proves it. Nothing but Python 3.9 or
-later is needed besides. The tables that docs/PERFORMANCE.md holds are printed as they stand there.
+Without --program the program is built first by `rt run` in crates/skewguard, which proves it. Nothing but Python 3.9
+or later is needed besides. The tables that docs/PERFORMANCE.md holds are printed as they stand there. One process at
+a time runs.
 
-Skewguard replays a transaction of INSERTs and DELETEs of one row each on tables of so many rows; the processor time of a
-replay with an empty script, for loading alone, is taken off. The two run at the same time: loading is the longer part on
-large tables, and what else the machine does then slows both alike. From scratch, SQLite as Python's standard library has
-it executes the same texts on the same rows in memory, and after each statement the assertion's own condition as a query.
-Both sides take turns in one run, and the median of the repetitions counts. Each answer is looked at: a refused statement
-or a false assertion ends the run.
+Skewguard replays one transaction of INSERTs, UPDATEs and DELETEs in turns, each of one row by its key, on tables of so
+many rows; the processor time of a replay with an empty script, for loading alone, is taken off. Reading the texts and
+writing the report are in it. SQLite, as Python's standard library has it, does the same in memory, in one transaction,
+by statements that are prepared once and take their values as bound parameters. It keeps the rule in two ways:
+
+- from scratch: after each statement the assertion's own condition as a query, with the index that serves it best;
+- with triggers: a side table holds a total for each group, triggers keep it and refuse what would make the rule false.
+
+The sides take turns in one run, and the median of the repetitions counts. Each answer is looked at: a refused statement
+or a false assertion ends the run. So does a trigger, or an assertion of skewguard, that does not refuse what breaks its
+rule. The peak memory of loading, and what a committed change adds to it, are printed too.
 """
 
 import argparse
@@ -19,57 +26,84 @@ import os
 import pathlib
 import sqlite3
 import statistics
-import subprocess
 import sys
 import tempfile
 import time
 
-TOP = pathlib.Path(__file__).resolve().parent.parent
+from replays import built, digits, exponent, least_memory, machine, power, replay, table, written
 
-# Pairs of an INSERT and a DELETE in one repetition, by rows. From scratch fewer do: no loading has to be taken off there.
-PAIRS = {100: 10_000, 1_000: 2_000, 10_000: 2_000}
-PAIRS_FROM_SCRATCH = {100: 2_000, 1_000: 400, 10_000: 40}
+# Rounds of an INSERT, an UPDATE and a DELETE in one repetition, by rows: so many that loading, which is taken off, does
+# not cover them. From scratch fewer do.
+ROUNDS = {1_000: 20_000, 10_000: 20_000, 100_000: 50_000, 1_000_000: 100_000}
+ROUNDS_TRIGGERS = 20_000
+ROUNDS_FROM_SCRATCH = {1_000: 200, 10_000: 60, 100_000: 20, 1_000_000: 4}
+
+# From so many rows on there are fewer repetitions.
+LARGE = 1_000_000
+
+# At how many rows the memory of a committed change is taken, and of how many commits.
+COMMIT_ROWS, COMMITS = 100_000, 100_000
 
 SHIFTS = "CREATE TABLE SHIFTS (ID INTEGER PRIMARY KEY);"
-DUTY = "CREATE TABLE DUTY (ID INTEGER PRIMARY KEY, SHIFT INTEGER, ONCALL INTEGER);"
-ACCT = "CREATE TABLE ACCT (ID INTEGER PRIMARY KEY, OWNER INTEGER, BAL INTEGER);"
+DUTY = "CREATE TABLE DUTY (ID INTEGER PRIMARY KEY, SHIFT INTEGER NOT NULL, ONCALL INTEGER NOT NULL);"
+ACCT = "CREATE TABLE ACCT (ID INTEGER PRIMARY KEY, OWNER INTEGER NOT NULL, BAL INTEGER NOT NULL);"
+
+NEW_SHIFT = "INSERT INTO SHIFTS VALUES (?)"
+MOST = 1_000_000_000  # that all accounts may sum to, in the single form
 
 
 class Form:
-    """Tables, an assertion over them (or none), and the index that serves its evaluation from scratch best."""
+    """Tables and an assertion over them, or none; SQLite keeps it by an index and a query, or a table and triggers.
 
-    def __init__(self, name, tables, condition, index):
+    `totals` are two queries, of the totals that are kept and of those of the rows. `tries` are statements on small
+    tables, each with whether it breaks the rule.
+    """
+
+    def __init__(self, name, tables, condition=None, index=None, side=(), triggers=(), totals=(), tries=()):
         self.name = name
         self.tables = tables
         self.condition = condition
         self.index = index
+        self.side = side
+        self.triggers = triggers
+        self.totals = totals
+        self.tries = tries
         self.changed = "DUTY" if DUTY in tables else "ACCT"
+        self.insert = f"INSERT INTO {self.changed} VALUES (?, ?, ?)"
+        self.update = f"UPDATE {self.changed} SET {'SHIFT' if DUTY in tables else 'BAL'} = ? WHERE ID = ?"
+        self.delete = f"DELETE FROM {self.changed} WHERE ID = ?"
 
     def row(self, key, number, rows):
         """A row under a key: ten rows share a shift or an owner, and balances have up to a thousand values."""
-        group = number % (rows // 10)
-        last = 1 if self.changed == "DUTY" else number * 37 % 1000
-        return f"INSERT INTO {self.changed} VALUES ({key}, {group}, {last});"
+        return key, number % (rows // 10), 1 if self.changed == "DUTY" else number * 37 % 1000
 
     def loaded(self, rows):
         """The rows to begin with. Their keys are even, so that new ones fall between them."""
-        shifts = range(rows // 10) if SHIFTS in self.tables else ()
-        texts = [f"INSERT INTO SHIFTS VALUES ({shift});" for shift in shifts]
-        return texts + [self.row(2 * number, number, rows) for number in range(rows)]
+        if SHIFTS in self.tables:
+            yield from ((NEW_SHIFT, (shift,)) for shift in range(rows // 10))
+        yield from ((self.insert, self.row(2 * number, number, rows)) for number in range(rows))
+
+    def round(self, number, rows):
+        """A row comes, changes its shift or its balance, and goes; its key may be anywhere in the table."""
+        key = 2 * (number * 7919 % rows) + 1
+        row = self.row(key, number * 7919, rows)
+        changed = (row[1] + 1) % (rows // 10) if self.changed == "DUTY" else row[2] + 1
+        return (self.insert, row), (self.update, (changed, key)), (self.delete, (key,))
 
     def definitions(self, rows):
-        rule = [f"CREATE ASSERTION RULE CHECK ({self.condition});"] if self.condition else []
-        return "\n".join(self.tables + rule + self.loaded(rows)) + "\n"
+        """What DEFS holds, piece by piece."""
+        yield "\n".join(self.tables) + "\n"
+        if self.condition:
+            yield f"CREATE ASSERTION RULE CHECK ({self.condition});\n"
+        yield from (f"{text(*one)}\n" for one in self.loaded(rows))
 
-    def statements(self, rows, pairs):
-        """Rows come and go one at a time, at keys all over the table."""
-        texts = []
-        for pair in range(pairs):
-            key = 2 * (pair * 7919 % rows) + 1
-            texts.append(self.row(key, pair * 7919, rows))
-            texts.append(f"DELETE FROM {self.changed} WHERE ID = {key};")
-        return texts
 
+def text(statement, numbers):
+    """A statement as skewguard reads it, with its numbers put in."""
+    return statement.replace("?", "{}").format(*numbers) + ";"
+
+
+REFUSE = "SELECT RAISE(ABORT, 'RULE')"
 
 FORMS = [
     Form(
@@ -78,179 +112,365 @@ FORMS = [
         "NOT EXISTS (SELECT * FROM SHIFTS S WHERE NOT EXISTS"
         " (SELECT * FROM DUTY D WHERE D.SHIFT = S.ID AND D.ONCALL = 1))",
         "CREATE INDEX BEST ON DUTY (SHIFT, ONCALL)",
+        [
+            "CREATE TABLE COVER (SHIFT INTEGER PRIMARY KEY, N INTEGER NOT NULL)",
+            "INSERT INTO COVER SELECT SHIFT, COUNT(*) FROM DUTY WHERE ONCALL = 1 GROUP BY SHIFT",
+        ],
+        [
+            f"""CREATE TRIGGER SHIFT_COMES AFTER INSERT ON SHIFTS BEGIN
+                {REFUSE} WHERE NOT EXISTS (SELECT 1 FROM COVER WHERE SHIFT = NEW.ID AND N > 0);
+            END""",
+            """CREATE TRIGGER DUTY_COMES AFTER INSERT ON DUTY WHEN NEW.ONCALL = 1 BEGIN
+                INSERT INTO COVER VALUES (NEW.SHIFT, 1) ON CONFLICT (SHIFT) DO UPDATE SET N = N + 1;
+            END""",
+            f"""CREATE TRIGGER DUTY_GOES AFTER DELETE ON DUTY WHEN OLD.ONCALL = 1 BEGIN
+                UPDATE COVER SET N = N - 1 WHERE SHIFT = OLD.SHIFT;
+                {REFUSE} FROM COVER WHERE SHIFT = OLD.SHIFT AND N < 1
+                    AND EXISTS (SELECT 1 FROM SHIFTS WHERE ID = OLD.SHIFT);
+            END""",
+            f"""CREATE TRIGGER DUTY_CHANGES AFTER UPDATE OF SHIFT, ONCALL ON DUTY BEGIN
+                INSERT INTO COVER SELECT NEW.SHIFT, 1 WHERE NEW.ONCALL = 1 ON CONFLICT (SHIFT) DO UPDATE SET N = N + 1;
+                UPDATE COVER SET N = N - 1 WHERE SHIFT = OLD.SHIFT AND OLD.ONCALL = 1;
+                {REFUSE} FROM COVER WHERE SHIFT = OLD.SHIFT AND N < 1
+                    AND EXISTS (SELECT 1 FROM SHIFTS WHERE ID = OLD.SHIFT);
+            END""",
+        ],
+        (
+            "SELECT SHIFT, N FROM COVER WHERE N > 0 ORDER BY SHIFT",
+            "SELECT SHIFT, COUNT(*) FROM DUTY WHERE ONCALL = 1 GROUP BY SHIFT ORDER BY SHIFT",
+        ),
+        # Of 20 rows those with the keys 0, 4, .. 36 are the first shift's.
+        [*(("DELETE FROM DUTY WHERE ID = ?", (4 * number,), False) for number in range(9))]
+        + [
+            ("DELETE FROM DUTY WHERE ID = ?", (36,), True),
+            ("UPDATE DUTY SET ONCALL = ? WHERE ID = ?", (0, 36), True),
+            ("UPDATE DUTY SET SHIFT = ? WHERE ID = ?", (1, 36), True),
+            (NEW_SHIFT, (5,), True),
+            ("INSERT INTO DUTY VALUES (?, ?, ?)", (3, 5, 0), False),
+            (NEW_SHIFT, (5,), True),
+            ("UPDATE DUTY SET ONCALL = ? WHERE ID = ?", (1, 3), False),
+            (NEW_SHIFT, (5,), False),
+            ("INSERT INTO DUTY VALUES (?, ?, ?)", (1, 0, 1), False),
+            ("DELETE FROM DUTY WHERE ID = ?", (36,), False),
+            ("DELETE FROM DUTY WHERE ID = ?", (1,), True),
+        ],
     ),
     Form(
         "by group",
         [ACCT],
         "NOT EXISTS (SELECT OWNER FROM ACCT GROUP BY OWNER HAVING SUM(BAL) < 0)",
         "CREATE INDEX BEST ON ACCT (OWNER, BAL)",
+        [
+            "CREATE TABLE FUNDS (OWNER INTEGER PRIMARY KEY, TOTAL INTEGER NOT NULL)",
+            "INSERT INTO FUNDS SELECT OWNER, SUM(BAL) FROM ACCT GROUP BY OWNER",
+        ],
+        [
+            f"""CREATE TRIGGER ACCT_COMES AFTER INSERT ON ACCT BEGIN
+                INSERT INTO FUNDS VALUES (NEW.OWNER, NEW.BAL) ON CONFLICT (OWNER) DO UPDATE SET TOTAL = TOTAL + NEW.BAL;
+                {REFUSE} FROM FUNDS WHERE OWNER = NEW.OWNER AND TOTAL < 0;
+            END""",
+            f"""CREATE TRIGGER ACCT_GOES AFTER DELETE ON ACCT BEGIN
+                UPDATE FUNDS SET TOTAL = TOTAL - OLD.BAL WHERE OWNER = OLD.OWNER;
+                {REFUSE} FROM FUNDS WHERE OWNER = OLD.OWNER AND TOTAL < 0;
+            END""",
+            f"""CREATE TRIGGER BALANCE_CHANGES AFTER UPDATE OF BAL ON ACCT WHEN NEW.OWNER = OLD.OWNER BEGIN
+                UPDATE FUNDS SET TOTAL = TOTAL - OLD.BAL + NEW.BAL WHERE OWNER = OLD.OWNER;
+                {REFUSE} FROM FUNDS WHERE OWNER = OLD.OWNER AND TOTAL < 0;
+            END""",
+            f"""CREATE TRIGGER OWNER_CHANGES AFTER UPDATE OF OWNER ON ACCT WHEN NEW.OWNER <> OLD.OWNER BEGIN
+                UPDATE FUNDS SET TOTAL = TOTAL - OLD.BAL WHERE OWNER = OLD.OWNER;
+                INSERT INTO FUNDS VALUES (NEW.OWNER, NEW.BAL) ON CONFLICT (OWNER) DO UPDATE SET TOTAL = TOTAL + NEW.BAL;
+                {REFUSE} FROM FUNDS WHERE OWNER IN (OLD.OWNER, NEW.OWNER) AND TOTAL < 0;
+            END""",
+        ],
+        (
+            "SELECT OWNER, TOTAL FROM FUNDS ORDER BY OWNER",
+            "SELECT OWNER, SUM(BAL) FROM ACCT GROUP BY OWNER ORDER BY OWNER",
+        ),
+        # Of 20 rows the first owner's have the keys 0, 4, .. 36 and the balances 0, 74, .. 666, which sum to 3330.
+        [
+            ("INSERT INTO ACCT VALUES (?, ?, ?)", (1, 0, -3331), True),
+            ("INSERT INTO ACCT VALUES (?, ?, ?)", (1, 0, -3330), False),
+            ("INSERT INTO ACCT VALUES (?, ?, ?)", (3, 0, -1), True),
+            ("INSERT INTO ACCT VALUES (?, ?, ?)", (5, 7, -1), True),
+            ("UPDATE ACCT SET BAL = ? WHERE ID = ?", (-3331, 1), True),
+            ("UPDATE ACCT SET OWNER = ? WHERE ID = ?", (1, 4), True),
+            ("UPDATE ACCT SET OWNER = ? WHERE ID = ?", (7, 1), True),
+            ("DELETE FROM ACCT WHERE ID = ?", (4,), True),
+            ("INSERT INTO ACCT VALUES (?, ?, ?)", (3, 0, 1), False),
+            ("UPDATE ACCT SET BAL = ? WHERE ID = ?", (-3331, 1), False),
+            ("DELETE FROM ACCT WHERE ID = ?", (3,), True),
+            ("UPDATE ACCT SET OWNER = ? WHERE ID = ?", (1, 1), False),
+        ],
     ),
     Form(
         "single",
         [ACCT],
-        "(SELECT SUM(BAL) FROM ACCT) <= 1000000000",
+        f"(SELECT SUM(BAL) FROM ACCT) <= {MOST}",
         "CREATE INDEX BEST ON ACCT (BAL)",
+        [
+            "CREATE TABLE WHOLE (ID INTEGER PRIMARY KEY, TOTAL INTEGER NOT NULL)",
+            "INSERT INTO WHOLE SELECT 1, COALESCE(SUM(BAL), 0) FROM ACCT",
+        ],
+        [
+            f"""CREATE TRIGGER ACCT_COMES AFTER INSERT ON ACCT BEGIN
+                UPDATE WHOLE SET TOTAL = TOTAL + NEW.BAL WHERE ID = 1;
+                {REFUSE} FROM WHOLE WHERE ID = 1 AND TOTAL > {MOST};
+            END""",
+            f"""CREATE TRIGGER ACCT_GOES AFTER DELETE ON ACCT BEGIN
+                UPDATE WHOLE SET TOTAL = TOTAL - OLD.BAL WHERE ID = 1;
+                {REFUSE} FROM WHOLE WHERE ID = 1 AND TOTAL > {MOST};
+            END""",
+            f"""CREATE TRIGGER BALANCE_CHANGES AFTER UPDATE OF BAL ON ACCT BEGIN
+                UPDATE WHOLE SET TOTAL = TOTAL - OLD.BAL + NEW.BAL WHERE ID = 1;
+                {REFUSE} FROM WHOLE WHERE ID = 1 AND TOTAL > {MOST};
+            END""",
+        ],
+        ("SELECT TOTAL FROM WHOLE", "SELECT SUM(BAL) FROM ACCT"),
+        # The balances of 20 rows sum to 7030.
+        [
+            ("INSERT INTO ACCT VALUES (?, ?, ?)", (1, 0, MOST - 7029), True),
+            ("INSERT INTO ACCT VALUES (?, ?, ?)", (1, 0, MOST - 7030), False),
+            ("INSERT INTO ACCT VALUES (?, ?, ?)", (3, 0, 1), True),
+            ("UPDATE ACCT SET BAL = ? WHERE ID = ?", (1, 0), True),
+            ("INSERT INTO ACCT VALUES (?, ?, ?)", (5, 0, -10), False),
+            ("INSERT INTO ACCT VALUES (?, ?, ?)", (3, 0, 10), False),
+            ("DELETE FROM ACCT WHERE ID = ?", (5,), True),
+            ("DELETE FROM ACCT WHERE ID = ?", (1,), False),
+        ],
     ),
-    Form("no assertion", [ACCT], None, None),
+    Form("no assertion", [ACCT]),
 ]
 
 
-def started(program, definitions, script, output):
-    with open(output, "wb") as out:
-        return subprocess.Popen([program, "replay", definitions, script], stdout=out)
+class Files:
+    """The files of one form and size."""
+
+    def __init__(self, folder, form, rows):
+        self.definitions = written(f"{folder}/defs", form.definitions(rows))
+        self.empty = written(f"{folder}/empty", [])
+        self.script, self.output = f"{folder}/script", f"{folder}/output"
 
 
-def processor_time(child):
-    """The processor seconds of a replay, which has to end well."""
-    _, status, used = os.wait4(child.pid, 0)
-    child.returncode = os.waitstatus_to_exitcode(status)
-    if child.returncode != 0:
-        sys.exit(f"a replay ended with {child.returncode}")
-    return used.ru_utime + used.ru_stime
+def write_rounds(files, form, rows, rounds):
+    """One transaction, which is rolled back."""
+    texts = (f"A: {text(*one)}\n" for number in range(rounds) for one in form.round(number, rows))
+    written(files.script, ["A: BEGIN;\n", *texts, "A: ROLLBACK;\n"])
 
 
-def maintained(program, folder, form, rows, pairs):
-    """The processor seconds of loading, and those of the statements after it."""
-    definitions, script, empty, output = (f"{folder}/{name}" for name in ("defs", "script", "empty", "output"))
-    pathlib.Path(definitions).write_text(form.definitions(rows))
-    texts = "".join(f"A: {text}\n" for text in form.statements(rows, pairs))
-    pathlib.Path(script).write_text(f"A: BEGIN;\n{texts}A: ROLLBACK;\n")
-    pathlib.Path(empty).write_text("")
-    alone = started(program, definitions, empty, os.devnull)
-    whole = started(program, definitions, script, output)
-    loading = processor_time(alone)
-    statements = processor_time(whole) - loading
-    check_report(output, pairs)
-    return loading, statements
+def replayed(program, files, form, rounds):
+    """What loading alone uses, and the processor seconds of the statements after it."""
+    loading = replay(program, files.definitions, files.empty)
+    whole = replay(program, files.definitions, files.script, files.output)
+    check_report(files.output, form, rounds)
+    return loading, whole.seconds - loading.seconds
 
 
-def check_report(output, pairs):
-    """Every statement was taken."""
-    want = "A: BEGIN 0\n" + "A: INSERT 1\nA: DELETE 1\n" * pairs + "A: ROLLBACK\n"
-    if pathlib.Path(output).read_text() != want:
+def check_report(output, form, rounds):
+    """Every statement was taken, and the rule is true in the end."""
+    want = "A: BEGIN 0\n" + "A: INSERT 1\nA: UPDATE 1\nA: DELETE 1\n" * rounds + "A: ROLLBACK\nCOMMITS 0\n"
+    report = pathlib.Path(output).read_text()
+    if not report.startswith(want) or not report.endswith("RULE TRUE\n" if form.condition else "ASSERTIONS 0\n"):
         sys.exit("a statement of the script was not answered as it has to be")
 
 
-def from_scratch(form, rows, pairs, indexed):
-    """The processor seconds of the statements in SQLite, each with the assertion's condition evaluated after it."""
+def filled(form, rows):
+    """SQLite with the tables in memory."""
     base = sqlite3.connect(":memory:", isolation_level=None)
-    for text in form.tables + ["BEGIN"] + form.loaded(rows) + ["COMMIT"]:
-        base.execute(text)
-    if indexed:
-        base.execute(form.index)
-    base.execute("ANALYZE")
-    query = f"SELECT {form.condition}" if form.condition else None
-    statements = form.statements(rows, pairs)
+    for one in form.tables:
+        base.execute(one)
     base.execute("BEGIN")
-    start = time.process_time()
-    for text in statements:
-        if base.execute(text).rowcount != 1:
-            sys.exit("a statement did not change one row")
-        if query and base.execute(query).fetchone() != (1,):
-            sys.exit("the assertion is false from scratch")
-    used = time.process_time() - start
+    for statement, numbers in form.loaded(rows):
+        base.execute(statement, numbers)
+    base.execute("COMMIT")
+    return base
+
+
+def in_sqlite(form, rows, rounds, with_triggers):
+    """The processor seconds of the statements in SQLite, which keeps the rule by triggers, or by a query after each."""
+    base = filled(form, rows)
+    for one in (*form.side, *form.triggers) if with_triggers else (form.index,):
+        base.execute(one)
+    base.execute("ANALYZE")
+    query = f"SELECT {form.condition}" if form.condition and not with_triggers else None
+    statements = [one for number in range(rounds) for one in form.round(number, rows)]
+    base.execute("BEGIN")
+    used = processor_time(base, statements, query)
+    if with_triggers and form.condition:
+        check_totals(base, form)
     base.execute("ROLLBACK")
     base.close()
     return used
 
 
+def processor_time(base, statements, query):
+    """The processor seconds of statements that each change one row, and leave a query true if there is one."""
+    start = time.process_time()
+    for statement, numbers in statements:
+        if base.execute(statement, numbers).rowcount != 1:
+            sys.exit("a statement did not change one row")
+        if query and base.execute(query).fetchone() != (1,):
+            sys.exit("the assertion is false from scratch")
+    return time.process_time() - start
+
+
+def check_totals(base, form):
+    """The totals are those of the rows."""
+    kept, counted = (base.execute(query).fetchall() for query in form.totals)
+    if kept != counted:
+        sys.exit(f"{form.name}: the triggers have not kept the totals")
+
+
+def check_refusals(program, form, folder):
+    """What breaks the rule is refused, and nothing else, by the triggers and by skewguard."""
+    base = filled(form, 20)
+    for one in (*form.side, *form.triggers):
+        base.execute(one)
+    replies = ["A: BEGIN 0"]
+    for statement, numbers, breaks in form.tries:
+        if refuses(base, statement, numbers) != breaks:
+            sys.exit(f"{form.name}: the triggers do not answer as the rule has it: {text(statement, numbers)}")
+        check_totals(base, form)
+        if base.execute(f"SELECT {form.condition}").fetchone() != (1,):
+            sys.exit(f"{form.name}: the triggers have let the rule be broken")
+        replies.append("A: REFUSED 10 23000 RULE" if breaks else f"A: {statement.split()[0]} 1")
+    base.close()
+    files = Files(folder, form, 20)
+    tries = (f"A: {text(statement, numbers)}\n" for statement, numbers, _ in form.tries)
+    replay(program, files.definitions, written(files.script, ["A: BEGIN;\n", *tries]), files.output)
+    report = pathlib.Path(files.output).read_text().splitlines() + [""] * len(replies)
+    for found, want in zip(report, replies):
+        if not found.startswith(want):
+            sys.exit(f"{form.name}: skewguard answers {found} and not {want}")
+
+
+def refuses(base, statement, numbers):
+    """Whether the triggers refuse a statement."""
+    try:
+        base.execute(statement, numbers)
+    except sqlite3.IntegrityError as fault:
+        return str(fault) == "RULE" or sys.exit(f"SQLite says {fault}")
+    return False
+
+
 class Figures:
-    """Of one form and size: seconds of loading, and microseconds a statement on each side, in each repetition."""
+    """Of one form and size, in each repetition: seconds and bytes of loading, microseconds a statement on each side."""
 
     def __init__(self):
-        self.all_loading, self.all_kept, self.all_key, self.all_index = [], [], [], []
+        self.all_loading, self.all_memory, self.all_kept, self.all_scratch, self.all_triggers = [], [], [], [], []
 
     loading = property(lambda self: statistics.median(self.all_loading))
+    memory = property(lambda self: statistics.median(self.all_memory))
     kept = property(lambda self: statistics.median(self.all_kept))
-    key = property(lambda self: statistics.median(self.all_key))
-    index = property(lambda self: statistics.median(self.all_index) if self.all_index else None)
+    scratch = property(lambda self: statistics.median(self.all_scratch) if self.all_scratch else None)
+    triggers = property(lambda self: statistics.median(self.all_triggers))
 
     def __str__(self):
-        def each(name, numbers, digits):
-            return f"{name} {' '.join(f'{number:.{digits}f}' for number in sorted(numbers)) or '-'}"
+        def each(name, numbers, places):
+            return f"{name} {' '.join(f'{number:.{places}f}' for number in sorted(numbers)) or '-'}"
 
-        parts = [("us a statement:", self.all_kept, 1), ("from scratch", self.all_key, 1)]
-        parts += [("indexed", self.all_index, 1), ("loading s", self.all_loading, 3)]
-        return ", ".join(each(*part) for part in parts)
+        parts = [("us a statement:", self.all_kept, 2), ("triggers", self.all_triggers, 2)]
+        parts += [("from scratch", self.all_scratch, 1), ("loading s", self.all_loading, 4)]
+        return ", ".join([*(each(*part) for part in parts), f"{self.memory / 1e6:.1f} MB"])
 
 
 def measure(program, form, rows, repetitions, folder):
-    pairs, fewer = PAIRS.get(rows, 2_000), PAIRS_FROM_SCRATCH.get(rows, 40)
-    figures = Figures()
+    rounds, fewer = ROUNDS.get(rows, 20_000), ROUNDS_FROM_SCRATCH.get(rows, 4)
+    files, figures = Files(folder, form, rows), Figures()
+    write_rounds(files, form, rows, rounds)
     for _ in range(repetitions):
-        loading, statements = maintained(program, folder, form, rows, pairs)
-        figures.all_loading.append(loading)
-        figures.all_kept.append(statements / (2 * pairs) * 1e6)
-        figures.all_key.append(from_scratch(form, rows, fewer, False) / (2 * fewer) * 1e6)
-        if form.index:
-            figures.all_index.append(from_scratch(form, rows, fewer, True) / (2 * fewer) * 1e6)
+        loading, statements = replayed(program, files, form, rounds)
+        figures.all_loading.append(loading.seconds)
+        figures.all_memory.append(loading.memory)
+        figures.all_kept.append(statements / (3 * rounds) * 1e6)
+        kept = in_sqlite(form, rows, ROUNDS_TRIGGERS, True)
+        figures.all_triggers.append(kept / (3 * ROUNDS_TRIGGERS) * 1e6)
+        if form.condition:
+            figures.all_scratch.append(in_sqlite(form, rows, fewer, False) / (3 * fewer) * 1e6)
     return figures
 
 
-def a_second(microseconds):
-    """A rate in two digits: the repetitions differ in the second."""
-    return "-" if microseconds is None else f"{float(f'{1e6 / microseconds:.2g}'):,.0f}"
+def committed_memory(program, form, folder):
+    """Bytes of a committed change of one row: of the whole, and of the same transactions rolled back."""
+    files = Files(folder, form, COMMIT_ROWS)
+    loaded = replay(program, files.definitions, files.empty).memory
+    found = []
+    for end in ("COMMIT", "ROLLBACK"):
+        pairs = (form.round(number, COMMIT_ROWS) for number in range(COMMITS // 2))
+        changes = (text(*one) for insert, update, _ in pairs for one in (insert, update))
+        written(files.script, (f"A: BEGIN;\nA: {one}\nA: {end};\n" for one in changes))
+        used = replay(program, files.definitions, files.script, files.output)
+        check_commits(files.output, end)
+        found.append((used.memory - loaded) / COMMITS)
+    return found
 
 
-def times(number):
-    """A ratio in two or three digits."""
-    if number is None:
-        return "-"
-    return f"{number:,.0f}" if number >= 10 else f"{number:.1f}" if number >= 1 else f"{number:.2f}"
-
-
-def ratio(one, other):
-    return None if one is None or other is None else one / other
+def check_commits(output, end):
+    """Every transaction was taken."""
+    report = pathlib.Path(output).read_text()
+    commits = COMMITS if end == "COMMIT" else 0
+    ends = f"\nA: COMMIT {COMMITS}\n" if commits else "\nA: ROLLBACK\n"
+    if f"\nCOMMITS {commits}\n" not in report or ends not in report or "\nREFUSED 0\n" not in report:
+        sys.exit("a transaction was not committed as it has to be")
 
 
 def print_tables(found, sizes):
-    print("\n| form | rows | skewguard, a second | from scratch, key only | from scratch, best index | ratio to key only | ratio to best index |")
-    print("|---|---|---|---|---|---|---|")
-    for (name, rows), one in found.items():
-        bare = name == "no assertion"
-        cells = [name, f"{rows:,}", a_second(one.kept), a_second(one.key), a_second(one.index)]
-        cells += ["-", "-"] if bare else [times(ratio(one.key, one.kept)), times(ratio(one.index, one.kept))]
-        print(f"| {' | '.join(cells)} |")
-    low, high = sizes[0], sizes[-1]
-    print(f"\n| time of a statement, from {low:,} rows to {high:,} | skewguard | from scratch, key only | from scratch, best index |")
-    print("|---|---|---|---|")
-    for name in dict.fromkeys(name for name, _ in found):
-        few, many = found[name, low], found[name, high]
-        growth = [ratio(many.kept, few.kept), ratio(many.key, few.key), ratio(many.index, few.index)]
-        print(f"| {name} | {' | '.join(times(one) if one is None else '× ' + times(one) for one in growth)} |")
-    print(f"\n| loading, seconds | {' | '.join(f'{rows:,} rows' for rows in sizes)} |")
-    print("|---" * (len(sizes) + 1) + "|")
-    for name in dict.fromkeys(name for name, _ in found):
-        print(f"| {name} | {' | '.join(f'{found[name, rows].loading:.2g}' for rows in sizes)} |")
+    heads = ["form", "rows", "skewguard, us", "SQLite from scratch, best index, us", "SQLite with triggers, us"]
+    heads += ["from scratch / skewguard", "triggers / skewguard"]
+    rows = []
+    for (name, size), one in found.items():
+        cells = [name, f"{size:,}", digits(one.kept), digits(one.scratch), digits(one.triggers)]
+        ratios = [one.scratch and one.scratch / one.kept, one.triggers / one.kept]
+        rows.append(cells + [digits(ratio) for ratio in ratios])
+    table(heads, rows)
+    names = list(dict.fromkeys(name for name, _ in found))
+    rows = []
+    for name in names:
+        sides = [[getattr(found[name, size], side) for size in sizes] for side in ("kept", "scratch", "triggers")]
+        rows.append([name, *(power(exponent(list(zip(sizes, times)))) for times in sides)])
+    heads = [f"exponent of growth, {sizes[0]:,} to {sizes[-1]:,} rows", "skewguard"]
+    table(heads + ["SQLite from scratch", "SQLite with triggers"], rows)
+    heads = ["loading", *(f"{size:,} rows" for size in sizes)]
+    rows = [[f"{name}, seconds", *(digits(found[name, size].loading) for size in sizes)] for name in names]
+    rows += [[f"{name}, peak MB", *(digits(found[name, size].memory / 1e6) for size in sizes)] for name in names]
+    table(heads, rows)
 
 
-def built():
-    """The program, proved and built by `rt run`."""
-    folder = TOP / "crates" / "skewguard"
-    example = [f"../../examples/on-call/{text}.sql" for text in ("defs", "script")]
-    subprocess.run(["rt", "run", "--", "replay", *example], cwd=folder, check=True, stdout=subprocess.DEVNULL)
-    return str(folder / "out" / "skewguard")
+def print_memory(program, folder):
+    rows = []
+    for form in FORMS:
+        whole, script = committed_memory(program, form, folder)
+        rows.append([form.name, digits(whole, 3), digits(script, 3), digits(whole - script, 3)])
+    heads = [f"bytes a committed change, {COMMIT_ROWS:,} rows", "whole", "of it the script", "of it the commit"]
+    table(heads, rows)
 
 
 def main():
-    words = argparse.ArgumentParser(description="Statements a second, maintained and from scratch.")
+    words = argparse.ArgumentParser(description="Time of a statement, in skewguard and in SQLite.")
     words.add_argument("--program", help="the program skewguard; without it `rt run` builds it")
-    words.add_argument("--rows", default="100,1000,10000", help="sizes of the tables, each at least 10")
+    words.add_argument("--rows", default="1000,10000,100000,1000000", help="sizes of the tables, each at least 20")
     words.add_argument("--repetitions", type=int, default=3)
+    words.add_argument("--repetitions-large", type=int, default=1, help=f"repetitions from {LARGE:,} rows on")
+    words.add_argument("--without-memory", action="store_true", help="leaves out the memory of committed changes")
     chosen = words.parse_args()
     sizes = [int(size) for size in chosen.rows.split(",")]
     program = chosen.program or built()
-    python = ".".join(map(str, sys.version_info[:3]))
-    print(f"Python {python}, SQLite {sqlite3.sqlite_version}, {os.cpu_count()} processors, median of {chosen.repetitions}")
-    print(f"load at the start {os.getloadavg()[0]:.1f}", flush=True)
+    print(f"SQLite {sqlite3.sqlite_version}, {machine(chosen.repetitions)}")
+    print(f"a peak below {least_memory() / 1e6:.1f} MB can't be told", flush=True)
     found = {}
     with tempfile.TemporaryDirectory() as folder:
         for form in FORMS:
+            if form.condition:
+                check_refusals(program, form, folder)
+        for form in FORMS:
             for rows in sizes:
-                found[form.name, rows] = one = measure(program, form, rows, chosen.repetitions, folder)
+                repetitions = chosen.repetitions_large if rows >= LARGE else chosen.repetitions
+                found[form.name, rows] = one = measure(program, form, rows, repetitions, folder)
                 print(f"{form.name}, {rows} rows, {one}", flush=True)
-    print(f"load at the end {os.getloadavg()[0]:.1f}")
-    print_tables(found, sizes)
+        print(f"load at the end {os.getloadavg()[0]:.1f}")
+        print_tables(found, sizes)
+        if not chosen.without_memory:
+            print_memory(program, folder)
 
 
 if __name__ == "__main__":

@@ -1,5 +1,5 @@
--- A walk through rows of which those are taken that a condition keeps.
-use Rattle.std.proofs.Common.{◌≡◌, true, false, cond, List, [], ◌∷◌, ◌++◌, Option, map, sym, ◌∙◌, ap, subst, append_assoc, append-nil}
+-- A walk through rows of each of which something is made.
+use Rattle.std.proofs.Common.{◌≡◌, false, cond, List, [], ◌∷◌, ◌++◌, Option, map, sym, ◌∙◌, ap, subst, append_assoc, append-nil}
 use Rattle.std.specs.Prelude.{All}
 use Rattle.std.proofs.lemmas.List.Elements.{All-nil, All-cons, All-head, All-tail, All-append}
 use Rattle.value.specs.declared.refusals.Refusal.{Refusal}
@@ -12,29 +12,25 @@ use Rattle.assertion.specs.Meaning.{kept_rows}
 use Rattle.assertcheck.specs.declared.updates.Setting.{Setting}
 use Rattle.alone.specs.Statements.{settings_fault, update_fault}
 
--- a row that is kept is the first of those that are left, and one that isn't is none of them
-pub kept_first : (kept : Cond) (row : RowValues) (rest : List RowValues) → keeps row [] kept ≡ true → kept_rows kept (row ∷ rest) ≡ row ∷ kept_rows kept rest
-kept_first kept row rest h = ap (λ b. cond b (row ∷ kept_rows kept rest) (kept_rows kept rest)) h
-
+-- a row that isn't kept is none of those that are left
 pub not_kept : (kept : Cond) (row : RowValues) (rest : List RowValues) → keeps row [] kept ≡ false → kept_rows kept (row ∷ rest) ≡ kept_rows kept rest
 not_kept kept row rest h = ap (λ b. cond b (row ∷ kept_rows kept rest) (kept_rows kept rest)) h
 
 -- what was made so far of rows, and what is still to be made of those that are left, is what is to be made of all
-abbrev pub IsMade : {X : Type 0} → (RowValues → X) → Cond → List RowValues → List X → List RowValues → Type 0
-IsMade make kept all made left = made ++ map make (kept_rows kept left) ≡ map make (kept_rows kept all)
+abbrev pub IsMade : {X : Type 0} → (RowValues → X) → List RowValues → List X → List RowValues → Type 0
+IsMade make all made left = made ++ map make left ≡ map make all
 
-module _ {X : Type 0} (make : RowValues → X) (kept : Cond) (all : List RowValues) (made : List X) (left : List RowValues) (row : RowValues) (rest : List RowValues) (step : left ≡ row ∷ rest) (is : IsMade make kept all made left) where
-  pub made_more : (x : X) (more : List X) → more ≡ made ++ x ∷ [] → x ≡ make row → keeps row [] kept ≡ true → IsMade make kept all more rest
-  made_more x more m e h =
-      ap (λ (xs : List X). xs ++ map make (kept_rows kept rest)) (m ∙ ap (λ (y : X). made ++ y ∷ []) e)
-      ∙ append_assoc made (make row ∷ []) (map make (kept_rows kept rest))
-      ∙ sym (ap (λ (rows : List RowValues). made ++ map make (kept_rows kept rows)) step ∙ ap (λ (rows : List RowValues). made ++ map make rows) (kept_first kept row rest h))
-      ∙ is
+pub made_more : {X : Type 0} (make : RowValues → X) (all : List RowValues) (made : List X) (left : List RowValues) (row : RowValues) (rest : List RowValues) → left ≡ row ∷ rest → IsMade make all made left
+    → (x : X) (more : List X) → more ≡ made ++ x ∷ [] → x ≡ make row → IsMade make all more rest
+made_more {X = X} make all made left row rest step is x more m e =
+    ap (λ (xs : List X). xs ++ map make rest) (m ∙ ap (λ (y : X). made ++ y ∷ []) e)
+    ∙ append_assoc made (make row ∷ []) (map make rest)
+    ∙ sym (ap (λ (rows : List RowValues). made ++ map make rows) step)
+    ∙ is
 
-  pub made_same : keeps row [] kept ≡ false → IsMade make kept all made rest
-  made_same h =
-      sym (ap (λ (rows : List RowValues). made ++ map make (kept_rows kept rows)) step ∙ ap (λ (rows : List RowValues). made ++ map make rows) (not_kept kept row rest h))
-      ∙ is
+-- when no row is left, all is made
+pub all_done : {X : Type 0} (make : RowValues → X) (all : List RowValues) (made : List X) (left : List RowValues) → left ≡ [] → IsMade make all made left → made ≡ map make all
+all_done make all made left e is = sym (append-nil made) ∙ sym (ap (λ (rows : List RowValues). made ++ map make rows) e) ∙ is
 
 -- what holds of all rows that are left holds of the next and of the others
 pub next_has : (P : RowValues → Type 0) (left : List RowValues) (row : RowValues) (rest : List RowValues) → left ≡ row ∷ rest → All P left → P row
@@ -53,21 +49,8 @@ all_made P make h [] = All-nil P
 all_made P make h (row ∷ rows) = All-cons P (make row) (map make rows) (h row) (all_made P make h rows)
 
 -- the first fault of an UPDATE, by what is left
-module _ (columns : List Column) (sets : List Setting) (kept : Cond) (left : List RowValues) (row : RowValues) (rest : List RowValues) (step : left ≡ row ∷ rest) where
-  pub fault_kept : (o : Option Refusal) → keeps row [] kept ≡ true → settings_fault columns sets row ≡ o → update_fault columns sets (kept_rows kept left) ≡ first_of o (update_fault columns sets (kept_rows kept rest))
-  fault_kept o h e =
-      ap (λ (rows : List RowValues). update_fault columns sets (kept_rows kept rows)) step
-      ∙ ap (λ (rows : List RowValues). update_fault columns sets rows) (kept_first kept row rest h)
-      ∙ ap (λ f. first_of f (update_fault columns sets (kept_rows kept rest))) e
-
-  pub fault_not_kept : keeps row [] kept ≡ false → update_fault columns sets (kept_rows kept left) ≡ update_fault columns sets (kept_rows kept rest)
-  fault_not_kept h =
-      ap (λ (rows : List RowValues). update_fault columns sets (kept_rows kept rows)) step
-      ∙ ap (λ (rows : List RowValues). update_fault columns sets rows) (not_kept kept row rest h)
-
--- when no row is left, all is made
-pub all_done : {X : Type 0} (make : RowValues → X) (kept : Cond) (all : List RowValues) (made : List X) (left : List RowValues) → left ≡ [] → IsMade make kept all made left → made ≡ map make (kept_rows kept all)
-all_done make kept all made left e is =
-    sym (append-nil made)
-    ∙ sym (ap (λ (rows : List RowValues). made ++ map make (kept_rows kept rows)) e)
-    ∙ is
+pub fault_left : (columns : List Column) (sets : List Setting) (left : List RowValues) (row : RowValues) (rest : List RowValues) → left ≡ row ∷ rest
+    → (o : Option Refusal) → settings_fault columns sets row ≡ o → update_fault columns sets left ≡ first_of o (update_fault columns sets rest)
+fault_left columns sets left row rest step o e =
+    ap (λ (rows : List RowValues). update_fault columns sets rows) step
+    ∙ ap (λ f. first_of f (update_fault columns sets rest)) e

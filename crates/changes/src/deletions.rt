@@ -12,8 +12,7 @@ ghost use Rattle.alone.specs.States.{AreDue, IsState};
 ghost use Rattle.alone.specs.Statements.{delete_effect, removal};
 ghost use Rattle.delta.specs.Views.{IsFitting};
 
-use crate::kept::is_kept;
-use crate::lookups::look_through;
+use crate::kept::kept_rows;
 use cond::Cond;
 use mvrows::Rows;
 use roots::value_at;
@@ -45,10 +44,8 @@ pub fn removals(
     ensures fit { IfOk result (λ made. (layouts : List Layout) → All (IsFitting layouts) made.items) }
 {
     let mut made = Vec::new(alloc);
-    for row in look_through(rows, key, kept) {
-        if is_kept(alloc, kept, row) {
-            made.push(removal(table, key, row)?)?;
-        }
+    for row in kept_rows(alloc, rows, key, kept) {
+        made.push(removal(table, key, row)?)?;
     }
     Ok(made)
 }

@@ -9,8 +9,8 @@
 //!   key order and then by assignments as they are written, refuses the whole ([`renewals`]).
 //! - A SELECT changes nothing, and lists what stands in such rows ([`selected_rows`]).
 //!
-//! A DELETE and an UPDATE whose condition has `key = literal` among the parts that AND joins at its top look that one
-//! row up, and else test all rows.
+//! Where a WHERE has `key = literal` among the parts that AND joins at its top, that one row is looked up, and else all
+//! rows are tested: one choice of rows for DELETE, UPDATE and SELECT.
 //!
 //! What is left of a statement then are *changes*: of each the table, a key, the row that stood there and the row
 //! that is to stand there. Everything above works with changes alone.

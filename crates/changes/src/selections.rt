@@ -1,41 +1,42 @@
 //! Rows that are selected.
 
-ghost use Rattle.std.specs.Prelude.{◌≡◌, [], All, IfOk, IsOkUnless, IsTrue};
+ghost use Rattle.std.specs.Prelude.{◌≡◌, ◌<◌, [], length, IfOk, IsOkUnless, IsTrue};
 ghost use Rattle.value.specs.declared.refusals.Refusal.TheVariants.{NoMemory};
-ghost use Rattle.cond.specs.Bounds.{IsSmallRow, is_bounded};
-ghost use Rattle.assertion.specs.Meaning.{kept_rows};
+ghost use Rattle.cond.specs.Bounds.{is_bounded};
+ghost use Rattle.assertion.specs.Meaning.{kept_rows, rows_of};
 ghost use Rattle.alone.specs.Statements.{selected_rows, selected_values};
 
-use crate::kept::is_kept;
+use crate::kept::kept_rows;
 use cond::Cond;
-use mvrows::Rows;
+use delta::View;
 use roots::value_at;
 use std::alloc::Global;
 use table::Row;
 use value::Refusal;
 
-/// What a SELECT lists: of each row that the condition keeps, in key order, what stands in these columns, in their
-/// order. A row that has no such column lists NULL there.
+/// What a SELECT lists: of each row of a table that the condition keeps, in key order, what stands in these columns, in
+/// their order. A row that has no such column lists NULL there. The view knows the table's key, under which its rows
+/// stand.
 ///
 /// # Errors
 ///
 /// [`Refusal::NoMemory`] alone.
 pub fn selected_rows(
     alloc: Global,
-    rows: &Rows,
+    view: &View,
+    table: usize,
     columns: &[usize],
     kept: &Cond,
 ) -> Result<Vec<Row>, Refusal>
     requires bounded { IsTrue (is_bounded [] kept.now) }
-    requires small { All IsSmallRow rows.now }
+    requires table_in { table < length view.now.state }
     ensures only_memory { IsOkUnless result NoMemory }
-    ensures listed { IfOk result (λ made. made.items ≡ selected_rows columns.now (kept_rows kept.now rows.now)) }
+    ensures listed { IfOk result (λ made. made.items
+        ≡ selected_rows columns.now (kept_rows kept.now (rows_of table view.now.state))) }
 {
     let mut made = Vec::new(alloc);
-    for row in rows.iter() {
-        if is_kept(alloc, kept, row) {
-            made.push(selected_values(alloc, columns, row)?)?;
-        }
+    for row in kept_rows(alloc, view.rows(table), view.schema(table).key(), kept) {
+        made.push(selected_values(alloc, columns, row)?)?;
     }
     Ok(made)
 }

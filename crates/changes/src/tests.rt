@@ -84,7 +84,7 @@ fn counts(alloc: Global, view: &View, kept: &Cond) -> Result<(usize, usize), Ref
         return Err(Refusal::TooWide);
     }
     let gone = removals(alloc, 0, view.schema(0).key(), view.rows(0), kept)?;
-    let selected = selected_rows(alloc, view.rows(0), &[0], kept)?;
+    let selected = selected_rows(alloc, view, 0, &[0], kept)?;
     Ok((gone.len(), selected.len()))
 }
 

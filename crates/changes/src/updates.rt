@@ -12,8 +12,7 @@ ghost use Rattle.alone.specs.States.{AreDue, IsState};
 ghost use Rattle.alone.specs.Statements.{given_fault, given_value, renewal, sets_key, settings_fault, update_effect, updated};
 ghost use Rattle.delta.specs.Views.{IsFitting, layout_at};
 
-use crate::kept::is_kept;
-use crate::lookups::look_through;
+use crate::kept::kept_rows;
 use crate::settings::given_value;
 use assertcheck::Setting;
 use cond::Cond;
@@ -56,10 +55,8 @@ pub fn renewals(
         → All (IsFitting layouts) made.items) }
 {
     let mut made = Vec::new(alloc);
-    for row in look_through(rows, schema.key(), kept) {
-        if is_kept(alloc, kept, row) {
-            made.push(renewal(alloc, table, schema, sets, row)?)?;
-        }
+    for row in kept_rows(alloc, rows, schema.key(), kept) {
+        made.push(renewal(alloc, table, schema, sets, row)?)?;
     }
     Ok(made)
 }

@@ -1,5 +1,5 @@
 -- One commit more: what is kept at hand is again what the commits determine.
-use Rattle.std.proofs.Common.{◌≡◌, ℕ, suc, ◌+◌, ◌<◌, ◌≤◌, Bool, true, false, cond, List, [], ◌∷◌, ◌++◌, None, map, length, reverse, refl, sym, ap, ◌∙◌, subst, arith, inl, inr}
+use Rattle.std.proofs.Common.{◌≡◌, ◌≢◌, ℕ, suc, ◌+◌, ◌<◌, ◌≤◌, Bool, true, false, cond, List, [], ◌∷◌, ◌++◌, None, map, length, reverse, refl, sym, ap, ◌∙◌, subst, arith, inl, inr}
 use Rattle.std.specs.Prelude.{◌==◌, All, Contains, nat_eq}
 use Rattle.std.specs.List.{IsDistinct}
 use Rattle.std.proofs.lemmas.List.{length-append, length-map, length-reverse, reverse-append}
@@ -12,7 +12,6 @@ use Rattle.assertion.specs.Meaning.{State}
 use Rattle.assertion.specs.Roots.{AreChangesOf, state_after_all}
 use Rattle.siread.specs.declared.keys.LockKey.{LockKey}
 use Rattle.siread.specs.Keys.{place_of}
-use Rattle.answer.specs.declared.answers.RefusedCommit.{RefusedCommit}
 use Rattle.alone.specs.Alone.{Outcome, run_on, transaction, transaction_keys}
 use Rattle.alone.specs.States.{AreDue, AreInOrder, IsPut, IsState, net_change, row_in}
 use Rattle.alone.proofs.Induction.{change_exact}
@@ -23,9 +22,9 @@ use Rattle.alone.proofs.Orders.{due_changes, net_in_order}
 use Rattle.delta.specs.Views.{AreTables, Shown}
 use Rattle.serial.specs.declared.records.Record.{Record}
 use Rattle.serial.specs.Answer.{IsAnswer, Number}
-use Rattle.serial.specs.Commits.{HasNoWriteConflict}
+use Rattle.serial.specs.Commits.{HasNoWriteConflict, IsLog}
 use Rattle.serial.specs.Epoch.{IsEpoch, keys_of, newest, put_in, run_of, state_of}
-use Rattle.serial.specs.Order.{least_out, put_before, serial_order}
+use Rattle.serial.specs.Order.{least_out, serial_order}
 use Rattle.serial.specs.Replay.{IsRecorded, state_after}
 use Rattle.serial.proofs.Changes.{share_row-at}
 use Rattle.serial.proofs.Kept.{order_is_distinct, places_more}
@@ -36,7 +35,8 @@ use Rattle.serial.proofs.Semantics.{history_nets}
 use Rattle.conflict.specs.Ordered.{put_number_before}
 use Rattle.conflict.proofs.Puts.{numbers_after}
 use Rattle.txn.specs.Transactions.{OpenTransaction, begun, keys_of as all_read, outcome_of, own_view}
-use Rattle.commit.specs.Cores.{CoreState, IsLive, newest_tables, record_of, with_commit}
+use Rattle.commit.specs.Cores.{CoreState, IsLive, committed, log_of, newest_tables, record_of, with_begun, with_commit}
+use Rattle.commit.proofs.Tickets.{fewer, held_last}
 use Rattle.commit.specs.Kept.{IsCore}
 
 pub log_with : (records : List Record) (commit : Record) → reverse (records ++ commit ∷ []) ≡ commit ∷ reverse records
@@ -46,15 +46,30 @@ log_with records commit = reverse-append records (commit ∷ [])
 pub tables_state : (layouts : List Layout) (state : State) → AreTables layouts state → IsState layouts state
 tables_state layouts state t = record { long = t.long; ordered = λ table. (t.each table).ascending }
 
-module _ (limit : ℕ) (loaded tables : Shown) (records : List Record) (places order : List ℕ) (refused : List RefusedCommit)
-    (core : IsCore limit loaded tables records places order) where
-  abbrev now : CoreState
-  now = record { limit = limit; declared = loaded.declared; start = loaded.state; records = records; refused = refused }
+-- what holds of the number of each commit holds of each number in the serial order
+each_before : (P : ℕ → Type 0) (place number : ℕ) (order : List ℕ) → P number → Each P order → Each P (put_number_before place number order)
+each_before P place number [] h e = (h, tt)
+each_before P place number (other ∷ rest) h e =
+    let go : (b : Bool) → Each P (cond b (number ∷ other ∷ rest) (other ∷ put_number_before place number rest)) = λ b. elim b as (λ b. Each P (cond b (number ∷ other ∷ rest) (other ∷ put_number_before place number rest))) [
+      | true ↦ (h, e)
+      | false ↦ (e.0, each_before P place number rest h e.1)
+    ] in
+    go (other == place)
+
+each_ordered : (P : ℕ → Type 0) (log : List Record) → IsLog log → Each (λ (w : Record). P w.number) log → Each P (map (λ (r : Record). r.number) (serial_order log))
+each_ordered P [] l e = tt
+each_ordered P (commit ∷ earlier) l e =
+    subst (Each P) (sym (numbers_after commit earlier l))
+    (each_before P (least_out earlier commit) commit.number (map (λ (r : Record). r.number) (serial_order earlier)) e.0 (each_ordered P earlier l.1 e.1))
+
+module _ (now : CoreState) (tables : Shown) (places order : List ℕ) (core : IsCore now tables places order) where
+  abbrev records : List Record
+  records = now.records
 
   abbrev log : List Record
-  log = reverse records
+  log = log_of now
 
-  below : Each (λ w. w.number < length records + 1) log
+  pub below : Each (λ w. w.number < length records + 1) log
   below =
       let long = length-reverse records in
       each_weaker (λ w. w.number < suc (length log)) (λ w. w.number < length records + 1) (λ w l. omega arith) log (numbers_below log core.epoch.accepted)
@@ -62,12 +77,22 @@ module _ (limit : ℕ) (loaded tables : Shown) (records : List Record) (places o
   pub order_distinct : IsDistinct nat_eq order
   order_distinct = subst (IsDistinct nat_eq) (sym core.order_is) (order_is_distinct log core.epoch.accepted)
 
-  -- the tables after all commits are those after their number
-  newest_at : state_of loaded.declared loaded.state log (length records) ≡ newest loaded.declared loaded.state log
-  newest_at = ap (newest loaded.declared loaded.state) (held_all (length records) log (each_weaker (λ w. w.number < length records + 1) (λ w. w.number ≤ length records) (λ w l. omega arith) log below))
+  -- the next number is not in the order yet
+  pub order_fresh : All (λ other. other ≢ length records + 1) order
+  order_fresh =
+      let P : ℕ → Type 0 = λ other. other ≢ length records + 1 in
+      subst (All P) (sym core.order_is)
+      (All-from_recursion P (map (λ (r : Record). r.number) (serial_order log)) (each_ordered P log core.epoch.accepted
+      (each_weaker (λ (w : Record). w.number < length records + 1) (λ (w : Record). P w.number) (λ w l e. omega (arith, l, e)) log below)))
 
-  pub begun_live : IsLive now (begun 0 (length records) tables)
+  -- the tables after all commits are those after their number
+  newest_at : state_of now.declared now.start log (length records) ≡ newest now.declared now.start log
+  newest_at = ap (newest now.declared now.start) (held_all (length records) log (each_weaker (λ w. w.number < length records + 1) (λ w. w.number ≤ length records) (λ w l. omega arith) log below))
+
+  -- a transaction that begins
+  pub begun_live : IsLive (with_begun now) (begun now.live.begun (length records) tables)
   begun_live = record {
+    held = held_last now.live (length records);
     declared_is = ap (λ (s : Shown). s.declared) core.newest_is;
     within = omega arith;
     start_is = ap (λ (s : Shown). s.state) core.newest_is ∙ sym newest_at;
@@ -78,36 +103,36 @@ module _ (limit : ℕ) (loaded tables : Shown) (records : List Record) (places o
     commit = record_of now session t
 
     abbrev at_start : State
-    at_start = state_of loaded.declared loaded.state log t.snapshot
+    at_start = state_of now.declared now.start log t.snapshot
 
-    outcome_is : outcome_of t ≡ transaction loaded.declared t.trace at_start
+    outcome_is : outcome_of t ≡ transaction now.declared t.trace at_start
     outcome_is = λ i. transaction (live.declared_is i) t.trace (live.start_is i)
 
-    reads_are : all_read t ≡ transaction_keys loaded.declared t.trace at_start
+    reads_are : all_read t ≡ transaction_keys now.declared t.trace at_start
     reads_are = λ i. transaction_keys (live.declared_is i) t.trace (live.start_is i)
 
-    changes_are : commit.changes ≡ net_change (layouts_in loaded.declared) at_start (run_on loaded.declared t.trace at_start).final.view
+    changes_are : commit.changes ≡ net_change (layouts_in now.declared) at_start (run_on now.declared t.trace at_start).final.view
     changes_are = ap (λ (o : Outcome). o.changes) outcome_is
 
     -- its changes are of tables that there are
-    pub tables_in : All (λ (change : Change). change.table < length (names_of loaded.declared.tables)) commit.changes
+    pub tables_in : All (λ (change : Change). change.table < length (names_of now.declared.tables)) commit.changes
     tables_in =
-        let P : Change → Type 0 = λ change. change.table < length (names_of loaded.declared.tables) in
+        let P : Change → Type 0 = λ change. change.table < length (names_of now.declared.tables) in
         All-from_recursion P commit.changes (each_from P commit.changes (λ change m.
-        let within = (net_exact (layouts_in loaded.declared) at_start (run_on loaded.declared t.trace at_start).final.view change (subst (λ cs. Contains cs change) changes_are m)).1 in
-        let names = length-map loaded.declared.tables (λ p. p.0) in
-        let layouts = length-map loaded.declared.tables (λ p. p.1) in
+        let within = (net_exact (layouts_in now.declared) at_start (run_on now.declared t.trace at_start).final.view change (subst (λ cs. Contains cs change) changes_are m)).1 in
+        let names = length-map now.declared.tables (λ p. p.0) in
+        let layouts = length-map now.declared.tables (λ p. p.1) in
         omega arith))
 
-    recorded : (outcome_of t).refused ≡ None → IsRecorded at_start (run_of loaded.declared) (keys_of loaded.declared) commit
+    recorded : (outcome_of t).refused ≡ None → IsRecorded at_start (run_of now.declared) (keys_of now.declared) commit
     recorded none = record {
       accepted = sym (ap (λ (o : Outcome). o.refused) outcome_is) ∙ none;
       changes = sym changes_are;
-      reads = among_from (transaction_keys loaded.declared t.trace at_start) (all_read t) (λ key m. subst (λ ks. Contains ks key) (sym reads_are) m);
-      reads_no_more = among_from (all_read t) (transaction_keys loaded.declared t.trace at_start) (λ key m. subst (λ ks. Contains ks key) reads_are m);
+      reads = among_from (transaction_keys now.declared t.trace at_start) (all_read t) (λ key m. subst (λ ks. Contains ks key) (sym reads_are) m);
+      reads_no_more = among_from (all_read t) (transaction_keys now.declared t.trace at_start) (λ key m. subst (λ ks. Contains ks key) reads_are m);
     }
 
-    epoch_next : IsAnswer log commit (Number (length records + 1)) → (outcome_of t).refused ≡ None → IsEpoch loaded.declared loaded.state (commit ∷ log)
+    epoch_next : IsAnswer log commit (Number (length records + 1)) → (outcome_of t).refused ≡ None → IsEpoch now.declared now.start (commit ∷ log)
     epoch_next answer none = record {
       admitted = core.epoch.admitted;
       accepted = (
@@ -124,55 +149,56 @@ module _ (limit : ℕ) (loaded tables : Shown) (records : List Record) (places o
 
     -- its net change may be put into the newest tables
     module _ (free : HasNoWriteConflict log commit) where
-      due : AreDue (layouts_in loaded.declared) commit.changes tables.state
+      due : AreDue (layouts_in now.declared) commit.changes tables.state
       due =
-          let final : State = (run_on loaded.declared t.trace at_start).final.view in
+          let final : State = (run_on now.declared t.trace at_start).final.view in
           record {
-            in_order = subst AreInOrder (sym changes_are) (net_in_order (layouts_in loaded.declared) at_start final);
+            in_order = subst AreInOrder (sym changes_are) (net_in_order (layouts_in now.declared) at_start final);
             exact = λ change m.
-                ap (λ (s : Shown). row_in (layouts_in loaded.declared) s.state (place_of change)) core.newest_is
-                ∙ unwritten loaded.declared loaded.state core.epoch.admitted.fit log (history_nets loaded.declared loaded.state log core.epoch.history) (log_falls log core.epoch.accepted) t.snapshot (place_of change)
+                ap (λ (s : Shown). row_in (layouts_in now.declared) s.state (place_of change)) core.newest_is
+                ∙ unwritten now.declared now.start core.epoch.admitted.fit log (history_nets now.declared now.start log core.epoch.history) (log_falls log core.epoch.accepted) t.snapshot (place_of change)
                 (λ other d listed later md same. free other listed (record { after_snapshot = later; common = share_row-at commit.changes other.changes (place_of change) change d m refl md same }))
-                ∙ change_exact loaded.declared t.trace at_start change (subst (λ cs. Contains cs change) changes_are m);
-            puts = each_at (IsPut (layouts_in loaded.declared)) commit.changes
-                (subst (Each (IsPut (layouts_in loaded.declared))) (sym changes_are) (net_puts (layouts_in loaded.declared) at_start final));
+                ∙ change_exact now.declared t.trace at_start change (subst (λ cs. Contains cs change) changes_are m);
+            puts = each_at (IsPut (layouts_in now.declared)) commit.changes
+                (subst (Each (IsPut (layouts_in now.declared))) (sym changes_are) (net_puts (layouts_in now.declared) at_start final));
           }
 
       pub puts : AreChangesOf (layouts_in tables.declared) commit.changes tables.state
       puts = subst (λ (d : Declared). AreChangesOf (layouts_in d) commit.changes tables.state) (sym (ap (λ (s : Shown). s.declared) core.newest_is))
-          (due_changes (layouts_in loaded.declared) tables.state
-          (subst (λ (s : Shown). IsState (layouts_in loaded.declared) s.state) (sym core.newest_is) (newest_fits loaded.declared loaded.state core.epoch.admitted.fit log (history_nets loaded.declared loaded.state log core.epoch.history)))
+          (due_changes (layouts_in now.declared) tables.state
+          (subst (λ (s : Shown). IsState (layouts_in now.declared) s.state) (sym core.newest_is) (newest_fits now.declared now.start core.epoch.admitted.fit log (history_nets now.declared now.start log core.epoch.history)))
           commit.changes due)
 
     -- put in, it gives the newest tables
     pub put_is : record { declared = tables.declared; state = state_after_all (layouts_in tables.declared) commit.changes tables.state } ≡ newest_tables (with_commit now commit)
     put_is =
         (λ i. record { declared = (core.newest_is i).declared; state = state_after_all (layouts_in (core.newest_is i).declared) commit.changes (core.newest_is i).state })
-        ∙ ap (λ log. record { declared = loaded.declared; state = newest loaded.declared loaded.state log }) (sym (log_with records commit))
+        ∙ ap (λ log. record { declared = now.declared; state = newest now.declared now.start log }) (sym (log_with records commit))
 
     -- where its snapshot is of the newest tables, they are its own view
     pub own_is : t.snapshot ≡ length records → IsState (layouts_in t.declared) (own_view t).state → own_view t ≡ newest_tables (with_commit now commit)
     own_is last fit =
-        let at_newest : at_start ≡ newest loaded.declared loaded.state log = ap (state_of loaded.declared loaded.state log) last ∙ newest_at in
-        let start_fits : IsState (layouts_in loaded.declared) at_start = subst (IsState (layouts_in loaded.declared)) (sym at_newest)
-        (newest_fits loaded.declared loaded.state core.epoch.admitted.fit log (history_nets loaded.declared loaded.state log core.epoch.history)) in
-        let same : own_view t ≡ record { declared = loaded.declared; state = (run_on loaded.declared t.trace at_start).final.view }
+        let at_newest : at_start ≡ newest now.declared now.start log = ap (state_of now.declared now.start log) last ∙ newest_at in
+        let start_fits : IsState (layouts_in now.declared) at_start = subst (IsState (layouts_in now.declared)) (sym at_newest)
+        (newest_fits now.declared now.start core.epoch.admitted.fit log (history_nets now.declared now.start log core.epoch.history)) in
+        let same : own_view t ≡ record { declared = now.declared; state = (run_on now.declared t.trace at_start).final.view }
         = λ i. record { declared = live.declared_is i; state = (run_on (live.declared_is i) t.trace (live.start_is i)).final.view } in
-        let fits : IsState (layouts_in loaded.declared) (run_on loaded.declared t.trace at_start).final.view
+        let fits : IsState (layouts_in now.declared) (run_on now.declared t.trace at_start).final.view
         = subst (λ (s : Shown). IsState (layouts_in s.declared) s.state) same fit in
         same
-        ∙ ap (λ state. record { declared = loaded.declared; state = state })
-        (sym (put_net (layouts_in loaded.declared) at_start _ start_fits fits)
-        ∙ ap (λ cs. state_after_all (layouts_in loaded.declared) cs at_start) (sym changes_are)
-        ∙ ap (state_after_all (layouts_in loaded.declared) commit.changes) at_newest)
-        ∙ ap (λ log. record { declared = loaded.declared; state = newest loaded.declared loaded.state log }) (sym (log_with records commit))
+        ∙ ap (λ state. record { declared = now.declared; state = state })
+        (sym (put_net (layouts_in now.declared) at_start _ start_fits fits)
+        ∙ ap (λ cs. state_after_all (layouts_in now.declared) cs at_start) (sym changes_are)
+        ∙ ap (state_after_all (layouts_in now.declared) commit.changes) at_newest)
+        ∙ ap (λ log. record { declared = now.declared; state = newest now.declared now.start log }) (sym (log_with records commit))
 
-    pub core_next : (view : Shown) (place : ℕ) (after : List ℕ) → (outcome_of t).refused ≡ None → (length records == limit) ≡ false
+    -- after it
+    pub core_next : (view : Shown) (place : ℕ) (after : List ℕ) → (outcome_of t).refused ≡ None → (length records == now.limit) ≡ false
         → IsAnswer log commit (Number (length records + 1)) → view ≡ newest_tables (with_commit now commit)
         → place ≡ least_out log commit → after ≡ put_number_before place (length records + 1) order
-        → IsCore limit loaded view (records ++ commit ∷ []) (places ++ place ∷ []) after
+        → IsCore (committed now session t) view (places ++ place ∷ []) after
     core_next view place after none room answer is there put = record {
-      epoch = subst (IsEpoch loaded.declared loaded.state) (sym (log_with records commit)) (epoch_next answer none);
+      epoch = subst (IsEpoch now.declared now.start) (sym (log_with records commit)) (epoch_next answer none);
       newest_is = is;
       places_are =
           ap (λ p. places ++ p ∷ []) there
@@ -186,4 +212,5 @@ module _ (limit : ℕ) (loaded tables : Shown) (records : List Record) (places o
           ∙ ap (λ log. map (λ (r : Record). r.number) (serial_order log)) (sym (log_with records commit));
       within = (let within = core.within in let long = length-append records (commit ∷ []) in let other = eqb-false _ _ room in omega arith);
       small = core.small;
+      tickets = fewer now.live t.ticket core.tickets;
     }

@@ -11,8 +11,8 @@ use Rattle.alone.specs.Checks.{refusal_at, violation}
 use Rattle.serial.specs.declared.records.Record.{Record}
 use Rattle.serial.specs.Answer.{IsAnswer, Number}
 use Rattle.txn.specs.Transactions.{OpenTransaction, outcome_of}
-use Rattle.commit.specs.declared.cores.Decision.{Decision}
-use Rattle.commit.specs.declared.cores.Decision.TheVariants.{Accepted, Refused}
+use Rattle.commit.specs.declared.decisions.Decision.{Decision}
+use Rattle.commit.specs.declared.decisions.Decision.TheVariants.{Accepted, Refused}
 use Rattle.commit.specs.Cores.{CoreState, IsDecided, IsJudged, log_of, record_of}
 use Rattle.commit.specs.Decisions.{IsDecision, IsJudgment}
 

@@ -1,5 +1,8 @@
-pub mod Deciding
-pub mod Weighing
+pub mod Tickets
+pub mod Locking
 pub mod Accepting
-pub mod Living
+pub mod Keeping
 pub mod Answering
+pub mod Deciding
+pub mod Living
+pub mod Weighing

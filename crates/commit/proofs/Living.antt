@@ -1,8 +1,8 @@
--- Open transactions live on as others are committed.
-use Rattle.std.proofs.Common.{◌≡◌, ◌<◌, ℕ, Bool, true, false, cond, List, [], ◌∷◌, ◌++◌, Option, Some, None, Result, Ok, Err, length, reverse, inl, inr, refl, sym, ap, ◌∙◌, subst, arith}
-use Rattle.std.specs.Prelude.{All, slice_get, slice_set, OnOk, OnErr, IfOk, IsOkUnless}
+-- Open transactions live on as others begin, are committed, and end.
+use Rattle.std.proofs.Common.{◌≡◌, ◌<◌, ◌+◌, ℕ, zero, suc, Bool, true, false, cond, List, [], ◌∷◌, ◌++◌, Option, Some, None, Result, Ok, Err, length, reverse, inl, inr, refl, sym, ap, ◌∙◌, subst, arith}
+use Rattle.std.specs.Prelude.{◌⊎◌, slice_get, slice_set, OnOk, OnErr, IfOk, IsOkUnless}
+use Rattle.std.proofs.lemmas.Bool.{cases_eq}
 use Rattle.std.proofs.lemmas.List.{length-append, reverse-append}
-use Rattle.std.proofs.lemmas.List.Elements.{All-nil, All-push, All-set, All-weaker}
 use Rattle.value.specs.Ordered.{HoldsOf}
 use Rattle.value.specs.declared.refusals.Refusal.{Refusal}
 use Rattle.value.specs.declared.refusals.Refusal.TheVariants.{NoMemory}
@@ -11,16 +11,35 @@ use Rattle.statement_syntax.specs.declared.statements.Event.{Event}
 use Rattle.statement_syntax.specs.declared.statements.Event.TheVariants.{Begin, Commit, Rollback, Run}
 use Rattle.answer.specs.declared.answers.Answer.{Answer}
 use Rattle.answer.specs.declared.answers.Answer.TheVariants.{Begun, Committed, Refused, Replied, RolledBack}
+use Rattle.live.specs.Live.{AreBelow}
 use Rattle.serial.specs.Epoch.{newest, state_of}
 use Rattle.serial.proofs.Replays.{held_same}
 use Rattle.txn.specs.Transactions.{OpenTransaction}
 use Rattle.commit.specs.declared.seats.Seat.{Seat}
-use Rattle.commit.specs.Cores.{CoreState, IsLive, log_of, record_of, with_commit, with_refusal}
+use Rattle.commit.specs.Cores.{CoreState, IsLive, committed, ended, log_of, record_of, refused_to, with_begun, with_commit}
 use Rattle.commit.specs.Runs.{all_seated, free_seat, seated, unless_seated}
 use Rattle.commit.specs.Events.{AreLive, EngineState, IsAnswered, IsAnsweredAt, IsReply, after, after_at, core_after, decided_core, found_no_memory, seat_of, seats_set, told, txn_after, txn_of}
+use Rattle.commit.proofs.Tickets.{fewer, held_more, held_other, one_more, ticket_below}
 
-live_with : (c : CoreState) (session : List ℕ) (t other : OpenTransaction) → IsLive c other → IsLive (with_commit c (record_of c session t)) other
-live_with c session t other l = record {
+live_begun : (c : CoreState) (other : OpenTransaction) → IsLive c other → IsLive (with_begun c) other
+live_begun c other l = record {
+  held = held_more c.live (length c.records) (record { ticket = other.ticket; snapshot = other.snapshot }) l.held;
+  declared_is = l.declared_is;
+  within = l.within;
+  start_is = l.start_is;
+}
+
+live_ended : (c : CoreState) (t other : OpenTransaction) → (other.ticket ≡ t.ticket → ⊥) → IsLive c other → IsLive (ended c t) other
+live_ended c t other apart l = record {
+  held = held_other c.live t.ticket (record { ticket = other.ticket; snapshot = other.snapshot }) apart l.held;
+  declared_is = l.declared_is;
+  within = l.within;
+  start_is = l.start_is;
+}
+
+live_committed : (c : CoreState) (session : List ℕ) (t other : OpenTransaction) → (other.ticket ≡ t.ticket → ⊥) → IsLive c other → IsLive (committed c session t) other
+live_committed c session t other apart l = record {
+  held = held_other c.live t.ticket (record { ticket = other.ticket; snapshot = other.snapshot }) apart l.held;
   declared_is = l.declared_is;
   within = (let within = l.within in let long = length-append c.records (record_of c session t ∷ []) in omega arith);
   start_is = l.start_is
@@ -28,44 +47,164 @@ live_with c session t other l = record {
       ∙ ap (λ log. state_of c.declared c.start log other.snapshot) (sym (reverse-append c.records (record_of c session t ∷ [])));
 }
 
-live_still : (c : CoreState) (session : List ℕ) (refusal : Refusal) (other : OpenTransaction) → IsLive c other → IsLive (with_refusal c session refusal) other
-live_still c session refusal other l = record { declared_is = l.declared_is; within = l.within; start_is = l.start_is }
+live_refused : (c : CoreState) (session : List ℕ) (t : OpenTransaction) (refusal : Refusal) (other : OpenTransaction) → (other.ticket ≡ t.ticket → ⊥) → IsLive c other → IsLive (refused_to c session t refusal) other
+live_refused c session t refusal other apart l = record {
+  held = held_other c.live t.ticket (record { ticket = other.ticket; snapshot = other.snapshot }) apart l.held;
+  declared_is = l.declared_is;
+  within = l.within;
+  start_is = l.start_is;
+}
 
-live_decided : (c : CoreState) (session : List ℕ) (t : OpenTransaction) (answer : Answer) (other : OpenTransaction) → IsLive c other → IsLive (decided_core c session t answer) other
-live_decided c session t (Begun number) other l = l
-live_decided c session t (Replied reply) other l = l
-live_decided c session t (Committed number) other l = live_with c session t other l
-live_decided c session t RolledBack other l = l
-live_decided c session t (Refused refusal) other l = live_still c session refusal other l
+live_decided : (c : CoreState) (session : List ℕ) (t : OpenTransaction) (answer : Answer) (other : OpenTransaction) → (other.ticket ≡ t.ticket → ⊥) → IsLive c other → IsLive (decided_core c session t answer) other
+live_decided c session t (Begun number) other apart l = l
+live_decided c session t (Replied reply) other apart l = l
+live_decided c session t (Committed number) other apart l = live_committed c session t other apart l
+live_decided c session t RolledBack other apart l = l
+live_decided c session t (Refused refusal) other apart l = live_refused c session t refusal other apart l
+
+-- another transaction than the one of a seat
+abbrev IsApart : Option OpenTransaction → OpenTransaction → Type 0
+IsApart txn other = (t : OpenTransaction) → txn ≡ Some t → other.ticket ≡ t.ticket → ⊥
 
 -- as an event is answered
-pub live_after : (c : CoreState) (session : List ℕ) (event : Event) (txn : Option OpenTransaction) (answer : Answer) (other : OpenTransaction) → IsLive c other → IsLive (core_after c session event txn answer) other
-live_after c session Begin txn answer other l = l
-live_after c session (Run statement) txn answer other l = l
-live_after c session Commit None answer other l = l
-live_after c session Commit (Some t) answer other l = live_decided c session t answer other l
-live_after c session Rollback txn answer other l = l
+live_after : (c : CoreState) (session : List ℕ) (event : Event) (txn : Option OpenTransaction) (answer : Answer) (other : OpenTransaction) → IsApart txn other → IsLive c other → IsLive (core_after c session event txn answer) other
+live_after c session Begin None answer other apart l = live_begun c other l
+live_after c session Begin (Some t) answer other apart l = l
+live_after c session (Run statement) txn answer other apart l = l
+live_after c session Commit None answer other apart l = l
+live_after c session Commit (Some t) answer other apart l = live_decided c session t answer other (apart t refl) l
+live_after c session Rollback None answer other apart l = l
+live_after c session Rollback (Some t) answer other apart l = live_ended c t other (apart t refl) l
 
-holds_map : (P Q : OpenTransaction → Type 0) → ((t : OpenTransaction) → P t → Q t) → (txn : Option OpenTransaction) → HoldsOf P txn → HoldsOf Q txn
-holds_map P Q f None h = tt
-holds_map P Q f (Some t) h = f t h
+below_decided : (c : CoreState) (session : List ℕ) (t : OpenTransaction) (answer : Answer) → AreBelow c.live.begun c.live.snapshots
+    → AreBelow (decided_core c session t answer).live.begun (decided_core c session t answer).live.snapshots
+below_decided c session t (Begun number) below = below
+below_decided c session t (Replied reply) below = below
+below_decided c session t (Committed number) below = fewer c.live t.ticket below
+below_decided c session t RolledBack below = below
+below_decided c session t (Refused refusal) below = fewer c.live t.ticket below
+
+below_after : (c : CoreState) (session : List ℕ) (event : Event) (txn : Option OpenTransaction) (answer : Answer) → AreBelow c.live.begun c.live.snapshots
+    → AreBelow (core_after c session event txn answer).live.begun (core_after c session event txn answer).live.snapshots
+below_after c session Begin None answer below = one_more c.live (length c.records) below
+below_after c session Begin (Some t) answer below = below
+below_after c session (Run statement) txn answer below = below
+below_after c session Commit None answer below = below
+below_after c session Commit (Some t) answer below = below_decided c session t answer below
+below_after c session Rollback None answer below = below
+below_after c session Rollback (Some t) answer below = fewer c.live t.ticket below
+
+idle_decided : (c : CoreState) (session : List ℕ) (t : OpenTransaction) (answer : Answer) → c.prepared ≡ None → (decided_core c session t answer).prepared ≡ None
+idle_decided c session t (Begun number) idle = idle
+idle_decided c session t (Replied reply) idle = idle
+idle_decided c session t (Committed number) idle = idle
+idle_decided c session t RolledBack idle = idle
+idle_decided c session t (Refused refusal) idle = idle
+
+idle_after : (c : CoreState) (session : List ℕ) (event : Event) (txn : Option OpenTransaction) (answer : Answer) → c.prepared ≡ None → (core_after c session event txn answer).prepared ≡ None
+idle_after c session Begin None answer idle = idle
+idle_after c session Begin (Some t) answer idle = idle
+idle_after c session (Run statement) txn answer idle = idle
+idle_after c session Commit None answer idle = idle
+idle_after c session Commit (Some t) answer idle = idle_decided c session t answer idle
+idle_after c session Rollback None answer idle = idle
+idle_after c session Rollback (Some t) answer idle = idle
+
+abbrev ticket_or : ℕ → Option OpenTransaction → ℕ
+ticket_or n None = n
+ticket_or n (Some t) = t.ticket
+
+-- what is open after an event has just begun, or its ticket is that of what was open before
+abbrev IsFrom : CoreState → Option OpenTransaction → OpenTransaction → Type 0
+IsFrom c txn t = (t.ticket ≡ c.live.begun) ⊎ ((old : OpenTransaction) × (txn ≡ Some old) × (old.ticket ≡ t.ticket))
+
+is_from : (c : CoreState) (event : Event) (txn : Option OpenTransaction) (t : OpenTransaction) → txn_after c event txn ≡ Some t → IsFrom c txn t
+is_from c Begin None t e = inl (sym (ap (ticket_or 0) e))
+is_from c Begin (Some old) t e = inr (old, refl, ap (ticket_or 0) e)
+is_from c (Run statement) None t e = let no : ⊥ = cc in absurd no
+is_from c (Run statement) (Some old) t e = inr (old, refl, ap (ticket_or 0) e)
+is_from c Commit txn t e = let no : ⊥ = cc in absurd no
+is_from c Rollback txn t e = let no : ⊥ = cc in absurd no
+
+holds_at : (P : OpenTransaction → Type 0) (txn : Option OpenTransaction) (t : OpenTransaction) → HoldsOf P txn → txn ≡ Some t → P t
+holds_at P txn t h e = subst (HoldsOf P) e h
+
+pub holds_of : (P : OpenTransaction → Type 0) (txn : Option OpenTransaction) → ((t : OpenTransaction) → txn ≡ Some t → P t) → HoldsOf P txn
+holds_of P None f = tt
+holds_of P (Some t) f = f t refl
+
+-- what stands in a list of seats with one set
+set_there : {X : Type 0} (xs : List X) (place : ℕ) (x : X) → place < length xs → slice_get (slice_set xs place x) place ≡ Some x
+set_there [] place x within = let no : ⊥ = omega arith in absurd no
+set_there (y ∷ ys) zero x within = refl
+set_there (y ∷ ys) (suc place) x within = set_there ys place x (omega arith)
+
+set_elsewhere : {X : Type 0} (xs : List X) (other place : ℕ) (x : X) → (other ≡ place → ⊥) → slice_get (slice_set xs place x) other ≡ slice_get xs other
+set_elsewhere [] other place x apart = refl
+set_elsewhere (y ∷ ys) zero zero x apart = absurd (apart refl)
+set_elsewhere (y ∷ ys) zero (suc place) x apart = refl
+set_elsewhere (y ∷ ys) (suc other) zero x apart = refl
+set_elsewhere (y ∷ ys) (suc other) (suc place) x apart = set_elsewhere ys other place x (λ e. apart (ap suc e))
 
 -- What an event leaves, whose session has this seat.
 module _ (now : EngineState) (step : Step) (place : ℕ) (seat : Seat) (core : CoreState) (left : Seat) where
-  abbrev pub Mono : Type 0
-  Mono = (other : OpenTransaction) → IsLive now.core other → IsLive core other
+  module _ (live : AreLive now.core now.seats) (within : place < length now.seats) (there : slice_get now.seats place ≡ Some seat) where
+    -- the transaction of this seat
+    here : (i : ℕ) (t : OpenTransaction) → i ≡ place → txn_of (slice_get (slice_set now.seats place left) i) ≡ Some t → left.txn ≡ Some t
+    here i t e h = sym (ap txn_of (ap (slice_get (slice_set now.seats place left)) e ∙ set_there now.seats place left within)) ∙ h
 
-  mono : (answered : Result Answer Refusal) → IfOk answered (λ answer. core ≡ core_after now.core step.session step.event seat.txn answer)
-      → OnErr answered ((core ≡ now.core) × (left ≡ seat)) → Mono
-  mono (Ok answer) e f other l = subst (λ c. IsLive c other) (sym e) (live_after now.core step.session step.event seat.txn answer other l)
-  mono (Err refusal) e f other l = subst (λ c. IsLive c other) (sym f.0) l
+    -- and of another
+    there_still : (i : ℕ) (t : OpenTransaction) → (i ≡ place → ⊥) → txn_of (slice_get (slice_set now.seats place left) i) ≡ Some t → txn_of (slice_get now.seats i) ≡ Some t
+    there_still i t apart h = sym (ap txn_of (set_elsewhere now.seats i place left apart)) ∙ h
 
-  pub all_live : (answered : Result Answer Refusal) → IfOk answered (λ answer. core ≡ core_after now.core step.session step.event seat.txn answer)
-      → OnErr answered ((core ≡ now.core) × (left ≡ seat)) → AreLive now.core now.seats → HoldsOf (IsLive core) left.txn → AreLive core (slice_set now.seats place left)
-  all_live answered e f live own = record {
-    each = All-set (λ (s : Seat). HoldsOf (IsLive core) s.txn) now.seats place left own
-        (All-weaker (λ (s : Seat). HoldsOf (IsLive now.core) s.txn) (λ (s : Seat). HoldsOf (IsLive core) s.txn) (λ s h. holds_map (IsLive now.core) (IsLive core) (mono answered e f) s.txn h) now.seats live.each);
-  }
+    seat_txn : (old : OpenTransaction) → seat.txn ≡ Some old → txn_of (slice_get now.seats place) ≡ Some old
+    seat_txn old e = ap txn_of there ∙ e
+
+    none_of : (i j : ℕ) (t u : OpenTransaction) → (j ≡ place → ⊥) → txn_of (slice_get now.seats j) ≡ Some u → t.ticket ≡ u.ticket → IsFrom now.core seat.txn t → ⊥
+    none_of i j t u apart g e (inl new) =
+        let low = ticket_below now.core.live (record { ticket = u.ticket; snapshot = u.snapshot }) live.begun (live.each j u g).held in
+        omega (arith, low, new, e)
+    none_of i j t u apart g e (inr old) = apart (sym (live.apart place j old.0 u (seat_txn old.0 old.1) g (old.2 ∙ e)))
+
+    -- no other has the ticket of what is open in this seat then
+    no_other : (from : (t : OpenTransaction) → left.txn ≡ Some t → IsFrom now.core seat.txn t) (i j : ℕ) (t u : OpenTransaction) → i ≡ place → (j ≡ place → ⊥)
+        → left.txn ≡ Some t → txn_of (slice_get now.seats j) ≡ Some u → t.ticket ≡ u.ticket → ⊥
+    no_other from i j t u at apart h g e = none_of i j t u apart g e (from t h)
+
+    case_each : (answer : Answer) → core ≡ core_after now.core step.session step.event seat.txn answer → HoldsOf (IsLive core) left.txn
+        → (i : ℕ) (t : OpenTransaction) → txn_of (slice_get (slice_set now.seats place left) i) ≡ Some t → (i ≡ place) ⊎ (i ≡ place → ⊥) → IsLive core t
+    case_each answer e own i t h (inl same) = holds_at (IsLive core) left.txn t own (here i t same h)
+    case_each answer e own i t h (inr other) =
+        let was = there_still i t other h in
+        subst (λ c. IsLive c t) (sym e) (live_after now.core step.session step.event seat.txn answer t
+        (λ u is same. other (live.apart i place t u was (seat_txn u is) same)) (live.each i t was))
+
+    case_apart : (from : (t : OpenTransaction) → left.txn ≡ Some t → IsFrom now.core seat.txn t) (i j : ℕ) (t u : OpenTransaction)
+        → txn_of (slice_get (slice_set now.seats place left) i) ≡ Some t → txn_of (slice_get (slice_set now.seats place left) j) ≡ Some u → t.ticket ≡ u.ticket
+        → (i ≡ place) ⊎ (i ≡ place → ⊥) → (j ≡ place) ⊎ (j ≡ place → ⊥) → i ≡ j
+    case_apart from i j t u h g same (inl at) (inl also) = at ∙ sym also
+    case_apart from i j t u h g same (inl at) (inr other) = absurd (no_other from i j t u at other (here i t at h) (there_still j u other g) same)
+    case_apart from i j t u h g same (inr other) (inl at) = absurd (no_other from j i u t at other (here j u at g) (there_still i t other h) (sym same))
+    case_apart from i j t u h g same (inr other) (inr also) = live.apart i j t u (there_still i t other h) (there_still j u also g) same
+
+    all_answered : (answer : Answer) → core ≡ core_after now.core step.session step.event seat.txn answer → left ≡ record seat { txn = txn_after now.core step.event seat.txn }
+        → HoldsOf (IsLive core) left.txn → AreLive core (slice_set now.seats place left)
+    all_answered answer e f own =
+        let from : (t : OpenTransaction) → left.txn ≡ Some t → IsFrom now.core seat.txn t = λ t h. is_from now.core step.event seat.txn t (sym (ap (λ (s : Seat). s.txn) f) ∙ h) in
+        record {
+          each = λ i t h. case_each answer e own i t h (cases_eq i place);
+          apart = λ i j t u h g same. case_apart from i j t u h g same (cases_eq i place) (cases_eq j place);
+          begun = subst (λ (c : CoreState). AreBelow c.live.begun c.live.snapshots) (sym e) (below_after now.core step.session step.event seat.txn answer live.begun);
+          idle = ap (λ (c : CoreState). c.prepared) e ∙ idle_after now.core step.session step.event seat.txn answer live.idle;
+        }
+
+    pub all_live : (answered : Result Answer Refusal) → IfOk answered (λ answer. core ≡ core_after now.core step.session step.event seat.txn answer)
+        → OnOk answered (left ≡ record seat { txn = txn_after now.core step.event seat.txn })
+        → OnErr answered ((core ≡ now.core) × (left ≡ seat)) → slice_set now.seats place seat ≡ now.seats
+        → HoldsOf (IsLive core) left.txn → AreLive core (slice_set now.seats place left)
+    all_live (Ok answer) e f g unchanged own = all_answered answer e f own
+    all_live (Err refusal) e f g unchanged own =
+        subst (λ c. AreLive c (slice_set now.seats place left)) (sym g.0) (subst (AreLive now.core) (sym (ap (slice_set now.seats place) g.1 ∙ unchanged)) live)
 
   module _ (seated : seat_of now.seats step.session ≡ Some place) (there : slice_get now.seats place ≡ Some seat) where
     pub is_answered : (answered : Result Answer Refusal) → IsOkUnless answered NoMemory → IfOk answered (IsReply now.core step.session step.event seat.txn) → IsAnswered now step (told answered)
@@ -89,13 +228,28 @@ module _ (now : EngineState) (step : Step) (place : ℕ) (seat : Seat) (core : C
         ∙ ap (λ r. after now step (Refused r)) (sym only)
 
 -- where no transaction is open, all are
-seated_live : (core : CoreState) (seats : List Seat) (session : List ℕ) (place : Option ℕ) → AreLive core seats → AreLive core (unless_seated place seats session)
-seated_live core seats session None live = record { each = All-push (λ (s : Seat). HoldsOf (IsLive core) s.txn) seats (free_seat session) live.each tt }
-seated_live core seats session (Some place) live = live
+abbrev AreFree : List Seat → Type 0
+AreFree seats = (place : ℕ) → txn_of (slice_get seats place) ≡ None
 
-pub all_seated_live : (core : CoreState) (seats : List Seat) (steps : List Step) → AreLive core seats → AreLive core (all_seated seats steps)
-all_seated_live core seats [] live = live
-all_seated_live core seats (step ∷ rest) live = all_seated_live core (seated seats step.session) rest (seated_live core seats step.session (seat_of seats step.session) live)
+one_seated : (seats : List Seat) (session : List ℕ) → AreFree seats → AreFree (seats ++ free_seat session ∷ [])
+one_seated [] session free zero = refl
+one_seated [] session free (suc place) = refl
+one_seated (seat ∷ rest) session free zero = free zero
+one_seated (seat ∷ rest) session free (suc place) = one_seated rest session (λ place. free (suc place)) place
 
-pub none_live : (core : CoreState) → AreLive core []
-none_live core = record { each = All-nil (λ (s : Seat). HoldsOf (IsLive core) s.txn) }
+seated_free : (seats : List Seat) (session : List ℕ) (place : Option ℕ) → AreFree seats → AreFree (unless_seated place seats session)
+seated_free seats session None free = one_seated seats session free
+seated_free seats session (Some place) free = free
+
+all_free : (seats : List Seat) (steps : List Step) → AreFree seats → AreFree (all_seated seats steps)
+all_free seats [] free = free
+all_free seats (step ∷ rest) free = all_free (seated seats step.session) rest (seated_free seats step.session (seat_of seats step.session) free)
+
+pub all_seated_live : (core : CoreState) (steps : List Step) → AreBelow core.live.begun core.live.snapshots → core.prepared ≡ None → AreLive core (all_seated [] steps)
+all_seated_live core steps below idle =
+    let free = all_free [] steps (λ place. refl) in record {
+      each = λ place t h. let e = free place in let no : ⊥ = cc in absurd no;
+      apart = λ place other t u h g same. let e = free place in let no : ⊥ = cc in absurd no;
+      begun = below;
+      idle = idle;
+    }

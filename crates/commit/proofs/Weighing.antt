@@ -9,7 +9,7 @@ use Rattle.conflict.specs.declared.dangers.Danger.TheVariants.{AsPivot, AsReader
 use Rattle.conflict.specs.declared.verdicts.Verdict.TheVariants.{Fine, Dangerous}
 use Rattle.conflict.specs.Judged.{IsConflictAt, IsVerdict}
 use Rattle.txn.specs.Transactions.{OpenTransaction}
-use Rattle.commit.specs.declared.cores.Decision.TheVariants.{Accepted, Refused}
+use Rattle.commit.specs.declared.decisions.Decision.TheVariants.{Accepted, Refused}
 use Rattle.commit.specs.Cores.{CoreState, log_of, record_of}
 use Rattle.commit.specs.Decisions.{IsConflictOf, IsJudgment, danger_refusal}
 

@@ -1,6 +1,6 @@
 -- The committed transactions, and what the next one is answered (Cahill, Röhm and Fekete 2008; Ports and Grittner 2012; that the
 -- first of two writers of a row to commit wins is the rule of snapshot isolation: Berenson and others 1995).
-use Rattle.std.specs.Prelude.{◌≡◌, ◌≢◌, ◌≤◌, ◌+◌, ◌==◌, ◌++◌, ℕ, Bool, true, false, List, [], ◌∷◌, length, map, reverse, slice_get, Option, Some, None, Result, Ok, Err, IsPermutation}
+use Rattle.std.specs.Prelude.{◌≡◌, ◌≢◌, ◌≤◌, ◌+◌, ◌==◌, ◌++◌, ℕ, Bool, true, false, List, [], ◌∷◌, length, map, reverse, slice_get, Option, Some, None, Result, Ok, Err, Contains, IsPermutation}
 use Rattle.value.specs.declared.refusals.Party.{Party}
 use Rattle.value.specs.declared.refusals.Party.TheVariants.{This, Number as Numbered}
 use Rattle.value.specs.declared.refusals.Refusal.{Refusal}
@@ -11,19 +11,30 @@ use Rattle.assertion.specs.Declarations.{Declared}
 use Rattle.assertion.specs.Meaning.{State}
 use Rattle.answer.specs.declared.answers.RefusedCommit.{RefusedCommit}
 use Rattle.delta.specs.Views.{Shown}
+use Rattle.siread.specs.Locks.{Reads, above, with_reader}
+use Rattle.live.specs.Live.{LiveState, least_held, with_begin, without}
 use Rattle.serial.specs.declared.records.Record.{Record}
 use Rattle.serial.specs.Answer.{IsAnswer, Number, WriteConflict as Overwrites, Dangerous as Triple}
 use Rattle.serial.specs.Epoch.{AnswersAgain, AreRecorded, AreSound, EndsNewest, newest, state_of}
 use Rattle.serial.specs.Order.{serial_order}
+use Rattle.conflict.specs.Readers.{reads_of}
 use Rattle.txn.specs.Transactions.{OpenTransaction, keys_of, outcome_of}
 
--- what was declared and the rows to begin with, the commits in the order of their numbers, and the commits that were refused
+-- a transaction whose commit is prepared, and its session
+pub record Pending : Type 0 where
+  pub session : List ℕ
+  pub txn : OpenTransaction
+
+-- what was declared and the rows to begin with, the commits in the order of their numbers, the commits that were refused, the
+-- snapshots of the open transactions, and the commit that is prepared, if one is
 pub record CoreState : Type 0 where
   pub limit : ℕ
   pub declared : Declared
   pub start : State
   pub records : List Record
   pub refused : List RefusedCommit
+  pub live : LiveState
+  pub prepared : Option Pending
 
 -- the commits, the newest first
 abbrev pub log_of : CoreState → List Record
@@ -40,8 +51,9 @@ newest_tables c = record { declared = c.declared; state = newest c.declared c.st
 abbrev pub order_of : CoreState → List ℕ
 order_of c = map (λ (r : Record). r.number) (serial_order (log_of c))
 
--- a transaction that began on the tables after so many commits
+-- a transaction that began on the tables after so many commits, and has not ended
 pub record IsLive (c : CoreState) (t : OpenTransaction) : Type 0 where
+  pub held : Contains c.live.snapshots (record { ticket = t.ticket; snapshot = t.snapshot })
   pub declared_is : t.declared ≡ c.declared
   pub within : t.snapshot ≤ length c.records
   pub start_is : t.start ≡ state_of c.declared c.start (log_of c) t.snapshot
@@ -87,6 +99,13 @@ abbrev pub IsCommitAnswer : CoreState → List ℕ → OpenTransaction → Resul
 IsCommitAnswer c session t answer =
     IsDecided c (record_of c session t) (outcome_of t).refused (length c.records == c.limit) answer
 
+-- a transaction more that has begun, or one less
+abbrev pub with_begun : CoreState → CoreState
+with_begun c = record c { live = with_begin (length c.records) c.live }
+
+abbrev pub ended : CoreState → OpenTransaction → CoreState
+ended c t = record c { live = without t.ticket c.live }
+
 -- one commit more, or one refused commit more
 abbrev pub with_commit : CoreState → Record → CoreState
 with_commit c commit = record c { records = c.records ++ commit ∷ [] }
@@ -94,11 +113,50 @@ with_commit c commit = record c { records = c.records ++ commit ∷ [] }
 abbrev pub with_refusal : CoreState → List ℕ → Refusal → CoreState
 with_refusal c session refusal = record c { refused = c.refused ++ record { session = session; refusal = refusal } ∷ [] }
 
+-- a transaction is the next commit, or is refused; either ends it
+abbrev pub committed : CoreState → List ℕ → OpenTransaction → CoreState
+committed c session t = ended (with_commit c (record_of c session t)) t
+
+abbrev pub refused_to : CoreState → List ℕ → OpenTransaction → Refusal → CoreState
+refused_to c session t refusal = ended (with_refusal c session refusal) t
+
+-- its commit is prepared, or none is
+abbrev pub with_prepared : CoreState → List ℕ → OpenTransaction → CoreState
+with_prepared c session t = record c { prepared = Some (record { session = session; txn = t }) }
+
+abbrev pub unprepared : CoreState → CoreState
+unprepared c = record c { prepared = None }
+
+-- what is prepared is made the next commit
+abbrev pub finished_by : Option Pending → CoreState → CoreState
+finished_by None c = c
+finished_by (Some p) c = committed (unprepared c) p.session p.txn
+
+abbrev pub finished : CoreState → CoreState
+finished c = finished_by c.prepared c
+
+-- or is given up, and the transaction given back
+abbrev pub pending_txn : Option Pending → Option OpenTransaction
+pending_txn None = None
+pending_txn (Some p) = Some p.txn
+
+-- for each key the commits that read it, as far as an open transaction's snapshot does not hold them
+abbrev pub reads_kept : CoreState → Reads
+reads_kept c = above (least_held (length c.records) c.live.snapshots) (reads_of c.records)
+
+-- and the one that is prepared
+abbrev pub reads_with : Option Pending → (number : ℕ) → Reads → Reads
+reads_with None number reads = reads
+reads_with (Some p) number reads = with_reader number (keys_of p.txn) reads
+
+abbrev pub locks_of : CoreState → Reads
+locks_of c = reads_with c.prepared (length c.records + 1) (reads_kept c)
+
 -- a refused COMMIT gives the transaction back where it found no memory, and nothing has changed; else it has ended the transaction
 abbrev pub IsUncommitted : CoreState → List ℕ → OpenTransaction → Refusal → Option OpenTransaction → CoreState → Type 0
 IsUncommitted c session t refusal (Some back) after = (refusal ≡ NoMemory) × (back ≡ t) × (after ≡ c)
 IsUncommitted c session t refusal None after =
-    (refusal ≢ NoMemory) × IsCommitAnswer c session t (Err refusal) × (after ≡ with_refusal c session refusal)
+    (refusal ≢ NoMemory) × IsCommitAnswer c session t (Err refusal) × (after ≡ refused_to c session t refusal)
 
 -- The serial order has each commit once. The tables after each number of commits make no assertion false. The committed
 -- transactions, run alone in the serial order, answer what they were answered on their snapshots, and leave the newest tables.

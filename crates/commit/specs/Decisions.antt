@@ -10,8 +10,8 @@ use Rattle.serial.specs.Order.{least_out}
 use Rattle.conflict.specs.declared.dangers.Danger.{Danger}
 use Rattle.conflict.specs.declared.dangers.Danger.TheVariants.{AsPivot, AsReader}
 use Rattle.txn.specs.Transactions.{OpenTransaction}
-use Rattle.commit.specs.declared.cores.Decision.{Decision}
-use Rattle.commit.specs.declared.cores.Decision.TheVariants.{Accepted, Refused}
+use Rattle.commit.specs.declared.decisions.Decision.{Decision}
+use Rattle.commit.specs.declared.decisions.Decision.TheVariants.{Accepted, Refused}
 use Rattle.commit.specs.Cores.{CoreState, IsCommitAnswer, IsJudged, log_of, record_of}
 
 -- it may be the next commit, and this is the least commit to which it conflicts; or it is refused, and not for memory

@@ -1,8 +1,7 @@
 -- What each event of a session is answered, and what it leaves.
-use Rattle.std.specs.Prelude.{◌≡◌, ◌⊎◌, ◌+◌, ℕ, Bool, true, false, List, [], ◌∷◌, ◌++◌, length, All, slice_get, slice_set, Option, Some, None, Result, Ok, Err, if◌then◌else◌}
+use Rattle.std.specs.Prelude.{◌≡◌, ◌⊎◌, ◌+◌, ℕ, Bool, true, false, List, [], ◌∷◌, ◌++◌, length, slice_get, slice_set, Option, Some, None, Result, Ok, Err, if◌then◌else◌}
 use Rattle.std.specs.List.{list_any, position}
 use Rattle.std.specs.Str.{bytes_eq}
-use Rattle.value.specs.Ordered.{HoldsOf}
 use Rattle.value.specs.declared.refusals.Refusal.{Refusal}
 use Rattle.value.specs.declared.refusals.Refusal.TheVariants.{NoMemory, NoTransaction, TooManySessions, TransactionOpen}
 use Rattle.statement_syntax.specs.declared.statements.Statement.{Statement}
@@ -13,10 +12,10 @@ use Rattle.answer.specs.declared.answers.Answer.{Answer}
 use Rattle.answer.specs.declared.answers.Answer.TheVariants.{Begun, Committed, Refused, Replied, RolledBack}
 use Rattle.answer.specs.declared.answers.Reply.{Reply}
 use Rattle.alone.specs.Resolve.{resolved}
-use Rattle.delta.specs.Views.{Shown}
+use Rattle.live.specs.Live.{AreBelow}
 use Rattle.txn.specs.Transactions.{OpenTransaction, begun, step_of, with_statement}
 use Rattle.commit.specs.declared.seats.Seat.{Seat}
-use Rattle.commit.specs.Cores.{CoreState, IsCommitAnswer, IsLive, newest_tables, record_of, with_commit, with_refusal}
+use Rattle.commit.specs.Cores.{CoreState, IsCommitAnswer, IsLive, committed, ended, newest_tables, refused_to, with_begun}
 
 -- the committed transactions, and the sessions with the open ones
 pub record EngineState : Type 0 where
@@ -32,9 +31,14 @@ abbrev pub txn_of : Option Seat → Option OpenTransaction
 txn_of None = None
 txn_of (Some seat) = seat.txn
 
--- each open transaction began on the tables after some number of commits
+-- Each open transaction began on the tables after some number of commits, and has not ended; no two have one ticket; and no
+-- commit is prepared.
 pub record AreLive (core : CoreState) (seats : List Seat) : Type 0 where
-  pub each : All (λ (seat : Seat). HoldsOf (IsLive core) seat.txn) seats
+  pub each : (place : ℕ) (t : OpenTransaction) → txn_of (slice_get seats place) ≡ Some t → IsLive core t
+  pub apart : (place other : ℕ) (t u : OpenTransaction) → txn_of (slice_get seats place) ≡ Some t
+      → txn_of (slice_get seats other) ≡ Some u → t.ticket ≡ u.ticket → place ≡ other
+  pub begun : AreBelow core.live.begun core.live.snapshots
+  pub idle : core.prepared ≡ None
 
 -- the answer to a statement
 abbrev pub answer_of : Result Reply Refusal → Answer
@@ -80,24 +84,26 @@ IsReply core session Rollback txn answer = answer ≡ rollback_answer txn
 
 -- the transaction that is open then, if one is
 abbrev pub txn_after : CoreState → Event → Option OpenTransaction → Option OpenTransaction
-txn_after core Begin None = Some (begun 0 (length core.records) (newest_tables core))
+txn_after core Begin None = Some (begun core.live.begun (length core.records) (newest_tables core))
 txn_after core Begin (Some t) = Some t
 txn_after core (Run statement) txn = txn_with statement txn
 txn_after core Commit txn = None
 txn_after core Rollback txn = None
 
--- the commits then
+-- the commits and the open transactions then
 abbrev pub decided_core : CoreState → List ℕ → OpenTransaction → Answer → CoreState
-decided_core core session t (Committed number) = with_commit core (record_of core session t)
-decided_core core session t (Refused refusal) = with_refusal core session refusal
+decided_core core session t (Committed number) = committed core session t
+decided_core core session t (Refused refusal) = refused_to core session t refusal
 decided_core core session t answer = core
 
 abbrev pub core_after : CoreState → List ℕ → Event → Option OpenTransaction → Answer → CoreState
+core_after core session Begin None answer = with_begun core
+core_after core session Begin (Some t) answer = core
+core_after core session (Run statement) txn answer = core
 core_after core session Commit None answer = core
 core_after core session Commit (Some t) answer = decided_core core session t answer
-core_after core session Begin txn answer = core
-core_after core session (Run statement) txn answer = core
-core_after core session Rollback txn answer = core
+core_after core session Rollback None answer = core
+core_after core session Rollback (Some t) answer = ended core t
 
 -- the seats with this transaction in one of them, or none there
 abbrev pub seats_set : List Seat → ℕ → Option OpenTransaction → Option Seat → List Seat

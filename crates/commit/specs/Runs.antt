@@ -3,6 +3,7 @@ use Rattle.std.specs.Prelude.{◌≡◌, ℕ, List, [], ◌∷◌, ◌++◌, Opt
 use Rattle.statement_syntax.specs.declared.statements.Step.{Step}
 use Rattle.answer.specs.declared.answers.Answer.{Answer}
 use Rattle.delta.specs.Views.{Shown}
+use Rattle.live.specs.Live.{none_live}
 use Rattle.commit.specs.declared.seats.Seat.{Seat}
 use Rattle.commit.specs.Cores.{CoreState}
 use Rattle.commit.specs.Events.{EngineState, IsAnswered, after, seat_of}
@@ -26,7 +27,8 @@ all_seated seats (step ∷ rest) = all_seated (seated seats step.session) rest
 
 -- before the first commit
 abbrev pub empty_core : (limit : ℕ) → Shown → CoreState
-empty_core limit loaded = record { limit = limit; declared = loaded.declared; start = loaded.state; records = []; refused = [] }
+empty_core limit loaded =
+    record { limit = limit; declared = loaded.declared; start = loaded.state; records = []; refused = []; live = none_live; prepared = None }
 
 -- before the first of these events
 abbrev pub beginning : (limit : ℕ) → Shown → List Step → EngineState

@@ -1,33 +1,39 @@
 //! The committed transactions.
 
-ghost use Rattle.std.specs.Prelude.{◌≡◌, ◌≢◌, ◌≤◌, ◌<◌, ◌+◌, ◌++◌, ◌∷◌, [], ℕ, List, All, length, nat_eq, slice_index_or, vec_capacity, vec_len, IfOk, IfErr, IsOkUnless, OnErr, OnOk, Ok, Err, Some};
+ghost use Rattle.std.specs.Prelude.{◌≡◌, ◌≢◌, ◌≤◌, ◌<◌, ◌+◌, ◌++◌, ◌∷◌, [], ℕ, List, length, nat_eq, vec_capacity, vec_len, All, IfOk, IfErr, IsOkUnless, OnErr, OnOk, Ok, Err, None, Some};
 ghost use Rattle.std.specs.List.{IsDistinct};
 ghost use Rattle.value.specs.declared.refusals.Refusal.TheVariants.{NoMemory};
-ghost use Rattle.table.specs.declared.rows.Change.{Change as AnyChange};
-ghost use Rattle.table.specs.Rows.{names_of};
+ghost use Rattle.modes.specs.Modes.{assertion_of};
+ghost use Rattle.siread.specs.Locks.{AreBelow, IsCount, above, readers_at, with_reader};
+ghost use Rattle.live.specs.Live.{least_held, without};
 ghost use Rattle.alone.specs.Alone.{IsSound};
 ghost use Rattle.serial.specs.Commits.{HasNoWriteConflict};
 ghost use Rattle.serial.specs.Order.{least_out};
 ghost use Rattle.conflict.specs.Ordered.{put_number_before};
-ghost use Rattle.txn.specs.Transactions.{begun};
-ghost use Rattle.commit.specs.Cores.{IsCommitAnswer, IsLive, IsSerializable, IsUncommitted, log_of, newest_tables, order_of, record_of, with_commit};
-ghost use Rattle.commit.specs.Decisions.{IsConflictOf, IsDecision, IsJudgment, danger_refusal};
+ghost use Rattle.txn.specs.Transactions.{begun, truth_of};
+ghost use Rattle.commit.specs.Cores.{IsCommitAnswer, IsLive, IsSerializable, IsUncommitted, committed, ended, finished, locks_of, log_of, newest_tables, order_of, pending_txn, record_of, unprepared, with_begun, with_commit, with_prepared};
+ghost use Rattle.commit.specs.Decisions.{IsDecision, IsJudgment};
 ghost use Rattle.commit.specs.Runs.{empty_core};
 
+use crate::decisions::{Decision, dangerous, write_conflict};
+use crate::prepared::{Prepared, given_up};
 use answer::RefusedCommit;
-use conflict::{Candidate, Danger, Verdict, judge, put_in_order};
+use conflict::{Candidate, Verdict, judge, put_in_order};
 use delta::View;
+use live::Live;
 use serial::{Record, order, replay};
+use siread::{LockKey, LockTable};
 use sqlite_items::Items;
 use std::alloc::Global;
 use std::marker::Model;
-use table::{Catalog, Change};
-use txn::{Closed, Parts, Txn, Unclosed};
-use value::{Party, Refusal, Text};
+use std::mem;
+use threeval::Truth;
+use txn::{Closed, Parts, Txn, Unclosed, truth_on};
+use value::{Refusal, Text};
 
 /// The committed transactions: the tables before the first and after the last, a record of each, their serial order, and the
-/// commits that were refused.
-#[derive(Drop)]
+/// commits that were refused; and what is needed of the open ones. Between a [`Core::prepare`] that was accepted and the
+/// [`Core::finish`] or [`Core::cancel`] that ends it, a commit is prepared.
 pub struct Core {
     limit: u64,
     loaded: View,
@@ -38,36 +44,55 @@ pub struct Core {
     /// The numbers in serial order.
     order: Vec<u64>,
     refused: Vec<RefusedCommit>,
+    live: Live,
+    /// Who read what, of the commits that some open transaction's snapshot does not hold, and of the one that is prepared.
+    locks: LockTable,
+    prepared: Option<Prepared>,
 }
 
 impl Model for Core {
     ghost use Rattle.cond.specs.contracts.conds.Cond as cond_type;
     ghost use Rattle.cond.specs.contracts.exprs.Expr as expr_type;
     ghost use Rattle.std.specs.Coded.{codes};
+    ghost use Rattle.std.specs.Prelude.{◌<◌, vec_capacity, vec_len};
+    ghost use Rattle.siread.specs.Locks.{readers_at};
     ghost use Rattle.commit.specs.Cores.{CoreState};
-    ghost use Rattle.commit.specs.Kept.{IsCore};
+    ghost use Rattle.commit.specs.Kept.{IsKept, idle_core, pending_of};
 
     ghost Value = { CoreState };
 
     ghost coded = { Prim.hlevel (codes, cond_type.the_row.coded, expr_type.the_row.coded) };
 
-    ghost view = { λ c. record { limit = c.limit; declared = c.loaded.declared; start = c.loaded.state; records = c.records.items; refused = c.refused.items } };
+    ghost view = { λ c. record (idle_core c.limit c.loaded c.records.items c.refused.items c.live) { prepared = pending_of c.prepared } };
 
-    ghost invariant = { λ c. IsCore c.limit c.loaded c.newest c.records.items c.places.items c.order.items };
+    ghost invariant = { λ c. IsKept (idle_core c.limit c.loaded c.records.items c.refused.items c.live) c.newest c.places.items c.order.items (readers_at c.locks) c.prepared
+        ((vec_len c.records < vec_capacity c.records) × (vec_len c.places < vec_capacity c.places) × (vec_len c.order < vec_capacity c.order)) };
+}
+
+impl Drop for Core {
+    fn drop(self) {
+        let Core {
+            limit: _,
+            loaded: _,
+            newest: _,
+            records: _,
+            places: _,
+            order: _,
+            refused: _,
+            live: _,
+            locks: _,
+            prepared,
+        } = self;
+        if let Some(prepared) = prepared {
+            let_go(given_up(prepared).into_parts());
+        }
+    }
 }
 
 /// Why a transaction was not committed. After [`Refusal::NoMemory`] it is given back; any other refusal has ended it.
 pub struct Uncommitted {
     pub refusal: Refusal,
     pub txn: Option<Txn>,
-}
-
-/// What a COMMIT is answered.
-#[derive(Drop)]
-enum Decision {
-    /// It is accepted, and this is the least commit to which it conflicts, or its own number.
-    Accepted(u64),
-    Refused(Refusal),
 }
 
 impl Core {
@@ -86,17 +111,28 @@ impl Core {
             places: Vec::new(alloc),
             order: Vec::new(alloc),
             refused: Vec::new(alloc),
+            live: Live::new(alloc),
+            locks: LockTable::new(alloc),
+            prepared: None,
         })
     }
 
-    /// A transaction begins on the newest tables. NoMemory is the only error.
-    pub fn begin(&self) -> Result<Txn, Refusal>
+    /// A transaction begins on the newest tables. NoMemory is the only error, and then nothing has changed.
+    pub fn begin(&mut self) -> Result<Txn, Refusal>
+        requires idle { self.old.prepared ≡ None }
         ensures only_memory { IsOkUnless result NoMemory }
-        ensures begun { IfOk result (λ txn. txn ≡ begun 0 (length self.now.records) (newest_tables self.now)) }
-        ensures live { IfOk result (λ txn. IsLive self.now txn) }
+        ensures begun { IfOk result (λ txn. txn ≡ begun self.old.live.begun (length self.old.records) (newest_tables self.old)) }
+        ensures live { IfOk result (λ txn. IsLive self.new txn) }
+        ensures after { OnOk result (self.new ≡ with_begun self.old) }
+        ensures same { OnErr result (self.new ≡ self.old) }
     {
         let alloc = *self.records.allocator();
-        let txn = Txn::begin(alloc, 0, self.records.len() as u64, &self.newest)?;
+        let snapshot = self.records.len() as u64;
+        let txn = Txn::begin(alloc, self.live.next_ticket(), snapshot, &self.newest)?;
+        if let Err(refusal) = self.live.begin(snapshot) {
+            let_go(txn.abandon());
+            return Err(refusal);
+        }
         Ok(txn)
     }
 
@@ -111,8 +147,9 @@ impl Core {
     /// has ended the transaction. Or [`Refusal::NoMemory`]: then nothing has changed, and the transaction is given back.
     pub fn commit(&mut self, session: &Text, txn: Txn) -> Result<u64, Uncommitted>
         requires live { IsLive self.old txn }
+        requires idle { self.old.prepared ≡ None }
         ensures number { IfOk result (λ number. IsCommitAnswer self.old session.now txn (Ok number)) }
-        ensures after { IfOk result (λ _. self.new ≡ with_commit self.old (record_of self.old session.now txn)) }
+        ensures after { IfOk result (λ _. self.new ≡ committed self.old session.now txn) }
         ensures refused { IfErr result (λ fault. IsUncommitted self.old session.now txn fault.refusal fault.txn self.new) }
     {
         let closed = match txn.close_check() {
@@ -124,14 +161,94 @@ impl Core {
                 });
             }
         };
+        let number = self.prepare(session, closed)?;
+        self.finish();
+        Ok(number)
+    }
+
+    /// Prepares a commit: decides what the COMMIT of the transaction is answered, as [`Core::commit`] does, and makes all that
+    /// takes memory. The number that it will have is answered. It is no commit yet.
+    ///
+    /// # Errors
+    ///
+    /// Those of [`Core::commit`].
+    pub fn prepare(&mut self, session: &Text, closed: Closed) -> Result<u64, Uncommitted>
+        requires live { IsLive self.old closed }
+        requires idle { self.old.prepared ≡ None }
+        ensures number { IfOk result (λ number. IsCommitAnswer self.old session.now closed (Ok number)) }
+        ensures after { IfOk result (λ _. self.new ≡ with_prepared self.old session.now closed) }
+        ensures refused { IfErr result (λ fault. IsUncommitted self.old session.now closed fault.refusal fault.txn self.new) }
+    {
         match self.decide(&closed) {
-            Ok(Decision::Accepted(place)) => self.accept(session, closed, place),
+            Ok(Decision::Accepted(place)) => self.make_ready(session, closed, place),
             Ok(Decision::Refused(refusal)) => Err(self.refuse(session, closed, refusal)),
-            Err(refusal) => Err(Uncommitted {
-                refusal,
-                txn: Some(closed.reopen()),
-            }),
+            Err(refusal) => Err(given_back(refusal, closed)),
         }
+    }
+
+    /// Makes the prepared commit the next, if one is prepared. It takes no memory.
+    pub fn finish(&mut self)
+        ensures { self.new ≡ finished self.old }
+    {
+        let Some(prepared) = self.prepared.take() else {
+            return;
+        };
+        let Prepared {
+            closed,
+            session,
+            tables,
+            place,
+        } = prepared;
+        let number = self.records.len() as u64 + 1;
+        let ticket = closed.ticket();
+        let snapshot = closed.snapshot();
+        let record = record_of(number, snapshot, session, closed.into_parts());
+        order_reserved(&mut self.order, place, number);
+        self.places.push_reserved(place);
+        self.records.push_reserved(record);
+        self.newest = tables;
+        forget(&mut self.live, &mut self.locks, ticket, number);
+    }
+
+    /// Gives the prepared commit up, if one is prepared, and its transaction back. All is then as it was before it was prepared.
+    /// It takes no memory.
+    pub fn cancel(&mut self) -> Option<Closed>
+        ensures back { result ≡ pending_txn self.old.prepared }
+        ensures after { self.new ≡ unprepared self.old }
+    {
+        let Some(prepared) = self.prepared.take() else {
+            return None;
+        };
+        let closed = given_up(prepared);
+        self.locks
+            .take_back(self.records.len() as u64 + 1, closed.reads());
+        Some(closed)
+    }
+
+    /// ROLLBACK (ISO/IEC 9075:1992, rollback statement): the transaction has ended, and nothing of it is kept. It takes no memory.
+    pub fn end(&mut self, txn: Txn)
+        requires live { IsLive self.old txn }
+        requires idle { self.old.prepared ≡ None }
+        ensures { self.new ≡ ended self.old txn }
+    {
+        let newest = self.records.len() as u64;
+        forget(&mut self.live, &mut self.locks, txn.ticket(), newest);
+        let_go(txn.abandon());
+    }
+
+    /// The truth of the assertion of a name on the newest tables; none where no assertion has it. It takes no memory.
+    pub fn verdict(&self, name: &Text) -> Option<Truth>
+        ensures { result ≡ truth_of (newest_tables self.now) (assertion_of name.now self.now.declared.assertions) }
+    {
+        truth_on(&self.newest, name)
+    }
+
+    /// How many pairs there are of a key and a commit that read it, of the commits that some open transaction's snapshot does not
+    /// hold, and of the one that is prepared. It takes no memory.
+    pub fn locks(&self) -> usize
+        ensures { IsCount (locks_of self.now) result }
+    {
+        self.locks.len()
     }
 
     /// The tables before the first commit.
@@ -183,6 +300,7 @@ impl Core {
     /// What the COMMIT of a transaction is answered.
     fn decide(&self, closed: &Closed) -> Result<Decision, Refusal>
         requires live { IsLive self.now closed.now }
+        requires idle { self.now.prepared ≡ None }
         ensures only_memory { IsOkUnless result NoMemory }
         ensures decided { IfOk result (λ decision. (session : List ℕ) → IsDecision self.now session closed.now decision) }
     {
@@ -200,6 +318,7 @@ impl Core {
     /// What the commits before it make of a transaction.
     fn judge(&self, closed: &Closed) -> Result<Decision, Refusal>
         requires live { IsLive self.now closed.now }
+        requires idle { self.now.prepared ≡ None }
         ensures only_memory { IsOkUnless result NoMemory }
         ensures judged { IfOk result (λ decision. (session : List ℕ) → IsJudgment self.now (record_of self.now session closed.now) decision) }
     {
@@ -225,6 +344,7 @@ impl Core {
     /// view.
     fn tables_with(&self, closed: &Closed) -> Result<View, Refusal>
         requires live { IsLive self.now closed.now }
+        requires idle { self.now.prepared ≡ None }
         requires free { (session : List ℕ) → HasNoWriteConflict (log_of self.now) (record_of self.now session closed.now) }
         ensures only_memory { IsOkUnless result NoMemory }
         ensures tables { IfOk result (λ view. (session : List ℕ) → view ≡ newest_tables (with_commit self.now (record_of self.now session closed.now))) }
@@ -240,54 +360,59 @@ impl Core {
         }
     }
 
-    /// What takes memory before a transaction is committed: the tables after it, and its session's name.
-    fn prepare(&self, session: &Text, closed: &Closed) -> Result<(View, Text), Refusal>
+    /// The tables after the commit of a transaction that is accepted, and its session's name.
+    fn made_for(&self, session: &Text, closed: &Closed) -> Result<(View, Text), Refusal>
         requires live { IsLive self.now closed.now }
+        requires idle { self.now.prepared ≡ None }
         requires answered { IsCommitAnswer self.now session.now closed.now (Ok (length self.now.records + 1)) }
         ensures only_memory { IsOkUnless result NoMemory }
-        ensures tables { IfOk result (λ ready. ready.0 ≡ newest_tables (with_commit self.now (record_of self.now session.now closed.now))) }
-        ensures session { IfOk result (λ ready. ready.1 ≡ session.now) }
+        ensures tables { IfOk result (λ made. made.0 ≡ newest_tables (with_commit self.now (record_of self.now session.now closed.now))) }
+        ensures session { IfOk result (λ made. made.1 ≡ session.now) }
     {
-        let view = self.tables_with(closed)?;
+        let tables = self.tables_with(closed)?;
         let session = session.copy()?;
-        Ok((view, session))
+        Ok((tables, session))
     }
 
-    /// Makes a transaction that is accepted the next commit.
-    fn accept(&mut self, session: &Text, closed: Closed, place: u64) -> Result<u64, Uncommitted>
+    /// Prepares the commit of a transaction that is accepted.
+    fn make_ready(&mut self, session: &Text, closed: Closed, place: u64) -> Result<u64, Uncommitted>
         requires live { IsLive self.old closed }
+        requires idle { self.old.prepared ≡ None }
         requires answered { IsCommitAnswer self.old session.now closed (Ok (length self.old.records + 1)) }
         requires place { place ≡ least_out (log_of self.old) (record_of self.old session.now closed) }
-        ensures number { IfOk result (λ number. IsCommitAnswer self.old session.now closed (Ok number)) }
-        ensures after { IfOk result (λ _. self.new ≡ with_commit self.old (record_of self.old session.now closed)) }
+        ensures number { IfOk result (λ number. number ≡ length self.old.records + 1) }
+        ensures after { IfOk result (λ _. self.new ≡ with_prepared self.old session.now closed) }
         ensures only_memory { IfErr result (λ fault. fault.refusal ≡ NoMemory) }
         ensures back { IfErr result (λ fault. fault.txn ≡ Some closed) }
         ensures same { IfErr result (λ _. self.new ≡ self.old) }
     {
         let number = self.records.len() as u64 + 1;
-        let (view, session) = match self.prepare(session, &closed) {
-            Ok(ready) => ready,
+        let (tables, session) = match self.made_for(session, &closed) {
+            Ok(made) => made,
             Err(refusal) => return Err(given_back(refusal, closed)),
         };
-        if let Err(refusal) = make_room(
-            &mut self.records,
-            &mut self.places,
-            &mut self.order,
-            place,
-            number,
-        ) {
+        if let Err(refusal) = make_room(&mut self.records, &mut self.places, &mut self.order) {
             return Err(given_back(refusal, closed));
         }
-        let snapshot = closed.snapshot();
-        let record = record_of(number, snapshot, session, closed.into_parts());
-        self.places.push_reserved(place);
-        self.records.push_reserved(record);
-        self.newest = view;
-        Ok(number)
+        if let Err(refusal) = self.locks.put(number, closed.reads()) {
+            return Err(given_back(refusal, closed));
+        }
+        let prepared = Prepared {
+            closed,
+            session,
+            tables,
+            place,
+        };
+        match mem::replace(&mut self.prepared, Some(prepared)) {
+            None => Ok(number),
+            Some(_) => unreachable!(),
+        }
     }
 
     /// Notes a refused commit, which ends the transaction.
     fn refuse(&mut self, session: &Text, closed: Closed, refusal: Refusal) -> Uncommitted
+        requires live { IsLive self.old closed }
+        requires idle { self.old.prepared ≡ None }
         requires known { refusal ≢ NoMemory }
         requires answered { IsCommitAnswer self.old session.now closed (Err refusal) }
         ensures { IsUncommitted self.old session.now closed result.refusal result.txn self.new }
@@ -295,9 +420,20 @@ impl Core {
         if let Err(fault) = note(&mut self.refused, session, &refusal) {
             return given_back(fault, closed);
         }
+        let newest = self.records.len() as u64;
+        forget(&mut self.live, &mut self.locks, closed.ticket(), newest);
         let_go(closed.into_parts());
         Uncommitted { refusal, txn: None }
     }
+}
+
+/// A transaction has ended: its snapshot is held no more, and readers that no snapshot asks for any more go.
+fn forget(live: &mut Live, locks: &mut LockTable, ticket: u64, newest: u64)
+    ensures live { live.new ≡ without ticket live.old }
+    ensures locks { readers_at locks.new ≡ above (least_held newest live.new.snapshots) (readers_at locks.old) }
+{
+    live.end(ticket);
+    locks.trim_below(live.least(newest));
 }
 
 /// The record of a commit.
@@ -319,25 +455,40 @@ fn record_of(number: u64, snapshot: u64, session: Text, parts: Parts) -> Record
     }
 }
 
-/// Makes room for a commit more, and puts it into the serial order.
+/// Makes room for a commit more.
 fn make_room(
     records: &mut Vec<Record>,
     places: &mut Vec<u64>,
     order: &mut Vec<u64>,
-    place: u64,
-    number: u64,
 ) -> Result<(), Refusal>
-    requires { IsDistinct nat_eq order.old.items }
     ensures only_memory { IsOkUnless result NoMemory }
     ensures records { records.new.items ≡ records.old.items }
     ensures places { places.new.items ≡ places.old.items }
-    ensures room { OnOk result ((vec_len records.new < vec_capacity records.new) × (vec_len places.new < vec_capacity places.new)) }
-    ensures ordered { OnOk result (order.new.items ≡ put_number_before place number order.old.items) }
-    ensures same { OnErr result (order.new.items ≡ order.old.items) }
+    ensures order { order.new.items ≡ order.old.items }
+    ensures room { OnOk result ((vec_len records.new < vec_capacity records.new) × (vec_len places.new < vec_capacity places.new) × (vec_len order.new < vec_capacity order.new)) }
 {
     records.reserve(1)?;
     places.reserve(1)?;
-    put_in_order(order, place, number)
+    order.reserve(1)?;
+    Ok(())
+}
+
+/// Puts a commit into the serial order, which has room for it and does not have its number yet.
+fn order_reserved(order: &mut Vec<u64>, place: u64, number: u64)
+    requires distinct { IsDistinct nat_eq order.old.items }
+    requires room { vec_len order.old < vec_capacity order.old }
+    requires fresh { All (λ other. other ≢ number) order.old.items }
+    ensures { order.new.items ≡ put_number_before place number order.old.items }
+{
+    // (to look for a place that is not there would cost the whole order)
+    if place == number {
+        order.push_reserved(number);
+        return;
+    }
+    match put_in_order(order, place, number) {
+        Ok(()) => {}
+        Err(_) => unreachable!(),
+    }
 }
 
 /// Notes a refused commit behind the others.
@@ -352,47 +503,6 @@ fn note(refused: &mut Vec<RefusedCommit>, session: &Text, refusal: &Refusal) -> 
     };
     refused.push(entry)?;
     Ok(())
-}
-
-/// The refusal by a commit that changed the row of one of some changes.
-fn write_conflict(
-    catalog: &Catalog,
-    changes: &[Change],
-    row: usize,
-    by: u64,
-) -> Result<Refusal, Refusal>
-    requires within { row < length changes.now }
-    requires tables { All (λ change. change.table < length (names_of catalog.now)) changes.now }
-    ensures only_memory { IsOkUnless result NoMemory }
-    ensures named { IfOk result (λ refusal. (change : AnyChange) → IsConflictOf catalog.now (slice_index_or changes.now row change) by refusal) }
-{
-    let change = &changes[row];
-    match catalog.name(change.table) {
-        Some(name) => Ok(Refusal::WriteConflict {
-            table: name.copy()?,
-            key: change.key.copy()?,
-            by,
-        }),
-        None => unreachable!(),
-    }
-}
-
-/// The refusal by a dangerous triple.
-fn dangerous(danger: Danger) -> Refusal
-    ensures { result ≡ danger_refusal danger }
-{
-    match danger {
-        Danger::AsPivot { reader, writer } => Refusal::Dangerous {
-            reader: Party::Number(reader),
-            pivot: Party::This,
-            writer: Party::Number(writer),
-        },
-        Danger::AsReader { pivot, writer } => Refusal::Dangerous {
-            reader: Party::This,
-            pivot: Party::Number(pivot),
-            writer: Party::Number(writer),
-        },
-    }
 }
 
 /// The transaction is given back, as it was before its COMMIT.

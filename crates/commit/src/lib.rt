@@ -33,14 +33,17 @@
 
 mod admission;
 mod cores;
+mod decisions;
 mod engine;
 mod laws;
+mod prepared;
 mod seats;
 
 pub use admission::admit;
 pub use cores::{Core, Uncommitted};
 pub use engine::{Engine, Outcome, run};
 pub use laws::replies;
+pub use prepared::Prepared;
 pub use seats::Seat;
 
 #[cfg(test)]

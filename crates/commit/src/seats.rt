@@ -4,7 +4,7 @@ ghost use Rattle.std.specs.Prelude.{◌≡◌, ◌<◌, [], false, length, IfSom
 ghost use Rattle.value.specs.Ordered.{HoldsOf};
 ghost use Rattle.value.specs.declared.refusals.Refusal.TheVariants.{NoMemory};
 ghost use Rattle.commit.specs.Cores.{IsLive};
-ghost use Rattle.statement_syntax.specs.declared.statements.Event.TheVariants.{Begin, Commit};
+ghost use Rattle.statement_syntax.specs.declared.statements.Event.TheVariants.{Begin, Commit, Rollback};
 ghost use Rattle.commit.specs.Events.{IsReply, begin_answer, core_after, found_no_memory, rollback_answer, run_answer, seat_of, txn_after, txn_with};
 ghost use Rattle.commit.specs.Runs.{all_seated, seated};
 
@@ -89,6 +89,7 @@ pub fn place_of(seats: &[Seat], session: &Text) -> Option<usize>
 /// Answers an event of the session in a seat.
 pub fn answer_event(core: &mut Core, seat: &mut Seat, step: &Step) -> Result<Answer, Refusal>
     requires live { HoldsOf (IsLive core.old) seat.old.txn }
+    requires idle { core.old.prepared ≡ None }
     ensures only_memory { IsOkUnless result NoMemory }
     ensures answered { IfOk result (IsReply core.old step.now.session step.now.event seat.old.txn) }
     ensures known { IfOk result (λ answer. found_no_memory answer ≡ false) }
@@ -101,26 +102,29 @@ pub fn answer_event(core: &mut Core, seat: &mut Seat, step: &Step) -> Result<Ans
         Event::Begin => begin(core, seat),
         Event::Run(statement) => run(seat, statement),
         Event::Commit => commit(core, seat, &step.session),
-        Event::Rollback => Ok(roll_back(seat)),
+        Event::Rollback => Ok(roll_back(core, seat)),
     }
 }
 
 /// BEGIN: a transaction begins on the newest tables.
-fn begin(core: &Core, seat: &mut Seat) -> Result<Answer, Refusal>
-    requires live { HoldsOf (IsLive core.now) seat.old.txn }
+fn begin(core: &mut Core, seat: &mut Seat) -> Result<Answer, Refusal>
+    requires live { HoldsOf (IsLive core.old) seat.old.txn }
+    requires idle { core.old.prepared ≡ None }
     ensures only_memory { IsOkUnless result NoMemory }
-    ensures answered { IfOk result (λ answer. answer ≡ begin_answer core.now seat.old.txn) }
+    ensures answered { IfOk result (λ answer. answer ≡ begin_answer core.old seat.old.txn) }
     ensures known { IfOk result (λ answer. found_no_memory answer ≡ false) }
-    ensures seat { OnOk result (seat.new ≡ record seat.old { txn = txn_after core.now Begin seat.old.txn }) }
-    ensures same { OnErr result (seat.new ≡ seat.old) }
-    ensures live { HoldsOf (IsLive core.now) seat.new.txn }
+    ensures commits { IfOk result (λ answer. core.new ≡ core_after core.old seat.old.session Begin seat.old.txn answer) }
+    ensures seat { OnOk result (seat.new ≡ record seat.old { txn = txn_after core.old Begin seat.old.txn }) }
+    ensures same { OnErr result ((core.new ≡ core.old) × (seat.new ≡ seat.old)) }
+    ensures live { HoldsOf (IsLive core.new) seat.new.txn }
 {
     if seat.txn.is_some() {
         return Ok(Answer::Refused(Refusal::TransactionOpen));
     }
+    let snapshot = core.records().len() as u64;
     let txn = core.begin()?;
     set_txn(seat, Some(txn));
-    Ok(Answer::Begun(core.records().len() as u64))
+    Ok(Answer::Begun(snapshot))
 }
 
 /// A statement, in the open transaction.
@@ -144,6 +148,7 @@ fn run(seat: &mut Seat, statement: &Statement) -> Result<Answer, Refusal>
 /// COMMIT of the open transaction.
 fn commit(core: &mut Core, seat: &mut Seat, session: &Text) -> Result<Answer, Refusal>
     requires live { HoldsOf (IsLive core.old) seat.old.txn }
+    requires idle { core.old.prepared ≡ None }
     ensures only_memory { IsOkUnless result NoMemory }
     ensures answered { IfOk result (IsReply core.old session.now Commit seat.old.txn) }
     ensures known { IfOk result (λ answer. found_no_memory answer ≡ false) }
@@ -165,14 +170,17 @@ fn commit(core: &mut Core, seat: &mut Seat, session: &Text) -> Result<Answer, Re
 }
 
 /// ROLLBACK: the open transaction is ended, and nothing of it kept.
-fn roll_back(seat: &mut Seat) -> Answer
+fn roll_back(core: &mut Core, seat: &mut Seat) -> Answer
+    requires live { HoldsOf (IsLive core.old) seat.old.txn }
+    requires idle { core.old.prepared ≡ None }
     ensures answered { result ≡ rollback_answer seat.old.txn }
+    ensures commits { core.new ≡ core_after core.old seat.old.session Rollback seat.old.txn result }
     ensures seat { seat.new ≡ record seat.old { txn = None } }
 {
     match seat.txn.take() {
         None => Answer::Refused(Refusal::NoTransaction),
         Some(txn) => {
-            let_go(txn.abandon());
+            core.end(txn);
             Answer::RolledBack
         }
     }

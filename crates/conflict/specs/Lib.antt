@@ -1,3 +1,4 @@
 pub mod Candidates
 pub mod Judged
 pub mod Ordered
+pub mod Readers

@@ -1,6 +1,6 @@
 //! Scripts of several sessions, by the bytes that they print.
 
-use crate::tests::{COVER, prints_over_tables};
+use crate::tests::{COVER, locks_kept, prints_over_tables};
 use std::alloc::Global;
 use std::process::Abort;
 use std::test::Fail;
@@ -64,6 +64,20 @@ fn disjoint_shifts(rt: HostRuntime) -> Result<(), Fail> {
          COMMITS 2\n1 A SNAPSHOT 0 ROWS 1\n2 B SNAPSHOT 0 ROWS 1\nSERIAL 1 2\nREFUSED 0\nASSERTIONS 1\n\
          COVER TRUE\n",
     )
+}
+
+/// After the first COMMIT its three keys are kept, since the other transaction began before it; after the second none is.
+#[test]
+fn lock_table_sizes(rt: HostRuntime) -> Result<(), Fail> {
+    let more = format!(in rt.alloc(); "{COVER}{SEVEN}{EIGHT}")?;
+    let kept = locks_kept(
+        rt.alloc(),
+        more.as_str(),
+        "A: BEGIN; B: BEGIN; A: UPDATE DUTY SET ONCALL = 0 WHERE ID = 1;
+         B: UPDATE DUTY SET ONCALL = 0 WHERE ID = 3; A: COMMIT; B: COMMIT;",
+    )?;
+    assert_eq!(rt; kept.as_slice(), [0, 0, 0, 0, 3, 0].as_slice());
+    Ok(())
 }
 
 #[test]

@@ -1,6 +1,8 @@
 //! Whole texts through the engine, by the bytes that it writes.
 
 use crate::replay::{ProgramFault, replay_into};
+use commit::{Engine, admit};
+use parse::{parse_schema, parse_script};
 use report::Report;
 use std::alloc::Global;
 use std::io;
@@ -51,6 +53,21 @@ fn prints(
     let got = written(rt.alloc(), defs, script, 1_000_000)?;
     assert_eq!(rt; got.as_slice(), want.as_bytes());
     Ok(())
+}
+
+/// How many pairs of a key and a commit that read it are kept after each event of a script, over the tables above.
+pub fn locks_kept(alloc: Global, more: &str, script: &str) -> Result<Vec<usize>, Fail> {
+    let defs = format!(in alloc; "{TABLES}{more}")?;
+    let definitions = parse_schema(alloc, defs.as_bytes())?;
+    let steps = parse_script(alloc, script.as_bytes())?;
+    let view = admit(alloc, definitions.as_slice())?;
+    let mut engine = Engine::new(alloc, 1_000_000, view, steps.as_slice())?;
+    let mut kept = Vec::new(alloc);
+    for step in steps.as_slice() {
+        let _answer = engine.answer(step);
+        kept.push(engine.core().locks())?;
+    }
+    Ok(kept)
 }
 
 /// What is printed for these definitions over the tables above.

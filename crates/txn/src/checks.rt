@@ -8,7 +8,7 @@ ghost use Rattle.assertion.specs.Declarations.{layouts_in};
 ghost use Rattle.modes.specs.Modes.{assertion_of, immediate_ones};
 ghost use Rattle.alone.specs.Checks.{violation};
 ghost use Rattle.txn.specs.Checks.{refused_at};
-ghost use Rattle.txn.specs.Transactions.{false_names, name_if_false};
+ghost use Rattle.txn.specs.Transactions.{false_names, name_if_false, truth_of};
 
 use assertion::Assertion;
 use delta::View;
@@ -60,6 +60,20 @@ pub fn place_named(assertions: &[Assertion], name: &Text) -> Option<usize>
         }
     }
     None
+}
+
+/// The truth of the assertion of a name on a view; none where no assertion has it. It takes no memory.
+pub fn truth_on(view: &View, name: &Text) -> Option<Truth>
+    ensures { result ≡ truth_of view.now (assertion_of name.now view.now.declared.assertions) }
+{
+    match place_named(view.assertions(), name) {
+        Some(place) => {
+            // Both clauses speak of the item at the place, and an index names one.
+            let _ = &view.assertions()[place];
+            Some(view.verdict(place))
+        }
+        None => None,
+    }
 }
 
 /// The names of the assertions that are false on a view, in the order of their creation. NoMemory is the only error.

@@ -67,6 +67,13 @@ pub struct Unclosed {
 }
 
 impl Closed {
+    /// The name of the transaction with whom it was begun. It takes no memory.
+    pub fn ticket(&self) -> u64
+        ensures { result ≡ self.now.ticket }
+    {
+        self.ticket
+    }
+
     /// How many commits its snapshot holds. It takes no memory.
     pub fn snapshot(&self) -> u64
         ensures { result ≡ self.now.snapshot }

@@ -53,7 +53,7 @@ mod resolutions;
 mod steps;
 mod txns;
 
-pub use checks::violation;
+pub use checks::{truth_on, violation};
 pub use closed::{Closed, Parts, Unclosed};
 pub use txns::Txn;
 

@@ -291,7 +291,8 @@ fn list(alloc: Global, own: &View, select: &Select) -> Result<Done, Refusal>
     has_table(own, select.table);
     let rows = selected_rows(
         alloc,
-        own.rows(select.table),
+        own,
+        select.table,
         select.columns.as_slice(),
         &select.kept,
     )?;

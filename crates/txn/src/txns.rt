@@ -10,7 +10,7 @@ ghost use Rattle.txn.specs.Held.{IsClosed};
 ghost use Rattle.txn.specs.Runnable.{IsRunnable};
 ghost use Rattle.txn.specs.Transactions.{begun, false_names, own_view, run_of, step_of, truth_of, with_statement};
 
-use crate::checks::{false_names, place_named, violation};
+use crate::checks::{false_names, truth_on, violation};
 use crate::closed::{Closed, Unclosed};
 use crate::resolutions::resolve;
 use crate::steps::{Done, append, step};
@@ -189,14 +189,7 @@ impl Txn {
     pub fn verdict(&self, name: &Text) -> Option<Truth>
         ensures { result ≡ truth_of (own_view self.now) (assertion_of name.now self.now.declared.assertions) }
     {
-        match place_named(self.own.assertions(), name) {
-            Some(place) => {
-                // Both clauses speak of the item at the place, and an index names one.
-                let _ = &self.own.assertions()[place];
-                Some(self.own.verdict(place))
-            }
-            None => None,
-        }
+        truth_on(&self.own, name)
     }
 
     /// The names of the assertions that are false on the own view, in the order of their creation. It enters no trace. NoMemory is

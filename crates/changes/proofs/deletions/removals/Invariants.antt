@@ -1,11 +1,7 @@
-use Rattle.std.specs.Prelude.{All}
-use Rattle.cond.specs.Bounds.{IsSmallRow}
+use Rattle.assertion.specs.Meaning.{kept_rows}
 use Rattle.alone.specs.Statements.{removal}
 use Rattle.changes.proofs.Walks.{IsMade}
 use Rattle.changes.proofs.deletions.removals.Given as goal
 
 abbrev pub invariant-loop-row : goal.invariant-loop-row
-invariant-loop-row l = record {
-  small : All IsSmallRow l.row-iterator;
-  made : IsMade (removal l.table l.key) l.kept l.rows l.made.items l.row-iterator;
-}
+invariant-loop-row l = IsMade (removal l.table l.key) (kept_rows l.kept l.rows) l.made.items l.row-iterator

@@ -10,7 +10,7 @@ use Rattle.changes.proofs.updates.renewals.Given as goal
 abbrev pub invariant-loop-row : goal.invariant-loop-row
 invariant-loop-row l = record {
   fits : All (FitsColumns l.schema.columns) l.row-iterator;
-  made : IsMade (renewal l.table l.schema.key l.sets) l.kept l.rows l.made.items l.row-iterator;
-  fault : update_fault l.schema.columns l.sets (kept_rows l.kept l.rows) ≡ update_fault l.schema.columns l.sets (kept_rows l.kept l.row-iterator);
+  made : IsMade (renewal l.table l.schema.key l.sets) (kept_rows l.kept l.rows) l.made.items l.row-iterator;
+  fault : update_fault l.schema.columns l.sets (kept_rows l.kept l.rows) ≡ update_fault l.schema.columns l.sets l.row-iterator;
   new_fit : All (λ change. HoldsOf (FitsColumns l.schema.columns) change.new) l.made.items;
 }

@@ -6,7 +6,8 @@ use Rattle.assertion.specs.Declarations.{layouts_in}
 use Rattle.txn.specs.Transactions.{outcome_of, own_view}
 use Rattle.commit.specs.Cores.{CoreState, record_of}
 use Rattle.commit.specs.Decisions.{IsDecision, IsJudgment}
-use Rattle.commit.specs.contracts.cores.Core as core
+use Rattle.commit.specs.Kept.{idle_core}
+use Rattle.commit.proofs.Keeping.{idle_view}
 use Rattle.commit.proofs.Deciding.{by_assertion, decided_by, violation_named}
 use Rattle.commit.proofs.cores.Core.decide.Goals as goal
 
@@ -19,7 +20,9 @@ returns-in-Some-clause-decided c = λ session.
 
 pub returns-clause-decided : goal.returns-clause-decided
 returns-clause-decided c = λ session.
-    subst (λ (s : CoreState). IsDecision s session c.args.closed.now c.in_ok-decision.decision) c.self.view_is
-    (decided_by (core.the_view c.self.inside) session c.args.closed.now c.in_ok-decision.decision c.in_default.ensures
+    let now = idle_core c.self.inside.limit c.self.inside.loaded c.self.inside.records.items c.self.inside.refused.items c.self.inside.live in
+    let is : now ≡ c.args.self.now = idle_view now c.args.self.now c.self.inside.prepared c.self.view_is c.requires.idle in
+    subst (λ (s : CoreState). IsDecision s session c.args.closed.now c.in_ok-decision.decision) is
+    (decided_by now session c.args.closed.now c.in_ok-decision.decision c.in_default.ensures
     (sym (ne_eqb _ _ (λ e. c.if-as_slice-self.false (ap length c.as_slice.ensures.value ∙ e))))
-    (subst (λ (s : CoreState). IsJudgment s (record_of s session c.args.closed.now) c.in_ok-decision.decision) (sym c.self.view_is) (c.in_ok-decision.ensures.judged session)))
+    (subst (λ (s : CoreState). IsJudgment s (record_of s session c.args.closed.now) c.in_ok-decision.decision) (sym is) (c.in_ok-decision.ensures.judged session)))

@@ -6,20 +6,23 @@ use Rattle.serial.specs.declared.records.Record.{Record}
 use Rattle.conflict.specs.declared.verdicts.Verdict.TheVariants.{Fine, Dangerous}
 use Rattle.conflict.specs.Judged.{IsConflictAt, IsVerdict}
 use Rattle.txn.specs.Transactions.{outcome_of}
-use Rattle.commit.specs.declared.cores.Decision.TheVariants.{Accepted, Refused}
+use Rattle.commit.specs.declared.decisions.Decision.TheVariants.{Accepted, Refused}
 use Rattle.commit.specs.Cores.{CoreState, IsLive, record_of}
 use Rattle.commit.specs.Decisions.{IsConflictOf, IsJudgment}
-use Rattle.commit.specs.contracts.cores.Core as core
+use Rattle.commit.specs.Kept.{idle_core}
+use Rattle.commit.proofs.Keeping.{idle_view}
 use Rattle.commit.proofs.Accepting.{tables_in}
 use Rattle.commit.proofs.Weighing.{judged_conflict, judged_danger, judged_fine}
 use Rattle.commit.proofs.cores.Core.judge.Goals as goal
 
 pub returns-in-Fine-clause-judged : goal.returns-in-Fine-clause-judged
 returns-in-Fine-clause-judged c = λ session.
-    subst (λ (s : CoreState). IsJudgment s (record_of s session c.args.closed.now) (Accepted c.in-Fine.place)) c.self.view_is
-    (judged_fine (core.the_view c.self.inside) session c.args.closed.now c.in-Fine.place
-    (subst (λ records. IsVerdict (reverse records) (record_of (core.the_view c.self.inside) session c.args.closed.now) (Fine c.in-Fine.place)) c.as_slice-records.ensures.value
-    (c.in-Fine.ensures (record_of (core.the_view c.self.inside) session c.args.closed.now) (record {
+    let now = idle_core c.self.inside.limit c.self.inside.loaded c.self.inside.records.items c.self.inside.refused.items c.self.inside.live in
+    let is : now ≡ c.args.self.now = idle_view now c.args.self.now c.self.inside.prepared c.self.view_is c.requires.idle in
+    subst (λ (s : CoreState). IsJudgment s (record_of s session c.args.closed.now) (Accepted c.in-Fine.place)) is
+    (judged_fine now session c.args.closed.now c.in-Fine.place
+    (subst (λ records. IsVerdict (reverse records) (record_of now session c.args.closed.now) (Fine c.in-Fine.place)) c.as_slice-records.ensures.value
+    (c.in-Fine.ensures (record_of now session c.args.closed.now) (record {
       number = ap (λ (records : List Record). length records + 1) c.as_slice-records.ensures.value;
       snapshot = c.snapshot.ensures;
       reads = c.reads.ensures;
@@ -28,7 +31,9 @@ returns-in-Fine-clause-judged c = λ session.
 
 pub write_conflict-requires-clause-within : goal.write_conflict-requires-clause-within
 write_conflict-requires-clause-within c =
-    let at = c.in-WriteConflict.ensures (record_of (core.the_view c.self.inside) [] c.args.closed.now) (record {
+    let now = idle_core c.self.inside.limit c.self.inside.loaded c.self.inside.records.items c.self.inside.refused.items c.self.inside.live in
+    let is : now ≡ c.args.self.now = idle_view now c.args.self.now c.self.inside.prepared c.self.view_is c.requires.idle in
+    let at = c.in-WriteConflict.ensures (record_of now [] c.args.closed.now) (record {
       number = ap (λ (records : List Record). length records + 1) c.as_slice-records.ensures.value;
       snapshot = c.snapshot.ensures;
       reads = c.reads.ensures;
@@ -38,17 +43,21 @@ write_conflict-requires-clause-within c =
 
 pub write_conflict-requires-clause-tables : goal.write_conflict-requires-clause-tables
 write_conflict-requires-clause-tables c =
-    let live = subst (λ (s : CoreState). IsLive s c.args.closed.now) (sym c.self.view_is) c.requires.live in
+    let now = idle_core c.self.inside.limit c.self.inside.loaded c.self.inside.records.items c.self.inside.refused.items c.self.inside.live in
+    let is : now ≡ c.args.self.now = idle_view now c.args.self.now c.self.inside.prepared c.self.view_is c.requires.idle in
+    let live = subst (λ (s : CoreState). IsLive s c.args.closed.now) (sym is) c.requires.live in
     subst (λ (tables : Tables). All (λ (change : Change). change.table < length (names_of tables)) c.changes-changes.result.now) (sym c.catalog.ensures.value)
     (subst (All (λ (change : Change). change.table < length (names_of c.self.inside.loaded.declared.tables))) (sym c.changes-changes.ensures.net)
-    (tables_in c.self.inside.limit c.self.inside.loaded c.self.inside.newest c.self.inside.records.items c.self.inside.places.items c.self.inside.order.items c.self.inside.refused.items c.self.invariant [] c.args.closed.now live))
+    (tables_in now c.self.inside.newest c.self.inside.places.items c.self.inside.order.items c.self.invariant.0 [] c.args.closed.now live))
 
 pub returns-in_ok-refusal-in-WriteConflict-clause-judged : goal.returns-in_ok-refusal-in-WriteConflict-clause-judged
 returns-in_ok-refusal-in-WriteConflict-clause-judged c = λ session.
-    subst (λ (s : CoreState). IsJudgment s (record_of s session c.args.closed.now) (Refused c.in_ok-refusal-in-WriteConflict.refusal)) c.self.view_is
-    (judged_conflict (core.the_view c.self.inside) session c.args.closed.now c.in-WriteConflict.row c.in-WriteConflict.by c.in_ok-refusal-in-WriteConflict.refusal
-    (subst (λ records. IsConflictAt (reverse records) (record_of (core.the_view c.self.inside) session c.args.closed.now) c.in-WriteConflict.row c.in-WriteConflict.by) c.as_slice-records.ensures.value
-    (c.in-WriteConflict.ensures (record_of (core.the_view c.self.inside) session c.args.closed.now) (record {
+    let now = idle_core c.self.inside.limit c.self.inside.loaded c.self.inside.records.items c.self.inside.refused.items c.self.inside.live in
+    let is : now ≡ c.args.self.now = idle_view now c.args.self.now c.self.inside.prepared c.self.view_is c.requires.idle in
+    subst (λ (s : CoreState). IsJudgment s (record_of s session c.args.closed.now) (Refused c.in_ok-refusal-in-WriteConflict.refusal)) is
+    (judged_conflict now session c.args.closed.now c.in-WriteConflict.row c.in-WriteConflict.by c.in_ok-refusal-in-WriteConflict.refusal
+    (subst (λ records. IsConflictAt (reverse records) (record_of now session c.args.closed.now) c.in-WriteConflict.row c.in-WriteConflict.by) c.as_slice-records.ensures.value
+    (c.in-WriteConflict.ensures (record_of now session c.args.closed.now) (record {
       number = ap (λ (records : List Record). length records + 1) c.as_slice-records.ensures.value;
       snapshot = c.snapshot.ensures;
       reads = c.reads.ensures;
@@ -60,10 +69,12 @@ returns-in_ok-refusal-in-WriteConflict-clause-judged c = λ session.
 
 pub returns-in-Dangerous-clause-judged : goal.returns-in-Dangerous-clause-judged
 returns-in-Dangerous-clause-judged c = λ session.
-    subst (λ (s : CoreState). IsJudgment s (record_of s session c.args.closed.now) (Refused c.dangerous.result)) c.self.view_is
-    (judged_danger (core.the_view c.self.inside) session c.args.closed.now c.in-Dangerous.danger c.dangerous.result c.dangerous.ensures
-    (subst (λ records. IsVerdict (reverse records) (record_of (core.the_view c.self.inside) session c.args.closed.now) (Dangerous c.in-Dangerous.danger)) c.as_slice-records.ensures.value
-    (c.in-Dangerous.ensures (record_of (core.the_view c.self.inside) session c.args.closed.now) (record {
+    let now = idle_core c.self.inside.limit c.self.inside.loaded c.self.inside.records.items c.self.inside.refused.items c.self.inside.live in
+    let is : now ≡ c.args.self.now = idle_view now c.args.self.now c.self.inside.prepared c.self.view_is c.requires.idle in
+    subst (λ (s : CoreState). IsJudgment s (record_of s session c.args.closed.now) (Refused c.dangerous.result)) is
+    (judged_danger now session c.args.closed.now c.in-Dangerous.danger c.dangerous.result c.dangerous.ensures
+    (subst (λ records. IsVerdict (reverse records) (record_of now session c.args.closed.now) (Dangerous c.in-Dangerous.danger)) c.as_slice-records.ensures.value
+    (c.in-Dangerous.ensures (record_of now session c.args.closed.now) (record {
       number = ap (λ (records : List Record). length records + 1) c.as_slice-records.ensures.value;
       snapshot = c.snapshot.ensures;
       reads = c.reads.ensures;

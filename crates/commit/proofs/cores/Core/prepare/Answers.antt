@@ -1,14 +1,27 @@
-use Rattle.std.proofs.Common.{◌≡◌}
-use Rattle.std.specs.Prelude.{◌==◌, ◌+◌, length}
-use Rattle.txn.specs.Transactions.{outcome_of}
-use Rattle.commit.specs.Cores.{record_of}
-use Rattle.commit.proofs.Deciding.{passed}
+use Rattle.std.proofs.Common.{subst, sym, Ok}
+use Rattle.std.proofs.lemmas.Result.{IfOk-weaker}
+use Rattle.commit.specs.declared.decisions.Decision.{Decision}
+use Rattle.commit.specs.Cores.{IsCommitAnswer}
+use Rattle.commit.specs.Decisions.{IsDecision}
 use Rattle.commit.proofs.cores.Core.prepare.Goals as goal
 
-pub tables_with-requires-clause-free : goal.tables_with-requires-clause-free
-tables_with-requires-clause-free c = λ session other listed conflict.
-    let all = passed c.args.self.now (record_of c.args.self.now c.args.session.now c.args.closed.now) (outcome_of c.args.closed.now).refused (length c.args.self.now.records == c.args.self.now.limit) (length c.args.self.now.records + 1) c.requires.answered in
-    all.answer.1 other listed (record { after_snapshot = conflict.after_snapshot; common = conflict.common })
+pub make_ready-requires-clause-answered : goal.make_ready-requires-clause-answered
+make_ready-requires-clause-answered c =
+    (subst (λ (d : Decision). IsDecision c.args.self.now c.args.session.now c.args.closed d) c.in-Ok-Accepted.field-0-is (c.in-Ok-Accepted.ensures.decided c.args.session.now)).0
 
-pub returns-clause-tables : goal.returns-clause-tables
-returns-clause-tables c = c.in_ok-view.ensures.tables c.args.session.now
+pub make_ready-requires-clause-place : goal.make_ready-requires-clause-place
+make_ready-requires-clause-place c =
+    (subst (λ (d : Decision). IsDecision c.args.self.now c.args.session.now c.args.closed d) c.in-Ok-Accepted.field-0-is (c.in-Ok-Accepted.ensures.decided c.args.session.now)).1
+
+pub refuse-requires-clause-known : goal.refuse-requires-clause-known
+refuse-requires-clause-known c =
+    (subst (λ (d : Decision). IsDecision c.args.self.now c.args.session.now c.args.closed d) c.in-Ok-Refused.field-0-is (c.in-Ok-Refused.ensures.decided c.args.session.now)).1
+
+pub refuse-requires-clause-answered : goal.refuse-requires-clause-answered
+refuse-requires-clause-answered c =
+    (subst (λ (d : Decision). IsDecision c.args.self.now c.args.session.now c.args.closed d) c.in-Ok-Refused.field-0-is (c.in-Ok-Refused.ensures.decided c.args.session.now)).0
+
+pub returns-in-Ok-Accepted-clause-number : goal.returns-in-Ok-Accepted-clause-number
+returns-in-Ok-Accepted-clause-number c =
+    let answered = (subst (λ (d : Decision). IsDecision c.args.self.now c.args.session.now c.args.closed d) c.in-Ok-Accepted.field-0-is (c.in-Ok-Accepted.ensures.decided c.args.session.now)).0 in
+    IfOk-weaker c.make_ready.result _ _ (λ number is. subst (λ n. IsCommitAnswer c.args.self.now c.args.session.now c.args.closed (Ok n)) (sym is) answered) c.make_ready.ensures.number

@@ -1,0 +1,275 @@
+#!/usr/bin/env python3
+"""Committed transactions a second with several transactions open at once, and the cost of a commit by those before it.
+
+    python3 bench/commits.py [--program PATH] [--keys 1000,100000] [--open 1,4,16,64]
+                             [--history 1000,10000,100000] [--repetitions 3]
+
+Without --program the program is built first by `rt run` in crates/skewguard, which proves it. Nothing but Python 3.9
+or later is needed besides. The tables that docs/PERFORMANCE.md holds are printed as they stand there. One process at
+a time runs.
+
+Open at once: K sessions take turns. At its turn a session commits the transaction that it began K turns before, begins
+the next and runs its statements. So K transactions are open all the time, and K - 1 COMMITs of others come between a
+BEGIN and its COMMIT. All statements are by key; the keys are drawn at random, each as likely as any other. There are
+two loads:
+
+- on-call: someone is on call in each shift, and four persons belong to each. A person is looked up and put on call,
+  and another one of the shift is taken off.
+- ledger: no owner's accounts sum below zero, and each has four. An account is looked up, and a sum goes from it to
+  another one of anyone's.
+
+A COMMIT may be refused, since two transactions changed one row (fault 12) or would complete a dangerous triple (13).
+It is not tried again. --without-look leaves the looking up out. No statement is refused: a person is put on call before
+another is taken off, and balances are large.
+
+History: one session commits transactions of one UPDATE each, on 1,000 accounts under the ledger's rule. A history of
+a million is run where --history asks for it: it takes some 4 GB.
+
+What counts is the processor time of the replay less that of loading alone. Each report is looked at whole: each BEGIN
+with the commits that it sees, each statement, each COMMIT with its number, and the closing part.
+"""
+
+import argparse
+import os
+import random
+import statistics
+import sys
+import tempfile
+
+from replays import built, digits, exponent, least_memory, machine, power, replay, table, written
+
+TRANSACTIONS = 20_000  # of all sessions together
+MEMBERS = 4  # of a shift or an owner
+HISTORY_KEYS = 1_000
+
+# More repetitions of the short histories, in which loading is a greater part, and one of the longest.
+REPETITIONS_OF_HISTORY = {1_000: 15, 10_000: 7, 1_000_000: 1}
+
+
+class Load:
+    """A load whose transactions may begin with a SELECT by key, the look."""
+
+    def __init__(self, look=True):
+        self.look = look
+
+
+class OnCall(Load):
+    """Someone is on call in each shift. The persons of a shift have the keys that begin with its number."""
+
+    name = "on-call"
+
+    def definitions(self, keys):
+        yield "CREATE TABLE SHIFTS (ID INTEGER PRIMARY KEY);\n"
+        yield "CREATE TABLE DUTY (ID INTEGER PRIMARY KEY, SHIFT INTEGER NOT NULL, ONCALL INTEGER NOT NULL);\n"
+        yield "CREATE ASSERTION COVERED CHECK (NOT EXISTS (SELECT * FROM SHIFTS S WHERE NOT EXISTS"
+        yield " (SELECT * FROM DUTY D WHERE D.SHIFT = S.ID AND D.ONCALL = 1)));\n"
+        yield from (f"INSERT INTO SHIFTS VALUES ({shift});\n" for shift in range(keys // MEMBERS))
+        yield from (f"INSERT INTO DUTY VALUES ({key}, {key // MEMBERS}, {1 - key % 2});\n" for key in range(keys))
+
+    def statements(self, drawn, keys):
+        """Statements of one transaction, each with its reply; a SELECT's goes on with the row."""
+        comes = drawn.randrange(keys)
+        goes = comes - comes % MEMBERS + (comes + drawn.randrange(1, MEMBERS)) % MEMBERS
+        if self.look:
+            yield f"SELECT ONCALL FROM DUTY WHERE ID = {comes}", "SELECT 1"
+        yield f"UPDATE DUTY SET ONCALL = 1 WHERE ID = {comes}", "UPDATE 1"
+        yield f"UPDATE DUTY SET ONCALL = 0 WHERE ID = {goes}", "UPDATE 1"
+
+
+class Ledger(Load):
+    """No owner's accounts sum below zero."""
+
+    name = "ledger"
+
+    def definitions(self, keys):
+        yield "CREATE TABLE ACCT (ID INTEGER PRIMARY KEY, OWNER INTEGER NOT NULL, BAL INTEGER NOT NULL);\n"
+        yield "CREATE ASSERTION FUNDS CHECK (NOT EXISTS (SELECT OWNER FROM ACCT GROUP BY OWNER HAVING SUM(BAL) < 0));\n"
+        yield from (f"INSERT INTO ACCT VALUES ({key}, {key // MEMBERS}, 1000000);\n" for key in range(keys))
+
+    def statements(self, drawn, keys):
+        """Statements of one transaction, each with its reply; a SELECT's goes on with the row."""
+        one, other = drawn.sample(range(keys), 2)
+        amount = drawn.randint(1, 100)
+        if self.look:
+            yield f"SELECT BAL FROM ACCT WHERE ID = {one}", "SELECT 1"
+        yield f"UPDATE ACCT SET BAL = BAL - {amount} WHERE ID = {one}", "UPDATE 1"
+        yield f"UPDATE ACCT SET BAL = BAL + {amount} WHERE ID = {other}", "UPDATE 1"
+
+
+def turns(load, keys, sessions):
+    """The events of a script, each with its session and how its reply begins."""
+    drawn = random.Random(f"{load.name} {keys} {sessions}")
+    for turn in range(TRANSACTIONS + sessions):
+        session = f"S{turn % sessions}"
+        if turn >= sessions:
+            yield session, "COMMIT", "COMMIT"
+        if turn < TRANSACTIONS:
+            yield session, "BEGIN", "BEGIN"
+            for statement, reply in load.statements(drawn, keys):
+                yield session, statement, reply
+
+
+def history(commits, end="COMMIT"):
+    """The events of one session that commits so many times, or is rolled back."""
+    for number in range(commits):
+        yield "A", "BEGIN", "BEGIN"
+        yield "A", f"UPDATE ACCT SET BAL = BAL + 1 WHERE ID = {number * 619 % HISTORY_KEYS}", "UPDATE 1"
+        yield "A", end, end
+
+
+def script(events):
+    return (f"{session}: {event};\n" for session, event, _ in events)
+
+
+def looked_at(output, events):
+    """Commits, and refused COMMITs by their faults, after a look at each line of a report."""
+    commits, refused = 0, {"12 40001": 0, "13 40001": 0}
+    with open(output) as lines:
+        for session, event, reply in events:
+            line = next(lines, "").rstrip("\n")
+            if event == "COMMIT":
+                if line == f"{session}: COMMIT {commits + 1}":
+                    commits += 1
+                    continue
+                fault = line[len(session) + len(": REFUSED "):][:8]
+                if not line.startswith(f"{session}: REFUSED ") or fault not in refused:
+                    sys.exit(f"a COMMIT was answered {line}")
+                refused[fault] += 1
+                continue
+            want = f"{session}: BEGIN {commits}" if event == "BEGIN" else f"{session}: {reply}"
+            if line != want:
+                sys.exit(f"{event} was answered {line} and not {want}")
+            if reply == "SELECT 1" and not next(lines, "").startswith("  "):
+                sys.exit("a SELECT has not listed its row")
+        check_closing(lines, commits, sum(refused.values()))
+    return commits, refused
+
+
+def check_closing(lines, commits, refused):
+    """The closing part: each commit, the serial order, each refused COMMIT, and that the rule is true."""
+    expect(lines, f"COMMITS {commits}")
+    for number in range(1, commits + 1):
+        if next(lines, "").split()[:1] != [str(number)]:
+            sys.exit(f"commit {number} is not listed")
+    order = next(lines, "").split()
+    if order[:1] != ["SERIAL"] or sorted(map(int, order[1:])) != list(range(1, commits + 1)):
+        sys.exit("the serial order does not have each commit once")
+    expect(lines, f"REFUSED {refused}")
+    for _ in range(refused):
+        next(lines)
+    expect(lines, "ASSERTIONS 1")
+    if not next(lines, "").endswith(" TRUE\n") or next(lines, None) is not None:
+        sys.exit("the rule is not true in the end")
+
+
+def expect(lines, want):
+    line = next(lines, "").rstrip("\n")
+    if line != want:
+        sys.exit(f"the closing part has {line} and not {want}")
+
+
+def spread(name, numbers, places):
+    return f"{name} {' '.join(f'{number:.{places}f}' for number in sorted(numbers))}"
+
+
+def at_once(program, load, keys, sizes, repetitions, folder):
+    """For each number of open transactions a row of the table."""
+    definitions = written(f"{folder}/defs", load.definitions(keys))
+    empty, output = written(f"{folder}/empty", []), f"{folder}/output"
+    rows = []
+    for sessions in sizes:
+        path = written(f"{folder}/script", script(turns(load, keys, sessions)))
+        seconds, loading = [], []
+        for _ in range(repetitions):
+            loading.append(replay(program, definitions, empty).seconds)
+            seconds.append(replay(program, definitions, path, output).seconds - loading[-1])
+        commits, refused = looked_at(output, turns(load, keys, sessions))
+        used = statistics.median(seconds)
+        print(f"{load.name}, {keys} keys, {sessions} open, {commits} commits, refused {refused}, ", end="")
+        print(f"{spread('s', seconds, 3)}, {spread('loading s', loading, 3)}", flush=True)
+        shares = [f"{count / TRANSACTIONS:.2%}" for count in refused.values()]
+        cells = [load.name, f"{keys:,}", str(sessions), digits(commits / used), digits(used / TRANSACTIONS * 1e6)]
+        rows.append(cells + shares)
+    return rows
+
+
+class Past:
+    """Of one length of history: seconds in each repetition less loading, and bytes, of it those of the script."""
+
+    def __init__(self, commits):
+        self.commits = commits
+        self.all_seconds = []
+        self.memory = self.script = None
+
+    seconds = property(lambda self: statistics.median(self.all_seconds))
+
+    def __str__(self):
+        return f"{self.commits} commits, {spread('us', (one / self.commits * 1e6 for one in self.all_seconds), 2)}"
+
+
+def past(program, commits, repetitions, folder):
+    definitions = written(f"{folder}/defs", Ledger().definitions(HISTORY_KEYS))
+    empty, output = written(f"{folder}/empty", []), f"{folder}/output"
+    path = written(f"{folder}/script", script(history(commits)))
+    found = Past(commits)
+    for _ in range(REPETITIONS_OF_HISTORY.get(commits, repetitions)):
+        alone = replay(program, definitions, empty)
+        whole = replay(program, definitions, path, output, commits)
+        found.all_seconds.append(whole.seconds - alone.seconds)
+    found.memory = (whole.memory - alone.memory) / commits
+    if looked_at(output, history(commits))[0] != commits:
+        sys.exit("a transaction was not committed")
+    written(path, script(history(commits, "ROLLBACK")))
+    found.script = (replay(program, definitions, path, output).memory - alone.memory) / commits
+    looked_at(output, history(commits, "ROLLBACK"))
+    return found
+
+
+def print_history(found):
+    rows, before = [], None
+    for one in found:
+        later = (one.seconds - before.seconds) / (one.commits - before.commits) if before else one.seconds / one.commits
+        cells = [f"{one.commits:,}", digits(one.seconds / one.commits * 1e6), digits(later * 1e6)]
+        rows.append(cells + [digits(one.memory, 3), digits(one.script, 3), digits(one.memory - one.script, 3)])
+        before = one
+    heads = ["commits in one history", "us a commit", "of those since the row above"]
+    table(heads + ["bytes a commit", "of it the script", "of it the commit"], rows)
+    growth = power(exponent([(one.commits, one.seconds / one.commits) for one in found]))
+    least, most = found[0].commits, found[-1].commits
+    print(f"\nThe time of a commit grows by the exponent {growth} from {least:,} commits to {most:,}.")
+
+
+def numbers(words):
+    return [int(word) for word in words.split(",") if word]
+
+
+def main():
+    words = argparse.ArgumentParser(description="Committed transactions a second, and a commit by those before it.")
+    words.add_argument("--program", help="the program skewguard; without it `rt run` builds it")
+    words.add_argument("--keys", default="1000,100000", help="keys of the loads with several open transactions")
+    words.add_argument("--open", default="1,4,16,64", help="how many are open at once, at most 256")
+    words.add_argument("--history", default="1000,10000,100000", help="commits in one history")
+    words.add_argument("--repetitions", type=int, default=3)
+    words.add_argument("--without-look", action="store_true", help="leaves out the SELECT of each transaction")
+    chosen = words.parse_args()
+    program = chosen.program or built()
+    print(machine(chosen.repetitions))
+    print(f"a peak below {least_memory() / 1e6:.1f} MB can't be told", flush=True)
+    rows, found = [], []
+    with tempfile.TemporaryDirectory() as folder:
+        for load in (OnCall(not chosen.without_look), Ledger(not chosen.without_look)):
+            for keys in numbers(chosen.keys):
+                rows += at_once(program, load, keys, numbers(chosen.open), chosen.repetitions, folder)
+        for commits in numbers(chosen.history):
+            found.append(past(program, commits, chosen.repetitions, folder))
+            print(found[-1], flush=True)
+    print(f"load at the end {os.getloadavg()[0]:.1f}")
+    heads = ["load", "keys", "open at once", "committed a second", "us a transaction"]
+    if rows:
+        table(heads + ["refused: same row (12)", "refused: dangerous triple (13)"], rows)
+    if found:
+        print_history(found)
+
+
+if __name__ == "__main__":
+    main()

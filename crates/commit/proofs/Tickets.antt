@@ -1,0 +1,35 @@
+-- The snapshots of open transactions, by their tickets.
+use Rattle.std.proofs.Common.{◌≡◌, ◌≢◌, ℕ, ◌<◌, ◌+◌, Bool, true, false, not, List, [], ◌∷◌, ◌++◌, filter, refl, sym, ap, ◌∙◌, inl, inr, arith}
+use Rattle.std.specs.Prelude.{◌==◌, All, Contains}
+use Rattle.std.proofs.lemmas.Bool.{ne_eqb}
+use Rattle.std.proofs.lemmas.List.Elements.{All-contains, All-filter, All-push, All-weaker, Contains-append_left, Contains-append_right}
+use Rattle.siread.proofs.Members.{in_head}
+use Rattle.live.specs.declared.snapshots.LiveSnapshot.{LiveSnapshot}
+use Rattle.live.specs.Live.{AreBelow, LiveState, is_other, with_begin, without}
+use Rattle.alone.proofs.Members.{in_filter}
+
+pub fewer : (live : LiveState) (ticket : ℕ) → AreBelow live.begun live.snapshots → AreBelow live.begun (without ticket live).snapshots
+fewer live ticket below = All-filter (is_other ticket) (λ (one : LiveSnapshot). one.ticket < live.begun) live.snapshots below
+
+pub one_more : (live : LiveState) (snapshot : ℕ) → AreBelow live.begun live.snapshots → AreBelow (with_begin snapshot live).begun (with_begin snapshot live).snapshots
+one_more live snapshot below =
+    All-push (λ (one : LiveSnapshot). one.ticket < live.begun + 1) live.snapshots (record { ticket = live.begun; snapshot = snapshot })
+    (All-weaker (λ (one : LiveSnapshot). one.ticket < live.begun) (λ (one : LiveSnapshot). one.ticket < live.begun + 1) (λ one h. omega arith) live.snapshots below)
+    (omega arith)
+
+-- the last to begin is held
+pub held_last : (live : LiveState) (snapshot : ℕ) → Contains (with_begin snapshot live).snapshots (record { ticket = live.begun; snapshot = snapshot })
+held_last live snapshot =
+    Contains-append_right live.snapshots (record { ticket = live.begun; snapshot = snapshot } ∷ []) (record { ticket = live.begun; snapshot = snapshot })
+    (in_head (record { ticket = live.begun; snapshot = snapshot }) [])
+
+-- those that were are still
+pub held_more : (live : LiveState) (snapshot : ℕ) (one : LiveSnapshot) → Contains live.snapshots one → Contains (with_begin snapshot live).snapshots one
+held_more live snapshot one m = Contains-append_left live.snapshots (record { ticket = live.begun; snapshot = snapshot } ∷ []) one m
+
+-- but for one that has ended
+pub held_other : (live : LiveState) (ticket : ℕ) (one : LiveSnapshot) → (one.ticket ≡ ticket → ⊥) → Contains live.snapshots one → Contains (without ticket live).snapshots one
+held_other live ticket one other m = in_filter (is_other ticket) live.snapshots one (ap not (ne_eqb one.ticket ticket other)) m
+
+pub ticket_below : (live : LiveState) (one : LiveSnapshot) → AreBelow live.begun live.snapshots → Contains live.snapshots one → one.ticket < live.begun
+ticket_below live one below m = All-contains (λ (one : LiveSnapshot). one.ticket < live.begun) live.snapshots one below m

@@ -1,0 +1,18 @@
+use Rattle.std.proofs.Common.{◌≡◌, ◌∙◌, [], sym}
+use Rattle.live.specs.Live.{none_live}
+use Rattle.commit.specs.Cores.{reads_kept}
+use Rattle.commit.specs.Kept.{idle_core}
+use Rattle.commit.proofs.Keeping.{empty_kept, same_core}
+use Rattle.commit.proofs.cores.Core.new.Goals as goal
+
+pub invariant_of-result : goal.invariant_of-result
+invariant_of-result c =
+    let empty = idle_core c.args.limit c.args.loaded [] [] none_live in
+    let made : empty ≡ idle_core c.args.limit c.args.loaded c.new.result.items c.new-4.result.items c.new-5.result
+    = λ i. idle_core c.args.limit c.args.loaded (sym c.new.ensures.items i) (sym c.new-4.ensures.items i) (sym c.new-5.ensures i) in (
+      same_core empty _ c.args.loaded _ [] _ [] _ made (sym c.in_ok-copy.ensures.equal) (sym c.new-2.ensures.items) (sym c.new-3.ensures.items)
+          (empty_kept c.args.limit c.args.loaded c.requires.sound c.requires.within),
+      tt,
+      c.new-6.ensures.empty ∙ (λ i. reads_kept (made i)),
+      tt,
+    )

@@ -1,0 +1,14 @@
+-- Who of the commits read what.
+use Rattle.std.specs.Prelude.{Bool, List, map, filter}
+use Rattle.std.specs.List.{list_any}
+use Rattle.siread.specs.declared.keys.LockKey.{LockKey}
+use Rattle.siread.specs.Keys.{same_key}
+use Rattle.siread.specs.Locks.{Reads}
+use Rattle.serial.specs.declared.records.Record.{Record}
+
+abbrev pub has_read : LockKey → Record → Bool
+has_read key commit = list_any (same_key key) commit.reads
+
+-- for each key the numbers of the commits that read it, in their order
+abbrev pub reads_of : List Record → Reads
+reads_of commits key = map (λ (commit : Record). commit.number) (filter (has_read key) commits)

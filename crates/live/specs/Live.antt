@@ -1,0 +1,34 @@
+-- Which snapshots are held by open transactions.
+use Rattle.std.specs.Prelude.{◌<◌, ◌+◌, ◌==◌, ℕ, Bool, not, List, [], ◌∷◌, ◌++◌, filter, min, All}
+use Rattle.live.specs.declared.snapshots.LiveSnapshot.{LiveSnapshot}
+
+-- how many transactions have begun, and the snapshots of those that have not ended, in the order of their begins
+pub record LiveState : Type 0 where
+  pub begun : ℕ
+  pub snapshots : List LiveSnapshot
+
+abbrev pub none_live : LiveState
+none_live = record { begun = 0; snapshots = [] }
+
+-- one transaction more, by the next ticket
+abbrev pub with_begin : (snapshot : ℕ) → LiveState → LiveState
+with_begin snapshot live = record {
+  begun = live.begun + 1;
+  snapshots = live.snapshots ++ record { ticket = live.begun; snapshot = snapshot } ∷ [];
+}
+
+abbrev pub is_other : (ticket : ℕ) → LiveSnapshot → Bool
+is_other ticket one = not (one.ticket == ticket)
+
+-- one less
+abbrev pub without : (ticket : ℕ) → LiveState → LiveState
+without ticket live = record { begun = live.begun; snapshots = filter (is_other ticket) live.snapshots }
+
+-- the least number of commits that one of these snapshots holds, or this one where that is less
+abbrev pub least_held : (newest : ℕ) → List LiveSnapshot → ℕ
+least_held newest [] = newest
+least_held newest (one ∷ rest) = min one.snapshot (least_held newest rest)
+
+-- the tickets are of transactions that have begun
+abbrev pub AreBelow : (begun : ℕ) → List LiveSnapshot → Type 0
+AreBelow begun snapshots = All (λ one. one.ticket < begun) snapshots

@@ -1,0 +1,90 @@
+//! The snapshots of open transactions.
+
+ghost use Rattle.std.specs.Prelude.{◌≡◌, IfOk, IsOkUnless, OnErr, OnOk};
+ghost use Rattle.value.specs.declared.refusals.Refusal.TheVariants.{NoMemory};
+ghost use Rattle.live.specs.Live.{least_held, none_live, with_begin, without};
+
+use std::alloc::Global;
+use std::marker::Model;
+use value::Refusal;
+
+/// An open transaction: its ticket, and how many commits its snapshot holds.
+#[derive(Clone, Copy, Debug, PartialEq, Eq)]
+pub struct LiveSnapshot {
+    pub ticket: u64,
+    pub snapshot: u64,
+}
+
+/// The open transactions, in the order of their begins.
+#[derive(Drop)]
+pub struct Live {
+    begun: u64,
+    snapshots: Vec<LiveSnapshot>,
+}
+
+impl Model for Live {
+    ghost use Rattle.live.specs.Live.{LiveState, AreBelow};
+
+    ghost Value = { LiveState };
+
+    ghost view = { λ live. record { begun = live.begun; snapshots = live.snapshots.items } };
+
+    ghost invariant = { λ live. AreBelow live.begun live.snapshots.items };
+}
+
+impl Live {
+    /// No transaction yet. It takes no memory.
+    pub fn new(alloc: Global) -> Live
+        ensures { result ≡ none_live }
+    {
+        Live {
+            begun: 0,
+            snapshots: Vec::new(alloc),
+        }
+    }
+
+    /// The ticket of the next transaction: how many have begun. It takes no memory.
+    pub fn next_ticket(&self) -> u64
+        ensures { result ≡ self.now.begun }
+    {
+        self.begun
+    }
+
+    /// The next transaction begins, with a snapshot that holds so many commits.
+    ///
+    /// # Errors
+    ///
+    /// [`Refusal::NoMemory`] alone, also where 2^64 - 1 transactions have begun. All is then as it was.
+    pub fn begin(&mut self, snapshot: u64) -> Result<(), Refusal>
+        ensures only_memory { IsOkUnless result NoMemory }
+        ensures begun { OnOk result (self.new ≡ with_begin snapshot self.old) }
+        ensures same { OnErr result (self.new ≡ self.old) }
+    {
+        let ticket = self.begun;
+        let Some(begun) = ticket.checked_add(1) else {
+            return Err(Refusal::NoMemory);
+        };
+        self.snapshots.push(LiveSnapshot { ticket, snapshot })?;
+        self.begun = begun;
+        Ok(())
+    }
+
+    /// The transaction with a ticket has ended. It takes no memory.
+    pub fn end(&mut self, ticket: u64)
+        ensures { self.new ≡ without ticket self.old }
+    {
+        self.snapshots.retain(|live| live.ticket != ticket);
+    }
+
+    /// The least number of commits that an open transaction's snapshot holds, or this one where that is less. It takes no
+    /// memory.
+    pub fn least(&self, newest: u64) -> u64
+        ensures { result ≡ least_held newest self.now.snapshots }
+    {
+        let mut least = newest;
+        for live in &self.snapshots {
+            least = least.min(live.snapshot);
+        }
+        least
+    }
+}
