@@ -61,9 +61,9 @@ prim = number | text | colref | agg | '(' expr ')' | '(' query ')'
 colref = name | name '.' name
 agg = 'COUNT' '(' '*' ')' | function '(' colref ')'
 function = 'COUNT' | 'SUM' | 'MIN' | 'MAX'
-query = 'SELECT' listed 'FROM' name alias where group having
+query = 'SELECT' listed 'FROM' name correlation_name where group having
 listed = '*' | expr
-alias = | name | 'AS' name
+correlation_name = | name | 'AS' name
 group = | 'GROUP' 'BY' colref
 having = | 'HAVING' cond
 """

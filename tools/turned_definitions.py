@@ -65,7 +65,7 @@ TURNS = [
     ("IS TRUE, FALSE or UNKNOWN is lost", "Leaves", [
         ("then_made (λ c. cond_of.Is c truth) (part.1 leaves)", "part.1 leaves")]),
     ("a correlation name is forgotten", "Queries", [
-        ("sourced (unwrap_or alias table)", "sourced table")]),
+        ("sourced (unwrap_or correlation_name table)", "sourced table")]),
     ("WHERE of a query of its own is forgotten", "Forms", [
         ("and_then (row_filter source.scope keeps) (λ kept. Ok (record { table = source.table; kept = kept; aggregate = a }))",
          "and_then (row_filter source.scope None) (λ kept. Ok (record { table = source.table; kept = kept; aggregate = a }))")]),

@@ -90,7 +90,7 @@ some_source : (label : List ℕ) (p : Option ℕ) (l : Option Layout) (target : 
 some_source label None l target h = let no : ⊥ = cc in absurd no
 some_source label (Some t) None target h = let no : ⊥ = cc in absurd no
 some_source label (Some t) (Some l) target h =
-    let is : record { table = t; scope = record { correlation_name = label; layout = l } } ≡ target = cc in
+    let is : record { table = t; scope = record { exposed_name = label; layout = l } } ≡ target = cc in
     (ap (λ (s : Source). Some s.table) is, ap (λ (s : Source). Some s.scope.layout) is)
 
 found_some : {A : Type 0} (name : List ℕ) (o : Option A) (a : A) → found name o ≡ Ok a → o ≡ Some a

@@ -13,7 +13,7 @@ use Rattle.value.specs.Results.{and_then, found, provided, unless}
 use Rattle.form_check.specs.Queries.{Source, source_of, row_condition}
 use Rattle.type_check.specs.Types.{is_typed_condition}
 
--- the table of a statement; no alias is written there
+-- the table of a statement; no correlation_name is written there
 abbrev pub target_of : Tables → List ℕ → Result Source Refusal
 target_of tables name = found name (source_of tables name None)
 

@@ -23,7 +23,7 @@ pub fn target<'a>(catalog: &'a Catalog, name: &'a Text) -> Result<Source<'a>, Re
     ensures refused { IfErr result (λ refusal. refusal ≢ NoMemory → target_of catalog.now name.now ≡ Err refusal) }
     ensures within { IfOk result (λ source. source.table < length catalog.now) }
 {
-    match Source::unaliased(catalog, name) {
+    match Source::by_table_name(catalog, name) {
         Some(source) => Ok(source),
         None => Err(Refusal::UnknownName { name: name.copy()? }),
     }

@@ -45,7 +45,7 @@ fn none(alloc: Global, name: &str) -> Result<Condition, Refusal> {
     let query = Query {
         select_list: SelectList::Star,
         table: Text::from_str(alloc, "D")?,
-        alias: None,
+        correlation_name: None,
         keeps: Some(equals_seven(alloc, name)?),
         group: None,
         having: None,

@@ -1,5 +1,5 @@
 -- One commit more: what is kept at hand is again what the commits determine.
-use Rattle.std.proofs.Common.{◌≡◌, ◌≢◌, ℕ, suc, ◌+◌, ◌<◌, ◌≤◌, Bool, true, false, cond, List, [], ◌∷◌, ◌++◌, None, map, length, reverse, refl, sym, ap, ◌∙◌, subst, arith, inl, inr}
+use Rattle.std.proofs.Common.{◌≡◌, ◌≢◌, ℕ, suc, ◌+◌, ◌<◌, ◌≤◌, Bool, true, false, cond, List, [], ◌∷◌, ◌++◌, None, map, length, reverse, refl, sym, ap, ◌∙◌, subst, arith}
 use Rattle.std.specs.Prelude.{◌==◌, All, Contains, nat_eq}
 use Rattle.std.specs.List.{IsDistinct}
 use Rattle.std.proofs.lemmas.List.{length-append, length-map, length-reverse, reverse-append}
@@ -10,7 +10,6 @@ use Rattle.table.specs.Rows.{Layout, names_of}
 use Rattle.assertion.specs.Declarations.{Declared, layouts_in}
 use Rattle.assertion.specs.Meaning.{State}
 use Rattle.assertion.specs.Roots.{AreChangesOf, state_after_all}
-use Rattle.siread.specs.declared.keys.LockKey.{LockKey}
 use Rattle.siread.specs.Keys.{place_of}
 use Rattle.alone.specs.Alone.{Outcome, run_on, transaction, transaction_keys}
 use Rattle.alone.specs.States.{AreDue, AreInOrder, IsPut, IsState, net_change, row_in}
@@ -23,9 +22,9 @@ use Rattle.delta.specs.Views.{AreTables, Shown}
 use Rattle.serial.specs.declared.records.Record.{Record}
 use Rattle.serial.specs.Answer.{IsAnswer, Number}
 use Rattle.serial.specs.Commits.{HasNoWriteConflict, IsLog}
-use Rattle.serial.specs.Epoch.{IsEpoch, keys_of, newest, put_in, run_of, state_of}
+use Rattle.serial.specs.Epoch.{IsEpoch, keys_of, newest, run_of, state_of}
 use Rattle.serial.specs.Order.{least_out, serial_order}
-use Rattle.serial.specs.Replay.{IsRecorded, state_after}
+use Rattle.serial.specs.Replay.{IsRecorded}
 use Rattle.serial.proofs.Changes.{share_row-at}
 use Rattle.serial.proofs.Kept.{order_is_distinct, places_more}
 use Rattle.serial.proofs.Newest.{newest_fits, unwritten}

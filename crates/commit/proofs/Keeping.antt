@@ -1,22 +1,18 @@
 -- What is kept stays right as transactions begin, are committed, and end.
-use Rattle.std.proofs.Common.{◌≡◌, ◌∙◌, ◌+◌, ◌<◌, ℕ, Bool, false, List, [], length, Option, Some, None, sym, ap, subst, refl, arith}
-use Rattle.std.specs.Prelude.{◌==◌, ◌≤◌}
+use Rattle.std.proofs.Common.{◌≡◌, ◌∙◌, ◌<◌, ℕ, List, [], length, Option, Some, None, sym, ap, subst, refl, arith}
+use Rattle.std.specs.Prelude.{◌≤◌}
 use Rattle.std.proofs.lemmas.List.Elements.{All-nil}
-use Rattle.value.specs.declared.refusals.Refusal.{Refusal}
 use Rattle.siread.specs.Locks.{Reads, above}
 use Rattle.answer.specs.declared.answers.RefusedCommit.{RefusedCommit}
 use Rattle.alone.specs.Alone.{IsSound}
 use Rattle.delta.specs.Views.{Shown}
 use Rattle.live.specs.declared.snapshots.LiveSnapshot.{LiveSnapshot}
-use Rattle.live.specs.Live.{LiveState, least_held, none_live}
-use Rattle.serial.specs.declared.records.Record.{Record}
-use Rattle.serial.specs.Answer.{IsAnswer, Number}
-use Rattle.txn.specs.Transactions.{OpenTransaction, outcome_of}
+use Rattle.live.specs.Live.{AreBelow, LiveState, least_held, none_live, without}
 use Rattle.commit.specs.declared.prepared.Prepared.{Prepared}
-use Rattle.commit.specs.Cores.{CoreState, IsCommitAnswer, IsLive, Pending, committed, ended, locks_of, log_of, newest_tables, reads_kept, record_of, refused_to, with_begun, with_commit}
-use Rattle.commit.specs.Kept.{IsCore, IsKept, IsReady, IsReadyIf, idle_core, pending_of}
-use Rattle.commit.proofs.Locking.{kept_begun, kept_committed, kept_ended}
-use Rattle.commit.proofs.Tickets.{fewer, one_more}
+use Rattle.commit.specs.Cores.{CoreState, reads_kept}
+use Rattle.commit.specs.Kept.{IsCore, IsKept, idle_core, pending_of}
+use Rattle.commit.proofs.Locking.{kept_ended}
+use Rattle.commit.proofs.Tickets.{fewer}
 
 pub none_pending : (prepared : Option Prepared) → pending_of prepared ≡ None → prepared ≡ None
 none_pending None e = refl
@@ -43,37 +39,17 @@ module _ (core : CoreState) (newest : Shown) (places order : List ℕ) (locks : 
   pub kept_ready : (p : Prepared) (prepared : Option Prepared) → prepared ≡ Some p → IsKept core newest places order locks prepared Room → IsKept core newest places order locks (Some p) Room
   kept_ready p prepared e h = subst (λ o. IsKept core newest places order locks o Room) e h
 
-  pub core_begun : IsCore core newest places order → IsCore (with_begun core) newest places order
-  core_begun h = record {
+  -- open transactions and refused commits leave what is kept of the commits as it is
+  pub same_commits : (live : LiveState) (refused : List RefusedCommit) → AreBelow live.begun live.snapshots → IsCore core newest places order
+      → IsCore (record core { live = live; refused = refused }) newest places order
+  same_commits live refused tickets h = record {
     epoch = h.epoch;
     newest_is = h.newest_is;
     places_are = h.places_are;
     order_is = h.order_is;
     within = h.within;
     small = h.small;
-    tickets = one_more core.live (length core.records) h.tickets;
-  }
-
-  pub core_ended : (t : OpenTransaction) → IsCore core newest places order → IsCore (ended core t) newest places order
-  core_ended t h = record {
-    epoch = h.epoch;
-    newest_is = h.newest_is;
-    places_are = h.places_are;
-    order_is = h.order_is;
-    within = h.within;
-    small = h.small;
-    tickets = fewer core.live t.ticket h.tickets;
-  }
-
-  pub core_refused : (session : List ℕ) (t : OpenTransaction) (refusal : Refusal) → IsCore core newest places order → IsCore (refused_to core session t refusal) newest places order
-  core_refused session t refusal h = record {
-    epoch = h.epoch;
-    newest_is = h.newest_is;
-    places_are = h.places_are;
-    order_is = h.order_is;
-    within = h.within;
-    small = h.small;
-    tickets = fewer core.live t.ticket h.tickets;
+    tickets = tickets;
   }
 
 -- the same of what is equal
@@ -81,10 +57,20 @@ pub same_core : (core core' : CoreState) (newest newest' : Shown) (places places
     → IsCore core newest places order → IsCore core' newest' places' order'
 same_core core core' newest newest' places places' order order' a b c d h = subst (λ (X : Type 0). X) (λ i. IsCore (a i) (b i) (c i) (d i)) h
 
--- the readers that are left as a transaction ends
-pub left_ended : (core : CoreState) (t : OpenTransaction) (locks after : Reads) → locks ≡ reads_kept core
-    → after ≡ above (least_held (length core.records) (ended core t).live.snapshots) locks → after ≡ reads_kept (ended core t)
-left_ended core t locks after h e = e ∙ ap (above (least_held (length core.records) (ended core t).live.snapshots)) h ∙ kept_ended core.live core.records t.ticket
+-- what is kept as a transaction has ended: of the readers, those that an open one may still ask for
+pub kept_left : (core : CoreState) (newest : Shown) (places order : List ℕ) (locks : Reads) (Room Room' : Type 0) (prepared : Option Prepared)
+    (ticket : ℕ) (live : LiveState) (refused : List RefusedCommit) (count : ℕ) (after : Reads)
+    → prepared ≡ None → live ≡ without ticket core.live → count ≡ length core.records
+    → after ≡ above (least_held count live.snapshots) locks → IsKept core newest places order locks prepared Room
+    → IsKept (record core { live = live; refused = refused }) newest places order after prepared Room'
+kept_left core newest places order locks Room Room' prepared ticket live refused count after idle e same f kept =
+    let left : after ≡ reads_kept (record core { live = live; refused = refused }) =
+    f ∙ (λ i. above (least_held (same i) (e i).snapshots) (locks_idle core newest places order locks Room prepared idle kept i))
+    ∙ kept_ended core.live core.records ticket ∙ (λ i. reads_kept (record core { live = sym e i; refused = refused })) in
+    kept_idle (record core { live = live; refused = refused }) newest places order after Room' prepared idle
+    (same_commits core newest places order locks Room live refused
+    (subst (λ (l : LiveState). AreBelow l.begun l.snapshots) (sym e) (fewer core.live ticket kept.0.tickets)) kept.0)
+    left
 
 -- before the first commit
 pub empty_kept : (limit : ℕ) (loaded : Shown) → IsSound loaded.declared loaded.state → limit ≤ 4294967295 → IsCore (idle_core limit loaded [] [] none_live) loaded [] []

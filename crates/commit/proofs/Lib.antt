@@ -6,3 +6,4 @@ pub mod Answering
 pub mod Deciding
 pub mod Living
 pub mod Weighing
+pub mod Seating

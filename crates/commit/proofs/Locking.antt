@@ -1,6 +1,5 @@
 -- Who read what, as transactions begin, are committed, and end.
-use Rattle.std.proofs.Common.{◌≡◌, ℕ, ◌<◌, ◌≤◌, ◌+◌, Bool, true, false, cond, List, [], ◌∷◌, ◌++◌, filter, map, length, reverse, refl, sym, ap, ◌∙◌, inl, inr, arith, nat_lt, subst}
-use Rattle.std.specs.Prelude.{All, Contains}
+use Rattle.std.proofs.Common.{◌≡◌, ℕ, ◌<◌, ◌≤◌, Bool, true, false, cond, List, [], ◌∷◌, ◌++◌, filter, map, length, reverse, refl, sym, ap, ◌∙◌, arith, nat_lt, subst}
 use Rattle.std.specs.List.{list_any}
 use Rattle.std.proofs.lemmas.Bool.{ltb-false, le-ltb}
 use Rattle.std.proofs.lemmas.List.{append-nil, length-append, map-append, reverse-append}
@@ -10,7 +9,7 @@ use Rattle.siread.specs.Keys.{same_key}
 use Rattle.siread.specs.Locks.{AreBelow, Reads, above, with_reader}
 use Rattle.alone.proofs.Lists.{Each, each_left, each_right}
 use Rattle.live.specs.Live.{LiveState, is_other, least_held, with_begin, without}
-use Rattle.live.proofs.Least.{least_begun, least_grows, least_most}
+use Rattle.live.proofs.Least.{least_begun, least_grows}
 use Rattle.serial.specs.declared.records.Record.{Record}
 use Rattle.conflict.specs.Readers.{has_read, reads_of}
 

@@ -1,5 +1,6 @@
--- The committed transactions, and what the next one is answered (Cahill, Röhm and Fekete 2008; Ports and Grittner 2012; that the
--- first of two writers of a row to commit wins is the rule of snapshot isolation: Berenson and others 1995).
+-- The committed transactions, and what the next one is answered (Cahill, Röhm and Fekete 2008; Ports and Grittner
+-- 2012; that the first of two writers of a row to commit wins is the rule of snapshot isolation: Berenson and
+-- others 1995).
 use Rattle.std.specs.Prelude.{◌≡◌, ◌≢◌, ◌≤◌, ◌+◌, ◌==◌, ◌++◌, ℕ, Bool, true, false, List, [], ◌∷◌, length, map, reverse, slice_get, Option, Some, None, Result, Ok, Err, Contains, IsPermutation}
 use Rattle.value.specs.declared.refusals.Party.{Party}
 use Rattle.value.specs.declared.refusals.Party.TheVariants.{This, Number as Numbered}
@@ -25,8 +26,8 @@ pub record Pending : Type 0 where
   pub session : List ℕ
   pub txn : OpenTransaction
 
--- what was declared and the rows to begin with, the commits in the order of their numbers, the commits that were refused, the
--- snapshots of the open transactions, and the commit that is prepared, if one is
+-- what was declared and the rows to begin with, the commits in the order of their numbers, the commits that were
+-- refused, the snapshots of the open transactions, and the commit that is prepared, if one is
 pub record CoreState : Type 0 where
   pub limit : ℕ
   pub declared : Declared
@@ -81,14 +82,16 @@ pub record IsConflictNamed (c : CoreState) (commit : Record) (name : List ℕ) (
   pub named : slice_get (names_of c.declared.tables) table ≡ Some name
   pub answer : IsAnswer (log_of c) commit (Overwrites (record { table = table; key = key }) by)
 
--- what the commits before it make of the next: its number, or the write conflict, or the dangerous triple that it would complete
+-- what the commits before it make of the next: its number, or the write conflict, or the dangerous triple that it
+-- would complete
 abbrev pub IsJudged : CoreState → Record → Result ℕ Refusal → Type 0
 IsJudged c commit (Ok number) = IsAnswer (log_of c) commit (Number number)
 IsJudged c commit (Err (WriteConflict name key by)) = IsConflictNamed c commit name key by
 IsJudged c commit (Err (Dangerous reader pivot writer)) = IsDangerNamed (log_of c) commit reader pivot writer
 IsJudged c commit (Err refusal) = ⊥
 
--- the first that holds: an assertion is false on the transaction's own view, the epoch is full, or what the commits before it make of it
+-- the first that holds: an assertion is false on the transaction's own view, the epoch is full, or what the commits
+-- before it make of it
 abbrev pub IsDecided : CoreState → Record → Option Refusal → Bool → Result ℕ Refusal → Type 0
 IsDecided c commit (Some refusal) full answer = answer ≡ Err refusal
 IsDecided c commit None true answer = answer ≡ Err EpochFull
@@ -152,14 +155,16 @@ reads_with (Some p) number reads = with_reader number (keys_of p.txn) reads
 abbrev pub locks_of : CoreState → Reads
 locks_of c = reads_with c.prepared (length c.records + 1) (reads_kept c)
 
--- a refused COMMIT gives the transaction back where it found no memory, and nothing has changed; else it has ended the transaction
+-- a refused COMMIT gives the transaction back where it found no memory, and nothing has changed; else it has ended
+-- the transaction
 abbrev pub IsUncommitted : CoreState → List ℕ → OpenTransaction → Refusal → Option OpenTransaction → CoreState → Type 0
 IsUncommitted c session t refusal (Some back) after = (refusal ≡ NoMemory) × (back ≡ t) × (after ≡ c)
 IsUncommitted c session t refusal None after =
     (refusal ≢ NoMemory) × IsCommitAnswer c session t (Err refusal) × (after ≡ refused_to c session t refusal)
 
--- The serial order has each commit once. The tables after each number of commits make no assertion false. The committed
--- transactions, run alone in the serial order, answer what they were answered on their snapshots, and leave the newest tables.
+-- The serial order has each commit once. The tables after each number of commits make no assertion false. The
+-- committed transactions, run alone in the serial order, answer what they were answered on their snapshots, and
+-- leave the newest tables.
 pub record IsSerializable (c : CoreState) : Type 0 where
   pub once : IsPermutation (log_of c) (serial_order (log_of c))
   pub sound : AreSound c.declared c.start (log_of c)

@@ -1,5 +1,5 @@
 -- What a step of the code decides of a COMMIT.
-use Rattle.std.specs.Prelude.{◌≡◌, ◌≢◌, ◌+◌, ℕ, List, length, slice_get, Some, None, Ok, Err}
+use Rattle.std.specs.Prelude.{◌≡◌, ◌≢◌, ◌+◌, ℕ, List, length, slice_get, Some, Ok, Err}
 use Rattle.value.specs.declared.refusals.Party.TheVariants.{This, Number}
 use Rattle.value.specs.declared.refusals.Refusal.{Refusal}
 use Rattle.value.specs.declared.refusals.Refusal.TheVariants.{NoMemory, Dangerous, WriteConflict}

@@ -1,6 +1,6 @@
 -- What each event of a session is answered, and what it leaves.
-use Rattle.std.specs.Prelude.{◌≡◌, ◌⊎◌, ◌+◌, ℕ, Bool, true, false, List, [], ◌∷◌, ◌++◌, length, slice_get, slice_set, Option, Some, None, Result, Ok, Err, if◌then◌else◌}
-use Rattle.std.specs.List.{list_any, position}
+use Rattle.std.specs.Prelude.{◌≡◌, ◌⊎◌, ℕ, Bool, true, false, List, length, slice_get, slice_set, Option, Some, None, Result, Ok, Err, if◌then◌else◌}
+use Rattle.std.specs.List.{position}
 use Rattle.std.specs.Str.{bytes_eq}
 use Rattle.value.specs.declared.refusals.Refusal.{Refusal}
 use Rattle.value.specs.declared.refusals.Refusal.TheVariants.{NoMemory, NoTransaction, TooManySessions, TransactionOpen}
@@ -31,8 +31,8 @@ abbrev pub txn_of : Option Seat → Option OpenTransaction
 txn_of None = None
 txn_of (Some seat) = seat.txn
 
--- Each open transaction began on the tables after some number of commits, and has not ended; no two have one ticket; and no
--- commit is prepared.
+-- Each open transaction began on the tables after some number of commits, and has not ended; no two have one
+-- ticket; and no commit is prepared.
 pub record AreLive (core : CoreState) (seats : List Seat) : Type 0 where
   pub each : (place : ℕ) (t : OpenTransaction) → txn_of (slice_get seats place) ≡ Some t → IsLive core t
   pub apart : (place other : ℕ) (t u : OpenTransaction) → txn_of (slice_get seats place) ≡ Some t

@@ -1,5 +1,5 @@
 -- What the committed transactions keep at hand is what they determine.
-use Rattle.std.specs.Prelude.{◌≡◌, ◌≤◌, ◌+◌, ◌==◌, ℕ, Bool, false, List, length, map, Option, Some, None, IfSome, ⊤}
+use Rattle.std.specs.Prelude.{◌≡◌, ◌≤◌, ◌+◌, ◌==◌, ℕ, false, List, length, map, Option, Some, None, IfSome, ⊤}
 use Rattle.answer.specs.declared.answers.RefusedCommit.{RefusedCommit}
 use Rattle.delta.specs.Views.{Shown}
 use Rattle.siread.specs.Locks.{Reads}
@@ -7,7 +7,7 @@ use Rattle.live.specs.Live.{AreBelow, LiveState}
 use Rattle.serial.specs.declared.records.Record.{Record}
 use Rattle.serial.specs.Answer.{IsAnswer, Number}
 use Rattle.serial.specs.Epoch.{IsEpoch}
-use Rattle.serial.specs.Order.{least_out, serial_order}
+use Rattle.serial.specs.Order.{least_out}
 use Rattle.txn.specs.Transactions.{outcome_of}
 use Rattle.commit.specs.declared.prepared.Prepared.{Prepared}
 use Rattle.commit.specs.Cores.{CoreState, IsLive, Pending, locks_of, log_of, newest_tables, order_of, record_of, with_commit}
@@ -29,8 +29,9 @@ abbrev pub pending_of : Option Prepared → Option Pending
 pending_of None = None
 pending_of (Some p) = Some (record { session = p.session; txn = p.closed })
 
--- The tables after the last commit; for each commit the least one to which it conflicts, or its own number; and the numbers in
--- serial order. Each commit was accepted over those before it, and recorded as it runs alone on its snapshot.
+-- The tables after the last commit; for each commit the least one to which it conflicts, or its own number; and the
+-- numbers in serial order. Each commit was accepted over those before it, and recorded as it runs alone on its
+-- snapshot.
 pub record IsCore (c : CoreState) (newest : Shown) (places order : List ℕ) : Type 0 where
   pub epoch : IsEpoch c.declared c.start (log_of c)
   pub newest_is : newest ≡ newest_tables c
@@ -40,8 +41,9 @@ pub record IsCore (c : CoreState) (newest : Shown) (places order : List ℕ) : T
   pub small : c.limit ≤ 4294967295
   pub tickets : AreBelow c.live.begun c.live.snapshots
 
--- What is prepared may be the next commit: no assertion is false on its own view, the epoch has room, and the commits before it
--- let it join them. The tables are those after it, and the place is that of the least commit to which it conflicts.
+-- What is prepared may be the next commit: no assertion is false on its own view, the epoch has room, and the
+-- commits before it let it join them. The tables are those after it, and the place is that of the least commit to
+-- which it conflicts.
 pub record IsReady (c : CoreState) (p : Prepared) : Type 0 where
   pub live : IsLive c p.closed
   pub satisfied : (outcome_of p.closed).refused ≡ None

@@ -18,8 +18,9 @@ use value::Refusal;
 ///
 /// # Errors
 ///
-/// The first fault of the definitions, as `Definitions::take` answers it; then [`Refusal::FalseAtCreation`] with the first
-/// assertion that is false on the loaded rows, and the least root at which it is. Or [`Refusal::NoMemory`].
+/// The first fault of the definitions, as `Definitions::take` answers it; then [`Refusal::FalseAtCreation`] with
+/// the first assertion that is false on the loaded rows, and the least root at which it is. Or
+/// [`Refusal::NoMemory`].
 pub fn admit(alloc: Global, definitions: &[Definition]) -> Result<View, Refusal>
     ensures admitted { IfOk result (λ view. admitted definitions.now ≡ Ok view) }
     ensures sound { IfOk result (λ view. IsSound view.declared view.state) }
@@ -33,7 +34,12 @@ pub fn admit(alloc: Global, definitions: &[Definition]) -> Result<View, Refusal>
 }
 
 /// The tables, if every assertion is satisfied on them.
-fn satisfied(alloc: Global, view: View) -> Result<View, Refusal>
+///
+/// # Errors
+///
+/// [`Refusal::FalseAtCreation`] with the first assertion that is false, and the least root at which it is. Or
+/// [`Refusal::NoMemory`].
+pub fn satisfied(alloc: Global, view: View) -> Result<View, Refusal>
     ensures satisfied { IfOk result (λ same. satisfied view ≡ Ok same) }
     ensures same { IfOk result (λ same. same ≡ view) }
     ensures sound { IfOk result (λ same. IsSound same.declared same.state) }

@@ -1,13 +1,14 @@
 //! The committed transactions.
 
-ghost use Rattle.std.specs.Prelude.{◌≡◌, ◌≢◌, ◌≤◌, ◌<◌, ◌+◌, ◌++◌, ◌∷◌, [], ℕ, List, length, nat_eq, vec_capacity, vec_len, All, IfOk, IfErr, IsOkUnless, OnErr, OnOk, Ok, Err, None, Some};
+ghost use Rattle.std.specs.Prelude.{◌≡◌, ◌≢◌, ◌≤◌, ◌<◌, ◌+◌, ◌++◌, ◌∷◌, [], ℕ, List, length, nat_eq, true, vec_capacity, vec_len, All, Contains, IfOk, IfErr, IfSome, IfNone, IsOkUnless, OnErr, OnOk, Ok, Err, None, Some};
 ghost use Rattle.std.specs.List.{IsDistinct};
 ghost use Rattle.value.specs.declared.refusals.Refusal.TheVariants.{NoMemory};
 ghost use Rattle.modes.specs.Modes.{assertion_of};
-ghost use Rattle.siread.specs.Locks.{AreBelow, IsCount, above, readers_at, with_reader};
+ghost use Rattle.siread.specs.Locks.{IsCount, above, readers_at};
+ghost use Rattle.live.specs.Held.{is_held};
 ghost use Rattle.live.specs.Live.{least_held, without};
 ghost use Rattle.alone.specs.Alone.{IsSound};
-ghost use Rattle.serial.specs.Commits.{HasNoWriteConflict};
+ghost use Rattle.serial.specs.Commits.{HasNoWriteConflict, IsLog};
 ghost use Rattle.serial.specs.Order.{least_out};
 ghost use Rattle.conflict.specs.Ordered.{put_number_before};
 ghost use Rattle.txn.specs.Transactions.{begun, truth_of};
@@ -22,7 +23,7 @@ use conflict::{Candidate, Verdict, judge, put_in_order};
 use delta::View;
 use live::Live;
 use serial::{Record, order, replay};
-use siread::{LockKey, LockTable};
+use siread::LockTable;
 use sqlite_items::Items;
 use std::alloc::Global;
 use std::marker::Model;
@@ -31,9 +32,9 @@ use threeval::Truth;
 use txn::{Closed, Parts, Txn, Unclosed, truth_on};
 use value::{Refusal, Text};
 
-/// The committed transactions: the tables before the first and after the last, a record of each, their serial order, and the
-/// commits that were refused; and what is needed of the open ones. Between a [`Core::prepare`] that was accepted and the
-/// [`Core::finish`] or [`Core::cancel`] that ends it, a commit is prepared.
+/// The committed transactions: the tables before the first and after the last, a record of each, their serial
+/// order, and the commits that were refused; and what is needed of the open ones. Between a [`Core::prepare`] that
+/// was accepted and the [`Core::finish`] or [`Core::cancel`] that ends it, a commit is prepared.
 pub struct Core {
     limit: u64,
     loaded: View,
@@ -45,7 +46,8 @@ pub struct Core {
     order: Vec<u64>,
     refused: Vec<RefusedCommit>,
     live: Live,
-    /// Who read what, of the commits that some open transaction's snapshot does not hold, and of the one that is prepared.
+    /// Who read what, of the commits that some open transaction's snapshot does not hold, and of the one that is
+    /// prepared.
     locks: LockTable,
     prepared: Option<Prepared>,
 }
@@ -136,15 +138,17 @@ impl Core {
         Ok(txn)
     }
 
-    /// COMMIT (ISO/IEC 9075:1992, commit statement). The transaction is the next commit, unless an assertion is false on its own
-    /// view, or the epoch is full, or a commit after its snapshot has changed a row that it changed, or it would complete a
-    /// dangerous triple. Its number is answered; its net change is put into the newest tables.
+    /// COMMIT (ISO/IEC 9075:1992, commit statement). The transaction is the next commit, unless an assertion is
+    /// false on its own view, or the epoch is full, or a commit after its snapshot has changed a row that it
+    /// changed, or it would complete a dangerous triple. Its number is answered; its net change is put into the
+    /// newest tables.
     ///
     /// # Errors
     ///
     /// The first of these that holds: [`Refusal::Violated`] by the first false assertion, with its least bad root;
-    /// [`Refusal::EpochFull`]; [`Refusal::WriteConflict`]; [`Refusal::Dangerous`]. Each is noted in the list of refused commits, and
-    /// has ended the transaction. Or [`Refusal::NoMemory`]: then nothing has changed, and the transaction is given back.
+    /// [`Refusal::EpochFull`]; [`Refusal::WriteConflict`]; [`Refusal::Dangerous`]. Each is noted in the list of
+    /// refused commits, and has ended the transaction. Or [`Refusal::NoMemory`]: then nothing has changed, and the
+    /// transaction is given back.
     pub fn commit(&mut self, session: &Text, txn: Txn) -> Result<u64, Uncommitted>
         requires live { IsLive self.old txn }
         requires idle { self.old.prepared ≡ None }
@@ -166,8 +170,8 @@ impl Core {
         Ok(number)
     }
 
-    /// Prepares a commit: decides what the COMMIT of the transaction is answered, as [`Core::commit`] does, and makes all that
-    /// takes memory. The number that it will have is answered. It is no commit yet.
+    /// Prepares a commit: decides what the COMMIT of the transaction is answered, as [`Core::commit`] does, and
+    /// makes all that takes memory. The number that it will have is answered. It is no commit yet.
     ///
     /// # Errors
     ///
@@ -203,15 +207,15 @@ impl Core {
         let ticket = closed.ticket();
         let snapshot = closed.snapshot();
         let record = record_of(number, snapshot, session, closed.into_parts());
-        order_reserved(&mut self.order, place, number);
+        put_in_order(&mut self.order, place, number);
         self.places.push_reserved(place);
         self.records.push_reserved(record);
         self.newest = tables;
         forget(&mut self.live, &mut self.locks, ticket, number);
     }
 
-    /// Gives the prepared commit up, if one is prepared, and its transaction back. All is then as it was before it was prepared.
-    /// It takes no memory.
+    /// Gives the prepared commit up, if one is prepared, and its transaction back. All is then as it was before it
+    /// was prepared. It takes no memory.
     pub fn cancel(&mut self) -> Option<Closed>
         ensures back { result ≡ pending_txn self.old.prepared }
         ensures after { self.new ≡ unprepared self.old }
@@ -225,7 +229,8 @@ impl Core {
         Some(closed)
     }
 
-    /// ROLLBACK (ISO/IEC 9075:1992, rollback statement): the transaction has ended, and nothing of it is kept. It takes no memory.
+    /// ROLLBACK (ISO/IEC 9075:1992, rollback statement): the transaction has ended, and nothing of it is kept. It
+    /// takes no memory.
     pub fn end(&mut self, txn: Txn)
         requires live { IsLive self.old txn }
         requires idle { self.old.prepared ≡ None }
@@ -243,8 +248,8 @@ impl Core {
         truth_on(&self.newest, name)
     }
 
-    /// How many pairs there are of a key and a commit that read it, of the commits that some open transaction's snapshot does not
-    /// hold, and of the one that is prepared. It takes no memory.
+    /// How many pairs there are of a key and a commit that read it, of the commits that some open transaction's
+    /// snapshot does not hold, and of the one that is prepared. It takes no memory.
     pub fn locks(&self) -> usize
         ensures { IsCount (locks_of self.now) result }
     {
@@ -284,6 +289,30 @@ impl Core {
         ensures { result.now ≡ order_of self.now }
     {
         self.order.as_slice()
+    }
+
+    /// Whether a transaction with this ticket and this snapshot has begun and has not ended. It takes no memory.
+    pub fn holds(&self, ticket: u64, snapshot: u64) -> bool
+        ensures test { result ≡ is_held ticket snapshot self.now.live.snapshots }
+        ensures held { result ≡ true → Contains self.now.live.snapshots (record { ticket = ticket; snapshot = snapshot }) }
+    {
+        self.live.holds(ticket, snapshot)
+    }
+
+    /// The commit that is prepared, with the tables after it.
+    pub fn prepared(&self) -> Option<&Prepared>
+        ensures some { IfSome result (λ p. self.now.prepared ≡ Some (record { session = p.now.session; txn = p.now.closed })) }
+        ensures tables { IfSome result (λ p. p.now.tables ≡ newest_tables (with_commit self.now (record_of self.now p.now.session p.now.closed))) }
+        ensures none { IfNone result (self.now.prepared ≡ None) }
+    {
+        self.prepared.as_ref()
+    }
+
+    /// Each commit was accepted over those before it.
+    pub fn is_log(&self)
+        ensures { IsLog (log_of self.now) }
+    {
+        let _ = &self.loaded;
     }
 
     /// The committed transactions have a serial order, and no committed tables make an assertion false.
@@ -340,8 +369,8 @@ impl Core {
         }
     }
 
-    /// The tables after the commit of a transaction that is accepted. Where its snapshot is of the newest tables, that is its own
-    /// view.
+    /// The tables after the commit of a transaction that is accepted. Where its snapshot is of the newest tables,
+    /// that is its own view.
     fn tables_with(&self, closed: &Closed) -> Result<View, Refusal>
         requires live { IsLive self.now closed.now }
         requires idle { self.now.prepared ≡ None }
@@ -471,24 +500,6 @@ fn make_room(
     places.reserve(1)?;
     order.reserve(1)?;
     Ok(())
-}
-
-/// Puts a commit into the serial order, which has room for it and does not have its number yet.
-fn order_reserved(order: &mut Vec<u64>, place: u64, number: u64)
-    requires distinct { IsDistinct nat_eq order.old.items }
-    requires room { vec_len order.old < vec_capacity order.old }
-    requires fresh { All (λ other. other ≢ number) order.old.items }
-    ensures { order.new.items ≡ put_number_before place number order.old.items }
-{
-    // (to look for a place that is not there would cost the whole order)
-    if place == number {
-        order.push_reserved(number);
-        return;
-    }
-    match put_in_order(order, place, number) {
-        Ok(()) => {}
-        Err(_) => unreachable!(),
-    }
 }
 
 /// Notes a refused commit behind the others.

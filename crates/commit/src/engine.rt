@@ -46,8 +46,8 @@ pub struct Outcome {
 }
 
 impl Engine {
-    /// Before the first of these events, whose sessions get a seat each, over tables on which no assertion is false, with at most
-    /// so many commits, up to 4,294,967,295. NoMemory is the only error.
+    /// Before the first of these events, whose sessions get a seat each, over tables on which no assertion is
+    /// false, with at most so many commits, up to 4,294,967,295. NoMemory is the only error.
     pub fn new(alloc: Global, limit: u64, loaded: View, steps: &[Step]) -> Result<Engine, Refusal>
         requires sound { IsSound loaded.declared loaded.state }
         requires within { limit ≤ 4294967295 }
@@ -86,9 +86,9 @@ impl Engine {
     }
 }
 
-/// Answers events of any sessions, one after the other, from tables on which no assertion is false, with at most so many commits, up
-/// to 4,294,967,295. Should the answers themselves find no memory, the run ends there, and what is answered is the beginning of the
-/// list.
+/// Answers events of any sessions, one after the other, from tables on which no assertion is false, with at most so
+/// many commits, up to 4,294,967,295. Should the answers themselves find no memory, the run ends there, and what is
+/// answered is the beginning of the list.
 ///
 /// # Errors
 ///

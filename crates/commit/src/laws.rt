@@ -7,8 +7,9 @@ ghost use Rattle.txn.specs.Transactions.{OpenTransaction, begun, run_of, step_of
 
 use alone::runs;
 
-/// The replies that a transaction's statements were given, one by one on its own view, are those of its trace run alone: none at
-/// its BEGIN, and one more with each statement. So what a record's trace answers on its snapshot is what its session was told.
+/// The replies that a transaction's statements were given, one by one on its own view, are those of its trace run
+/// alone: none at its BEGIN, and one more with each statement. So what a record's trace answers on its snapshot is
+/// what its session was told.
 pub fn replies()
     ensures first { (ticket snapshot : ℕ) (shown : Shown) → (run_of (begun ticket snapshot shown)).replies ≡ [] }
     ensures next { (t : OpenTransaction) (statement : Resolved)

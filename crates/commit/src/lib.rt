@@ -1,14 +1,16 @@
 //! The commits, the sessions with their open transactions, and events of any sessions one after the other.
 //!
-//! [`admit`] takes definitions in: what they define, and that no assertion is false on the rows that they begin with
-//! (ISO/IEC 9075:1992, assertion definition: an assertion is satisfied where its condition is not false; that rows are loaded
-//! first and assertions evaluated once, at the end, is this project's choice). Each assertion means what the definitions write.
+//! [`admit`] takes definitions in: what they define, and that no assertion is false on the rows that they begin
+//! with (ISO/IEC 9075:1992, assertion definition: an assertion is satisfied where its condition is not false; that
+//! rows are loaded first and assertions evaluated once, at the end, is this project's choice). Each assertion means
+//! what the definitions write.
 //!
-//! A [`Core`] is the commits: the tables before the first and after the last, a record of each, their serial order, and the
-//! commits that were refused. [`Core::begin`] begins a transaction on the newest tables. [`Core::commit`] answers a COMMIT by the
-//! first of these that holds: an assertion is false on the transaction's own view; the epoch is full; a commit after its snapshot
-//! changed a row that it changed; it would complete a dangerous triple; else the next number. Its net change is then put into the
-//! newest tables; where nothing was committed since its snapshot, they are its own view.
+//! A [`Core`] is the commits: the tables before the first and after the last, a record of each, their serial order,
+//! and the commits that were refused. [`Core::begin`] begins a transaction on the newest tables. [`Core::commit`]
+//! answers a COMMIT by the first of these that holds: an assertion is false on the transaction's own view; the
+//! epoch is full; a commit after its snapshot changed a row that it changed; it would complete a dangerous triple;
+//! else the next number. Its net change is then put into the newest tables; where nothing was committed since its
+//! snapshot, they are its own view.
 //!
 //! An [`Engine`] is a core and the sessions, each in its [`Seat`] with its open transaction, if one is open:
 //!
@@ -17,18 +19,20 @@
 //! - COMMIT ends the transaction, accepted or refused; ROLLBACK ends it, and nothing of it is kept.
 //! - An event that finds no memory is answered so, and nothing has changed.
 //!
-//! [`run`] answers a list of events. Its contract is the headline of the whole: each answer is one that `specs/Events` allows
-//! after those before it; no committed tables make an assertion false; the serial order has each commit once; and the committed
-//! transactions, run alone in it, answer what they answered and leave the newest tables (`IsSerializable` in `specs/Cores`).
+//! [`run`] answers a list of events. Its contract is the headline of the whole: each answer is one that
+//! `specs/Events` allows after those before it; no committed tables make an assertion false; the serial order has
+//! each commit once; and the committed transactions, run alone in it, answer what they answered and leave the
+//! newest tables (`IsSerializable` in `specs/Cores`).
 //!
-//! How it works. What a core keeps at hand (the newest tables, the least conflict out of each commit, the order) is what its records
-//! determine, and each record was accepted over those before it and recorded as it runs alone on its snapshot (`specs/Kept`): that is
-//! the premise of the laws of `serial`, so they hold of every core. A commit is judged by the commits after its snapshot
-//! (`conflict::judge`), and all that takes memory is made before the first field changes.
+//! How it works. What a core keeps at hand (the newest tables, the least conflict out of each commit, the order) is
+//! what its records determine, and each record was accepted over those before it and recorded as it runs alone on
+//! its snapshot (`specs/Kept`): that is the premise of the laws of `serial`, so they hold of every core. A commit
+//! is judged by the commits after its snapshot (`conflict::judge`), and all that takes memory is made before the
+//! first field changes.
 //!
-//! What the layer above may rest on: the contracts of [`Engine::answer`], [`Core::commit`] and [`run`]; [`replies`] says that what a
-//! record's trace answers on its snapshot is what its session was told. What it owes: tables that are admitted, and a limit of at
-//! most 4,294,967,295 commits.
+//! What the layer above may rest on: the contracts of [`Engine::answer`], [`Core::commit`] and [`run`]; [`replies`]
+//! says that what a record's trace answers on its snapshot is what its session was told. What it owes: tables that
+//! are admitted, and a limit of at most 4,294,967,295 commits.
 #![tactic(auto)]
 
 mod admission;
@@ -39,12 +43,12 @@ mod laws;
 mod prepared;
 mod seats;
 
-pub use admission::admit;
+pub use admission::{admit, satisfied};
 pub use cores::{Core, Uncommitted};
 pub use engine::{Engine, Outcome, run};
 pub use laws::replies;
 pub use prepared::Prepared;
-pub use seats::Seat;
+pub use seats::{Seat, has_few_sessions};
 
 #[cfg(test)]
 mod tests;

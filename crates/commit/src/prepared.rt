@@ -6,8 +6,8 @@ use delta::View;
 use txn::Closed;
 use value::Text;
 
-/// A commit that is prepared: its transaction and its session, the tables after it, and the least commit to which it conflicts,
-/// or its own number. It must be spent.
+/// A commit that is prepared: its transaction and its session, the tables after it, and the least commit to which
+/// it conflicts, or its own number. It must be spent.
 pub struct Prepared {
     pub closed: Closed,
     pub session: Text,

@@ -1,6 +1,6 @@
 //! The sessions' seats, and what an event does in one.
 
-ghost use Rattle.std.specs.Prelude.{◌≡◌, ◌<◌, [], false, length, IfSome, IfOk, IsOkUnless, OnErr, OnOk, Some, None};
+ghost use Rattle.std.specs.Prelude.{◌≡◌, ◌<◌, [], false, length, nat_le, IfSome, IfOk, IsOkUnless, OnErr, OnOk, Some, None};
 ghost use Rattle.value.specs.Ordered.{HoldsOf};
 ghost use Rattle.value.specs.declared.refusals.Refusal.TheVariants.{NoMemory};
 ghost use Rattle.commit.specs.Cores.{IsLive};
@@ -62,6 +62,23 @@ fn seat_all(seats: &mut Vec<Seat>, steps: &[Step]) -> Result<(), Refusal>
         seat_session(seats, &step.session)?;
     }
     Ok(())
+}
+
+/// Whether events are of so many sessions or fewer. It goes no further than the first session that is one too many, so
+/// its time does not grow with the square of a long script. NoMemory is the only error.
+#[tactic(auto, using(crate::proofs::Seating::too_many))]
+pub fn has_few_sessions(alloc: Global, steps: &[Step], most: usize) -> Result<bool, Refusal>
+    ensures only_memory { IsOkUnless result NoMemory }
+    ensures counted { IfOk result (λ few. few ≡ nat_le (length (all_seated [] steps.now)) most) }
+{
+    let mut seats = Vec::new(alloc);
+    for step in steps {
+        if seats.len() > most {
+            return Ok(false);
+        }
+        seat_session(&mut seats, &step.session)?;
+    }
+    Ok(seats.len() <= most)
 }
 
 /// A seat for a session, if it has none.

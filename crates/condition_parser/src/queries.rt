@@ -7,7 +7,7 @@ ghost use Rattle.condition_parser.specs.Nests.{Nests};
 ghost use Rattle.leaf_parser.specs.Reads.{Reads};
 
 use crate::levels::Level;
-use leaf_parser::{Cursor, Stop, alias, group_by, name, stopped};
+use leaf_parser::{Cursor, Stop, correlation_name, group_by, name, stopped};
 use sqlite_items::Boxed;
 use std::alloc::Global;
 use syntax::{ColumnName, Condition, Found, Query, SelectList, Want};
@@ -56,34 +56,37 @@ impl<F: Fn(Global, &mut Cursor<'_>, usize, Want) -> Result<Found, Stop>> Level<F
         Ok(Some(self.condition(cursor)?.into_inner()))
     }
 
-    /// What follows the table of a query and its alias.
+    /// What follows the table of a query and its correlation_name.
     #[tactic(auto, unfolding(syntax::specs::Readers::query_rest))]
     pub fn query_rest(
         &self,
         cursor: &mut Cursor<'_>,
         select_list: SelectList,
         table: Text,
-        alias: Option<Text>,
+        correlation_name: Option<Text>,
     ) -> Result<Boxed<Query>, Stop>
         requires { Nests self.now.depth (F.pre self.now.inner) (F.post self.now.inner) }
-        ensures { Reads (reader.query_rest self.now.depth (inside self.now.depth) select_list table alias cursor.old) result cursor.new }
+        ensures { Reads (reader.query_rest self.now.depth (inside self.now.depth) select_list table correlation_name cursor.old) result cursor.new }
     {
         let keeps = match self.where_(cursor) {
             Ok(keeps) => keeps,
-            Err(stop) => return Err(stopped(stop, (select_list, table, alias))),
+            Err(stop) => return Err(stopped(stop, (select_list, table, correlation_name))),
         };
         let group = match group_by(self.alloc, cursor) {
             Ok(group) => group,
-            Err(stop) => return Err(stopped(stop, (select_list, table, alias, keeps))),
+            Err(stop) => return Err(stopped(stop, (select_list, table, correlation_name, keeps))),
         };
         let having = match self.having(cursor) {
             Ok(having) => having,
-            Err(stop) => return Err(stopped(stop, (select_list, table, alias, keeps, group))),
+            Err(stop) => return Err(stopped(
+                stop,
+                (select_list, table, correlation_name, keeps, group),
+            )),
         };
         let query = Query {
             select_list,
             table,
-            alias,
+            correlation_name,
             keeps,
             group,
             having,
@@ -105,8 +108,8 @@ impl<F: Fn(Global, &mut Cursor<'_>, usize, Want) -> Result<Found, Stop>> Level<F
             Ok(table) => table,
             Err(stop) => return Err(stopped(stop, select_list)),
         };
-        match alias(self.alloc, cursor) {
-            Ok(alias) => self.query_rest(cursor, select_list, table, alias),
+        match correlation_name(self.alloc, cursor) {
+            Ok(correlation_name) => self.query_rest(cursor, select_list, table, correlation_name),
             Err(stop) => Err(stopped(stop, (select_list, table))),
         }
     }

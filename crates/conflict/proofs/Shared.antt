@@ -1,5 +1,5 @@
 -- Rows that a commit changes, and one after its snapshot too.
-use Rattle.std.proofs.Common.{◌≡◌, ℕ, ◌+◌, ◌<◌, ◌≤◌, Bool, true, false, cond, ◌⊎◌, inl, inr, List, [], ◌∷◌, ◌++◌, length, take, drop, get_or, Option, None, Some, find, refl, sym, ap, ◌∙◌, subst, arith}
+use Rattle.std.proofs.Common.{◌≡◌, ℕ, ◌+◌, ◌<◌, Bool, true, false, cond, ◌⊎◌, inl, inr, List, [], ◌∷◌, ◌++◌, length, take, drop, get_or, None, Some, find, refl, sym, ap, ◌∙◌, subst, arith}
 use Rattle.std.specs.Prelude.{Contains}
 use Rattle.std.specs.List.{list_any}
 use mathlib.Core.List.{reverse}
@@ -8,15 +8,14 @@ use Rattle.std.proofs.Math.Bool.{or-false}
 use Rattle.std.proofs.lemmas.List.{take-append-drop, drop_more, get_or_read}
 use Rattle.std.proofs.lemmas.List.Folds.{list_any_more}
 use Rattle.table.specs.declared.rows.Change.{Change}
-use Rattle.siread.specs.declared.keys.Place.{Place}
 use Rattle.siread.specs.Keys.{same_place, place_of}
 use Rattle.siread.proofs.Members.{in_head, in_tail, in_cases}
 use Rattle.alone.proofs.Lists.{Pairs, each_at}
 use Rattle.alone.proofs.Members.{any_from}
 use Rattle.serial.specs.declared.records.Record.{Record}
-use Rattle.serial.specs.Commits.{IsLog, HasNoWriteConflict, share_row}
+use Rattle.serial.specs.Commits.{HasNoWriteConflict, share_row}
 use Rattle.serial.specs.Answer.{IsFirstConflict}
-use Rattle.serial.proofs.Snapshots.{Parts, parts, in_recent, recent_in, recent_past}
+use Rattle.serial.proofs.Snapshots.{Parts, in_recent, recent_in, recent_past}
 use Rattle.conflict.specs.Judged.{has_row_of, IsFirstShared}
 
 -- the first element that passes a test

@@ -1,5 +1,5 @@
 -- What a commit is answered by those before it, by what was found of it.
-use Rattle.std.specs.Prelude.{◌≡◌, ◌<◌, ℕ, Bool, false, List, [], ◌∷◌, Option, Some, find, length, slice_index_or, take}
+use Rattle.std.specs.Prelude.{◌≡◌, ◌<◌, ℕ, Bool, false, List, Some, find, length, slice_index_or, take}
 use Rattle.std.specs.List.{list_any}
 use Rattle.table.specs.declared.rows.Change.{Change}
 use Rattle.siread.specs.Keys.{same_place, place_of}

@@ -141,9 +141,11 @@ fn the_reader_comes_last(rt: HostRuntime) -> Result<(), Fail> {
 #[test]
 fn a_commit_stands_before_its_writer(rt: HostRuntime) -> Result<(), Fail> {
     let mut order = vec![in rt.alloc(); 1u64]?;
-    put_in_order(&mut order, 1, 2)?;
+    order.reserve(1)?;
+    put_in_order(&mut order, 1, 2);
     assert_eq!(rt; order.as_slice(), [2u64, 1].as_slice());
-    put_in_order(&mut order, 3, 3)?;
+    order.reserve(1)?;
+    put_in_order(&mut order, 3, 3);
     assert_eq!(rt; order.as_slice(), [2u64, 1, 3].as_slice());
     Ok(())
 }

@@ -18,8 +18,8 @@ use serial::{Record, numbers};
 pub enum Verdict {
     /// It may join them. `place` is the least commit to which it conflicts, or its own number where there is none.
     Fine { place: u64 },
-    /// `changes[row]` is the first of its changes whose row a commit after the snapshot changed, and `by` the least such
-    /// commit.
+    /// `changes[row]` is the first of its changes whose row a commit after the snapshot changed, and `by` the least
+    /// such commit.
     WriteConflict { row: usize, by: u64 },
     /// A dangerous triple would have it in it.
     Dangerous(Danger),

@@ -40,7 +40,7 @@ fn count_of_shifts(alloc: Global) -> Result<Expression, Refusal> {
     let query = Query {
         select_list: SelectList::One(Expression::CountRows),
         table: Text::from_str(alloc, "SHIFTS")?,
-        alias: None,
+        correlation_name: None,
         keeps: None,
         group: None,
         having: None,

@@ -46,12 +46,12 @@ linked_where child root aggregate (Some condition) None (Some having) = Err Outs
 
 abbrev pub linked_exists : Tables → Scope → Clauses → Result Linked Refusal
 linked_exists tables root query =
-    in_class (source_of tables query.table query.alias) (λ child.
+    in_class (source_of tables query.table query.correlation_name) (λ child.
     only_if (may_be_selected (own_column child.scope) query.select_list) (linked_where child root CountRows query.keeps query.group query.having))
 
 abbrev pub linked_value : Tables → Scope → Clauses → Result Linked Refusal
 linked_value tables root query =
-    in_class (source_of tables query.table query.alias) (λ child.
+    in_class (source_of tables query.table query.correlation_name) (λ child.
     in_class (selected_aggregate child.scope query.select_list) (λ aggregate. linked_where child root aggregate query.keeps query.group query.having))
 
 -- what stands in a slot of a condition over a row
@@ -71,7 +71,7 @@ plain_by source aggregate keeps None (Some having) = Err OutsideClass
 
 abbrev pub plain_value : Tables → Clauses → Result Plain Refusal
 plain_value tables query =
-    in_class (source_of tables query.table query.alias) (λ source. plain_by source (selected_aggregate source.scope query.select_list) query.keeps query.group query.having)
+    in_class (source_of tables query.table query.correlation_name) (λ source. plain_by source (selected_aggregate source.scope query.select_list) query.keeps query.group query.having)
 
 -- what stands in a slot of a single condition
 abbrev pub plain : Tables → Leaf → Result Plain Refusal
@@ -119,7 +119,7 @@ by_clauses tables source query None (Some having) = Err OutsideClass
 by_clauses tables source query (Some column) None = Err OutsideClass
 
 abbrev pub not_exists : Tables → Clauses → Result Form Refusal
-not_exists tables query = in_class (source_of tables query.table query.alias) (λ source. by_clauses tables source query query.group query.having)
+not_exists tables query = in_class (source_of tables query.table query.correlation_name) (λ source. by_clauses tables source query query.group query.having)
 
 abbrev pub single : Tables → Condition → Result Form Refusal
 single tables condition =

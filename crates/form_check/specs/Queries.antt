@@ -30,10 +30,10 @@ abbrev pub sourced : List ℕ → Option ℕ → Option Layout → Option Source
 sourced name None layout = None
 sourced name (Some table) None = None
 sourced name (Some table) (Some layout) =
-    Some (record { table = table; scope = record { correlation_name = name; layout = layout } })
+    Some (record { table = table; scope = record { exposed_name = name; layout = layout } })
 
 abbrev pub source_of : Tables → List ℕ → Option (List ℕ) → Option Source
-source_of tables table alias = sourced (unwrap_or alias table) (position_of table tables) (layout_of table tables)
+source_of tables table correlation_name = sourced (unwrap_or correlation_name table) (position_of table tables) (layout_of table tables)
 
 -- nothing but the row's own columns stood there
 abbrev pub alone : {A : Type 0} → A → Leaves → Result A Refusal

@@ -44,7 +44,7 @@ fn not_exists(alloc: Global, catalog: &Catalog, query: &Query) -> Result<Form, R
     ensures made { IfOk result (λ made. not_exists catalog.now (out-Query query.now) ≡ Ok made) }
     ensures refused { IfErr result (λ refusal. refusal ≢ NoMemory → not_exists catalog.now (out-Query query.now) ≡ Err refusal) }
 {
-    let Some(source) = Source::of(catalog, &query.table, &query.alias) else {
+    let Some(source) = Source::of(catalog, &query.table, &query.correlation_name) else {
         return Err(Refusal::OutsideClass);
     };
     match (&query.group, &query.having) {

@@ -62,7 +62,7 @@ fn linked_exists(
     ensures made { IfOk result (λ made. linked_exists catalog.now (shown root.entry) (out-Query query.now) ≡ Ok made) }
     ensures refused { IfErr result (λ refusal. refusal ≢ NoMemory → linked_exists catalog.now (shown root.entry) (out-Query query.now) ≡ Err refusal) }
 {
-    let Some(child) = Source::of(catalog, &query.table, &query.alias) else {
+    let Some(child) = Source::of(catalog, &query.table, &query.correlation_name) else {
         return Err(Refusal::OutsideClass);
     };
     if !may_be_selected(&Columns::Own(child.scope), &query.select_list) {
@@ -89,7 +89,7 @@ fn linked_value(
     ensures made { IfOk result (λ made. linked_value catalog.now (shown root.entry) (out-Query query.now) ≡ Ok made) }
     ensures refused { IfErr result (λ refusal. refusal ≢ NoMemory → linked_value catalog.now (shown root.entry) (out-Query query.now) ≡ Err refusal) }
 {
-    let Some(child) = Source::of(catalog, &query.table, &query.alias) else {
+    let Some(child) = Source::of(catalog, &query.table, &query.correlation_name) else {
         return Err(Refusal::OutsideClass);
     };
     let Some(aggregate) = selected_aggregate(child.scope, &query.select_list) else {

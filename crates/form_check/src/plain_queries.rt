@@ -43,7 +43,7 @@ fn plain_value(alloc: Global, catalog: &Catalog, query: &Query) -> Result<Plain,
     ensures made { IfOk result (λ made. plain_value catalog.now (out-Query query.now) ≡ Ok made) }
     ensures refused { IfErr result (λ refusal. refusal ≢ NoMemory → plain_value catalog.now (out-Query query.now) ≡ Err refusal) }
 {
-    let Some(source) = Source::of(catalog, &query.table, &query.alias) else {
+    let Some(source) = Source::of(catalog, &query.table, &query.correlation_name) else {
         return Err(Refusal::OutsideClass);
     };
     let aggregate = selected_aggregate(source.scope, &query.select_list);

@@ -10,7 +10,7 @@ ghost use Rattle.form_check.specs.Shown.{shown_leaves, shown_source, place};
 
 use crate::leaves::{Columns, Leaf, numbered, numbered_expression};
 use cond::{Cond, Expr};
-use name_check::{Scope, correlation_name};
+use name_check::{Scope, exposed_name};
 use sqlite_items::Items;
 use std::alloc::Global;
 use syntax::{Condition, Expression, SelectList};
@@ -26,14 +26,18 @@ pub struct Source<'a> {
 
 impl<'a> Source<'a> {
     /// The rows of a query over this table, which may have a correlation name.
-    pub fn of(catalog: &'a Catalog, table: &'a Text, alias: &'a Option<Text>) -> Option<Source<'a>>
-        ensures { option_map shown_source result ≡ source_of catalog.now table.now alias.now }
+    pub fn of(
+        catalog: &'a Catalog,
+        table: &'a Text,
+        correlation_name: &'a Option<Text>,
+    ) -> Option<Source<'a>>
+        ensures { option_map shown_source result ≡ source_of catalog.now table.now correlation_name.now }
     {
-        Source::named(catalog, table, correlation_name(alias, table))
+        Source::named(catalog, table, exposed_name(correlation_name, table))
     }
 
     /// The rows of a statement's table, which goes by its own name.
-    pub fn unaliased(catalog: &'a Catalog, table: &'a Text) -> Option<Source<'a>>
+    pub fn by_table_name(catalog: &'a Catalog, table: &'a Text) -> Option<Source<'a>>
         ensures source { option_map shown_source result ≡ source_of catalog.now table.now None }
         ensures within { IfSome result (λ source. source.table < length catalog.now) }
     {
@@ -50,7 +54,7 @@ impl<'a> Source<'a> {
         Some(Source {
             table: place,
             scope: Scope {
-                correlation_name: name,
+                exposed_name: name,
                 schema,
             },
         })

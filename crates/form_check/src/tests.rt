@@ -49,7 +49,7 @@ fn query(alloc: Global, select_list: SelectList) -> Result<Query, Refusal> {
     Ok(Query {
         select_list,
         table: Text::from_str(alloc, "D")?,
-        alias: None,
+        correlation_name: None,
         keeps: None,
         group: None,
         having: None,
@@ -101,7 +101,7 @@ fn row_conditions(rt: HostRuntime) -> Result<(), Fail> {
     let alloc = rt.alloc();
     let (table, schema) = (Text::from_str(alloc, "D")?, schema(alloc, "ID", "SHIFT")?);
     let scope = Scope {
-        correlation_name: &table,
+        exposed_name: &table,
         schema: &schema,
     };
     let own = at_most_two(Expression::Column(column(alloc, "SHIFT")?));
@@ -116,7 +116,7 @@ fn row_conditions(rt: HostRuntime) -> Result<(), Fail> {
         Some(0)
     );
     assert_eq!(rt;
-        Source::unaliased(&catalog, &table).map(|source| source.table),
+        Source::by_table_name(&catalog, &table).map(|source| source.table),
         Some(0)
     );
     Ok(())

@@ -45,9 +45,9 @@ pub fn column(alloc: Global, cursor: &mut Cursor<'_>) -> Result<ColumnName, Stop
     column_after(alloc, cursor, &first)
 }
 
-#[tactic(auto, unfolding(syntax::specs::Readers::alias))]
-pub fn alias(alloc: Global, cursor: &mut Cursor<'_>) -> Result<Option<Text>, Stop>
-    ensures { Reads (reader.alias cursor.old) result cursor.new }
+#[tactic(auto, unfolding(syntax::specs::Readers::correlation_name))]
+pub fn correlation_name(alloc: Global, cursor: &mut Cursor<'_>) -> Result<Option<Text>, Stop>
+    ensures { Reads (reader.correlation_name cursor.old) result cursor.new }
 {
     match cursor.peek() {
         Kind::As => {

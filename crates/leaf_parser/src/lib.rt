@@ -34,7 +34,7 @@ mod parts;
 mod signs;
 mod stops;
 
-pub use columns::{Counted, NamedColumn, alias, column, group_by};
+pub use columns::{Counted, NamedColumn, column, correlation_name, group_by};
 pub use cursors::{Cursor, Piece};
 pub use loops::{Part, Repeated, followed, list, many, parens, parens_list};
 pub use names::{NamePart, name, number, signed_number, text, value_of};

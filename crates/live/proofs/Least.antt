@@ -1,5 +1,5 @@
 -- The least snapshot, from the first to the last.
-use Rattle.std.proofs.Common.{◌≡◌, ℕ, ◌≤◌, ◌<◌, min, refl, sym, ap, ◌∙◌, List, [], ◌∷◌, ◌++◌, ◌+◌, filter, Bool, true, false, cond, arith}
+use Rattle.std.proofs.Common.{◌≡◌, ℕ, ◌≤◌, ◌<◌, min, sym, ap, ◌∙◌, List, [], ◌∷◌, ◌++◌, ◌+◌, filter, Bool, true, false, cond, arith}
 use Rattle.std.specs.Prelude.{drop, get_or, length}
 use Rattle.std.proofs.lemmas.List.{drop_more}
 use Rattle.live.specs.declared.snapshots.LiveSnapshot.{LiveSnapshot}

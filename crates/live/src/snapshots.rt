@@ -1,7 +1,8 @@
 //! The snapshots of open transactions.
 
-ghost use Rattle.std.specs.Prelude.{◌≡◌, IfOk, IsOkUnless, OnErr, OnOk};
+ghost use Rattle.std.specs.Prelude.{◌≡◌, true, Contains, IfOk, IsOkUnless, OnErr, OnOk};
 ghost use Rattle.value.specs.declared.refusals.Refusal.TheVariants.{NoMemory};
+ghost use Rattle.live.specs.Held.{is_held};
 ghost use Rattle.live.specs.Live.{least_held, none_live, with_begin, without};
 
 use std::alloc::Global;
@@ -76,8 +77,16 @@ impl Live {
         self.snapshots.retain(|live| live.ticket != ticket);
     }
 
-    /// The least number of commits that an open transaction's snapshot holds, or this one where that is less. It takes no
-    /// memory.
+    /// Whether the transaction with a ticket is open and holds this snapshot. It takes no memory.
+    pub fn holds(&self, ticket: u64, snapshot: u64) -> bool
+        ensures test { result ≡ is_held ticket snapshot self.now.snapshots }
+        ensures held { result ≡ true → Contains self.now.snapshots (record { ticket = ticket; snapshot = snapshot }) }
+    {
+        is_held(self.snapshots.as_slice(), ticket, snapshot)
+    }
+
+    /// The least number of commits that an open transaction's snapshot holds, or this one where that is less. It
+    /// takes no memory.
     pub fn least(&self, newest: u64) -> u64
         ensures { result ≡ least_held newest self.now.snapshots }
     {
@@ -87,4 +96,14 @@ impl Live {
         }
         least
     }
+}
+
+#[tactic(auto, using(crate::proofs::Holding::held_facts))]
+fn is_held(snapshots: &[LiveSnapshot], ticket: u64, snapshot: u64) -> bool
+    ensures test { result ≡ is_held ticket snapshot snapshots.now }
+    ensures held { result ≡ true → Contains snapshots.now (record { ticket = ticket; snapshot = snapshot }) }
+{
+    snapshots
+        .iter()
+        .any(|live| live.ticket == ticket && live.snapshot == snapshot)
 }

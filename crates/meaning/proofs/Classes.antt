@@ -119,9 +119,9 @@ source_read name (Some t) None source e = cc
 source_read name (Some t) (Some l) source e =
     let found : Source = record { table = t; scope = named_as name l } in ap (λ (s : Source). let o : Option Scope = Some s.scope in o) (some_same found source e)
 
-reads_scope : (tables : Tables) (query : Query) (source : Source) → source_of tables (out-Query query).table (out-Query query).alias ≡ Some source → read_by tables (out-Query query).table (out-Query query).alias ≡ Some source.scope
+reads_scope : (tables : Tables) (query : Query) (source : Source) → source_of tables (out-Query query).table (out-Query query).correlation_name ≡ Some source → read_by tables (out-Query query).table (out-Query query).correlation_name ≡ Some source.scope
 reads_scope tables query source e =
-    let q = out-Query query in source_read (unwrap_or q.alias q.table) (position_of q.table tables) (layout_of q.table tables) source e
+    let q = out-Query query in source_read (unwrap_or q.correlation_name q.table) (position_of q.table tables) (layout_of q.table tables) source e
 
 within_next : (b : Bool) (first l : Layout) (o : Option Layout) (n k : ℕ) → ◌≡◌ {A = Option Layout} (cond b (Some first) o) (Some l) → (o ≡ Some l → nat_lt n k ≡ true) → nat_lt (cond (not b) (1 + n) 0) (suc k) ≡ true
 within_next true first l o n k e more = grind (arith, nat_tests)
@@ -140,10 +140,10 @@ scope_layout name None scope e = cc
 scope_layout name (Some l) scope e = (l, (refl, some_same (named_as name l) scope e))
 
 -- and so it has a place
-scope_reads : (tables : Tables) (query : Query) (scope : Scope) → read_by tables (out-Query query).table (out-Query query).alias ≡ Some scope → (t : ℕ) × (source_of tables (out-Query query).table (out-Query query).alias ≡ Some (record { table = t; scope = scope }))
+scope_reads : (tables : Tables) (query : Query) (scope : Scope) → read_by tables (out-Query query).table (out-Query query).correlation_name ≡ Some scope → (t : ℕ) × (source_of tables (out-Query query).table (out-Query query).correlation_name ≡ Some (record { table = t; scope = scope }))
 scope_reads tables query scope e =
     let q = out-Query query in
-    let name = unwrap_or q.alias q.table in
+    let name = unwrap_or q.correlation_name q.table in
     let (l, (is, same)) = scope_layout name (layout_of q.table tables) scope e in
     let t = position_or_len (pointwise nat_eq q.table) (names_of tables) in
     (t, ap (λ p. sourced name p (layout_of q.table tables)) (placed_at q.table tables l is) ∙ ap (sourced name (Some t)) is ∙ ap (λ (scope : Scope). let o : Option Source = Some (record { table = t; scope = scope }) in o) same)
@@ -252,7 +252,7 @@ list_set scope list h = layer_set_list scope (out-SelectList list) h
 plain_query : (tables : Tables) (query : Query) → Answers (plain_value tables (out-Query query)) → IsPlainQuery tables query
 plain_query tables query (p, e) =
     let q = out-Query query in
-    let (source, (found, more)) = in_class_ok (source_of tables q.table q.alias) (λ source. plain_by source (selected_aggregate source.scope q.select_list) q.keeps q.group q.having) p e in
+    let (source, (found, more)) = in_class_ok (source_of tables q.table q.correlation_name) (λ source. plain_by source (selected_aggregate source.scope q.select_list) q.keeps q.group q.having) p e in
     let (no_group, (no_having, (function, (lists, (kept, (filters, makes)))))) = plain_by_ok source (selected_aggregate source.scope q.select_list) q.keeps q.group q.having p more in
     record { scope = source.scope; reads = reads_scope tables query source found; lists = set_list source.scope q.select_list (ap is_some lists); kept = over_filter source.scope q.keeps (kept, filters); ungrouped = ap is_some no_group; whole = ap is_some no_having }
 
@@ -537,13 +537,13 @@ linked_leaf_class tables root class.Rows (q, e) = cc
 linked_leaf_class tables root (class.Of f c) (q, e) = cc
 linked_leaf_class tables root (class.Exists query) (q, e) =
     let c = out-Query query in
-    let (child, (found, more)) = in_class_ok (source_of tables c.table c.alias) (λ child. only_if (may_be_selected (own_column child.scope) c.select_list) (linked_where child root CountRows c.keeps c.group c.having)) q e in
+    let (child, (found, more)) = in_class_ok (source_of tables c.table c.correlation_name) (λ child. only_if (may_be_selected (own_column child.scope) c.select_list) (linked_where child root CountRows c.keeps c.group c.having)) q e in
     let (lists, rest) = only_if_ok (may_be_selected (own_column child.scope) c.select_list) (linked_where child root CountRows c.keeps c.group c.having) q more in
     let (condition, (is, (where_is, (g, h)))) = linked_where_class child root CountRows c.keeps c.group c.having (q, rest) in
     record { scope = child.scope; condition = condition; reads = reads_scope tables query child found; lists = own_list child.scope c.select_list lists; kept = is; linked = where_is; ungrouped = g; whole = h }
 linked_leaf_class tables root (class.Value query) (q, e) =
     let c = out-Query query in
-    let (child, (found, more)) = in_class_ok (source_of tables c.table c.alias) (λ child. in_class (selected_aggregate child.scope c.select_list) (λ a. linked_where child root a c.keeps c.group c.having)) q e in
+    let (child, (found, more)) = in_class_ok (source_of tables c.table c.correlation_name) (λ child. in_class (selected_aggregate child.scope c.select_list) (λ a. linked_where child root a c.keeps c.group c.having)) q e in
     let (a, (lists, rest)) = in_class_ok (selected_aggregate child.scope c.select_list) (λ a. linked_where child root a c.keeps c.group c.having) q more in
     let (condition, (is, (where_is, (g, h)))) = linked_where_class child root a c.keeps c.group c.having (q, rest) in
     record { scope = child.scope; condition = condition; reads = reads_scope tables query child found; lists = set_list child.scope c.select_list (ap is_some lists); kept = is; linked = where_is; ungrouped = g; whole = h }
@@ -606,7 +606,7 @@ class_row tables source query lists keeps =
 exists_class : (tables : Tables) (query : Query) → Answers (not_exists tables (out-Query query)) → IsRowQuery tables query ⊎ IsGroupQuery tables query
 exists_class tables query (form, e) =
     let q = out-Query query in
-    let (source, (found, more)) = in_class_ok (source_of tables q.table q.alias) (λ source. by_clauses tables source q q.group q.having) form e in
+    let (source, (found, more)) = in_class_ok (source_of tables q.table q.correlation_name) (λ source. by_clauses tables source q q.group q.having) form e in
     ⊎_elim
     (λ rows. let (lists, keeps) = row_class tables source q (form, rows.1.1) in inl (record { scope = source.scope; reads = reads_scope tables query source found; lists = lists; kept = keeps; ungrouped = ap is_some rows.0; whole = ap is_some rows.1.0 }))
     (λ groups.

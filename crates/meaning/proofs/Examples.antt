@@ -68,8 +68,8 @@ of qualifier name = record { qualifier = Some (qualifier ∷ []); name = name �
 -- a row of D inside a row of S, each under its name
 abbrev inside : ℕ → ℕ → References
 inside child outer =
-    seen (record { correlation_name = child ∷ []; layout = of_d }) ((number 1 ∷ number 7 ∷ number 0 ∷ []) ∷ [])
-    ∷ seen (record { correlation_name = outer ∷ []; layout = of_s }) ((number 5 ∷ []) ∷ []) ∷ []
+    seen (record { exposed_name = child ∷ []; layout = of_d }) ((number 1 ∷ number 7 ∷ number 0 ∷ []) ∷ [])
+    ∷ seen (record { exposed_name = outer ∷ []; layout = of_s }) ((number 5 ∷ []) ∷ []) ∷ []
 
 -- both have I: without a qualifier it is the inner table's
 inner_name : column_values (bare I) (inside D S) ≡ number 1 ∷ []
@@ -84,10 +84,10 @@ column_name : column_values (bare S) (inside D S) ≡ number 7 ∷ []
 column_name = refl
 
 -- a qualifier that both go by means the inner table, also where only the outer one has the column
-same_correlation_name : column_values (of X I) (inside X X) ≡ number 1 ∷ []
-same_correlation_name = refl
+same_exposed_name : column_values (of X I) (inside X X) ≡ number 1 ∷ []
+same_exposed_name = refl
 
-hidden_column : column_values (of X O) (seen (record { correlation_name = X ∷ []; layout = of_s }) ((number 5 ∷ []) ∷ []) ∷ seen (record { correlation_name = X ∷ []; layout = of_d }) ((number 1 ∷ number 7 ∷ number 0 ∷ []) ∷ []) ∷ []) ≡ []
+hidden_column : column_values (of X O) (seen (record { exposed_name = X ∷ []; layout = of_s }) ((number 5 ∷ []) ∷ []) ∷ seen (record { exposed_name = X ∷ []; layout = of_d }) ((number 1 ∷ number 7 ∷ number 0 ∷ []) ∷ []) ∷ []) ≡ []
 hidden_column = refl
 
 -- ---- trees
@@ -118,13 +118,13 @@ value_number n = simple (λ around. number n)
 
 -- the bad roots of NOT EXISTS of a query are what the query gives
 denied : (state : State) (q : Query-F Condition Expression SelectList Query) (a : References → List Answer) → answers both state (roll-Query q) ≡ a
-    → written_bad_roots both state (not_exists (roll-Query q)) ≡ written.roots_of_answers q.group (written.table_of both state q.table q.alias) (a [])
+    → written_bad_roots both state (not_exists (roll-Query q)) ≡ written.roots_of_answers q.group (written.table_of both state q.table q.correlation_name) (a [])
 denied state q a e =
     let whole = written_truth both state (not_exists (roll-Query q)) in
     ap (written.roots_in both state whole) (out-roll-Condition (Condition-F.Not (roll-Condition (Condition-F.Exists (roll-Query q)))))
     ∙ ap (written.denied_roots both state whole) (out-roll-Condition (Condition-F.Exists (roll-Query q)))
     ∙ ap (written.query_roots both state (roll-Query q)) (out-roll-Query q)
-    ∙ ap (λ (a : References → List Answer). written.roots_of_answers q.group (written.table_of both state q.table q.alias) (a [])) e
+    ∙ ap (λ (a : References → List Answer). written.roots_of_answers q.group (written.table_of both state q.table q.correlation_name) (a [])) e
 
 -- ---- by rows
 

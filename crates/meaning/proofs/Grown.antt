@@ -51,9 +51,9 @@ position_grown : (name : List ℕ) (tables more : Tables) (l : Layout) → layou
 position_grown name tables more l e =
     placed_at name (tables ++ more) l (layout_grown name tables more l e) ∙ ap (λ (n : ℕ). let o : Option ℕ = Some n in o) (place_grown name tables more l e) ∙ sym (placed_at name tables l e)
 
-source_grown : (tables more : Tables) (table : List ℕ) (alias : Option (List ℕ)) (source : Source) → source_of tables table alias ≡ Some source → source_of (tables ++ more) table alias ≡ Some source
-source_grown tables more table alias source e =
-    let name = unwrap_or alias table in
+source_grown : (tables more : Tables) (table : List ℕ) (correlation_name : Option (List ℕ)) (source : Source) → source_of tables table correlation_name ≡ Some source → source_of (tables ++ more) table correlation_name ≡ Some source
+source_grown tables more table correlation_name source e =
+    let name = unwrap_or correlation_name table in
     let (place, layout) = sourced_parts name (position_of table tables) (layout_of table tables) source e in
     ap (λ p. sourced name p (layout_of table (tables ++ more))) (position_grown table tables more source.scope.layout layout)
     ∙ ap (sourced name (position_of table tables)) (layout_grown table tables more source.scope.layout layout ∙ sym layout) ∙ e
@@ -70,11 +70,11 @@ each_grown {A = A} make make' one (x ∷ xs) made e =
 
 module _ (tables more : Tables) where
   -- a query whose table is found, and which then goes on alike
-  goes_on : {A : Type 0} (query : Query) (next : Source → Result A Refusal) (a : A) → in_class (source_of tables (out-Query query).table (out-Query query).alias) next ≡ Ok a → in_class (source_of (tables ++ more) (out-Query query).table (out-Query query).alias) next ≡ Ok a
+  goes_on : {A : Type 0} (query : Query) (next : Source → Result A Refusal) (a : A) → in_class (source_of tables (out-Query query).table (out-Query query).correlation_name) next ≡ Ok a → in_class (source_of (tables ++ more) (out-Query query).table (out-Query query).correlation_name) next ≡ Ok a
   goes_on query next a e =
       let q = out-Query query in
-      let (source, (found, rest)) = in_class_ok (source_of tables q.table q.alias) next a e in
-      ap (λ o. in_class o next) (source_grown tables more q.table q.alias source found) ∙ rest
+      let (source, (found, rest)) = in_class_ok (source_of tables q.table q.correlation_name) next a e in
+      ap (λ o. in_class o next) (source_grown tables more q.table q.correlation_name source found) ∙ rest
 
   linked_grown : (root : Scope) (leaf : Leaf) (q : Linked) → linked tables root leaf ≡ Ok q → linked (tables ++ more) root leaf ≡ Ok q
   linked_grown root Rows q e = cc
@@ -112,8 +112,8 @@ module _ (tables more : Tables) where
   not_exists_grown : (query : Query) (form : Form) → not_exists tables (out-Query query) ≡ Ok form → not_exists (tables ++ more) (out-Query query) ≡ Ok form
   not_exists_grown query form e =
       let q = out-Query query in
-      let (source, (found, rest)) = in_class_ok (source_of tables q.table q.alias) (λ source. by_clauses tables source q q.group q.having) form e in
-      ap (λ o. in_class o (λ source. by_clauses (tables ++ more) source q q.group q.having)) (source_grown tables more q.table q.alias source found) ∙ by_clauses_grown source q q.group q.having form rest
+      let (source, (found, rest)) = in_class_ok (source_of tables q.table q.correlation_name) (λ source. by_clauses tables source q q.group q.having) form e in
+      ap (λ o. in_class o (λ source. by_clauses (tables ++ more) source q q.group q.having)) (source_grown tables more q.table q.correlation_name source found) ∙ by_clauses_grown source q q.group q.having form rest
 
   single_grown : (c : Condition) (form : Form) → single tables c ≡ Ok form → single (tables ++ more) c ≡ Ok form
   single_grown c form e =

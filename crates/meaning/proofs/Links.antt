@@ -313,7 +313,7 @@ module _ (tables : Tables) (state : State) (root : names.Scope) (row : RowValues
       filter_agree (λ drow. passes (Some (truth tables state condition)) (with_rows (seen child.scope (rows_of child.table state)) (drow ∷ []) outer_row)) (λ drow. links link root_key drow && resolved.keeps drow [] (cond_of.And kept)) (λ drow. where_true tables state child.scope root drow row condition link kept one are) (rows_of child.table state)
 
   -- a query of these clauses, without GROUP BY and HAVING
-  clauses_are : (query : Query) (child : Source) (condition : Condition) → source_of tables (out-Query query).table (out-Query query).alias ≡ Some child → (out-Query query).group ≡ None → (out-Query query).having ≡ None → (out-Query query).keeps ≡ Some condition
+  clauses_are : (query : Query) (child : Source) (condition : Condition) → source_of tables (out-Query query).table (out-Query query).correlation_name ≡ Some child → (out-Query query).group ≡ None → (out-Query query).having ≡ None → (out-Query query).keeps ≡ Some condition
       → answers tables state query outer_row ≡ answers_by (seen child.scope (rows_of child.table state)) (select_list tables state (out-Query query).select_list) (Some (truth tables state condition)) None None outer_row
   clauses_are query child condition found no_group no_having keeps =
       let q = out-Query query in
@@ -327,7 +327,7 @@ module _ (tables : Tables) (state : State) (root : names.Scope) (row : RowValues
   exists_is : (query : Query) (q : Linked) → linked_exists tables root (out-Query query) ≡ Ok q → ◌≡◌ {A = Value} (Int (pos (length (answers tables state query outer_row)))) (linked_answer state root_key q)
   exists_is query q e =
       let c = out-Query query in
-      let (child, (found, more)) = in_class_ok (source_of tables c.table c.alias) (λ child. only_if (may_be_selected (own_column child.scope) c.select_list) (linked_where child root CountRows c.keeps c.group c.having)) q e in
+      let (child, (found, more)) = in_class_ok (source_of tables c.table c.correlation_name) (λ child. only_if (may_be_selected (own_column child.scope) c.select_list) (linked_where child root CountRows c.keeps c.group c.having)) q e in
       let (lists, rest) = only_if_ok (may_be_selected (own_column child.scope) c.select_list) (linked_where child root CountRows c.keeps c.group c.having) q more in
       let (no_group, (no_having, (condition, (keeps, (link, (one, (kept, (are, makes)))))))) = linked_where_ok child root CountRows c.keeps c.group c.having q rest in
       let table = seen child.scope (rows_of child.table state) in
@@ -342,7 +342,7 @@ module _ (tables : Tables) (state : State) (root : names.Scope) (row : RowValues
   value_is : (query : Query) (q : Linked) → linked_value tables root (out-Query query) ≡ Ok q → only_value (answers tables state query outer_row) ≡ linked_answer state root_key q
   value_is query q e =
       let c = out-Query query in
-      let (child, (found, more)) = in_class_ok (source_of tables c.table c.alias) (λ child. in_class (selected_aggregate child.scope c.select_list) (λ a. linked_where child root a c.keeps c.group c.having)) q e in
+      let (child, (found, more)) = in_class_ok (source_of tables c.table c.correlation_name) (λ child. in_class (selected_aggregate child.scope c.select_list) (λ a. linked_where child root a c.keeps c.group c.having)) q e in
       let (a, (lists, rest)) = in_class_ok (selected_aggregate child.scope c.select_list) (λ a. linked_where child root a c.keeps c.group c.having) q more in
       let (no_group, (no_having, (condition, (keeps, (link, (one, (kept, (are, makes)))))))) = linked_where_ok child root a c.keeps c.group c.having q rest in
       let table = seen child.scope (rows_of child.table state) in

@@ -21,7 +21,7 @@ use Rattle.meaning.specs.Meaning.{References, Valued, Answer, truth, valued, sel
 
 -- a query of these clauses
 abbrev pub clauses : {C E L Q : Type 0} → L → List ℕ → Option C → Option ColumnName → Option C → Query-F C E L Q
-clauses list table keeps group having = record { select_list = list; table = table; alias = None; keeps = keeps; group = group; having = having }
+clauses list table keeps group having = record { select_list = list; table = table; correlation_name = None; keeps = keeps; group = group; having = having }
 
 module _ (tables : Tables) (state : State) where
   condition_rolls : (layer : Condition-F Condition Expression SelectList Query) → truth tables state (roll-Condition layer) ≡ written.condition_step (map-Condition Condition Expression SelectList Query (References → Truth) Valued Valued (References → List Answer) (truth tables state) (valued tables state) (select_list tables state) (answers tables state) layer)

@@ -41,16 +41,16 @@ some_same {A = A} a b e = ap (λ (o : Option A). unwrap_or o a) e
 -- ---- FROM
 
 sourced_seen : (name : List ℕ) (p : Option ℕ) (l : Option Layout) (state : State) (source : Source) → sourced name p l ≡ Some source
-    → ◌≡◌ {A = Reference} (record { table = record { correlation_name = name; layout = unwrap_or l no_layout }; rows = rows_at p state }) (seen source.scope (rows_of source.table state))
+    → ◌≡◌ {A = Reference} (record { table = record { exposed_name = name; layout = unwrap_or l no_layout }; rows = rows_at p state }) (seen source.scope (rows_of source.table state))
 sourced_seen name None l state source e = cc
 sourced_seen name (Some t) None state source e = cc
 sourced_seen name (Some t) (Some l) state source e =
-    let found : Source = record { table = t; scope = record { correlation_name = name; layout = l } } in
+    let found : Source = record { table = t; scope = record { exposed_name = name; layout = l } } in
     ap (λ (s : Source). seen s.scope (rows_of s.table state)) (some_same found source e)
 
 -- the table that a query reads
-pub source_seen : (tables : Tables) (state : State) (table : List ℕ) (alias : Option (List ℕ)) (source : Source) → source_of tables table alias ≡ Some source → table_of tables state table alias ≡ seen source.scope (rows_of source.table state)
-source_seen tables state table alias source e = sourced_seen (unwrap_or alias table) (position_of table tables) (layout_of table tables) state source e
+pub source_seen : (tables : Tables) (state : State) (table : List ℕ) (correlation_name : Option (List ℕ)) (source : Source) → source_of tables table correlation_name ≡ Some source → table_of tables state table correlation_name ≡ seen source.scope (rows_of source.table state)
+source_seen tables state table correlation_name source e = sourced_seen (unwrap_or correlation_name table) (position_of table tables) (layout_of table tables) state source e
 
 -- ---- the clauses
 
@@ -67,35 +67,35 @@ answers_by table list keeps group having outer =
 
 -- a query of these parts
 abbrev clauses_of : SelectList → List ℕ → Option (List ℕ) → Option Condition → Option ColumnName → Option Condition → Clauses
-clauses_of list table alias keeps group having = record { select_list = list; table = table; alias = alias; keeps = keeps; group = group; having = having }
+clauses_of list table correlation_name keeps group having = record { select_list = list; table = table; correlation_name = correlation_name; keeps = keeps; group = group; having = having }
 
-mapped_keeps : (tables : Tables) (state : State) (list : SelectList) (table : List ℕ) (alias : Option (List ℕ)) (keeps : Option Condition) (group : Option ColumnName) (having : Option Condition)
-    → (mapped tables state (clauses_of list table alias keeps group having)).keeps ≡ option_map (truth tables state) keeps
-mapped_keeps tables state list table alias None group having = refl
-mapped_keeps tables state list table alias (Some c) group having = refl
+mapped_keeps : (tables : Tables) (state : State) (list : SelectList) (table : List ℕ) (correlation_name : Option (List ℕ)) (keeps : Option Condition) (group : Option ColumnName) (having : Option Condition)
+    → (mapped tables state (clauses_of list table correlation_name keeps group having)).keeps ≡ option_map (truth tables state) keeps
+mapped_keeps tables state list table correlation_name None group having = refl
+mapped_keeps tables state list table correlation_name (Some c) group having = refl
 
-mapped_having : (tables : Tables) (state : State) (list : SelectList) (table : List ℕ) (alias : Option (List ℕ)) (keeps : Option Condition) (group : Option ColumnName) (having : Option Condition)
-    → (mapped tables state (clauses_of list table alias keeps group having)).having ≡ option_map (truth tables state) having
-mapped_having tables state list table alias keeps group None = refl
-mapped_having tables state list table alias keeps group (Some c) = refl
+mapped_having : (tables : Tables) (state : State) (list : SelectList) (table : List ℕ) (correlation_name : Option (List ℕ)) (keeps : Option Condition) (group : Option ColumnName) (having : Option Condition)
+    → (mapped tables state (clauses_of list table correlation_name keeps group having)).having ≡ option_map (truth tables state) having
+mapped_having tables state list table correlation_name keeps group None = refl
+mapped_having tables state list table correlation_name keeps group (Some c) = refl
 
 mapped_option : (tables : Tables) (state : State) (query : Clauses) (outer : References)
     → written.query_step tables state (mapped tables state query) outer
-    ≡ answers_by (table_of tables state query.table query.alias) (select_list tables state query.select_list) (option_map (truth tables state) query.keeps) query.group (option_map (truth tables state) query.having) outer
+    ≡ answers_by (table_of tables state query.table query.correlation_name) (select_list tables state query.select_list) (option_map (truth tables state) query.keeps) query.group (option_map (truth tables state) query.having) outer
 mapped_option tables state query outer =
-    let table = table_of tables state query.table query.alias in
+    let table = table_of tables state query.table query.correlation_name in
     let list = select_list tables state query.select_list in
-    ap (λ k. answers_by table list k query.group (mapped tables state query).having outer) (mapped_keeps tables state query.select_list query.table query.alias query.keeps query.group query.having)
-    ∙ ap (λ h. answers_by table list (option_map (truth tables state) query.keeps) query.group h outer) (mapped_having tables state query.select_list query.table query.alias query.keeps query.group query.having)
+    ap (λ k. answers_by table list k query.group (mapped tables state query).having outer) (mapped_keeps tables state query.select_list query.table query.correlation_name query.keeps query.group query.having)
+    ∙ ap (λ h. answers_by table list (option_map (truth tables state) query.keeps) query.group h outer) (mapped_having tables state query.select_list query.table query.correlation_name query.keeps query.group query.having)
 
-pub answers_at : (tables : Tables) (state : State) (query : Query) (source : Source) (outer : References) → source_of tables (out-Query query).table (out-Query query).alias ≡ Some source
+pub answers_at : (tables : Tables) (state : State) (query : Query) (source : Source) (outer : References) → source_of tables (out-Query query).table (out-Query query).correlation_name ≡ Some source
     → answers tables state query outer
     ≡ answers_by (seen source.scope (rows_of source.table state)) (select_list tables state (out-Query query).select_list) (option_map (truth tables state) (out-Query query).keeps) (out-Query query).group (option_map (truth tables state) (out-Query query).having) outer
 answers_at tables state query source outer e =
     let q = out-Query query in
     ap (λ a. a outer) (fold_out-Query (References → Truth) Valued Valued (References → List Answer) written.condition_step written.expression_step written.select_list_step (written.query_step tables state) query)
     ∙ mapped_option tables state q outer
-    ∙ ap (λ t. answers_by t (select_list tables state q.select_list) (option_map (truth tables state) q.keeps) q.group (option_map (truth tables state) q.having) outer) (source_seen tables state q.table q.alias source e)
+    ∙ ap (λ t. answers_by t (select_list tables state q.select_list) (option_map (truth tables state) q.keeps) q.group (option_map (truth tables state) q.having) outer) (source_seen tables state q.table q.correlation_name source e)
 
 -- ---- set functions
 
@@ -162,7 +162,7 @@ plain_by_ok source a keeps None (Some h) p e = cc
 plain_is : (tables : Tables) (state : State) (scopes : References) (query : Query) (p : Plain) → plain_value tables (out-Query query) ≡ Ok p → only_value (answers tables state query scopes) ≡ plain_answer state p
 plain_is tables state scopes query p e =
     let q = out-Query query in
-    let (source, (found, more)) = in_class_ok (source_of tables q.table q.alias) (λ source. plain_by source (selected_aggregate source.scope q.select_list) q.keeps q.group q.having) p e in
+    let (source, (found, more)) = in_class_ok (source_of tables q.table q.correlation_name) (λ source. plain_by source (selected_aggregate source.scope q.select_list) q.keeps q.group q.having) p e in
     let (no_group, (no_having, (function, (lists, (kept, (filters, makes)))))) = plain_by_ok source (selected_aggregate source.scope q.select_list) q.keeps q.group q.having p more in
     let rows = rows_of source.table state in
     let table = seen source.scope rows in

@@ -54,7 +54,7 @@ pub sourced_parts : (name : List ℕ) (p : Option ℕ) (l : Option Layout) (sour
 sourced_parts name None l source e = cc
 sourced_parts name (Some t) None source e = cc
 sourced_parts name (Some t) (Some l) source e =
-    let found : Source = record { table = t; scope = record { correlation_name = name; layout = l } } in
+    let found : Source = record { table = t; scope = record { exposed_name = name; layout = l } } in
     let same = some_same found source e in
     (ap (λ (s : Source). let o : Option ℕ = Some s.table in o) same, ap (λ (s : Source). let o : Option Layout = Some s.scope.layout in o) same)
 

@@ -85,7 +85,7 @@ by_clauses_ok tables source query None (Some having) form e = cc
 by_clauses_ok tables source query (Some column) None form e = cc
 
 -- the roots of a query, by its clauses and the table that it reads
-roots_by : (tables : Tables) (state : State) (query : Query) (source : Source) → source_of tables (out-Query query).table (out-Query query).alias ≡ Some source
+roots_by : (tables : Tables) (state : State) (query : Query) (source : Source) → source_of tables (out-Query query).table (out-Query query).correlation_name ≡ Some source
     → (g : Option ColumnName) (h : Option Condition) → (out-Query query).group ≡ g → (out-Query query).having ≡ h
     → query_roots tables state query (out-Query query)
     ≡ roots_of_answers g (seen source.scope (rows_of source.table state)) (answers_by (seen source.scope (rows_of source.table state)) (select_list tables state (out-Query query).select_list) (option_map (truth tables state) (out-Query query).keeps) g (option_map (truth tables state) h) [])
@@ -94,17 +94,17 @@ roots_by tables state query source found g h is_g is_h =
     let table = seen source.scope (rows_of source.table state) in
     let list = select_list tables state q.select_list in
     let keeps = option_map (truth tables state) q.keeps in
-    ap (λ t. roots_of_answers q.group t (answers tables state query [])) (source_seen tables state q.table q.alias source found)
+    ap (λ t. roots_of_answers q.group t (answers tables state query [])) (source_seen tables state q.table q.correlation_name source found)
     ∙ ap (roots_of_answers q.group table) (answers_at tables state query source [] found)
     ∙ ap (λ g. roots_of_answers g table (answers_by table list keeps g (option_map (truth tables state) q.having) [])) is_g
     ∙ ap (λ h. roots_of_answers g table (answers_by table list keeps g (option_map (truth tables state) h) [])) is_h
 
-key_at : (tables : Tables) (table : List ℕ) (alias : Option (List ℕ)) (source : Source) → source_of tables table alias ≡ Some source → key_of source.table (layouts_of tables) ≡ source.scope.layout.key
-key_at tables table alias source found =
-    let (place, layout) = sourced_parts (unwrap_or alias table) (position_of table tables) (layout_of table tables) source found in
+key_at : (tables : Tables) (table : List ℕ) (correlation_name : Option (List ℕ)) (source : Source) → source_of tables table correlation_name ≡ Some source → key_of source.table (layouts_of tables) ≡ source.scope.layout.key
+key_at tables table correlation_name source found =
+    let (place, layout) = sourced_parts (unwrap_or correlation_name table) (position_of table tables) (layout_of table tables) source found in
     ap (λ (l : Layout). l.key) (layout_at table (record { columns = []; key = 0 }) tables source.table source.scope.layout place layout)
 
-row_agrees : (tables : Tables) (state : State) (query : Query) (source : Source) (form : Form) → source_of tables (out-Query query).table (out-Query query).alias ≡ Some source → (out-Query query).group ≡ None → (out-Query query).having ≡ None → by_row tables source (out-Query query) ≡ Ok form
+row_agrees : (tables : Tables) (state : State) (query : Query) (source : Source) (form : Form) → source_of tables (out-Query query).table (out-Query query).correlation_name ≡ Some source → (out-Query query).group ≡ None → (out-Query query).having ≡ None → by_row tables source (out-Query query) ≡ Ok form
     → (r : Root) → has root_cmp r (query_roots tables state query (out-Query query)) ≡ has root_cmp r (bad_roots (layouts_of tables) form state)
 row_agrees tables state query source form found no_group no_having e r =
     let q = out-Query query in
@@ -114,10 +114,10 @@ row_agrees tables state query source form found no_group no_having e r =
     ap (has root_cmp r) (
     roots_by tables state query source found None None no_group no_having
     ∙ row_roots_are tables state source.scope source.table (select_list tables state q.select_list) q.keeps m.0 m.1 queries (plain_list tables state (own_column source.scope) q.select_list lists) is are
-    ∙ ap (λ key. row_roots state source.table key m.0 queries) (sym (key_at tables q.table q.alias source found)))
+    ∙ ap (λ key. row_roots state source.table key m.0 queries) (sym (key_at tables q.table q.correlation_name source found)))
     ∙ ap (λ form. has root_cmp r (bad_roots (layouts_of tables) form state)) (ok_same (ByRow source.table m.0 queries) form makes)
 
-group_agrees : (tables : Tables) (state : State) (query : Query) (source : Source) (column : ColumnName) (having : Condition) (form : Form) → source_of tables (out-Query query).table (out-Query query).alias ≡ Some source → (out-Query query).group ≡ Some column → (out-Query query).having ≡ Some having → by_group source (out-Query query) column having ≡ Ok form
+group_agrees : (tables : Tables) (state : State) (query : Query) (source : Source) (column : ColumnName) (having : Condition) (form : Form) → source_of tables (out-Query query).table (out-Query query).correlation_name ≡ Some source → (out-Query query).group ≡ Some column → (out-Query query).having ≡ Some having → by_group source (out-Query query) column having ≡ Ok form
     → (r : Root) → has root_cmp r (query_roots tables state query (out-Query query)) ≡ has root_cmp r (bad_roots (layouts_of tables) form state)
 group_agrees tables state query source column having form found is_group is_having e r =
     let q = out-Query query in
@@ -153,9 +153,9 @@ by_group_of_roots tables state source query column having form e =
 exists_agrees : (tables : Tables) (query : Query) (form : Form) → not_exists tables (out-Query query) ≡ Ok form → (state : State) → Agrees tables state form (query_roots tables state query (out-Query query)) (not_of (known (is_any (answers tables state query []))))
 exists_agrees tables query form e state =
     let q = out-Query query in
-    let (source, (found, more)) = in_class_ok (source_of tables q.table q.alias) (λ source. by_clauses tables source q q.group q.having) form e in
+    let (source, (found, more)) = in_class_ok (source_of tables q.table q.correlation_name) (λ source. by_clauses tables source q q.group q.having) form e in
     let finish : ((r : Root) → has root_cmp r (query_roots tables state query q) ≡ has root_cmp r (bad_roots (layouts_of tables) form state)) → IsOfRoots tables state form → Agrees tables state form (query_roots tables state query q) (not_of (known (is_any (answers tables state query [])))) = λ same of_roots.
-    (same, none_given (root_of (grouping q.group (table_of tables state q.table q.alias) []) (table_of tables state q.table q.alias).table.layout.key) (answers tables state query []) ∙ same_empty (query_roots tables state query q) (bad_roots (layouts_of tables) form state) same ∙ sym of_roots) in
+    (same, none_given (root_of (grouping q.group (table_of tables state q.table q.correlation_name) []) (table_of tables state q.table q.correlation_name).table.layout.key) (answers tables state query []) ∙ same_empty (query_roots tables state query q) (bad_roots (layouts_of tables) form state) same ∙ sym of_roots) in
     ⊎_elim
     (λ rows. finish (row_agrees tables state query source form found rows.0 rows.1.0 rows.1.1) (by_row_of_roots tables state source q form rows.1.1))
     (λ groups. finish (group_agrees tables state query source groups.0 groups.1.0 form found groups.1.1.0 groups.1.1.1.0 groups.1.1.1.1) (by_group_of_roots tables state source q groups.0 groups.1.0 form groups.1.1.1.1))

@@ -99,10 +99,10 @@ pieces_in = para-Condition Pieces Pieces (Unit {0}) (Unit {0}) condition_pieces 
 
 -- the table that a query reads, as names in the query see it (6.3, 7.4)
 abbrev pub named_as : List ℕ → Layout → Scope
-named_as name layout = record { correlation_name = name; layout = layout }
+named_as name layout = record { exposed_name = name; layout = layout }
 
 abbrev pub read_by : Tables → List ℕ → Option (List ℕ) → Option Scope
-read_by tables table alias = option_map (named_as (unwrap_or alias table)) (layout_of table tables)
+read_by tables table correlation_name = option_map (named_as (unwrap_or correlation_name table)) (layout_of table tables)
 
 -- a name means a column of this table, the innermost
 abbrev pub IsOwn : Scope → ColumnName → Type 0
@@ -147,7 +147,7 @@ pub record IsOverRows (scope : Scope) (condition : Condition) : Type 0 where
 -- (SELECT aggregate FROM t WHERE f)
 pub record IsPlainQuery (tables : Tables) (query : Query) : Type 0 where
   pub scope : Scope
-  pub reads : read_by tables (out-Query query).table (out-Query query).alias ≡ Some scope
+  pub reads : read_by tables (out-Query query).table (out-Query query).correlation_name ≡ Some scope
   pub lists : IsSetList scope (out-SelectList (out-Query query).select_list)
   pub kept : IfWritten (IsOverRows scope) (out-Query query).keeps
   pub ungrouped : IsNone (out-Query query).group
@@ -178,7 +178,7 @@ pub record IsGroupQuery (tables : Tables) (query : Query) : Type 0 where
   pub column : ColumnName
   pub group : ℕ
   pub having : Condition
-  pub reads : read_by tables (out-Query query).table (out-Query query).alias ≡ Some scope
+  pub reads : read_by tables (out-Query query).table (out-Query query).correlation_name ≡ Some scope
   pub grouped : (out-Query query).group ≡ Some column
   pub is_own : IsColumnAt scope group column
   pub lists : IsSimpleList (IsColumnAt scope group) (out-SelectList (out-Query query).select_list)
@@ -231,7 +231,7 @@ MayList = Scope → SelectList-F Condition Expression SelectList Query → Type 
 pub record IsLinkedQuery (tables : Tables) (root : Scope) (Lists : MayList) (query : Query) : Type 0 where
   pub scope : Scope
   pub condition : Condition
-  pub reads : read_by tables (out-Query query).table (out-Query query).alias ≡ Some scope
+  pub reads : read_by tables (out-Query query).table (out-Query query).correlation_name ≡ Some scope
   pub lists : Lists scope (out-SelectList (out-Query query).select_list)
   pub kept : (out-Query query).keeps ≡ Some condition
   pub linked : IsLinkedWhere scope root condition
@@ -252,7 +252,7 @@ pub record IsRowWhere (tables : Tables) (root : Scope) (condition : Condition) :
 -- SELECT * FROM t r WHERE c
 pub record IsRowQuery (tables : Tables) (query : Query) : Type 0 where
   pub scope : Scope
-  pub reads : read_by tables (out-Query query).table (out-Query query).alias ≡ Some scope
+  pub reads : read_by tables (out-Query query).table (out-Query query).correlation_name ≡ Some scope
   pub lists : IsSimpleList (IsOwn scope) (out-SelectList (out-Query query).select_list)
   pub kept : IfWritten (IsRowWhere tables scope) (out-Query query).keeps
   pub ungrouped : IsNone (out-Query query).group

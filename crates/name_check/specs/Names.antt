@@ -67,7 +67,7 @@ clauses_fault query scopes =
 
 abbrev pub inner_fault : Option Layout → Query-F Fault Fault Fault Fault → Fault
 inner_fault None query scopes = Some (UnknownName query.table)
-inner_fault (Some layout) query scopes = clauses_fault query (record { correlation_name = unwrap_or query.alias query.table; layout = layout } ∷ scopes)
+inner_fault (Some layout) query scopes = clauses_fault query (record { exposed_name = unwrap_or query.correlation_name query.table; layout = layout } ∷ scopes)
 
 -- a query: its table first
 abbrev pub query_step : Tables → Query-F Fault Fault Fault Fault → Fault

@@ -10,7 +10,7 @@ use Rattle.syntax.specs.declared.trees.ColumnName.{ColumnName}
 -- a table whose columns names can mean, and the name that it goes by there: its correlation name where one is written,
 -- and else its own (6.3)
 pub record Scope : Type 0 where
-  pub correlation_name : List ℕ
+  pub exposed_name : List ℕ
   pub layout : Layout
 
 -- the tables around a name, the innermost first
@@ -25,7 +25,7 @@ named_in name scope = column_of name scope.layout.columns
 -- one, has such a column
 abbrev pub is_name_of : Option (List ℕ) → List ℕ → Scope → Bool
 is_name_of None name scope = is_some (named_in name scope)
-is_name_of (Some qualifier) name scope = bytes_eq scope.correlation_name qualifier
+is_name_of (Some qualifier) name scope = bytes_eq scope.exposed_name qualifier
 
 -- the table that a name is of: the innermost of those around it (6.4)
 abbrev pub innermost : {X : Type 0} → (X → Scope) → ColumnName → List X → Option X

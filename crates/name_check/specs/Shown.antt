@@ -4,7 +4,7 @@ use Rattle.name_check.specs.Scopes.{Scope, Scopes}
 use Rattle.name_check.specs.declared.scopes.Scope.{Scope as Lent}
 
 abbrev pub shown : Lent → Scope
-shown scope = record { correlation_name = scope.correlation_name.now; layout = scope.schema.now }
+shown scope = record { exposed_name = scope.exposed_name.now; layout = scope.schema.now }
 
 abbrev pub all_shown : List Lent → Scopes
 all_shown scopes = map shown scopes

@@ -26,7 +26,7 @@
 mod scopes;
 mod trees;
 
-pub use scopes::{Scope, correlation_name};
+pub use scopes::{Scope, exposed_name};
 pub use trees::{known_condition, known_expression};
 
 #[cfg(test)]

@@ -10,11 +10,11 @@ use syntax::ColumnName;
 use table::Schema;
 use value::{Refusal, Text};
 
-/// A table whose columns names can mean, with the name that it goes by there: its correlation name where one is written,
-/// else its own.
+/// A table whose columns names can mean, with the name that it is exposed by there: its correlation name where one is
+/// written, else its own (SQL-92, 6.3).
 #[derive(Clone, Copy)]
 pub struct Scope<'a> {
-    pub correlation_name: &'a Text,
+    pub exposed_name: &'a Text,
     pub schema: &'a Schema,
 }
 
@@ -25,7 +25,7 @@ impl<'a> Scope<'a> {
         ensures { result ≡ is_name_of column.now.qualifier column.now.name (shown self.now) }
     {
         match &column.qualifier {
-            Some(qualifier) => *self.correlation_name == *qualifier,
+            Some(qualifier) => *self.exposed_name == *qualifier,
             None => self.schema.column(&column.name).is_some(),
         }
     }
@@ -42,12 +42,13 @@ impl<'a> Scope<'a> {
     }
 }
 
-/// The name that a query's table goes by in it: its correlation name, if one is written, else its own.
-pub fn correlation_name<'a>(alias: &'a Option<Text>, table: &'a Text) -> &'a Text
-    ensures { result.now ≡ unwrap_or alias.now table.now }
+/// The name that a query exposes its table by: its correlation name, if one is written, else the table's own
+/// (SQL-92, 6.3).
+pub fn exposed_name<'a>(correlation_name: &'a Option<Text>, table: &'a Text) -> &'a Text
+    ensures { result.now ≡ unwrap_or correlation_name.now table.now }
 {
-    match alias {
-        Some(alias) => alias,
+    match correlation_name {
+        Some(correlation_name) => correlation_name,
         None => table,
     }
 }

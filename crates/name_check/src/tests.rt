@@ -47,7 +47,7 @@ fn exists(alloc: Global, column: ColumnName) -> Result<Condition, Refusal> {
     let query = Query {
         select_list: SelectList::Star,
         table: Text::from_str(alloc, "D")?,
-        alias: Some(Text::from_str(alloc, "X")?),
+        correlation_name: Some(Text::from_str(alloc, "X")?),
         keeps: Some(Condition::IsNull(Expression::Column(column))),
         group: None,
         having: None,
@@ -69,7 +69,7 @@ fn told(alloc: Global, qualifier: &str, name: &str) -> Result<Result<(), Refusal
     let table = Text::from_str(alloc, "S")?;
     let schema = schema(alloc, "ID")?;
     let scope = Scope {
-        correlation_name: &table,
+        exposed_name: &table,
         schema: &schema,
     };
     let condition = exists(alloc, column(alloc, qualifier, name)?)?;
@@ -94,7 +94,7 @@ fn own_columns(rt: HostRuntime) -> Result<(), Fail> {
     let table = Text::from_str(alloc, "S")?;
     let schema = schema(alloc, "ID")?;
     let scope = Scope {
-        correlation_name: &table,
+        exposed_name: &table,
         schema: &schema,
     };
     assert_eq!(rt; scope.own(&column(alloc, "", "ID")?), Some(0));

@@ -5,7 +5,7 @@ ghost use Rattle.value.specs.declared.refusals.Refusal.TheVariants.{NoMemory};
 ghost use Rattle.name_check.specs.Names.{condition_fault, expression_fault, select_list_fault, query_fault, part_fault, parts_fault, group_fault, clauses_fault};
 ghost use Rattle.name_check.specs.Shown.{all_shown};
 
-use crate::scopes::{Scope, correlation_name, known_column, within};
+use crate::scopes::{Scope, exposed_name, known_column, within};
 use std::alloc::Global;
 use syntax::{ColumnName, Condition, Expression, Query, SelectList};
 use table::Catalog;
@@ -15,8 +15,8 @@ use value::Refusal;
 ///
 /// # Errors
 ///
-/// [`Refusal::UnknownName`] with the first name that stands for nothing, from the left; of a query its table comes first,
-/// then its list, WHERE, GROUP BY and HAVING. Or [`Refusal::NoMemory`].
+/// [`Refusal::UnknownName`] with the first name that stands for nothing, from the left; of a query its table comes
+/// first, then its list, WHERE, GROUP BY and HAVING. Or [`Refusal::NoMemory`].
 #[cycle(names)]
 pub fn known_condition(
     alloc: Global,
@@ -101,11 +101,11 @@ fn known_query(
             name: query.table.copy()?,
         });
     };
-    let correlation_name = correlation_name(&query.alias, &query.table);
+    let exposed_name = exposed_name(&query.correlation_name, &query.table);
     let scopes = within(
         alloc,
         Scope {
-            correlation_name,
+            exposed_name,
             schema,
         },
         scopes,

@@ -62,7 +62,8 @@ pub record IsBeginning (defs script : List ℕ) (limit : ℕ) (engine : EngineSt
   pub ready : AreReady defs script shown steps
   pub is : engine ≡ beginning limit shown steps
 
--- the report of some answers to the script's events, each after those before it, from what the definitions define; and of what they leave
+-- the report of some answers to the script's events, each after those before it, from what the definitions define;
+-- and of what they leave
 pub record IsReport (defs script : List ℕ) (limit : ℕ) (bytes : List ℕ) : Type 0 where
   pub shown : Shown
   pub steps : List Step
@@ -104,9 +105,10 @@ pub record IsRun (defs script : List ℕ) : Type 0 where
   pub steps : List Step
   pub ready : AreReady defs script shown steps
 
--- Why the run did not come to its end, by the first fault in the order of the work: the definitions are no text of their grammar; or
--- they are, and the script is none of its own; or both are read, and the definitions have a fault; or they are admitted, and the
--- script has too many sessions; or it is run, and memory or the writer ends the run.
+-- Why the run did not come to its end, by the first fault in the order of the work: the definitions are no text of
+-- their grammar; or they are, and the script is none of its own; or both are read, and the definitions have a
+-- fault; or they are admitted, and the script has too many sessions; or it is run, and memory or the writer ends
+-- the run.
 abbrev pub IsFirstFault : List ℕ → List ℕ → ProgramFault → Type 0
 IsFirstFault defs script (Defs refusal) = IsUnread IsSchema defs refusal ⊎ AreRefused defs script refusal
 IsFirstFault defs script (Script refusal) = IsNoScript defs script refusal ⊎ HasTooManySessions defs script refusal

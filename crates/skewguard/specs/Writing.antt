@@ -22,7 +22,8 @@ pub record PrintsAnswers (before : EngineState) (steps : List Step) (left : Engi
   pub leaves : left ≡ led_to before steps answers
   pub written : Appends old new (lines steps answers)
 
--- events are answered, each after those before it, and the writer gains the report of the answers and of what they leave
+-- events are answered, each after those before it, and the writer gains the report of the answers and of what they
+-- leave
 pub record PrintsRun (before : EngineState) (steps : List Step) (old new : Option (List ℕ)) : Type 0 where
   pub answers : List Answer
   pub answered : AreAnswers before steps answers

@@ -2,13 +2,15 @@
 
 ghost use Rattle.std.specs.Prelude.{◌≤◌};
 
+use crate::files::{ReadFault, fault_of, read_all};
 use crate::replay::{ProgramFault, replay_into};
 use clap::{Arg, ArgMatches, Command, value_parser};
 use report::Report;
 use std::alloc::{AllocError, Global};
-use std::io::{ErrorKind, Write};
+use std::env;
+use std::fs::File;
+use std::io::Write;
 use std::rt::{Env, Files};
-use std::{env, fs};
 use value::Refusal;
 
 /// The script was run whole, whatever it was answered.
@@ -35,13 +37,13 @@ where
     let words: Vec<String> = match env::args(rt) {
         Ok(args) => match args.collect(alloc) {
             Ok(words) => words,
-            Err(_) => return USAGE,
+            Err(_) => return no_memory(err),
         },
-        Err(_) => return USAGE,
+        Err(_) => return no_memory(err),
     };
     let command = match command(alloc) {
         Ok(command) => command,
-        Err(_) => return USAGE,
+        Err(_) => return no_memory(err),
     };
     match command.try_get_matches_from(words.as_slice()) {
         Ok(matches) => replay_matches(rt, &matches, out, err),
@@ -52,6 +54,14 @@ where
             if error.use_stderr() { USAGE } else { RUN }
         }
     }
+}
+
+/// Says that there was no memory for the words of the command line, and gives the status to end with.
+fn no_memory<E: Write>(err: &mut E) -> u8
+    ensures { result ≤ 3 }
+{
+    let _ = err.write_all(b"REFUSED 1 - NO MEMORY\n");
+    REFUSED
 }
 
 /// The words that the program takes.
@@ -141,18 +151,10 @@ where
     }
 }
 
-/// Why a file was not read.
-#[derive(Clone, Copy, Debug, PartialEq, Eq)]
-enum ReadFault {
-    Unreadable,
-    NoMemory,
-}
-
 fn read<R: Files + AllocGlobal>(rt: &R, path: &str) -> Result<Vec<u8>, ReadFault> {
-    match fs::read(rt, path) {
-        Ok(bytes) => Ok(bytes),
-        Err(error) if error.kind() == ErrorKind::OutOfMemory => Err(ReadFault::NoMemory),
-        Err(_) => Err(ReadFault::Unreadable),
+    match File::open(rt, path) {
+        Ok(mut file) => read_all(rt.alloc(), &mut file),
+        Err(error) => Err(fault_of(&error)),
     }
 }
 

@@ -1,6 +1,6 @@
 //! The engine: two texts, of definitions and of a script, are replayed into a writer.
 
-ghost use Rattle.std.specs.Prelude.{◌≡◌, ◌≢◌, ◌≤◌, ◌++◌, length, nat_le, true, IfOk, IfErr, IsOkUnless, OnOk, Err};
+ghost use Rattle.std.specs.Prelude.{◌≡◌, ◌≢◌, ◌≤◌, ◌++◌, true, IfOk, IfErr, IsOkUnless, OnOk, Err};
 ghost use Rattle.std.specs.Io.KnownBytes.{Appends, Keeps};
 ghost use Rattle.value.specs.declared.refusals.Refusal.TheVariants.{NoMemory, TooManySessions};
 ghost use Rattle.alone.specs.Alone.{IsSound};
@@ -12,7 +12,7 @@ ghost use Rattle.skewguard.specs.Replay.{AreRead, HasFewSessions, HasManySession
 ghost use Rattle.skewguard.specs.Writing.{PrintsAnswer, PrintsAnswers, PrintsRun};
 
 use answer::Answer;
-use commit::{Core, Engine, Seat, admit};
+use commit::{Core, Engine, Seat, admit, has_few_sessions};
 use delta::View;
 use parse::{parse_schema, parse_script};
 use report::Report;
@@ -44,20 +44,20 @@ pub enum ProgramFault {
     Output,
 }
 
-/// Replays a script of any sessions on definitions, with at most so many commits, and writes the lines of each answer as soon as it
-/// is answered; then a line for each transaction that is left open, and the closing part.
+/// Replays a script of any sessions on definitions, with at most so many commits, and writes the lines of each
+/// answer as soon as it is answered; then a line for each transaction that is left open, and the closing part.
 ///
-/// Where both texts are read, the definitions are taken in and the script has 256 sessions or fewer, its events are run. The writer
-/// then gains the report of their answers and of what they leave, and nothing else. An event that finds no memory is answered so,
-/// and changes nothing.
+/// Where both texts are read, the definitions are taken in and the script has 256 sessions or fewer, its events are
+/// run. The writer then gains the report of their answers and of what they leave, and nothing else. An event that
+/// finds no memory is answered so, and changes nothing.
 ///
 /// # Errors
 ///
-/// The first fault in the order of the work: [`ProgramFault::Defs`] where the definitions are no text of their grammar;
-/// [`ProgramFault::Script`] where the script is none of its own; `Defs` again where the definitions are refused; `Script` of
-/// [`Refusal::TooManySessions`] where the script has more than 256 sessions. After each of these the writer is as it was. Then
-/// [`ProgramFault::Stopped`] where there is no memory for the lines of an answer, or at the end of the run; and
-/// [`ProgramFault::Output`] at the first fault of the writer.
+/// The first fault in the order of the work: [`ProgramFault::Defs`] where the definitions are no text of their
+/// grammar; [`ProgramFault::Script`] where the script is none of its own; `Defs` again where the definitions are
+/// refused; `Script` of [`Refusal::TooManySessions`] where the script has more than 256 sessions. After each of
+/// these the writer is as it was. Then [`ProgramFault::Stopped`] where there is no memory for the lines of an
+/// answer, or at the end of the run; and [`ProgramFault::Output`] at the first fault of the writer.
 #[tactic(auto, using(crate::proofs::Reporting::reports, crate::proofs::Reporting::first_fault, crate::proofs::Reporting::nothing_before))]
 pub fn replay_into<W: Write>(
     alloc: Global,
@@ -130,19 +130,13 @@ fn seated(alloc: Global, limit: u64, view: View, steps: &[Step]) -> Result<Engin
     ensures few { IfOk result (λ _. HasFewSessions steps.now) }
     ensures refused { IfErr result (λ refusal. refusal ≢ NoMemory → HasManySessions steps.now × (refusal ≡ TooManySessions)) }
 {
-    let engine = Engine::new(alloc, limit, view, steps)?;
-    if has_few_sessions(&engine) {
-        Ok(engine)
-    } else {
-        let_go(engine);
-        Err(Refusal::TooManySessions)
+    // (before a seat is made for each: looking for each among so many would take the square of a long script)
+    if !has_few_sessions(alloc, steps, MOST_SESSIONS)? {
+        let_go(view);
+        return Err(Refusal::TooManySessions);
     }
-}
-
-fn has_few_sessions(engine: &Engine) -> bool
-    ensures { result ≡ nat_le (length engine.now.seats) most_sessions }
-{
-    engine.seats().len() <= MOST_SESSIONS
+    let engine = Engine::new(alloc, limit, view, steps)?;
+    Ok(engine)
 }
 
 fn let_go<T: Drop>(_value: T) {}

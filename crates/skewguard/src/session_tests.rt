@@ -66,7 +66,8 @@ fn disjoint_shifts(rt: HostRuntime) -> Result<(), Fail> {
     )
 }
 
-/// After the first COMMIT its three keys are kept, since the other transaction began before it; after the second none is.
+/// After the first COMMIT its three keys are kept, since the other transaction began before it; after the second
+/// none is.
 #[test]
 fn lock_table_sizes(rt: HostRuntime) -> Result<(), Fail> {
     let more = format!(in rt.alloc(); "{COVER}{SEVEN}{EIGHT}")?;

@@ -81,19 +81,19 @@ pub name_s : (n : ℕ) → Sound n n g.name r.name
 unfolding r.name
 name_s n = map_s g.name_of (tok_s k.Name refl)
 
-no_alias : (n : ℕ) → Sound n n g.alias (r.alias_by k.End)
-unfolding g.alias
-no_alias n = weak (λ w a h. inl (inl h)) (sound_pure n None)
+no_correlation_name : (n : ℕ) → Sound n n g.correlation_name (r.correlation_name_by k.End)
+unfolding g.correlation_name
+no_correlation_name n = weak (λ w a h. inl (inl h)) (sound_pure n None)
 
-alias_by_s : (n : ℕ) (kind : Kind) → Sound n n g.alias (r.alias_by kind)
-unfolding g.alias
-alias_by_s n k.As = weak (λ w a h. inr h) (seq_s k.As refl (map_s Some (name_s n)))
-alias_by_s n k.Name = weak (λ w a h. inl (inr h)) (map_s Some (name_s n))
-alias_by_s n _ = no_alias n
+correlation_name_by_s : (n : ℕ) (kind : Kind) → Sound n n g.correlation_name (r.correlation_name_by kind)
+unfolding g.correlation_name
+correlation_name_by_s n k.As = weak (λ w a h. inr h) (seq_s k.As refl (map_s Some (name_s n)))
+correlation_name_by_s n k.Name = weak (λ w a h. inl (inr h)) (map_s Some (name_s n))
+correlation_name_by_s n _ = no_correlation_name n
 
-pub alias_s : (n : ℕ) → Sound n n g.alias r.alias
-unfolding r.alias
-alias_s n = sound_by_kind n n g.alias r.alias_by (alias_by_s n)
+pub correlation_name_s : (n : ℕ) → Sound n n g.correlation_name r.correlation_name
+unfolding r.correlation_name
+correlation_name_s n = sound_by_kind n n g.correlation_name r.correlation_name_by (correlation_name_by_s n)
 
 pub group_by_s : (n : ℕ) → Sound n n g.group_by r.group_by
 unfolding g.group_by r.group_by
@@ -609,7 +609,7 @@ module _ (n : ℕ) (inner : Language Found) (reader : Want → Reader Found) (so
 
   query_from_s : (list : SelectList) → Sound n n (g.query_from inner list) (r.query_from n reader list)
   unfolding g.query_from r.query_from
-  query_from_s list = then_s (name_s n) (λ w table h. then_s (alias_s n) (λ w other h. query_rest_s list table other))
+  query_from_s list = then_s (name_s n) (λ w table h. then_s (correlation_name_s n) (λ w other h. query_rest_s list table other))
 
   pub query_s : Sound n n (g.query inner) (r.query n reader)
   unfolding g.query r.query
@@ -683,13 +683,13 @@ some_cond inner =
     (some_expr inner))))))
 
 pub some_query : (inner : Language Found) → Begins (g.query inner) []
-unfolding g.query g.query_from g.query_rest g.where_ g.group_by g.having g.alias g.selected
+unfolding g.query g.query_from g.query_rest g.where_ g.group_by g.having g.correlation_name g.selected
 some_query inner =
     begins_first (lang.token k.Select) (λ _. lang.◌>>=◌ (g.selected inner) (λ list. lang.◌>>◌ (lang.token k.From) (g.query_from inner list))) [] (λ v x h.
     begins_first (g.selected inner) (λ list. lang.◌>>◌ (lang.token k.From) (g.query_from inner list)) [] (λ v list h.
     begins_first (lang.token k.From) (λ _. g.query_from inner list) [] (λ v x h.
-    begins_first g.name (λ table. lang.◌>>=◌ g.alias (g.query_rest inner list table)) [] (λ v table h.
-    begins_first g.alias (g.query_rest inner list table) [] (λ v other h.
+    begins_first g.name (λ table. lang.◌>>=◌ g.correlation_name (g.query_rest inner list table)) [] (λ v table h.
+    begins_first g.correlation_name (g.query_rest inner list table) [] (λ v other h.
     begins_first (g.where_ inner) (λ keeps. lang.◌>>=◌ g.group_by (λ group. lang.◌<$>◌ (g.query_of list table other keeps group) (g.having inner))) [] (λ v keeps h.
     begins_first g.group_by (λ group. lang.◌<$>◌ (g.query_of list table other keeps group) (g.having inner)) [] (λ v group h.
     ([], _, mapping (g.query_of list table other keeps group) (g.having inner) [] None (inl (refl, refl)))) ([], None, inl (refl, refl))) ([], None, inl (refl, refl))) ([], None, inl (inl (refl, refl)))) (name_s 0).begins) (tok_s {n = 0} k.From refl).begins)

@@ -135,8 +135,8 @@ aggregate =
     ∪ (token k.Count >> of a.Count) ∪ (token k.Sum >> of a.Sum) ∪ (token k.Min >> of a.Min) ∪ (token k.Max >> of a.Max)
 
 -- [ [AS] name ]
-unfoldable pub alias : Language (Option (List ℕ))
-alias = pure None ∪ (Some <$> name) ∪ (token k.As >> (Some <$> name))
+unfoldable pub correlation_name : Language (Option (List ℕ))
+correlation_name = pure None ∪ (Some <$> name) ∪ (token k.As >> (Some <$> name))
 
 -- [GROUP BY colref]
 unfoldable pub group_by : Language (Option ColumnName)
@@ -144,7 +144,7 @@ group_by = optional (token k.Group >> (token k.By >> column))
 
 -- the tree of a query
 abbrev pub query_of : SelectList → List ℕ → Option (List ℕ) → Option Condition → Option ColumnName → Option Condition → Query
-query_of list table alias keeps group having = roll-Query (record { select_list = list; table = table; alias = alias; keeps = keeps; group = group; having = having })
+query_of list table correlation_name keeps group having = roll-Query (record { select_list = list; table = table; correlation_name = correlation_name; keeps = keeps; group = group; having = having })
 
 module _ (inner : Language Found) where
   -- what stands in parentheses: an expression, a condition, a query
@@ -253,7 +253,7 @@ module _ (inner : Language Found) where
 
   -- name [ [AS] name ] [WHERE cond] [GROUP BY colref] [HAVING cond]
   unfoldable pub query_from : SelectList → Language Query
-  query_from list = name >>= (λ table. alias >>= query_rest list table)
+  query_from list = name >>= (λ table. correlation_name >>= query_rest list table)
 
   -- SELECT ( "*" | expr ) FROM name [ [AS] name ] [WHERE cond] [GROUP BY colref] [HAVING cond]
   unfoldable pub query : Language Query

@@ -72,13 +72,13 @@ counted_by _ = e.Aggregate a.Count <$> column
 unfoldable pub counted_inside : Reader Expression
 counted_inside = by_kind counted_by
 
-abbrev pub alias_by : Kind → Reader (Option (List ℕ))
-alias_by k.As = expect k.As >> (Some <$> name)
-alias_by k.Name = Some <$> name
-alias_by _ = pure None
+abbrev pub correlation_name_by : Kind → Reader (Option (List ℕ))
+correlation_name_by k.As = expect k.As >> (Some <$> name)
+correlation_name_by k.Name = Some <$> name
+correlation_name_by _ = pure None
 
-unfoldable pub alias : Reader (Option (List ℕ))
-alias = by_kind alias_by
+unfoldable pub correlation_name : Reader (Option (List ℕ))
+correlation_name = by_kind correlation_name_by
 
 unfoldable pub group_by : Reader (Option ColumnName)
 group_by = optional k.Group (expect k.Group >> (expect k.By >> column))
@@ -353,7 +353,7 @@ module _ (depth : ℕ) (inner : Want → Reader Found) where
   query_rest list table other = where_ >>= (λ keeps. group_by >>= (λ group. query_of list table other keeps group <$> having))
 
   unfoldable pub query_from : SelectList → Reader Query
-  query_from list = name >>= (λ table. alias >>= query_rest list table)
+  query_from list = name >>= (λ table. correlation_name >>= query_rest list table)
 
   unfoldable pub query : Reader Query
   query = expect k.Select >> (selected >>= (λ list. expect k.From >> query_from list))

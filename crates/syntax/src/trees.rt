@@ -70,7 +70,7 @@ pub enum SelectList {
 pub struct Query {
     pub select_list: SelectList,
     pub table: Text,
-    pub alias: Option<Text>,
+    pub correlation_name: Option<Text>,
     /// The condition of WHERE.
     pub keeps: Option<Condition>,
     /// The column of GROUP BY.

@@ -18,7 +18,8 @@ pub record IsHeld (t : OpenTransaction) (own : Shown) (modes : Immediates) (touc
   pub differ : DifferAt (layouts_in t.declared) t.start own.state touched
   pub reads_are : reads ≡ (run_of t).reads
 
--- what a transaction that goes to COMMIT has beside: its net change, the refusal by a false assertion, and what it has read
+-- what a transaction that goes to COMMIT has beside: its net change, the refusal by a false assertion, and what it
+-- has read
 pub record IsClosed (t : OpenTransaction) (changes : List Change) (refused : Option Refusal) (reads : List LockKey) : Type 0 where
   pub changes_are : changes ≡ (outcome_of t).changes
   pub refused_is : refused ≡ (outcome_of t).refused

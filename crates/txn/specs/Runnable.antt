@@ -1,5 +1,5 @@
--- What is known of a statement with its names found: its table is one of those that there are, its conditions are evaluated
--- without overflow, and an UPDATE leaves the key.
+-- What is known of a statement with its names found: its table is one of those that there are, its conditions are
+-- evaluated without overflow, and an UPDATE leaves the key.
 use Rattle.std.specs.Prelude.{◌≡◌, ◌≢◌, ◌<◌, ℕ, false, [], All, IsTrue, length}
 use Rattle.value.specs.declared.refusals.Refusal.TheVariants.{NoMemory}
 use Rattle.cond.specs.Bounds.{is_bounded}

@@ -16,8 +16,8 @@ use std::alloc::Global;
 use threeval::Truth;
 use value::{Refusal, Text};
 
-/// The refusal by the first assertion, of those that are meant, that is false on a view, with the least root at which it is.
-/// What is unknown is not false. NoMemory is the only error.
+/// The refusal by the first assertion, of those that are meant, that is false on a view, with the least root at
+/// which it is. What is unknown is not false. NoMemory is the only error.
 pub fn violation(view: &View, meant: &[bool]) -> Result<Option<Refusal>, Refusal>
     requires { length meant.now ≡ length view.now.declared.assertions }
     ensures only_memory { IsOkUnless result NoMemory }

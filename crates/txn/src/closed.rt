@@ -16,8 +16,9 @@ use std::marker::Model;
 use table::Change;
 use value::Refusal;
 
-/// A transaction that goes to COMMIT: its net change, the refusal by the first assertion that is false on its own view, if one
-/// is, and what it has read, this check included. It must be spent: as the [`Txn`] that it was, or in its [`Parts`].
+/// A transaction that goes to COMMIT: its net change, the refusal by the first assertion that is false on its own
+/// view, if one is, and what it has read, this check included. It must be spent: as the [`Txn`] that it was, or in
+/// its [`Parts`].
 pub struct Closed {
     pub(crate) ticket: u64,
     pub(crate) snapshot: u64,
@@ -81,14 +82,21 @@ impl Closed {
         self.snapshot
     }
 
-    /// The net change: each row in which its own view and the tables of its begin differ, by table and key, with what stood there
-    /// and what is to stand there. Each new row fits its table. It takes no memory.
+    /// The net change: each row in which its own view and the tables of its begin differ, by table and key, with
+    /// what stood there and what is to stand there. Each new row fits its table. It takes no memory.
     pub fn changes(&self) -> &[Change]
         ensures net { result.now ≡ (outcome_of self.now).changes }
         ensures fit { All (IsFitting (layouts_in self.now.declared)) result.now }
     {
         let _ = self.own.catalog();
         self.changes.as_slice()
+    }
+
+    /// Its statements, with their names found, refused ones too. It takes no memory.
+    pub fn trace(&self) -> &[Resolved]
+        ensures { result.now ≡ self.now.trace }
+    {
+        self.trace.as_slice()
     }
 
     /// What it has read, the check of COMMIT included. It takes no memory.

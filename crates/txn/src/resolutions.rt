@@ -15,8 +15,8 @@ use statement_syntax::{Mode, Statement};
 use std::alloc::Global;
 use value::{Refusal, Text};
 
-/// A statement with its names found among the tables and assertions of a view; one that has a fault of names, shape, types
-/// or width, or that sets a mode that may not be set, is that refusal. NoMemory is the only error.
+/// A statement with its names found among the tables and assertions of a view; one that has a fault of names,
+/// shape, types or width, or that sets a mode that may not be set, is that refusal. NoMemory is the only error.
 pub fn resolve(alloc: Global, view: &View, statement: &Statement) -> Result<Resolved, Refusal>
     ensures only_memory { IsOkUnless result NoMemory }
     ensures resolved { IfOk result (λ made. made ≡ resolved view.now.declared statement.now) }

@@ -37,7 +37,8 @@ use std::alloc::Global;
 use table::Change;
 use value::{Refusal, Text, Value};
 
-/// What a statement answered, a refusal among the answers, what it left where that is another than before, and what it read.
+/// What a statement answered, a refusal among the answers, what it left where that is another than before, and what
+/// it read.
 #[derive(Drop)]
 pub struct Done {
     pub reply: Result<Reply, Refusal>,
@@ -49,8 +50,9 @@ pub struct Done {
     pub reads: Vec<LockKey>,
 }
 
-/// Runs a statement alone, on a transaction's own view and modes; the view on which it began can differ at the touched places alone.
-/// NoMemory is the only error; a statement that is refused is done, and its reply is the refusal.
+/// Runs a statement alone, on a transaction's own view and modes; the view on which it began can differ at the
+/// touched places alone. NoMemory is the only error; a statement that is refused is done, and its reply is the
+/// refusal.
 pub fn step(
     alloc: Global,
     start: &View,
@@ -299,8 +301,8 @@ fn list(alloc: Global, own: &View, select: &Select) -> Result<Done, Refusal>
     Ok(replied(Reply::Rows(Items::from_vec(rows)), reads))
 }
 
-/// SET CONSTRAINTS. IMMEDIATE checks the assertions that it names over the net change so far, and where one is false no mode
-/// changes.
+/// SET CONSTRAINTS. IMMEDIATE checks the assertions that it names over the net change so far, and where one is
+/// false no mode changes.
 fn set_modes(
     alloc: Global,
     start: &View,

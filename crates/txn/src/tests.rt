@@ -530,7 +530,8 @@ fn key_word(key: &LockKey) -> &'static str {
     }
 }
 
-/// INSERT reads the row of its key, and its check the group; a DELETE by SHIFT that finds no row reads the column alone.
+/// INSERT reads the row of its key, and its check the group; a DELETE by SHIFT that finds no row reads the column
+/// alone.
 fn reads_keys(alloc: Global, txn: &mut Txn) -> Result<(), Fail> {
     run(txn, insert(alloc, "DUTY", 1, Value::Int(7)), "inserted")?;
     run(txn, delete(alloc, "DUTY", 9), "none deleted")?;

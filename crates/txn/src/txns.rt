@@ -28,8 +28,8 @@ use table::Change;
 use threeval::Truth;
 use value::{Refusal, Text};
 
-/// An open transaction: the tables that it began on, its own view of them, its modes, its trace, and what it has read. It must be
-/// spent: by [`Txn::close_check`], or by [`Txn::abandon`].
+/// An open transaction: the tables that it began on, its own view of them, its modes, its trace, and what it has
+/// read. It must be spent: by [`Txn::close_check`], or by [`Txn::abandon`].
 pub struct Txn {
     pub(crate) ticket: u64,
     pub(crate) snapshot: u64,
@@ -66,8 +66,8 @@ impl Model for Txn {
 }
 
 impl Txn {
-    /// A transaction that begins on these tables, which so many commits left. The ticket is its name with the caller. NoMemory is
-    /// the only error.
+    /// A transaction that begins on these tables, which so many commits left. The ticket is its name with the
+    /// caller. NoMemory is the only error.
     pub fn begin(alloc: Global, ticket: u64, snapshot: u64, tables: &View) -> Result<Txn, Refusal>
         ensures only_memory { IsOkUnless result NoMemory }
         ensures begun { IfOk result (λ txn. txn ≡ begun ticket snapshot tables.now) }
@@ -119,15 +119,17 @@ impl Txn {
         self.reads.as_slice()
     }
 
-    /// Runs a statement, and notes it in the trace. Its reply is that of the statement alone on the own view (ISO/IEC 9075:1992,
-    /// data manipulation, and checking of constraints), and a refused one leaves view and modes as they were.
+    /// Runs a statement, and notes it in the trace. Its reply is that of the statement alone on the own view
+    /// (ISO/IEC 9075:1992, data manipulation, and checking of constraints), and a refused one leaves view and modes
+    /// as they were.
     ///
     /// # Errors
     ///
     /// The statement's first fault, in the order of names, shape, types and width; then INSERT and UPDATE
-    /// [`Refusal::NullNotAllowed`] and [`Refusal::OutOfRange`], INSERT last [`Refusal::DuplicateKey`]; then [`Refusal::Violated`]
-    /// by the first immediate assertion that would be false, and for SET CONSTRAINTS .. IMMEDIATE by the first of those named;
-    /// [`Refusal::NotDeferrable`] for a mode that may not be set. Such a statement stands in the trace. Or
+    /// [`Refusal::NullNotAllowed`] and [`Refusal::OutOfRange`], INSERT last [`Refusal::DuplicateKey`]; then
+    /// [`Refusal::Violated`] by the first immediate assertion that would be false, and for SET CONSTRAINTS ..
+    /// IMMEDIATE by the first of those named; [`Refusal::NotDeferrable`] for a mode that may not be set. Such a
+    /// statement stands in the trace. Or
     /// [`Refusal::NoMemory`]: then nothing has changed, and the statement is in no trace.
     pub fn execute(&mut self, statement: &Statement) -> Result<Reply, Refusal>
         ensures replied { IfOk result (λ reply. (step_of self.old (resolved self.old.declared statement.now)).reply ≡ Ok reply) }
@@ -184,16 +186,16 @@ impl Txn {
         reply
     }
 
-    /// The truth of the assertion of a name on the own view; none where no assertion has it. It enters no trace, and takes no
-    /// memory.
+    /// The truth of the assertion of a name on the own view; none where no assertion has it. It enters no trace,
+    /// and takes no memory.
     pub fn verdict(&self, name: &Text) -> Option<Truth>
         ensures { result ≡ truth_of (own_view self.now) (assertion_of name.now self.now.declared.assertions) }
     {
         truth_on(&self.own, name)
     }
 
-    /// The names of the assertions that are false on the own view, in the order of their creation. It enters no trace. NoMemory is
-    /// the only error.
+    /// The names of the assertions that are false on the own view, in the order of their creation. It enters no
+    /// trace. NoMemory is the only error.
     pub fn pending(&self) -> Result<Vec<Text>, Refusal>
         ensures only_memory { IsOkUnless result NoMemory }
         ensures names { IfOk result (λ names. names.items ≡ false_names (own_view self.now)) }
@@ -202,8 +204,9 @@ impl Txn {
         Ok(names)
     }
 
-    /// Takes the transaction to COMMIT: its net change, and the check of all assertions on its own view, whatever their modes
-    /// (ISO/IEC 9075:1992, commit statement). NoMemory is the only error, and gives the transaction back as it was.
+    /// Takes the transaction to COMMIT: its net change, and the check of all assertions on its own view, whatever
+    /// their modes (ISO/IEC 9075:1992, commit statement). NoMemory is the only error, and gives the transaction
+    /// back as it was.
     pub fn close_check(self) -> Result<Closed, Unclosed>
         ensures closed { IfOk result (λ closed. closed ≡ self) }
         ensures only_memory { IfErr result (λ fault. fault.refusal ≡ NoMemory) }
@@ -310,8 +313,8 @@ fn stopped<T: Drop>(refusal: Refusal, _made: T) -> Result<Reply, Refusal>
     Err(refusal)
 }
 
-/// Notes the places of changes and what was read, and makes room for one more statement. After NoMemory, the only error, some
-/// of the places may have been noted.
+/// Notes the places of changes and what was read, and makes room for one more statement. After NoMemory, the only
+/// error, some of the places may have been noted.
 fn make_room(
     touched: &mut Touched,
     trace: &mut Vec<Resolved>,

@@ -1,4 +1,4 @@
-use Rattle.std.proofs.Common.{◌≡◌, ◌+◌, true, false, [], ◌∷◌, ◌++◌, length, reverse, ap, ◌∙◌, rules}
+use Rattle.std.proofs.Common.{◌+◌, true, false, [], ◌∷◌, ◌++◌, length, reverse, ap, ◌∙◌, rules}
 use Rattle.std.specs.Iterator.Adapters.{zip_first, zip_second}
 use Rattle.std.specs.Slice.Iter.{iter_rest}
 use Rattle.std.proofs.lemmas.List.{length_push}

@@ -11,8 +11,10 @@ two : IsDistinct nat_eq (2 ∷ 1 ∷ [])
 unfolding IsDistinct
 two = ((refl, tt), (tt, tt))
 
-pub put_in_order-requires : goal.put_in_order-requires
-put_in_order-requires g c = subst (IsDistinct nat_eq) (sym c.in_ok-order.ensures.items) one
+pub put_in_order-requires-clause-distinct : goal.put_in_order-requires-clause-distinct
+put_in_order-requires-clause-distinct g c = subst (IsDistinct nat_eq) (sym (c.reserve.ensures.items ∙ c.in_ok-order.ensures.items)) one
 
-pub put_in_order-requires-2 : goal.put_in_order-requires-2
-put_in_order-requires-2 g c = subst (IsDistinct nat_eq) (sym (c.in_ok-put_in_order.ensures.put ∙ ap (put_number_before 1 2) c.in_ok-order.ensures.items)) two
+pub put_in_order-requires-2-clause-distinct : goal.put_in_order-requires-2-clause-distinct
+put_in_order-requires-2-clause-distinct g c =
+    subst (IsDistinct nat_eq)
+    (sym (c.reserve-2.ensures.items ∙ c.put_in_order.ensures ∙ ap (put_number_before 1 2) (c.reserve.ensures.items ∙ c.in_ok-order.ensures.items))) two

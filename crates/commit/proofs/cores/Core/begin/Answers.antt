@@ -6,8 +6,9 @@ use Rattle.txn.specs.Transactions.{begun}
 use Rattle.commit.specs.Cores.{CoreState, IsLive, with_begun}
 use Rattle.commit.specs.Kept.{IsKept, idle_core, pending_of}
 use Rattle.commit.proofs.Accepting.{begun_live}
-use Rattle.commit.proofs.Keeping.{core_begun, is_idle, kept_idle, locks_idle}
+use Rattle.commit.proofs.Keeping.{is_idle, kept_idle, locks_idle, same_commits}
 use Rattle.commit.proofs.Locking.{kept_begun}
+use Rattle.commit.proofs.Tickets.{one_more}
 use Rattle.commit.proofs.cores.Core.begin.Goals as goal
 
 pub invariant_of-self : goal.invariant_of-self
@@ -27,7 +28,9 @@ invariant_of-self-2 c =
     subst (λ (live : LiveState). IsKept (idle_core c.self.inside.limit c.self.inside.loaded c.self.inside.records.items c.self.inside.refused.items live) c.self.inside.newest c.self.inside.places.items c.self.inside.order.items (readers_at c.self.inside.locks) c.self.inside.prepared Room)
     (sym began)
     (kept_idle (with_begun now) c.self.inside.newest c.self.inside.places.items c.self.inside.order.items (readers_at c.self.inside.locks) Room c.self.inside.prepared idle
-    (core_begun now c.self.inside.newest c.self.inside.places.items c.self.inside.order.items (readers_at c.self.inside.locks) Room c.self.invariant.0)
+    (same_commits now c.self.inside.newest c.self.inside.places.items c.self.inside.order.items (readers_at c.self.inside.locks) Room
+    (with_begin (length c.self.inside.records.items) c.self.inside.live) c.self.inside.refused.items
+    (one_more c.self.inside.live (length c.self.inside.records.items) c.self.invariant.0.tickets) c.self.invariant.0)
     (locks ∙ sym (kept_begun c.self.inside.live c.self.inside.records.items)))
 
 pub returns-clause-live : goal.returns-clause-live

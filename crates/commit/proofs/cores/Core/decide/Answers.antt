@@ -1,7 +1,5 @@
-use Rattle.std.proofs.Common.{◌≡◌, ◌∙◌, false, length, Some, None, ap, sym, subst}
-use Rattle.std.specs.Prelude.{◌==◌}
+use Rattle.std.proofs.Common.{◌≡◌, ◌∙◌, length, Some, ap, sym, subst}
 use Rattle.std.proofs.lemmas.Bool.{ne_eqb}
-use Rattle.value.specs.declared.refusals.Refusal.{Refusal}
 use Rattle.assertion.specs.Declarations.{layouts_in}
 use Rattle.txn.specs.Transactions.{outcome_of, own_view}
 use Rattle.commit.specs.Cores.{CoreState, record_of}

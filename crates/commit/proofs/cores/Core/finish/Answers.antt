@@ -12,13 +12,13 @@ use Rattle.commit.proofs.Keeping.{kept_idle, kept_ready, same_core}
 use Rattle.commit.proofs.Locking.{kept_committed}
 use Rattle.commit.proofs.cores.Core.finish.Goals as goal
 
-pub order_reserved-requires-clause-distinct : goal.order_reserved-requires-clause-distinct
-order_reserved-requires-clause-distinct c =
+pub put_in_order-requires-clause-distinct : goal.put_in_order-requires-clause-distinct
+put_in_order-requires-clause-distinct c =
     order_distinct (idle_core c.self.inside.limit c.self.inside.loaded c.self.inside.records.items c.self.inside.refused.items c.self.inside.live)
     c.self.inside.newest c.self.inside.places.items c.self.inside.order.items c.self.invariant.0
 
-pub order_reserved-requires-clause-fresh : goal.order_reserved-requires-clause-fresh
-order_reserved-requires-clause-fresh c =
+pub put_in_order-requires-clause-fresh : goal.put_in_order-requires-clause-fresh
+put_in_order-requires-clause-fresh c =
     subst (λ n. All (λ other. other ≢ n + 1) c.self.inside.order.items) (sym (c.len.ensures ∙ c.self.inside.records.ok.0))
     (order_fresh (idle_core c.self.inside.limit c.self.inside.loaded c.self.inside.records.items c.self.inside.refused.items c.self.inside.live)
     c.self.inside.newest c.self.inside.places.items c.self.inside.order.items c.self.invariant.0)
@@ -47,14 +47,14 @@ invariant_of-self-2 c =
     let after = committed now p.session t in
     let same : after ≡ idle_core c.self.inside.limit c.self.inside.loaded c.push_reserved-2.new.self.items c.self.inside.refused.items c.forget.new.live
     = λ i. idle_core c.self.inside.limit c.self.inside.loaded (sym records i) c.self.inside.refused.items (sym live i) in
-    let order : c.order_reserved.new.order.items ≡ put_number_before p.place (length c.self.inside.records.items + 1) c.self.inside.order.items
-    = c.order_reserved.ensures ∙ ap (λ n. put_number_before p.place (n + 1) c.self.inside.order.items) long in
+    let order : c.put_in_order.new.order.items ≡ put_number_before p.place (length c.self.inside.records.items + 1) c.self.inside.order.items
+    = c.put_in_order.ensures ∙ ap (λ n. put_number_before p.place (n + 1) c.self.inside.order.items) long in
     let count : c.len.result + 1 ≡ length (c.self.inside.records.items ++ commit ∷ []) = ap (λ n. n + 1) long ∙ sym (length-append c.self.inside.records.items (commit ∷ [])) in
     let left : readers_at c.forget.new.locks ≡ reads_kept after =
     c.forget.ensures.locks ∙ (λ i. above (least_held (count i) (live i).snapshots) (ready.2 i))
     ∙ kept_committed c.self.inside.live c.self.inside.records.items t.ticket commit in
-    kept_idle _ p.tables c.push_reserved.new.self.items c.order_reserved.new.order.items (readers_at c.forget.new.locks) _ c.take.new.self c.take.ensures.after
-    (same_core after _ p.tables p.tables (c.self.inside.places.items ++ p.place ∷ []) _ c.order_reserved.new.order.items _ same (λ i. p.tables) (sym c.push_reserved.ensures.items) (λ i. c.order_reserved.new.order.items)
-    (core_next now c.self.inside.newest c.self.inside.places.items c.self.inside.order.items c.self.invariant.0 p.session t ready.1.live p.tables p.place c.order_reserved.new.order.items
+    kept_idle _ p.tables c.push_reserved.new.self.items c.put_in_order.new.order.items (readers_at c.forget.new.locks) _ c.take.new.self c.take.ensures.after
+    (same_core after _ p.tables p.tables (c.self.inside.places.items ++ p.place ∷ []) _ c.put_in_order.new.order.items _ same (λ i. p.tables) (sym c.push_reserved.ensures.items) (λ i. c.put_in_order.new.order.items)
+    (core_next now c.self.inside.newest c.self.inside.places.items c.self.inside.order.items c.self.invariant.0 p.session t ready.1.live p.tables p.place c.put_in_order.new.order.items
     ready.1.satisfied ready.1.room ready.1.answer ready.1.tables_are ready.1.place_is order))
     (left ∙ (λ i. reads_kept (same i)))

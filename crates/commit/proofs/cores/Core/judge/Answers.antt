@@ -1,4 +1,4 @@
-use Rattle.std.proofs.Common.{◌≡◌, ◌<◌, ◌∙◌, ◌+◌, [], List, ap, length, reverse, subst, sym}
+use Rattle.std.proofs.Common.{◌≡◌, ◌<◌, ◌+◌, [], List, ap, length, reverse, subst, sym}
 use Rattle.std.specs.Prelude.{All, slice_index_or}
 use Rattle.table.specs.declared.rows.Change.{Change}
 use Rattle.table.specs.Rows.{Tables, names_of}

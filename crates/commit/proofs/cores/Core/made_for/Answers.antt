@@ -1,4 +1,3 @@
-use Rattle.std.proofs.Common.{◌≡◌}
 use Rattle.std.specs.Prelude.{◌==◌, ◌+◌, length}
 use Rattle.txn.specs.Transactions.{outcome_of}
 use Rattle.commit.specs.Cores.{record_of}

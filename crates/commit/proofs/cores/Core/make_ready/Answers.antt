@@ -1,4 +1,4 @@
-use Rattle.std.proofs.Common.{◌≡◌, ◌<◌, ◌+◌, ◌∙◌, ap, length, subst, sym}
+use Rattle.std.proofs.Common.{◌≡◌, ◌<◌, ◌+◌, ◌∙◌, length, subst, sym}
 use Rattle.std.specs.Prelude.{vec_capacity, vec_len}
 use Rattle.siread.specs.Locks.{AreBelow, readers_at}
 use Rattle.live.specs.Live.{least_held}

@@ -1,4 +1,4 @@
-use Rattle.std.proofs.Common.{◌≡◌, ◌+◌, [], length, sym, ap, ◌∙◌, subst}
+use Rattle.std.proofs.Common.{◌≡◌, [], sym, ◌∙◌, subst}
 use Rattle.assertion.specs.Declarations.{layouts_in}
 use Rattle.assertion.specs.Roots.{AreChangesOf}
 use Rattle.delta.specs.Views.{AreTables, Shown}

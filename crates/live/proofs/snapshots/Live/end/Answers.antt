@@ -1,9 +1,9 @@
-use Rattle.std.proofs.Common.{rules, ◌≡◌, ◌∙◌, ap, filter, sym, subst, not, ◌<◌, ◌==◌}
+use Rattle.std.proofs.Common.{rules, ◌≡◌, ◌∙◌, ap, filter, sym, subst, ◌<◌}
 use Rattle.std.specs.Prelude.{All}
 use Rattle.std.proofs.lemmas.Fn.{filter_same}
 use Rattle.std.proofs.lemmas.List.Elements.{All-filter}
 use Rattle.live.specs.declared.snapshots.LiveSnapshot.{LiveSnapshot}
-use Rattle.live.specs.Live.{LiveState, is_other, without}
+use Rattle.live.specs.Live.{is_other, without}
 use Rattle.live.proofs.snapshots.Live.end.Goals as goal
 
 left : (c : goal.After-retain) → c.retain.new.self.items ≡ filter (is_other c.args.ticket) c.self.inside.snapshots.items

@@ -1,0 +1,229 @@
+//! Runs the steps of a script on a manager, one after the other.
+
+ghost use Rattle.std.specs.Prelude.{◌<◌, length, IfOk, IfSome};
+
+use answer::Answer;
+use report::Report;
+use session::{CommitFault, Manager, Named, Receipt, Session, Txn};
+use statement_syntax::{Event, Statement, Step};
+use std::alloc::Global;
+use std::mem;
+use std::sync::Wait;
+use std::test::Fail;
+use value::{Refusal, Text};
+
+/// A session with its open transaction, if one is open. One that is let go is abandoned.
+pub struct Seat<N: Named> {
+    session: Session<N>,
+    txn: Option<Txn<N>>,
+}
+
+impl<N: Named> Drop for Seat<N> {
+    fn drop(self) {
+        let Seat { session: _, txn } = self;
+        match txn {
+            Some(txn) => let_go(txn.abandon()),
+            None => {}
+        }
+    }
+}
+
+pub fn let_go<T: Drop>(_value: T) {}
+
+/// The sessions of a manager, what they were answered, and each receipt that was given or shown.
+#[derive(Drop)]
+pub struct Sessions<N: Named> {
+    pub seats: Vec<Seat<N>>,
+    pub lines: Report,
+    pub receipts: Vec<Receipt<N>>,
+}
+
+impl<N: Named> Sessions<N> {
+    pub fn new(alloc: Global) -> Sessions<N> {
+        Sessions {
+            seats: Vec::new(alloc),
+            lines: Report::new(alloc),
+            receipts: Vec::new(alloc),
+        }
+    }
+
+    /// Runs steps, and notes the answers.
+    pub fn run<R: Wait>(
+        &mut self,
+        rt: &R,
+        manager: &Manager<N>,
+        steps: &[Step],
+    ) -> Result<(), Fail> {
+        for step in steps {
+            self.run_step(rt, manager, step)?;
+        }
+        Ok(())
+    }
+
+    /// Runs a step, and notes the answer. One that finds no memory is run for a second time, since nothing has changed.
+    fn run_step<R: Wait>(&mut self, rt: &R, manager: &Manager<N>, step: &Step) -> Result<(), Fail> {
+        let mut answer = self.answer(rt, manager, step)?;
+        if matches!(&answer, Answer::Refused(Refusal::NoMemory)) {
+            answer = self.answer(rt, manager, step)?;
+        }
+        let noted = self.lines.answer(step, &answer);
+        let_go(answer);
+        noted?;
+        Ok(())
+    }
+
+    fn answer<R: Wait>(
+        &mut self,
+        rt: &R,
+        manager: &Manager<N>,
+        step: &Step,
+    ) -> Result<Answer, Fail> {
+        match seat_for(rt, manager, &mut self.seats, &step.session) {
+            Ok(place) => {
+                let seat = &mut self.seats[place];
+                answer(rt, manager, seat, &step.event, &mut self.receipts)
+            }
+            Err(refusal) => Ok(Answer::Refused(refusal)),
+        }
+    }
+
+    /// Notes the transactions that are open.
+    pub fn leave_open(&mut self) -> Result<(), Fail> {
+        for seat in self.seats.as_slice() {
+            if seat.txn.is_some() {
+                self.lines.left_open(seat.session.name())?;
+            }
+        }
+        Ok(())
+    }
+}
+
+/// The place of a session's seat. One that has none gets a session of the manager.
+fn seat_for<N: Named, R: Wait>(
+    rt: &R,
+    manager: &Manager<N>,
+    seats: &mut Vec<Seat<N>>,
+    name: &Text,
+) -> Result<usize, Refusal>
+    ensures { IfOk result (λ place. place < length seats.new.items) }
+{
+    if let Some(place) = place_of(seats.as_slice(), name) {
+        return Ok(place);
+    }
+    let session = manager.session(rt, name)?;
+    let place = seats.len();
+    seats.push(Seat { session, txn: None })?;
+    Ok(place)
+}
+
+fn place_of<N: Named>(seats: &[Seat<N>], name: &Text) -> Option<usize>
+    ensures { IfSome result (λ place. place < length seats.now) }
+{
+    seats.iter().position(|seat| seat.session.name() == name)
+}
+
+fn answer<N: Named, R: Wait>(
+    rt: &R,
+    manager: &Manager<N>,
+    seat: &mut Seat<N>,
+    event: &Event,
+    receipts: &mut Vec<Receipt<N>>,
+) -> Result<Answer, Fail> {
+    match event {
+        Event::Begin => Ok(begin(rt, manager, seat)),
+        Event::Run(statement) => Ok(run(seat, statement)),
+        Event::Commit => commit(rt, manager, seat, receipts),
+        Event::Rollback => Ok(roll_back(rt, manager, seat)),
+    }
+}
+
+fn begin<N: Named, R: Wait>(rt: &R, manager: &Manager<N>, seat: &mut Seat<N>) -> Answer {
+    if seat.txn.is_some() {
+        return Answer::Refused(Refusal::TransactionOpen);
+    }
+    match manager.begin(rt, &mut seat.session) {
+        Ok(txn) => {
+            let snapshot = txn.snapshot();
+            set_txn(seat, Some(txn));
+            Answer::Begun(snapshot)
+        }
+        Err(refusal) => Answer::Refused(refusal),
+    }
+}
+
+fn run<N: Named>(seat: &mut Seat<N>, statement: &Statement) -> Answer {
+    match &mut seat.txn {
+        None => Answer::Refused(Refusal::NoTransaction),
+        Some(txn) => match txn.execute(statement) {
+            Ok(reply) => Answer::Replied(reply),
+            Err(refusal) => Answer::Refused(refusal),
+        },
+    }
+}
+
+fn commit<N: Named, R: Wait>(
+    rt: &R,
+    manager: &Manager<N>,
+    seat: &mut Seat<N>,
+    receipts: &mut Vec<Receipt<N>>,
+) -> Result<Answer, Fail> {
+    let Some(txn) = seat.txn.take() else {
+        return Ok(Answer::Refused(Refusal::NoTransaction));
+    };
+    match manager.commit(rt, &mut seat.session, txn) {
+        Ok(receipt) => {
+            let number = receipt.number();
+            receipts.push(receipt)?;
+            Ok(Answer::Committed(number))
+        }
+        Err(fault) => refused(seat, fault, receipts),
+    }
+}
+
+/// What a refused COMMIT is answered. Its transaction is seated again, if it was given back.
+fn refused<N: Named>(
+    seat: &mut Seat<N>,
+    fault: CommitFault<N>,
+    receipts: &mut Vec<Receipt<N>>,
+) -> Result<Answer, Fail> {
+    let CommitFault {
+        refusal,
+        txn,
+        shown,
+    } = fault;
+    set_txn(seat, txn);
+    keep_shown(&shown, receipts)?;
+    Ok(Answer::Refused(refusal))
+}
+
+fn keep_shown<N: Named>(
+    shown: &[Option<Receipt<N>>],
+    receipts: &mut Vec<Receipt<N>>,
+) -> Result<(), Fail> {
+    for shown in shown {
+        if let Some(receipt) = shown {
+            receipts.push(receipt.again())?;
+        }
+    }
+    Ok(())
+}
+
+fn roll_back<N: Named, R: Wait>(rt: &R, manager: &Manager<N>, seat: &mut Seat<N>) -> Answer {
+    match seat.txn.take() {
+        None => Answer::Refused(Refusal::NoTransaction),
+        Some(txn) => match manager.rollback(rt, txn) {
+            Ok(()) => Answer::RolledBack,
+            Err((refusal, txn)) => {
+                set_txn(seat, Some(txn));
+                Answer::Refused(refusal)
+            }
+        },
+    }
+}
+
+fn set_txn<N: Named>(seat: &mut Seat<N>, txn: Option<Txn<N>>) {
+    match mem::replace(&mut seat.txn, txn) {
+        None => {}
+        Some(old) => let_go(old.abandon()),
+    }
+}

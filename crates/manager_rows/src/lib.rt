@@ -1,0 +1,19 @@
+//! Scripts of sessions through a manager, on one thread, by the bytes that they print. Tests alone.
+//!
+//! What a call of a manager's book answers is proved (`session`). That a manager's call hands that answer on, and that
+//! a genuine session, transaction or receipt is ever taken, no contract can say of a value under a lock. So scripts are
+//! run here: what they print was taken from elsewhere, the manager's verdicts are those of the commits that it leaves,
+//! and each receipt that it gave or showed is found in its history. They stand in a crate of their own, since they need
+//! the parser and the report, and `session` is then proved once.
+#![tactic(auto)]
+
+#[cfg(test)]
+mod driver;
+#[cfg(test)]
+mod printed;
+#[cfg(test)]
+mod rows;
+#[cfg(test)]
+mod strangers;
+#[cfg(test)]
+mod transactions;

@@ -1,0 +1,353 @@
+//! Scripts of several sessions.
+
+use crate::printed::{COVER, Case, EIGHT, KIM, SEVEN, prints, prints_within};
+use session::Limits;
+use std::alloc::Global;
+use std::process::Abort;
+use std::sync::Wait;
+use std::test::Fail;
+
+#[test]
+fn sum_of_nothing_is_unknown(rt: HostRuntime) -> Result<(), Fail> {
+    let case = Case {
+        script: "",
+        want: "COMMITS 0\nSERIAL\nREFUSED 0\nASSERTIONS 1\nCAP UNKNOWN\n",
+        receipts: &[],
+        locks: 0,
+    };
+    prints(
+        &rt,
+        rt.alloc(),
+        "CREATE ASSERTION CAP CHECK ((SELECT SUM(BAL) FROM ACCT) <= 100);",
+        &case,
+    )
+}
+
+/// Each of two goes off call, since the other one is on call.
+#[test]
+fn shift_write_skew(rt: HostRuntime) -> Result<(), Fail> {
+    let more = format!(in rt.alloc(); "{COVER}{SEVEN}")?;
+    let case = Case {
+        script: "A: BEGIN; B: BEGIN; A: UPDATE DUTY SET ONCALL = 0 WHERE ID = 1;
+            B: UPDATE DUTY SET ONCALL = 0 WHERE ID = 2; A: COMMIT; B: COMMIT;",
+        want: "A: BEGIN 0\nB: BEGIN 0\nA: UPDATE 1\nB: UPDATE 1\nA: COMMIT 1\n\
+            B: REFUSED 13 40001 READER 1 PIVOT THIS WRITER 1\n\
+            COMMITS 1\n1 A SNAPSHOT 0 ROWS 1\nSERIAL 1\nREFUSED 1\n\
+            B 13 40001 READER 1 PIVOT THIS WRITER 1\nASSERTIONS 1\nCOVER TRUE\n",
+        receipts: &[1, 1, 1],
+        locks: 0,
+    };
+    prints(&rt, rt.alloc(), more.as_str(), &case)
+}
+
+#[test]
+fn disjoint_shifts(rt: HostRuntime) -> Result<(), Fail> {
+    let more = format!(in rt.alloc(); "{COVER}{SEVEN}{EIGHT}")?;
+    let case = Case {
+        script: "A: BEGIN; B: BEGIN; A: UPDATE DUTY SET ONCALL = 0 WHERE ID = 1;
+            B: UPDATE DUTY SET ONCALL = 0 WHERE ID = 3; A: COMMIT; B: COMMIT;",
+        want: "A: BEGIN 0\nB: BEGIN 0\nA: UPDATE 1\nB: UPDATE 1\nA: COMMIT 1\nB: COMMIT 2\n\
+            COMMITS 2\n1 A SNAPSHOT 0 ROWS 1\n2 B SNAPSHOT 0 ROWS 1\nSERIAL 1 2\nREFUSED 0\n\
+            ASSERTIONS 1\nCOVER TRUE\n",
+        receipts: &[1, 2],
+        locks: 0,
+    };
+    prints(&rt, rt.alloc(), more.as_str(), &case)
+}
+
+#[test]
+fn ledger_write_skew(rt: HostRuntime) -> Result<(), Fail> {
+    let case = Case {
+        script: "A: BEGIN; B: BEGIN;
+            A: SELECT BAL FROM ACCT WHERE ID = 1; A: SELECT BAL FROM ACCT WHERE ID = 2;
+            B: SELECT BAL FROM ACCT WHERE ID = 1; B: SELECT BAL FROM ACCT WHERE ID = 2;
+            A: UPDATE ACCT SET BAL = BAL - 120 WHERE ID = 1; A: COMMIT;
+            B: UPDATE ACCT SET BAL = BAL - 120 WHERE ID = 2; B: COMMIT;",
+        want: "A: BEGIN 0\nB: BEGIN 0\nA: SELECT 1\n  100\nA: SELECT 1\n  50\n\
+            B: SELECT 1\n  100\nB: SELECT 1\n  50\nA: UPDATE 1\nA: COMMIT 1\nB: UPDATE 1\n\
+            B: REFUSED 13 40001 READER 1 PIVOT THIS WRITER 1\n\
+            COMMITS 1\n1 A SNAPSHOT 0 ROWS 1\nSERIAL 1\nREFUSED 1\n\
+            B 13 40001 READER 1 PIVOT THIS WRITER 1\nASSERTIONS 0\n",
+        receipts: &[1, 1, 1],
+        locks: 0,
+    };
+    prints(&rt, rt.alloc(), KIM, &case)
+}
+
+#[test]
+fn reader_before_writer(rt: HostRuntime) -> Result<(), Fail> {
+    let case = Case {
+        script: "A: BEGIN; A: SELECT BAL FROM ACCT WHERE ID = 1;
+            B: BEGIN; B: UPDATE ACCT SET BAL = 0 WHERE ID = 1; B: COMMIT; A: COMMIT;",
+        want: "A: BEGIN 0\nA: SELECT 1\n  100\nB: BEGIN 0\nB: UPDATE 1\nB: COMMIT 1\nA: COMMIT 2\n\
+            COMMITS 2\n1 B SNAPSHOT 0 ROWS 1\n2 A SNAPSHOT 0 ROWS 0\nSERIAL 2 1\nREFUSED 0\n\
+            ASSERTIONS 0\n",
+        receipts: &[1, 2],
+        locks: 0,
+    };
+    prints(&rt, rt.alloc(), KIM, &case)
+}
+
+/// X reads what P writes, and P reads what Y writes; they commit in this order.
+fn prints_commits<R: Wait + Abort>(
+    rt: &R,
+    alloc: Global,
+    commits: &str,
+    want: &str,
+    receipts: &[u64],
+) -> Result<(), Fail> {
+    let more = format!(in alloc; "{COVER}{SEVEN}{KIM}")?;
+    let script = format!(in alloc;
+        "X: BEGIN; P: BEGIN; Y: BEGIN; X: SELECT ONCALL FROM DUTY WHERE ID = 1;
+        P: SELECT BAL FROM ACCT WHERE ID = 1; P: UPDATE DUTY SET ONCALL = 0 WHERE ID = 1;
+        Y: UPDATE ACCT SET BAL = 0 WHERE ID = 1; {commits}"
+    )?;
+    let want = format!(in alloc;
+        "X: BEGIN 0\nP: BEGIN 0\nY: BEGIN 0\nX: SELECT 1\n  1\nP: SELECT 1\n  100\nP: UPDATE 1\n\
+        Y: UPDATE 1\n{want}ASSERTIONS 1\nCOVER TRUE\n"
+    )?;
+    let case = Case {
+        script: script.as_str(),
+        want: want.as_str(),
+        receipts,
+        locks: 0,
+    };
+    prints(rt, alloc, more.as_str(), &case)
+}
+
+#[test]
+fn harmless_pivot(rt: HostRuntime) -> Result<(), Fail> {
+    prints_commits(
+        &rt,
+        rt.alloc(),
+        "X: COMMIT; Y: COMMIT; P: COMMIT;",
+        "X: COMMIT 1\nY: COMMIT 2\nP: COMMIT 3\n\
+            COMMITS 3\n1 X SNAPSHOT 0 ROWS 0\n2 Y SNAPSHOT 0 ROWS 1\n3 P SNAPSHOT 0 ROWS 1\n\
+            SERIAL 1 3 2\nREFUSED 0\n",
+        &[1, 2, 3],
+    )
+}
+
+#[test]
+fn pivot_refused(rt: HostRuntime) -> Result<(), Fail> {
+    prints_commits(
+        &rt,
+        rt.alloc(),
+        "Y: COMMIT; X: COMMIT; P: COMMIT;",
+        "Y: COMMIT 1\nX: COMMIT 2\nP: REFUSED 13 40001 READER 2 PIVOT THIS WRITER 1\n\
+            COMMITS 2\n1 Y SNAPSHOT 0 ROWS 1\n2 X SNAPSHOT 0 ROWS 0\nSERIAL 1 2\nREFUSED 1\n\
+            P 13 40001 READER 2 PIVOT THIS WRITER 1\n",
+        &[1, 2, 2, 1],
+    )
+}
+
+#[test]
+fn reader_refused(rt: HostRuntime) -> Result<(), Fail> {
+    prints_commits(
+        &rt,
+        rt.alloc(),
+        "Y: COMMIT; P: COMMIT; X: COMMIT;",
+        "Y: COMMIT 1\nP: COMMIT 2\nX: REFUSED 13 40001 READER THIS PIVOT 2 WRITER 1\n\
+            COMMITS 2\n1 Y SNAPSHOT 0 ROWS 1\n2 P SNAPSHOT 0 ROWS 1\nSERIAL 2 1\nREFUSED 1\n\
+            X 13 40001 READER THIS PIVOT 2 WRITER 1\n",
+        &[1, 2, 2, 1],
+    )
+}
+
+#[test]
+fn late_reader(rt: HostRuntime) -> Result<(), Fail> {
+    let more = format!(in rt.alloc(); "{COVER}{SEVEN}{KIM}")?;
+    let case = Case {
+        script: "P: BEGIN; Y: BEGIN; P: SELECT BAL FROM ACCT WHERE ID = 1;
+            P: UPDATE DUTY SET ONCALL = 0 WHERE ID = 1; Y: UPDATE ACCT SET BAL = 0 WHERE ID = 1;
+            Y: COMMIT; X: BEGIN; X: SELECT ONCALL FROM DUTY WHERE ID = 1; X: COMMIT; P: COMMIT;",
+        want: "P: BEGIN 0\nY: BEGIN 0\nP: SELECT 1\n  100\nP: UPDATE 1\nY: UPDATE 1\nY: COMMIT 1\n\
+            X: BEGIN 1\nX: SELECT 1\n  1\nX: COMMIT 2\n\
+            P: REFUSED 13 40001 READER 2 PIVOT THIS WRITER 1\n\
+            COMMITS 2\n1 Y SNAPSHOT 0 ROWS 1\n2 X SNAPSHOT 1 ROWS 0\nSERIAL 1 2\nREFUSED 1\n\
+            P 13 40001 READER 2 PIVOT THIS WRITER 1\nASSERTIONS 1\nCOVER TRUE\n",
+        receipts: &[1, 2, 2, 1],
+        locks: 0,
+    };
+    prints(&rt, rt.alloc(), more.as_str(), &case)
+}
+
+#[test]
+fn same_key_inserted_twice(rt: HostRuntime) -> Result<(), Fail> {
+    let case = Case {
+        script: "A: BEGIN; B: BEGIN; B: SELECT * FROM ACCT WHERE ID = 9;
+            A: INSERT INTO ACCT VALUES (9, 'KIM', 1); B: INSERT INTO ACCT VALUES (9, 'KIM', 1);
+            A: COMMIT; B: COMMIT;",
+        want: "A: BEGIN 0\nB: BEGIN 0\nB: SELECT 0\nA: INSERT 1\nB: INSERT 1\nA: COMMIT 1\n\
+            B: REFUSED 12 40001 ACCT 9 BY 1\n\
+            COMMITS 1\n1 A SNAPSHOT 0 ROWS 1\nSERIAL 1\nREFUSED 1\nB 12 40001 ACCT 9 BY 1\n\
+            ASSERTIONS 0\n",
+        receipts: &[1, 1],
+        locks: 0,
+    };
+    prints(&rt, rt.alloc(), "", &case)
+}
+
+/// With room for one commit and one session, the second of each is refused.
+#[test]
+fn epoch_full(rt: HostRuntime) -> Result<(), Fail> {
+    let limits = Limits::new(1, 1).ok_or("limits")?;
+    let case = Case {
+        script: "A: BEGIN; A: INSERT INTO SHIFTS VALUES (1); A: COMMIT; B: BEGIN;
+            A: BEGIN; A: SELECT * FROM SHIFTS; A: COMMIT;",
+        want: "A: BEGIN 0\nA: INSERT 1\nA: COMMIT 1\nB: REFUSED 24 - TOO MANY SESSIONS\n\
+            A: BEGIN 1\nA: SELECT 1\n  1\nA: REFUSED 17 - EPOCH FULL\n\
+            COMMITS 1\n1 A SNAPSHOT 0 ROWS 1\nSERIAL 1\nREFUSED 1\nA 17 - EPOCH FULL\n\
+            ASSERTIONS 0\n",
+        receipts: &[1, 1],
+        locks: 0,
+    };
+    prints_within(&rt, rt.alloc(), "", limits, &case)
+}
+
+#[test]
+fn limits_have_their_ranges(rt: HostRuntime) {
+    for (commits, sessions) in [(0, 1), (1, 0), (4_294_967_296, 1), (1, 65_537)] {
+        assert!(rt;
+            Limits::new(commits, sessions).is_none(),
+            "{commits} commits, {sessions} sessions"
+        );
+    }
+    assert!(rt; Limits::new(4_294_967_295, 65_536).is_some());
+}
+
+/// A's second statement is answered, and it goes on when B has committed three times.
+fn holds<R: Wait + Abort>(
+    rt: &R,
+    alloc: Global,
+    script: &str,
+    want: &str,
+    receipts: &[u64],
+) -> Result<(), Fail> {
+    let more = format!(in alloc; "{COVER}{SEVEN}{KIM}")?;
+    let script = format!(in alloc; "A: BEGIN; A: SELECT BAL FROM ACCT WHERE ID = 1; {script}")?;
+    let want = format!(in alloc;
+        "A: BEGIN 0\nA: SELECT 1\n  100\n{want}ASSERTIONS 1\nCOVER TRUE\n"
+    )?;
+    let case = Case {
+        script: script.as_str(),
+        want: want.as_str(),
+        receipts,
+        locks: 0,
+    };
+    prints(rt, alloc, more.as_str(), &case)
+}
+
+/// It stands before all that it has not seen.
+#[test]
+fn held_transaction_commits(rt: HostRuntime) -> Result<(), Fail> {
+    holds(
+        &rt,
+        rt.alloc(),
+        "A: UPDATE DUTY SET ONCALL = 0 WHERE ID = 1;
+            B: BEGIN; B: UPDATE ACCT SET BAL = 1 WHERE ID = 1; B: COMMIT;
+            B: BEGIN; B: UPDATE ACCT SET BAL = 2 WHERE ID = 1; B: COMMIT;
+            B: BEGIN; B: UPDATE ACCT SET BAL = 3 WHERE ID = 2; B: COMMIT; A: COMMIT;",
+        "A: UPDATE 1\nB: BEGIN 0\nB: UPDATE 1\nB: COMMIT 1\nB: BEGIN 1\nB: UPDATE 1\nB: COMMIT 2\n\
+            B: BEGIN 2\nB: UPDATE 1\nB: COMMIT 3\nA: COMMIT 4\n\
+            COMMITS 4\n1 B SNAPSHOT 0 ROWS 1\n2 B SNAPSHOT 1 ROWS 1\n3 B SNAPSHOT 2 ROWS 1\n\
+            4 A SNAPSHOT 0 ROWS 1\nSERIAL 4 1 2 3\nREFUSED 0\n",
+        &[1, 2, 3, 4],
+    )
+}
+
+/// It has not seen the first of B, and the third has not seen what it wrote.
+#[test]
+fn held_transaction_is_a_pivot(rt: HostRuntime) -> Result<(), Fail> {
+    holds(
+        &rt,
+        rt.alloc(),
+        "A: UPDATE DUTY SET ONCALL = 0 WHERE ID = 1;
+            B: BEGIN; B: UPDATE ACCT SET BAL = 1 WHERE ID = 1; B: COMMIT;
+            B: BEGIN; B: UPDATE ACCT SET BAL = 2 WHERE ID = 1; B: COMMIT;
+            B: BEGIN; B: SELECT ONCALL FROM DUTY WHERE ID = 1; B: COMMIT; A: COMMIT;",
+        "A: UPDATE 1\nB: BEGIN 0\nB: UPDATE 1\nB: COMMIT 1\nB: BEGIN 1\nB: UPDATE 1\nB: COMMIT 2\n\
+            B: BEGIN 2\nB: SELECT 1\n  1\nB: COMMIT 3\n\
+            A: REFUSED 13 40001 READER 3 PIVOT THIS WRITER 1\n\
+            COMMITS 3\n1 B SNAPSHOT 0 ROWS 1\n2 B SNAPSHOT 1 ROWS 1\n3 B SNAPSHOT 2 ROWS 0\n\
+            SERIAL 1 2 3\nREFUSED 1\nA 13 40001 READER 3 PIVOT THIS WRITER 1\n",
+        &[1, 2, 3, 3, 1],
+    )
+}
+
+/// The second of B is the first that changed the row that it changed.
+#[test]
+fn held_transaction_meets_a_writer(rt: HostRuntime) -> Result<(), Fail> {
+    holds(
+        &rt,
+        rt.alloc(),
+        "A: UPDATE ACCT SET BAL = 0 WHERE ID = 2;
+            B: BEGIN; B: UPDATE ACCT SET BAL = 1 WHERE ID = 1; B: COMMIT;
+            B: BEGIN; B: UPDATE ACCT SET BAL = 2 WHERE ID = 2; B: COMMIT;
+            B: BEGIN; B: UPDATE ACCT SET BAL = 3 WHERE ID = 2; B: COMMIT; A: COMMIT;",
+        "A: UPDATE 1\nB: BEGIN 0\nB: UPDATE 1\nB: COMMIT 1\nB: BEGIN 1\nB: UPDATE 1\nB: COMMIT 2\n\
+            B: BEGIN 2\nB: UPDATE 1\nB: COMMIT 3\nA: REFUSED 12 40001 ACCT 2 BY 2\n\
+            COMMITS 3\n1 B SNAPSHOT 0 ROWS 1\n2 B SNAPSHOT 1 ROWS 1\n3 B SNAPSHOT 2 ROWS 1\n\
+            SERIAL 1 2 3\nREFUSED 1\nA 12 40001 ACCT 2 BY 2\n",
+        &[1, 2, 3, 2],
+    )
+}
+
+/// R rolls back after BEGIN, after a statement, and after one that is refused; the others are answered as without it.
+#[test]
+fn rollbacks_leave_no_trace(rt: HostRuntime) -> Result<(), Fail> {
+    let more = format!(in rt.alloc(); "{COVER}{SEVEN}")?;
+    let case = Case {
+        script: "R: BEGIN; R: ROLLBACK; A: BEGIN; B: BEGIN;
+            R: BEGIN; R: UPDATE DUTY SET ONCALL = 0 WHERE ID = 2; R: ROLLBACK;
+            A: UPDATE DUTY SET ONCALL = 0 WHERE ID = 1; B: UPDATE DUTY SET ONCALL = 0 WHERE ID = 2;
+            R: BEGIN; A: COMMIT; R: DELETE FROM DUTY; R: SELECT * FROM DUTY; R: ROLLBACK;
+            B: COMMIT; R: BEGIN; R: SELECT * FROM DUTY; R: ROLLBACK;",
+        want: "R: BEGIN 0\nR: ROLLBACK\nA: BEGIN 0\nB: BEGIN 0\nR: BEGIN 0\nR: UPDATE 1\nR: ROLLBACK\n\
+            A: UPDATE 1\nB: UPDATE 1\nR: BEGIN 0\nA: COMMIT 1\nR: REFUSED 10 23000 COVER 7\n\
+            R: SELECT 2\n  1, 7, 1\n  2, 7, 1\nR: ROLLBACK\n\
+            B: REFUSED 13 40001 READER 1 PIVOT THIS WRITER 1\n\
+            R: BEGIN 1\nR: SELECT 2\n  1, 7, 0\n  2, 7, 1\nR: ROLLBACK\n\
+            COMMITS 1\n1 A SNAPSHOT 0 ROWS 1\nSERIAL 1\nREFUSED 1\n\
+            B 13 40001 READER 1 PIVOT THIS WRITER 1\nASSERTIONS 1\nCOVER TRUE\n",
+        receipts: &[1, 1, 1],
+        locks: 0,
+    };
+    prints(&rt, rt.alloc(), more.as_str(), &case)
+}
+
+/// A statement of R, two commits that began beside it, and what becomes of R.
+fn keeps_locks<R: Wait + Abort>(
+    rt: &R,
+    alloc: Global,
+    rest: &str,
+    left: &str,
+    locks: usize,
+) -> Result<(), Fail> {
+    let more = format!(in alloc; "{COVER}{SEVEN}{EIGHT}")?;
+    let script = format!(in alloc;
+        "R: BEGIN; R: SELECT ONCALL FROM DUTY WHERE ID = 1; A: BEGIN; B: BEGIN;
+        A: UPDATE DUTY SET ONCALL = 0 WHERE ID = 1; B: UPDATE DUTY SET ONCALL = 0 WHERE ID = 3;
+        A: COMMIT; B: COMMIT; {rest}"
+    )?;
+    let want = format!(in alloc;
+        "R: BEGIN 0\nR: SELECT 1\n  1\nA: BEGIN 0\nB: BEGIN 0\nA: UPDATE 1\nB: UPDATE 1\n\
+        A: COMMIT 1\nB: COMMIT 2\n{left}\
+        COMMITS 2\n1 A SNAPSHOT 0 ROWS 1\n2 B SNAPSHOT 0 ROWS 1\nSERIAL 1 2\nREFUSED 0\n\
+        ASSERTIONS 1\nCOVER TRUE\n"
+    )?;
+    let case = Case {
+        script: script.as_str(),
+        want: want.as_str(),
+        receipts: &[1, 2],
+        locks,
+    };
+    prints(rt, alloc, more.as_str(), &case)
+}
+
+/// What two commits read is kept while a transaction is open that began before them: three keys of each.
+#[test]
+fn rollback_lets_keys_go(rt: HostRuntime) -> Result<(), Fail> {
+    keeps_locks(&rt, rt.alloc(), "", "R: ROLLBACK AT END\n", 6)?;
+    keeps_locks(&rt, rt.alloc(), "R: ROLLBACK;", "R: ROLLBACK\n", 0)
+}

@@ -1,0 +1,166 @@
+//! What one manager gave is handed to another.
+
+ghost use Rattle.std.specs.Prelude.{◌≡◌};
+
+use crate::driver::let_go;
+use crate::printed::{COVER, Case, KIM, Left, SEVEN, defined, serves};
+use definitions::Definitions;
+use session::{CommitFault, Limits, Manager, Named, Receipt, Shelf, Txn};
+use std::alloc::Global;
+use std::marker::Brand;
+use std::process::Abort;
+use std::sync::Wait;
+use std::test::Fail;
+use value::{Refusal, Text};
+
+#[test]
+fn strangers(rt: HostRuntime) -> Result<(), Fail> {
+    let one = Shelf::new(rt.alloc())?;
+    let two = Shelf::new(rt.alloc())?;
+    let limits = Limits::new(10, 10).ok_or("limits")?;
+    let same = Limits::new(10, 10).ok_or("limits")?;
+    let more = format!(in rt.alloc(); "{COVER}{SEVEN}")?;
+    let shifts = defined(rt.alloc(), more.as_str())?;
+    let accounts = defined(rt.alloc(), KIM)?;
+    two_managers::<Brand, HostRuntime>(&rt, rt.alloc(), one, two, limits, same, shifts, accounts)
+}
+
+/// Each refuses the other's session and transaction, gives the transaction back, and goes on.
+fn two_managers<N: Named, R: Wait + Abort>(
+    rt: &R,
+    alloc: Global,
+    one: Shelf,
+    two: Shelf,
+    limits: Limits,
+    same: Limits,
+    shifts: Definitions,
+    accounts: Definitions,
+) -> Result<(), Fail>
+    requires one { one ≡ N.shelf 1 }
+    requires two { two ≡ N.shelf 2 }
+    requires limits { limits ≡ N.limits 1 }
+    requires same { same ≡ N.limits 2 }
+{
+    let first = Manager::<N>::open(rt, alloc, one, 1, shifts, limits)?;
+    let second = Manager::<N>::open(rt, alloc, two, 2, accounts, same)?;
+    meet(rt, alloc, &first, &second)?;
+    let first = serve_shifts(rt, alloc, first)?;
+    let second = serve_accounts(rt, alloc, second)?;
+    for receipt in first.receipts.as_slice() {
+        assert!(rt; matches!(second.history.record(receipt), Err(Refusal::Stranger)));
+    }
+    Ok(())
+}
+
+/// A session and a transaction of the first are handed to the second.
+fn meet<N: Named, R: Wait + Abort>(
+    rt: &R,
+    alloc: Global,
+    first: &Manager<N>,
+    second: &Manager<N>,
+) -> Result<(), Fail> {
+    let name = Text::from_str(alloc, "S")?;
+    let mut mine = first.session(rt, &name)?;
+    let mut theirs = second.session(rt, &name)?;
+    assert!(rt; is_stranger(second.begin(rt, &mut mine)));
+    let txn = first.begin(rt, &mut mine)?;
+    // A session and a transaction of the first; a session of its own, and the transaction; and the other way round.
+    let txn = refused(second.commit(rt, &mut mine, txn))?;
+    let txn = refused(second.commit(rt, &mut theirs, txn))?;
+    let txn = refused(first.commit(rt, &mut theirs, txn))?;
+    let txn = unrolled(second.rollback(rt, txn))?;
+    assert!(rt; is_ended(first.rollback(rt, txn)));
+    Ok(())
+}
+
+fn is_stranger<N: Named>(begun: Result<Txn<N>, Refusal>) -> bool {
+    match begun {
+        Ok(txn) => {
+            let_go(txn.abandon());
+            false
+        }
+        Err(refusal) => matches!(refusal, Refusal::Stranger),
+    }
+}
+
+/// The transaction that a COMMIT gave back as a stranger's, with no receipt.
+fn refused<N: Named>(outcome: Result<Receipt<N>, CommitFault<N>>) -> Result<Txn<N>, Fail> {
+    match outcome {
+        Ok(_) => Err(Fail::from("a stranger's transaction was committed")),
+        Err(fault) => given_back(fault),
+    }
+}
+
+fn given_back<N: Named>(fault: CommitFault<N>) -> Result<Txn<N>, Fail> {
+    let CommitFault {
+        refusal,
+        txn,
+        shown,
+    } = fault;
+    let shows = shown.iter().any(|shown| shown.is_some());
+    match txn {
+        Some(txn) => back(txn, matches!(refusal, Refusal::Stranger) && !shows),
+        None => Err(Fail::from("a stranger's transaction was ended")),
+    }
+}
+
+/// The transaction that a ROLLBACK gave back.
+fn unrolled<N: Named>(outcome: Result<(), (Refusal, Txn<N>)>) -> Result<Txn<N>, Fail> {
+    match outcome {
+        Ok(()) => Err(Fail::from("a stranger's transaction was rolled back")),
+        Err((refusal, txn)) => back(txn, matches!(refusal, Refusal::Stranger)),
+    }
+}
+
+fn is_ended<N: Named>(outcome: Result<(), (Refusal, Txn<N>)>) -> bool {
+    match outcome {
+        Ok(()) => true,
+        Err((_, txn)) => {
+            let_go(txn.abandon());
+            false
+        }
+    }
+}
+
+fn back<N: Named>(txn: Txn<N>, as_stranger: bool) -> Result<Txn<N>, Fail> {
+    if as_stranger {
+        return Ok(txn);
+    }
+    let_go(txn.abandon());
+    Err(Fail::from("another refusal than a stranger's"))
+}
+
+fn serve_shifts<N: Named, R: Wait + Abort>(
+    rt: &R,
+    alloc: Global,
+    manager: Manager<N>,
+) -> Result<Left<N>, Fail> {
+    let case = Case {
+        script: "A: BEGIN; B: BEGIN; A: UPDATE DUTY SET ONCALL = 0 WHERE ID = 1;
+            B: UPDATE DUTY SET ONCALL = 0 WHERE ID = 2; A: COMMIT; B: COMMIT;",
+        want: "A: BEGIN 0\nB: BEGIN 0\nA: UPDATE 1\nB: UPDATE 1\nA: COMMIT 1\n\
+            B: REFUSED 13 40001 READER 1 PIVOT THIS WRITER 1\n\
+            COMMITS 1\n1 A SNAPSHOT 0 ROWS 1\nSERIAL 1\nREFUSED 1\n\
+            B 13 40001 READER 1 PIVOT THIS WRITER 1\nASSERTIONS 1\nCOVER TRUE\n",
+        receipts: &[1, 1, 1],
+        locks: 0,
+    };
+    serves(rt, alloc, manager, &case)
+}
+
+fn serve_accounts<N: Named, R: Wait + Abort>(
+    rt: &R,
+    alloc: Global,
+    manager: Manager<N>,
+) -> Result<Left<N>, Fail> {
+    let case = Case {
+        script: "A: BEGIN; A: SELECT BAL FROM ACCT WHERE ID = 1;
+            B: BEGIN; B: UPDATE ACCT SET BAL = 0 WHERE ID = 1; B: COMMIT; A: COMMIT;",
+        want: "A: BEGIN 0\nA: SELECT 1\n  100\nB: BEGIN 0\nB: UPDATE 1\nB: COMMIT 1\nA: COMMIT 2\n\
+            COMMITS 2\n1 B SNAPSHOT 0 ROWS 1\n2 A SNAPSHOT 0 ROWS 0\nSERIAL 2 1\nREFUSED 0\n\
+            ASSERTIONS 0\n",
+        receipts: &[1, 2],
+        locks: 0,
+    };
+    serves(rt, alloc, manager, &case)
+}

@@ -1,0 +1,123 @@
+//! What a transaction tells of itself.
+
+ghost use Rattle.std.specs.Prelude.{◌≡◌};
+
+use crate::driver::let_go;
+use crate::printed::{defined, steps_of};
+use answer::Reply;
+use definitions::Definitions;
+use session::{Closed, CommitFault, Limits, Manager, Named, Receipt, Shelf, Txn, Unclosed};
+use statement_syntax::Event;
+use std::alloc::Global;
+use std::marker::Brand;
+use std::process::Abort;
+use std::sync::Wait;
+use std::test::Fail;
+use threeval::Truth;
+use value::{Refusal, Text};
+
+/// Someone is on call in each shift, when a transaction ends.
+const COVER_DEFERRED: &str =
+    "CREATE ASSERTION COVER CHECK (NOT EXISTS (SELECT * FROM SHIFTS S WHERE NOT EXISTS
+    (SELECT * FROM DUTY D WHERE D.SHIFT = S.ID AND D.ONCALL = 1))) INITIALLY DEFERRED;";
+
+#[test]
+fn violation_at_commit(rt: HostRuntime) -> Result<(), Fail> {
+    let shelf = Shelf::new(rt.alloc())?;
+    let limits = Limits::new(1, 1).ok_or("limits")?;
+    let definitions = defined(rt.alloc(), COVER_DEFERRED)?;
+    violates::<Brand, HostRuntime>(&rt, rt.alloc(), shelf, limits, definitions)
+}
+
+/// A shift is put in that no one covers.
+fn violates<N: Named, R: Wait + Abort>(
+    rt: &R,
+    alloc: Global,
+    shelf: Shelf,
+    limits: Limits,
+    definitions: Definitions,
+) -> Result<(), Fail>
+    requires shelf { shelf ≡ N.shelf 1 }
+    requires limits { limits ≡ N.limits 1 }
+{
+    let manager = Manager::<N>::open(rt, alloc, shelf, 1, definitions, limits)?;
+    let cover = Text::from_str(alloc, "COVER")?;
+    let steps = steps_of(alloc, "A: INSERT INTO SHIFTS VALUES (7);")?;
+    let mut session = manager.session(rt, &cover)?;
+    let mut txn = manager.begin(rt, &mut session)?;
+    for step in steps.as_slice() {
+        insert(rt, &mut txn, &step.event);
+    }
+    open_tells(rt, &txn, &cover);
+    let txn = reopened(rt, txn);
+    let is_ended = is_violation(manager.commit(rt, &mut session, txn));
+    assert!(rt; is_ended);
+    assert_eq!(rt; manager.verdict(rt, &cover), Some(Truth::True));
+    let history = manager.close();
+    assert_eq!(rt; history.core().refused().len(), 1);
+    Ok(())
+}
+
+fn insert<N: Named, R: Abort>(rt: &R, txn: &mut Txn<N>, event: &Event) {
+    if let Event::Run(statement) = event {
+        assert!(rt; matches!(txn.execute(statement), Ok(Reply::Inserted)));
+    }
+}
+
+fn open_tells<N: Named, R: Abort>(rt: &R, txn: &Txn<N>, cover: &Text) {
+    assert_eq!(rt; txn.snapshot(), 0);
+    assert_eq!(rt; txn.trace().len(), 1);
+    assert!(rt; !txn.reads().is_empty());
+    assert_eq!(rt; txn.own().assertions().len(), 1);
+    assert_eq!(rt; txn.verdict(cover), Some(Truth::False));
+    match txn.pending() {
+        Ok(names) => assert_eq!(rt; names.len(), 1),
+        Err(_) => assert!(rt; false, "memory"),
+    }
+}
+
+/// The transaction, after it was closed.
+fn reopened<N: Named, R: Abort>(rt: &R, txn: Txn<N>) -> Txn<N> {
+    match txn.close_check() {
+        Ok(closed) => {
+            closed_tells(rt, &closed);
+            closed.reopen()
+        }
+        Err(Unclosed { refusal, txn }) => {
+            let_go(refusal);
+            txn
+        }
+    }
+}
+
+fn closed_tells<N: Named, R: Abort>(rt: &R, closed: &Closed<N>) {
+    assert_eq!(rt; closed.snapshot(), 0);
+    assert_eq!(rt; closed.changes().len(), 1);
+    assert!(rt; !closed.reads().is_empty());
+    assert_eq!(rt; closed.own().assertions().len(), 1);
+    assert!(rt; matches!(closed.refused(), Some(Refusal::Violated { .. })));
+}
+
+/// A violation, which has ended its transaction and shows no receipt.
+fn is_violation<N: Named>(outcome: Result<Receipt<N>, CommitFault<N>>) -> bool {
+    match outcome {
+        Ok(_receipt) => false,
+        Err(fault) => has_ended(fault),
+    }
+}
+
+fn has_ended<N: Named>(fault: CommitFault<N>) -> bool {
+    let CommitFault {
+        refusal,
+        txn,
+        shown,
+    } = fault;
+    let shows = shown.iter().any(|shown| shown.is_some());
+    match txn {
+        Some(txn) => {
+            let_go(txn.abandon());
+            false
+        }
+        None => matches!(refusal, Refusal::Violated { .. }) && !shows,
+    }
+}

@@ -1,0 +1,5 @@
+pub mod Known
+pub mod Tokens
+pub mod Reasons
+pub mod Standing
+pub mod Committing

@@ -1,0 +1,149 @@
+-- The tokens of a Book whose core has answered an event.
+use Rattle.std.proofs.Common.{◌≡◌, ℕ, zero, suc, ◌+◌, ◌<◌, ◌≤◌, ◌⊎◌, List, [], ◌∷◌, ◌++◌, Option, Some, length, reverse, inl, inr, refl, sym, ap, ◌∙◌, subst, arith, add-one}
+use Rattle.std.specs.Prelude.{slice_get, Contains}
+use Rattle.std.proofs.lemmas.List.{length-append, length-reverse, reverse-append}
+use Rattle.boxcar.specs.Table.{Shelves, Shows}
+use Rattle.assertion.specs.Declarations.{Declared}
+use Rattle.assertion.specs.Meaning.{State}
+use Rattle.alone.proofs.Lists.{Each, each_weaker}
+use Rattle.delta.specs.Views.{Shown}
+use Rattle.serial.specs.declared.records.Record.{Record}
+use Rattle.serial.specs.Commits.{IsLog}
+use Rattle.serial.specs.Epoch.{newest, put_in, state_of}
+use Rattle.serial.specs.Replay.{state_after}
+use Rattle.serial.proofs.Ranks.{numbers_below}
+use Rattle.serial.proofs.Replays.{held_all, held_same}
+use Rattle.txn.specs.Transactions.{OpenTransaction}
+use Rattle.value.specs.declared.refusals.Refusal.{Refusal}
+use Rattle.commit.specs.Cores.{CoreState, IsLive, committed, log_of, record_of}
+use Rattle.session.specs.declared.items.Item.{Item}
+use Rattle.session.specs.Limits.{LimitsState}
+use Rattle.session.specs.Answers.{after_refusal, after_rollback}
+use Rattle.session.specs.Books.{AreReceipts, AreTokens, BookState, IsAt, IsBook, Token, after_begin, after_commit, item_after, item_at, record_at}
+
+-- what stands at a place of a list with one more at its end
+get_snoc : {X : Type 0} (xs : List X) (y : X) (i : ℕ) (e : X) → slice_get (xs ++ y ∷ []) i ≡ Some e
+    → ((i < length xs) × (slice_get xs i ≡ Some e)) ⊎ ((i ≡ length xs) × (y ≡ e))
+get_snoc [] y zero e h = inr (refl, cc)
+get_snoc [] y (suc i) e h = let no : ⊥ = cc in absurd no
+get_snoc (x ∷ xs) y zero e h = inl (omega arith, h)
+get_snoc (x ∷ xs) y (suc i) e h =
+    elim (get_snoc xs y i e h) [ inl p ↦ inl (omega (arith, p.0), p.1) | inr q ↦ inr (omega (arith, q.0), q.1) ]
+
+get_kept : {X : Type 0} (xs : List X) (y : X) (i : ℕ) → i < length xs → slice_get (xs ++ y ∷ []) i ≡ slice_get xs i
+get_kept [] y i h = absurd (omega arith)
+get_kept (x ∷ xs) y zero h = refl
+get_kept (x ∷ xs) y (suc i) h = get_kept xs y i (omega arith)
+
+pub get_last : {X : Type 0} (xs : List X) (y : X) → slice_get (xs ++ y ∷ []) (length xs) ≡ Some y
+get_last [] y = refl
+get_last (x ∷ xs) y = get_last xs y
+
+-- the tables after all commits are the newest
+pub newest_at : (declared : Declared) (start : State) (records : List Record) → IsLog (reverse records)
+    → state_of declared start (reverse records) (length records) ≡ newest declared start (reverse records)
+newest_at declared start records log =
+    let long = length-reverse records in
+    let below : Each (λ w. w.number ≤ length records) (reverse records) =
+    each_weaker (λ w. w.number < suc (length (reverse records))) (λ w. w.number ≤ length records) (λ w l. omega arith) (reverse records) (numbers_below (reverse records) log) in
+    ap (state_after (put_in declared) start) (held_all (length records) (reverse records) below)
+
+-- a commit more leaves the tables of earlier snapshots
+tables_kept : (declared : Declared) (start : State) (records : List Record) (c : Record) (n : ℕ) → n < c.number
+    → state_of declared start (reverse (records ++ c ∷ [])) n ≡ state_of declared start (reverse records) n
+tables_kept declared start records c n l =
+    ap (λ log. state_of declared start log n) (reverse-append records (c ∷ []))
+    ∙ ap (state_after (put_in declared) start) (held_same n c (reverse records) l)
+
+pub record_kept : (records : List Record) (c : Record) (n : ℕ) → n ≤ length records → record_at (records ++ c ∷ []) n ≡ record_at records n
+record_kept records c zero h = refl
+record_kept records c (suc n) h = get_kept records c n (omega arith)
+
+item_kept : (epoch : ℕ) (declared : Declared) (start : State) (records : List Record) (c : Record) (n : ℕ) → c.number ≡ length records + 1 → n ≤ length records
+    → item_at epoch declared start (records ++ c ∷ []) n ≡ item_at epoch declared start records n
+item_kept epoch declared start records c n number h =
+    ap (λ (o : Option Record). record { epoch = epoch; number = n; commit = o; view = record { declared = declared; state = state_of declared start (reverse (records ++ c ∷ [])) n } }) (record_kept records c n h)
+    ∙ ap (λ (s : State). record { epoch = epoch; number = n; commit = record_at records n; view = record { declared = declared; state = s } }) (tables_kept declared start records c n (omega (arith, number, h)))
+
+item_added : (epoch : ℕ) (declared : Declared) (start : State) (records : List Record) (c : Record) → IsLog (reverse (records ++ c ∷ []))
+    → item_at epoch declared start (records ++ c ∷ []) (length records + 1)
+    ≡ record { epoch = epoch; number = length records + 1; commit = Some c; view = record { declared = declared; state = newest declared start (reverse (records ++ c ∷ [])) } }
+item_added epoch declared start records c log =
+    let long : length (records ++ c ∷ []) ≡ length records + 1 = length-append records (c ∷ []) in
+    let got : record_at (records ++ c ∷ []) (length records + 1) ≡ Some c = rw add-one (get_last records c) in
+    let state : state_of declared start (reverse (records ++ c ∷ [])) (length records + 1) ≡ newest declared start (reverse (records ++ c ∷ [])) =
+    ap (state_of declared start (reverse (records ++ c ∷ []))) (sym long) ∙ newest_at declared start (records ++ c ∷ []) log in
+    ap (λ (o : Option Record). record { epoch = epoch; number = length records + 1; commit = o; view = record { declared = declared; state = state_of declared start (reverse (records ++ c ∷ [])) (length records + 1) } }) got
+    ∙ ap (λ (s : State). record { epoch = epoch; number = length records + 1; commit = Some c; view = record { declared = declared; state = s } }) state
+
+-- the tokens with that of a commit more
+tokens_snoc : (shelf : Shelves) (epoch : ℕ) (declared : Declared) (start : State) (records : List Record) (tokens : List Token) (c : Record) (w : Token)
+    → c.number ≡ length records + 1 → IsLog (reverse (records ++ c ∷ [])) → AreTokens shelf epoch declared start records tokens → Shows shelf w
+    → w.value ≡ record { epoch = epoch; number = length records + 1; commit = Some c; view = record { declared = declared; state = newest declared start (reverse (records ++ c ∷ [])) } }
+    → AreTokens shelf epoch declared start (records ++ c ∷ []) (tokens ++ w ∷ [])
+tokens_snoc shelf epoch declared start records tokens c w number log old shown is = record {
+  count = omega (arith, length-append tokens (w ∷ []), length-append records (c ∷ []), old.count);
+  each = λ n x at. elim (get_snoc tokens w n x at) [
+    | inl p ↦
+        let was = old.each n x p.1 in
+        record { shown = was.shown; item = was.item ∙ sym (item_kept epoch declared start records c n number (omega (arith, old.count, p.0))) }
+    | inr q ↦
+        let m : n ≡ length records + 1 = q.0 ∙ old.count in record {
+          shown = subst (λ (y : Token). Shows shelf y) q.1 shown;
+          item = sym (ap (λ (y : Token). y.value) q.1) ∙ (is ∙ (sym (item_added epoch declared start records c log) ∙ ap (item_at epoch declared start (records ++ c ∷ [])) (sym m)));
+        }
+  ];
+}
+
+-- the Book after a commit
+pub book_committed : (shelf : Shelves) (limits : LimitsState) (b : BookState) (session : List ℕ) (t : OpenTransaction) (w : Token) → IsBook shelf limits b
+    → IsLog (log_of (committed b.core session t)) → Shows shelf w → w.value ≡ item_after b.epoch b.core session t
+    → IsBook shelf limits (after_commit b session t w)
+book_committed shelf limits b session t w book log shown is = record {
+  commits = book.commits;
+  sessions = book.sessions;
+  handed = book.handed;
+  idle = book.idle;
+  tokens = tokens_snoc shelf b.epoch b.core.declared b.core.start b.core.records b.tokens (record_of b.core session t) w refl log book.tokens shown is;
+}
+
+-- after a begin, a refused commit, a rollback
+pub book_begun : (shelf : Shelves) (limits : LimitsState) (b : BookState) → IsBook shelf limits b → IsBook shelf limits (after_begin b)
+book_begun shelf limits b book = record { commits = book.commits; sessions = book.sessions; handed = book.handed; idle = book.idle; tokens = book.tokens }
+
+pub book_refused : (shelf : Shelves) (limits : LimitsState) (b : BookState) (session : List ℕ) (t : OpenTransaction) (refusal : Refusal) → IsBook shelf limits b
+    → IsBook shelf limits (after_refusal b session t refusal)
+book_refused shelf limits b session t refusal book = record { commits = book.commits; sessions = book.sessions; handed = book.handed; idle = book.idle; tokens = book.tokens }
+
+pub book_ended : (shelf : Shelves) (limits : LimitsState) (b : BookState) (t : OpenTransaction) → IsBook shelf limits b → IsBook shelf limits (after_rollback b t)
+book_ended shelf limits b t book = record { commits = book.commits; sessions = book.sessions; handed = book.handed; idle = book.idle; tokens = book.tokens }
+
+-- tokens serve for receipts
+pub receipts_of : (shelf : Shelves) (limits : LimitsState) (b : BookState) → IsBook shelf limits b → AreReceipts shelf b.epoch b.tokens
+receipts_of shelf limits b book = record {
+  each = λ n w at.
+      let p = book.tokens.each n w at in
+      record { shown = p.shown; epoch_is = ap (λ (x : Item). x.epoch) p.item; number_is = ap (λ (x : Item). x.number) p.item };
+}
+
+-- a transaction on the tables that its token shows is live where the token's are those of its snapshot
+pub live_from : (c : CoreState) (t : OpenTransaction) (view : Shown) → Contains c.live.snapshots (record { ticket = t.ticket; snapshot = t.snapshot })
+    → t.snapshot ≤ length c.records → view ≡ record { declared = c.declared; state = state_of c.declared c.start (log_of c) t.snapshot }
+    → view ≡ record { declared = t.declared; state = t.start } → IsLive c t
+live_from c t view held within mine its = record {
+  held = held;
+  declared_is = ap (λ (s : Shown). s.declared) (sym its ∙ mine);
+  within = within;
+  start_is = ap (λ (s : Shown). s.state) (sym its ∙ mine);
+}
+
+-- the Book's token and the ticket's are of one shelf, at one index
+pub agrees_asks : (shelf_of : ℕ → Shelves) (shelf : Shelves) (b : BookState) (number index : ℕ) (id other : ℕ) (mine : Token) (theirs : Token) → shelf ≡ shelf_of id
+    → b.id ≡ id → other ≡ id → IsAt b number theirs.index → slice_get b.tokens number ≡ Some mine → Shows (shelf_of b.id) mine → Shows (shelf_of other) theirs
+    → Shows shelf mine × Shows shelf theirs × (mine.index ≡ theirs.index)
+agrees_asks shelf_of shelf b number index id other mine theirs is book_id other_id own at book_shows shows =
+    let same : own.token ≡ mine = cc (own.at, at) in (
+      subst (λ (s : Shelves). Shows s mine) (ap shelf_of book_id ∙ sym is) book_shows,
+      subst (λ (s : Shelves). Shows s theirs) (ap shelf_of other_id ∙ sym is) shows,
+      sym (ap (λ (x : Token). x.index) same) ∙ own.same,
+    )

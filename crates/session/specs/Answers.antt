@@ -1,0 +1,186 @@
+-- What is answered where something is refused, and which receipts show why.
+use Rattle.std.specs.Prelude.{◌≡◌, ◌≢◌, ◌<◌, ℕ, Bool, true, false, List, [], ◌∷◌, length, map, slice_get, Option}
+use Rattle.std.specs.Prelude.{Some, None, Err, Contains, ⊤}
+use Rattle.value.specs.declared.refusals.Party.{Party}
+use Rattle.value.specs.declared.refusals.Party.TheVariants.{This, Number as Numbered}
+use Rattle.value.specs.declared.refusals.Refusal.{Refusal}
+use Rattle.value.specs.declared.refusals.Refusal.TheVariants.{NoMemory, Stranger, EpochFull, Violated, WriteConflict}
+use Rattle.value.specs.declared.refusals.Refusal.TheVariants.{Dangerous}
+use Rattle.value.specs.declared.values.Value.{Value}
+use Rattle.threeval.specs.declared.Truth.{Truth}
+use Rattle.threeval.specs.declared.Truth.TheVariants.{True, False}
+use Rattle.assertion.specs.declared.assertions.Assertion.{Assertion}
+use Rattle.assertion.specs.declared.forms.Form.{Form}
+use Rattle.assertion.specs.declared.forms.Form.TheVariants.{ByRow, ByGroup, Single}
+use Rattle.table.specs.Rows.{names_of}
+use Rattle.assertion.specs.Declarations.{layouts_in}
+use Rattle.delta.specs.Views.{Shown}
+use Rattle.alone.specs.Checks.{violation}
+use Rattle.siread.specs.Keys.{place_of}
+use Rattle.serial.specs.declared.records.Record.{Record}
+use Rattle.serial.specs.Commits.{IsDangerous}
+use Rattle.txn.specs.Transactions.{OpenTransaction, keys_of, outcome_of}
+use Rattle.commit.specs.Cores.{IsCommitAnswer, ended, refused_to}
+use Rattle.session.specs.Books.{BookState, ReceiptState, TicketState, Ticketed, Token}
+
+-- a begin is refused a session that is not known; or there was no memory
+abbrev pub IsUnbegun : (known : Bool) → Refusal → Type 0
+IsUnbegun known NoMemory = known ≡ true
+IsUnbegun known Stranger = known ≡ false
+IsUnbegun known refusal = ⊥
+
+-- the refusals that leave a transaction as it was, and those of COMMIT that end it
+abbrev pub IsGivenBack : Refusal → Type 0
+IsGivenBack NoMemory = ⊤
+IsGivenBack Stranger = ⊤
+IsGivenBack refusal = ⊥
+
+abbrev pub IsEnding : Refusal → Type 0
+IsEnding (Violated name root) = ⊤
+IsEnding EpochFull = ⊤
+IsEnding (WriteConflict name key by) = ⊤
+IsEnding (Dangerous reader pivot writer) = ⊤
+IsEnding refusal = ⊥
+
+-- the receipt of a number, if there is a token for it
+abbrev pub receipt_of : (id epoch number : ℕ) → Option Token → Option ReceiptState
+receipt_of id epoch number None = None
+receipt_of id epoch number (Some token) = Some (record { id = id; epoch = epoch; number = number; token = token })
+
+abbrev pub receipt_at : List Token → (id epoch number : ℕ) → Option ReceiptState
+receipt_at tokens id epoch number = receipt_of id epoch number (slice_get tokens number)
+
+abbrev pub party_receipt : List Token → (id epoch : ℕ) → Party → Option ReceiptState
+party_receipt tokens id epoch This = None
+party_receipt tokens id epoch (Numbered number) = receipt_at tokens id epoch number
+
+abbrev pub only : Option ReceiptState → List (Option ReceiptState)
+only receipt = receipt ∷ None ∷ None ∷ []
+
+-- the receipts that a refusal shows: of the commit in its way, of the triple, and of the last commit of a full epoch
+abbrev pub shown_among : List Token → (id epoch count : ℕ) → Refusal → List (Option ReceiptState)
+shown_among tokens id epoch count (WriteConflict name key by) = only (receipt_at tokens id epoch by)
+shown_among tokens id epoch count (Dangerous reader pivot writer) =
+    party_receipt tokens id epoch reader
+    ∷ party_receipt tokens id epoch pivot
+    ∷ party_receipt tokens id epoch writer
+    ∷ []
+shown_among tokens id epoch count EpochFull = only (receipt_at tokens id epoch count)
+shown_among tokens id epoch count refusal = only None
+
+abbrev pub shown_for : BookState → Refusal → List (Option ReceiptState)
+shown_for b refusal = shown_among b.tokens b.id b.epoch (length b.core.records) refusal
+
+abbrev pub after_refusal : BookState → (session : List ℕ) → OpenTransaction → Refusal → BookState
+after_refusal b session t refusal = record b { core = refused_to b.core session t refusal }
+
+abbrev pub after_rollback : BookState → OpenTransaction → BookState
+after_rollback b t = record b { core = ended b.core t }
+
+-- a transaction that is given back, with its ticket; receipts are shown where it is not
+abbrev pub with_ticket : TicketState → Option OpenTransaction → Option Ticketed
+with_ticket ticket None = None
+with_ticket ticket (Some t) = Some (record { inner = t; ticket = ticket })
+
+abbrev pub shown_unless : Option OpenTransaction → (shown : List (Option ReceiptState)) → List (Option ReceiptState)
+shown_unless None shown = shown
+shown_unless (Some t) shown = only None
+
+-- A commit that was not made. Its transaction is given back, and all is as it was; or it is ended, as the commits
+-- before it decide.
+abbrev pub IsNotCommitted : BookState → (own : Bool) → (session : List ℕ) → Ticketed → Refusal
+    → (back : Option Ticketed) → (shown : List (Option ReceiptState)) → (after : BookState) → Type 0
+IsNotCommitted b own session t refusal (Some back) shown after =
+    IsUnbegun own refusal × (back ≡ t) × (shown ≡ only None) × (after ≡ b)
+IsNotCommitted b own session t refusal None shown after =
+    (own ≡ true) × IsEnding refusal × IsCommitAnswer b.core session t.inner (Err refusal)
+    × (shown ≡ shown_for b refusal) × (after ≡ after_refusal b session t.inner refusal)
+
+-- the same, as far as it is known without the commits
+abbrev pub IsRefused : Ticketed → Refusal → (back : Option Ticketed) → Type 0
+IsRefused t refusal (Some back) = IsGivenBack refusal × (back ≡ t)
+IsRefused t refusal None = IsEnding refusal
+
+-- a transaction as the commit that it would be
+abbrev pub record_of : (number : ℕ) → (session : List ℕ) → OpenTransaction → Record
+record_of number session t = record {
+  number = number;
+  snapshot = t.snapshot;
+  session = session;
+  trace = t.trace;
+  reads = keys_of t;
+  changes = (outcome_of t).changes;
+}
+
+-- a receipt of the commit with a number and this record
+pub record IsReceiptOf (number : ℕ) (commit : Record) (shown : Option ReceiptState) : Type 0 where
+  pub receipt : ReceiptState
+  pub is : shown ≡ Some receipt
+  pub number_is : receipt.number ≡ number
+  pub holds : receipt.token.value.commit ≡ Some commit
+  pub numbered : commit.number ≡ number
+
+-- the commit in the way of a write conflict is after the snapshot, and the row that is named is in both net changes
+pub record ShowsWriter (t : OpenTransaction) (name : List ℕ) (key : Value) (by : ℕ)
+    (shown : List (Option ReceiptState)) : Type 0 where
+  pub receipt : Option ReceiptState
+  pub commit : Record
+  pub table : ℕ
+  pub alone : shown ≡ only receipt
+  pub shows : IsReceiptOf by commit receipt
+  pub above : t.snapshot < by
+  pub named : slice_get (names_of t.declared.tables) table ≡ Some name
+  pub own : Contains (map place_of (outcome_of t).changes) (record { table = table; key = key })
+  pub theirs : Contains (map place_of commit.changes) (record { table = table; key = key })
+
+-- a party of a triple: the transaction that is refused, with a number above the other's, or the commit that is shown
+abbrev pub IsParty : (this : Record) → Party → Option ReceiptState → Record → Type 0
+IsParty this This shown commit = (shown ≡ None) × (commit ≡ this)
+IsParty this (Numbered number) shown commit = IsReceiptOf number commit shown × (number < this.number)
+
+-- those that are shown are a dangerous triple with the transaction
+pub record ShowsTriple (session : List ℕ) (t : OpenTransaction) (reader pivot writer : Party)
+    (shown : List (Option ReceiptState)) : Type 0 where
+  pub number : ℕ
+  pub first : Option ReceiptState
+  pub second : Option ReceiptState
+  pub third : Option ReceiptState
+  pub three : shown ≡ first ∷ second ∷ third ∷ []
+  pub reads : Record
+  pub turns : Record
+  pub writes : Record
+  pub reader_is : IsParty (record_of number session t) reader first reads
+  pub pivot_is : IsParty (record_of number session t) pivot second turns
+  pub writer_is : IsParty (record_of number session t) writer third writes
+  pub danger : IsDangerous reads turns writes
+
+-- the last commit of a full epoch
+pub record ShowsLast (limit : ℕ) (shown : List (Option ReceiptState)) : Type 0 where
+  pub receipt : ReceiptState
+  pub alone : shown ≡ only (Some receipt)
+  pub number_is : receipt.number ≡ limit
+
+-- why a commit was refused: an assertion is false on the transaction's own view, or what the receipts show
+abbrev pub IsReason : (limit : ℕ) → (session : List ℕ) → OpenTransaction → Refusal
+    → (shown : List (Option ReceiptState)) → Type 0
+IsReason limit session t (Violated name root) shown = (outcome_of t).refused ≡ Some (Violated name root)
+IsReason limit session t EpochFull shown = ShowsLast limit shown
+IsReason limit session t (WriteConflict name key by) shown = ShowsWriter t name key by shown
+IsReason limit session t (Dangerous reader pivot writer) shown = ShowsTriple session t reader pivot writer shown
+IsReason limit session t refusal shown = ⊤
+
+-- no assertion is false on these tables
+abbrev pub IsSatisfied : Shown → Type 0
+IsSatisfied view = violation (layouts_in view.declared) view.declared.assertions view.state ≡ None
+
+-- an assertion of a form that knows no unknown is true, and one of the other form is not false
+abbrev pub IsUpheld : Form → Option Truth → Type 0
+IsUpheld form None = ⊥
+IsUpheld (ByRow table condition queries) (Some truth) = truth ≡ True
+IsUpheld (ByGroup table kept group having aggregates) (Some truth) = truth ≡ True
+IsUpheld (Single condition queries) (Some truth) = truth ≢ False
+
+-- how an assertion stands on committed tables, if there is one
+abbrev pub IsStanding : Option Assertion → Option Truth → Type 0
+IsStanding None answer = answer ≡ None
+IsStanding (Some a) answer = IsUpheld a.form answer

@@ -1,0 +1,181 @@
+-- What lies under a manager's lock, and which sessions, transactions and receipts are its own.
+use Rattle.std.specs.Prelude.{◌≡◌, ◌<◌, ◌≤◌, ◌+◌, ◌==◌, ◌&&◌, ◌++◌, zero, suc, ℕ, Bool, false, nat_le, nat_lt, List}
+use Rattle.std.specs.Prelude.{[], ◌∷◌, length, reverse, slice_get, Option, Some, None, Contains}
+use Rattle.boxcar.specs.Table.{Where, Shelves, Shows}
+use Rattle.assertion.specs.Declarations.{Declared}
+use Rattle.assertion.specs.Meaning.{State}
+use Rattle.live.specs.Held.{is_held}
+use Rattle.serial.specs.declared.records.Record.{Record}
+use Rattle.serial.specs.Epoch.{state_of}
+use Rattle.txn.specs.Transactions.{OpenTransaction}
+use Rattle.commit.specs.Cores.{CoreState, committed, newest_tables, record_of, with_begun, with_commit}
+use Rattle.session.specs.declared.items.Item.{Item}
+use Rattle.session.specs.Limits.{LimitsState}
+
+-- what shows an item of a shelf
+abbrev pub Token : Type 0
+Token = Where Item
+
+-- the record of the commit with a number, of commits that are numbered from 1
+abbrev pub record_at : List Record → ℕ → Option Record
+record_at records zero = None
+record_at records (suc n) = slice_get records n
+
+-- what stands on the shelf for a number: the record of that commit, and the tables after so many commits
+abbrev pub item_at : (epoch : ℕ) → Declared → State → List Record → ℕ → Item
+item_at epoch declared start records number = record {
+  epoch = epoch;
+  number = number;
+  commit = record_at records number;
+  view = record { declared = declared; state = state_of declared start (reverse records) number };
+}
+
+-- the commits, whose they are, a token for each number from 0, and how many sessions were handed out of at most so many
+pub record BookState : Type 0 where
+  pub core : CoreState
+  pub id : ℕ
+  pub epoch : ℕ
+  pub tokens : List Token
+  pub handed : ℕ
+  pub most : ℕ
+
+-- the token is of this shelf, and was given for the item of this number
+pub record IsToken (shelf : Shelves) (epoch : ℕ) (declared : Declared) (start : State) (records : List Record)
+    (number : ℕ) (token : Token) : Type 0 where
+  pub shown : Shows shelf token
+  pub item : token.value ≡ item_at epoch declared start records number
+
+-- each is, and there is one for each number
+pub record AreTokens (shelf : Shelves) (epoch : ℕ) (declared : Declared) (start : State) (records : List Record)
+    (tokens : List Token) : Type 0 where
+  pub count : length tokens ≡ length records + 1
+  pub each : (number : ℕ) (token : Token) → slice_get tokens number ≡ Some token
+      → IsToken shelf epoch declared start records number token
+
+-- what holds whenever the lock is free
+pub record IsBook (shelf : Shelves) (limits : LimitsState) (b : BookState) : Type 0 where
+  pub commits : b.core.limit ≡ limits.commits
+  pub sessions : b.most ≡ limits.sessions
+  pub handed : b.handed ≤ b.most
+  pub idle : b.core.prepared ≡ None
+  pub tokens : AreTokens shelf b.epoch b.core.declared b.core.start b.core.records b.tokens
+
+-- a session: whose it is, its name, and the greatest number that it has seen in begins and receipts
+pub record SessionState : Type 0 where
+  pub id : ℕ
+  pub epoch : ℕ
+  pub name : List ℕ
+  pub seen : ℕ
+
+-- a ticket: whose it is, and the token of its transaction's snapshot
+pub record TicketState : Type 0 where
+  pub id : ℕ
+  pub epoch : ℕ
+  pub token : Token
+
+-- a transaction with its ticket
+pub record Ticketed : Type 0 where
+  pub inner : OpenTransaction
+  pub ticket : TicketState
+
+-- the tables on which the transaction began are those of the ticket's token
+abbrev pub IsTicketed : Ticketed → Type 0
+IsTicketed t = t.ticket.token.value.view ≡ record { declared = t.inner.declared; state = t.inner.start }
+
+-- a receipt: whose it is, its number, and the token of its record
+pub record ReceiptState : Type 0 where
+  pub id : ℕ
+  pub epoch : ℕ
+  pub number : ℕ
+  pub token : Token
+
+-- the token is of this shelf, and was given for an item of this epoch and number
+pub record IsReceipt (shelf : Shelves) (epoch number : ℕ) (token : Token) : Type 0 where
+  pub shown : Shows shelf token
+  pub epoch_is : token.value.epoch ≡ epoch
+  pub number_is : token.value.number ≡ number
+
+-- tokens that serve for receipts
+pub record AreReceipts (shelf : Shelves) (epoch : ℕ) (tokens : List Token) : Type 0 where
+  pub each : (number : ℕ) (token : Token) → slice_get tokens number ≡ Some token → IsReceipt shelf epoch number token
+
+-- the Book and the session are of the manager that asks, and the session has seen no number above the Book's
+abbrev pub knows : BookState → SessionState → (id epoch : ℕ) → Bool
+knows b s id epoch =
+    (b.id == id)
+    && ((b.epoch == epoch) && ((s.id == id) && ((s.epoch == epoch) && nat_le s.seen (length b.core.records))))
+
+pub record IsKnown (b : BookState) (s : SessionState) (id epoch : ℕ) : Type 0 where
+  pub book_id : b.id ≡ id
+  pub book_epoch : b.epoch ≡ epoch
+  pub session_id : s.id ≡ id
+  pub session_epoch : s.epoch ≡ epoch
+  pub seen : s.seen ≤ length b.core.records
+
+-- the token is the one with this index
+abbrev pub is_index : (index : ℕ) → Option Token → Bool
+is_index index None = false
+is_index index (Some token) = token.index == index
+
+-- The Book and the ticket are of the manager that asks, the transaction that began with this number and snapshot has
+-- not ended, and its token is the Book's own.
+abbrev pub owns : BookState → TicketState → (number snapshot id epoch : ℕ) → Bool
+owns b t number snapshot id epoch =
+    (b.id == id)
+    && ((b.epoch == epoch)
+    && ((t.id == id)
+    && ((t.epoch == epoch)
+    && (is_held number snapshot b.core.live.snapshots && is_index t.token.index (slice_get b.tokens snapshot)))))
+
+-- the Book has a token for this number, with this index
+pub record IsAt (b : BookState) (number index : ℕ) : Type 0 where
+  pub token : Token
+  pub at : slice_get b.tokens number ≡ Some token
+  pub same : token.index ≡ index
+
+pub record IsOwned (b : BookState) (t : TicketState) (number snapshot id epoch : ℕ) : Type 0 where
+  pub book_id : b.id ≡ id
+  pub book_epoch : b.epoch ≡ epoch
+  pub ticket_id : t.id ≡ id
+  pub ticket_epoch : t.epoch ≡ epoch
+  pub held : Contains b.core.live.snapshots (record { ticket = number; snapshot = snapshot })
+  pub token : IsAt b snapshot t.token.index
+
+abbrev pub owns_txn : BookState → Ticketed → (id epoch : ℕ) → Bool
+owns_txn b t id epoch = owns b t.ticket t.inner.ticket t.inner.snapshot id epoch
+
+-- the Book knows the session, and the transaction is its own
+abbrev pub is_own : BookState → SessionState → Ticketed → (id epoch : ℕ) → Bool
+is_own b s t id epoch = knows b s id epoch && owns_txn b t id epoch
+
+-- the Book and the receipt are of the manager that asks, and its token is the Book's own
+abbrev pub is_kept : BookState → ReceiptState → (id epoch : ℕ) → Bool
+is_kept b r id epoch =
+    (b.id == id)
+    && ((b.epoch == epoch)
+    && ((r.id == id)
+    && ((r.epoch == epoch) && (nat_lt 0 r.number && is_index r.token.index (slice_get b.tokens r.number)))))
+
+pub record IsKept (b : BookState) (r : ReceiptState) (id epoch : ℕ) : Type 0 where
+  pub book_id : b.id ≡ id
+  pub book_epoch : b.epoch ≡ epoch
+  pub receipt_id : r.id ≡ id
+  pub receipt_epoch : r.epoch ≡ epoch
+  pub positive : 0 < r.number
+  pub token : IsAt b r.number r.token.index
+
+-- the Book after a begin, a commit, a refused commit and a rollback
+abbrev pub after_begin : BookState → BookState
+after_begin b = record b { core = with_begun b.core }
+
+abbrev pub after_commit : BookState → (session : List ℕ) → OpenTransaction → Token → BookState
+after_commit b session t token = record b { core = committed b.core session t; tokens = b.tokens ++ token ∷ [] }
+
+-- the item of the next commit
+abbrev pub item_after : (epoch : ℕ) → CoreState → (session : List ℕ) → OpenTransaction → Item
+item_after epoch c session t = record {
+  epoch = epoch;
+  number = length c.records + 1;
+  commit = Some (record_of c session t);
+  view = newest_tables (with_commit c (record_of c session t));
+}

@@ -1,0 +1,654 @@
+//! What lies under the lock.
+
+ghost use Rattle.std.specs.Prelude.{◌≡◌, ◌≤◌, ◌<◌, ◌+◌, ◌-◌, ◌∷◌, [], length, true, false, Ok};
+ghost use Rattle.std.specs.Prelude.{Some, None, Contains, IfOk, IfErr, IsOkUnless, OnOk, slice_get};
+ghost use Rattle.value.specs.declared.refusals.Refusal.TheVariants.{NoMemory, Stranger, TooManySessions};
+ghost use Rattle.value.specs.Ordered.{HoldsOf};
+ghost use Rattle.boxcar.specs.Table.{Shows};
+ghost use Rattle.alone.specs.Alone.{IsSound};
+ghost use Rattle.modes.specs.Modes.{assertion_of};
+ghost use Rattle.serial.specs.Commits.{IsLog};
+ghost use Rattle.serial.specs.Epoch.{state_of};
+ghost use Rattle.txn.specs.Transactions.{begun, truth_of};
+ghost use Rattle.commit.specs.Cores.{IsCommitAnswer, IsLive, IsSerializable, log_of, newest_tables, record_of};
+ghost use Rattle.commit.specs.Runs.{empty_core};
+ghost use Rattle.session.specs.Books.{AreReceipts, IsBook, IsKept, IsKnown, IsOwned, IsTicketed, IsToken};
+ghost use Rattle.session.specs.Books.{after_begin, after_commit, is_index, is_kept, is_own, knows, owns, owns_txn};
+ghost use Rattle.session.specs.Answers.{IsNotCommitted, IsReason, IsSatisfied, IsStanding, IsUnbegun, after_rollback};
+ghost use Rattle.session.specs.Answers.{only, party_receipt, receipt_at, shown_among, shown_unless};
+ghost use Rattle.session.specs.Answers.{with_ticket};
+
+use crate::items::Item;
+use crate::limits::Limits;
+use crate::making::append;
+use crate::named::Named;
+use crate::receipts::Receipt;
+use crate::sessions::Session;
+use crate::shelf::{Shelf, Token};
+use crate::tickets::{Closed, CommitFault, Ticket, Txn};
+use commit::{Core, Uncommitted};
+use delta::View;
+use serial::Record;
+use std::alloc::Global;
+use std::marker::{Model, PhantomData};
+use std::sync::Wait;
+use threeval::Truth;
+use txn::truth_on;
+use value::{Party, Refusal, Text};
+
+/// What lies under a manager's lock: the commits, whose they are, a token of the shelf for each number, and how many
+/// sessions were handed out.
+#[derive(Drop)]
+pub struct Book<N: Named> {
+    core: Core,
+    id: u64,
+    epoch: u64,
+    tokens: Vec<Token>,
+    handed: u64,
+    most: u64,
+    of: PhantomData<N>,
+}
+
+impl<N: Named> Model for Book<N> {
+    ghost use Rattle.cond.specs.contracts.conds.Cond as cond_type;
+    ghost use Rattle.cond.specs.contracts.exprs.Expr as expr_type;
+    ghost use Rattle.std.specs.Coded.{codes};
+    ghost use Rattle.session.specs.Books.{BookState, IsBook};
+
+    ghost Value = { BookState };
+
+    ghost coded = { Prim.hlevel (codes, cond_type.the_row.coded, expr_type.the_row.coded) };
+
+    ghost view = { λ b. record {
+      core = b.core;
+      id = b.id;
+      epoch = b.epoch;
+      tokens = b.tokens.items;
+      handed = b.handed;
+      most = b.most;
+    } };
+
+    ghost invariant = { λ b. IsBook (N.shelf b.id) (N.limits b.id) (record {
+      core = b.core;
+      id = b.id;
+      epoch = b.epoch;
+      tokens = b.tokens.items;
+      handed = b.handed;
+      most = b.most;
+    }) };
+}
+
+impl<N: Named> Book<N> {
+    /// No commit yet, over tables on which no assertion is false, with the token of these tables. NoMemory is the
+    /// only error.
+    pub(crate) fn open<R: Wait>(
+        rt: &R,
+        alloc: Global,
+        shelf: &Shelf,
+        id: u64,
+        epoch: u64,
+        loaded: View,
+        limits: &Limits,
+    ) -> Result<(Book<N>, Token), Refusal>
+        requires shelf { shelf.now ≡ N.shelf id }
+        requires limits { limits.now ≡ N.limits id }
+        requires sound { IsSound loaded.declared loaded.state }
+        ensures only_memory { IsOkUnless result NoMemory }
+        ensures whose { IfOk result (λ opened. (opened.0.id ≡ id) × (opened.0.epoch ≡ epoch)) }
+        ensures core { IfOk result (λ opened. opened.0.core ≡ empty_core limits.now.commits loaded) }
+        ensures handed { IfOk result (λ opened. (opened.0.handed ≡ 0) × (opened.0.most ≡ limits.now.sessions)) }
+        ensures token { IfOk result (λ opened. opened.0.tokens ≡ opened.1 ∷ []) }
+        ensures shown { IfOk result (λ opened. Shows shelf.now opened.1) }
+        ensures loaded { IfOk result (λ opened. opened.1.value.view ≡ loaded) }
+    {
+        let view = loaded.copy()?;
+        let core = Core::new(alloc, limits.commits(), loaded)?;
+        let mut tokens = Vec::with_capacity(alloc, 1)?;
+        let token = shelf.put(rt, first_item(epoch, view))?;
+        tokens.push_reserved(token.again());
+        let book = Book {
+            core,
+            id,
+            epoch,
+            tokens,
+            handed: 0,
+            most: limits.sessions(),
+            of: PhantomData,
+        };
+        Ok((book, token))
+    }
+
+    /// Hands out one more session.
+    ///
+    /// # Errors
+    ///
+    /// [`Refusal::TooManySessions`] where as many were handed out as the limit says. All is then as it was.
+    pub fn session(&mut self, id: u64, epoch: u64, name: Text) -> Result<Session<N>, Refusal>
+        ensures session { IfOk result (λ session. session ≡ record { id = id; epoch = epoch; name = name; seen = 0 }) }
+        ensures handed { IfOk result (λ _. self.old.handed < self.old.most) }
+        ensures after { IfOk result (λ _. self.new ≡ record self.old { handed = self.old.handed + 1 }) }
+        ensures full { IfErr result (λ refusal. (refusal ≡ TooManySessions) × (self.old.handed ≡ self.old.most)) }
+        ensures same { IfErr result (λ _. self.new ≡ self.old) }
+    {
+        if self.handed >= self.most {
+            return Err(Refusal::TooManySessions);
+        }
+        self.handed += 1;
+        Ok(Session::new(id, epoch, name))
+    }
+
+    /// A transaction begins on the newest tables.
+    ///
+    /// # Errors
+    ///
+    /// [`Refusal::Stranger`] exactly where the Book or the session is not of the manager that asks, or the session
+    /// has seen a number above the Book's; or [`Refusal::NoMemory`]. All is then as it was.
+    pub fn begin(
+        &mut self,
+        id: u64,
+        epoch: u64,
+        session: &mut Session<N>,
+    ) -> Result<Txn<N>, Refusal>
+        ensures known { IfOk result (λ _. knows self.old session.old id epoch ≡ true) }
+        ensures begun { IfOk result (λ txn.
+            txn.inner ≡ begun self.old.core.live.begun (length self.old.core.records) (newest_tables self.old.core)) }
+        ensures whose { IfOk result (λ txn. (txn.ticket.id ≡ id) × (txn.ticket.epoch ≡ epoch)) }
+        ensures token { IfOk result (λ txn. slice_get self.old.tokens txn.inner.snapshot ≡ Some txn.ticket.token) }
+        ensures item { IfOk result (λ txn. txn.ticket.token.value.number ≡ txn.inner.snapshot) }
+        ensures fresh { IfOk result (λ txn. session.old.seen ≤ txn.inner.snapshot) }
+        ensures after { IfOk result (λ _. self.new ≡ after_begin self.old) }
+        ensures seen { IfOk result (λ txn. session.new ≡ record session.old { seen = txn.inner.snapshot }) }
+        ensures unbegun { IfErr result (IsUnbegun (knows self.old session.old id epoch)) }
+        ensures same { IfErr result (λ _. (self.new ≡ self.old) × (session.new ≡ session.old)) }
+    {
+        if !self.knows(session, id, epoch) {
+            return Err(Refusal::Stranger);
+        }
+        let token = self.newest_token();
+        let inner = self.core.begin()?;
+        session.sees(inner.snapshot());
+        Ok(Txn::new(inner, Ticket::new(id, epoch, token)))
+    }
+
+    /// COMMIT of a transaction of the session. It is the next commit, with a record on the shelf, or is answered as
+    /// the commits before it decide.
+    ///
+    /// # Errors
+    ///
+    /// [`Refusal::Stranger`] exactly where the Book, the session or the transaction is not of the manager that asks,
+    /// or the session has seen a number above the Book's; or [`Refusal::NoMemory`]: then all is as it was, and the
+    /// transaction is given back. Else those of `commit::Core::commit`, which end the transaction, with receipts that
+    /// show why.
+    pub fn commit<R: Wait>(
+        &mut self,
+        rt: &R,
+        shelf: &Shelf,
+        id: u64,
+        epoch: u64,
+        session: &mut Session<N>,
+        closed: Closed<N>,
+    ) -> Result<Receipt<N>, CommitFault<N>>
+        requires shelf { shelf.now ≡ N.shelf id }
+        ensures own { IfOk result (λ _. is_own self.old session.old closed id epoch ≡ true) }
+        ensures answer { IfOk result (λ receipt.
+            IsCommitAnswer self.old.core session.old.name closed.inner (Ok receipt.number)) }
+        ensures whose { IfOk result (λ receipt. (receipt.id ≡ id) × (receipt.epoch ≡ epoch)) }
+        ensures commit { IfOk result (λ receipt.
+            receipt.token.value.commit ≡ Some (record_of self.old.core session.old.name closed.inner)) }
+        ensures newer { IfOk result (λ receipt. session.old.seen < receipt.number) }
+        ensures after { IfOk result (λ receipt.
+            self.new ≡ after_commit self.old session.old.name closed.inner receipt.token) }
+        ensures seen { IfOk result (λ receipt. session.new ≡ record session.old { seen = receipt.number }) }
+        ensures refused { IfErr result (λ fault.
+            IsNotCommitted self.old (is_own self.old session.old closed id epoch) session.old.name closed
+            fault.refusal fault.txn fault.shown self.new) }
+        ensures reason { IfErr result (λ fault.
+            IsReason (N.limits id).commits session.old.name closed.inner fault.refusal fault.shown) }
+        ensures same { IfErr result (λ _. session.new ≡ session.old) }
+    {
+        let number = closed.inner.ticket();
+        let snapshot = closed.inner.snapshot();
+        if !self.knows(session, id, epoch)
+            || !self.owns(&closed.ticket, number, snapshot, id, epoch)
+        {
+            return Err(given_back(Refusal::Stranger, closed.reopen()));
+        }
+        self.settle(shelf, &closed.ticket, number, snapshot, id, epoch);
+        self.commit_own(rt, shelf, id, epoch, session, closed)
+    }
+
+    /// ROLLBACK: the transaction has ended, and nothing of it is kept. It takes no memory.
+    ///
+    /// # Errors
+    ///
+    /// [`Refusal::Stranger`] exactly where the Book or the transaction is not of the manager that asks. All is then
+    /// as it was, and the transaction is given back.
+    pub fn rollback(
+        &mut self,
+        shelf: &Shelf,
+        id: u64,
+        epoch: u64,
+        txn: Txn<N>,
+    ) -> Result<(), (Refusal, Txn<N>)>
+        requires shelf { shelf.now ≡ N.shelf id }
+        ensures own { OnOk result (owns_txn self.old txn id epoch ≡ true) }
+        ensures after { OnOk result (self.new ≡ after_rollback self.old txn.inner) }
+        ensures stranger { IfErr result (λ fault. (fault.0 ≡ Stranger) × (owns_txn self.old txn id epoch ≡ false)) }
+        ensures back { IfErr result (λ fault. fault.1 ≡ txn) }
+        ensures same { IfErr result (λ _. self.new ≡ self.old) }
+    {
+        let number = txn.inner.ticket();
+        let snapshot = txn.inner.snapshot();
+        if !self.owns(&txn.ticket, number, snapshot, id, epoch) {
+            return Err((Refusal::Stranger, txn));
+        }
+        self.settle(shelf, &txn.ticket, number, snapshot, id, epoch);
+        let Txn { inner, ticket: _ } = txn;
+        self.core.end(inner);
+        Ok(())
+    }
+
+    /// The truth of the assertion of a name on the newest tables; none where no assertion has it. It takes no memory.
+    pub fn verdict(&self, name: &Text) -> Option<Truth>
+        ensures { result
+            ≡ truth_of (newest_tables self.now.core) (assertion_of name.now self.now.core.declared.assertions) }
+    {
+        self.core.verdict(name)
+    }
+
+    /// The same of a Book that began on the tables of a token of this shelf; of any other the truth on those tables.
+    pub(crate) fn standing(
+        &self,
+        shelf: &Shelf,
+        id: u64,
+        loaded: &Token,
+        name: &Text,
+    ) -> Option<Truth>
+        requires shelf { shelf.now ≡ N.shelf id }
+        requires shown { Shows (N.shelf id) loaded.now }
+        requires good { IsSatisfied loaded.now.value.view }
+        ensures { IsStanding (assertion_of name.now loaded.now.value.view.declared.assertions) result }
+    {
+        if self.id != id || !is_at(self.tokens.as_slice(), 0, loaded.index()) {
+            return truth_on(&shelf.item(loaded).view, name);
+        }
+        self.begins_on(shelf, id, loaded);
+        self.core.is_log();
+        self.core.is_serializable();
+        self.core.verdict(name)
+    }
+
+    /// The commits.
+    pub fn core(&self) -> &Core
+        ensures core { result.now ≡ self.now.core }
+        ensures book { IsBook (N.shelf self.now.id) (N.limits self.now.id) self.now }
+    {
+        &self.core
+    }
+
+    /// The committed transactions have a serial order, and no committed tables make an assertion false.
+    pub fn is_serializable(&self)
+        ensures { IsSerializable self.now.core }
+    {
+        self.core.is_serializable();
+    }
+}
+
+impl<N: Named> Book<N> {
+    /// The Book and the session are of the manager that asks, and the session has seen no number above the Book's.
+    #[tactic(auto, using(crate::proofs::Known::known_facts))]
+    fn knows(&self, session: &Session<N>, id: u64, epoch: u64) -> bool
+        ensures test { result ≡ knows self.now session.now id epoch }
+        ensures facts { result ≡ true → IsKnown self.now session.now id epoch }
+    {
+        self.id == id
+            && (self.epoch == epoch
+                && (session.id == id
+                    && (session.epoch == epoch
+                        && session.seen <= self.core.records().len() as u64)))
+    }
+
+    /// The Book and the ticket are of the manager that asks, the transaction has not ended, and its token is the one
+    /// that the Book has for its snapshot.
+    #[tactic(auto, using(crate::proofs::Known::owned_facts))]
+    fn owns(&self, ticket: &Ticket<N>, number: u64, snapshot: u64, id: u64, epoch: u64) -> bool
+        ensures test { result ≡ owns self.now ticket.now number snapshot id epoch }
+        ensures facts { result ≡ true → IsOwned self.now ticket.now number snapshot id epoch }
+    {
+        self.id == id
+            && (self.epoch == epoch
+                && (ticket.id == id
+                    && (ticket.epoch == epoch
+                        && (self.core.holds(number, snapshot)
+                            && is_at(
+                                self.tokens.as_slice(),
+                                snapshot as usize,
+                                ticket.token.index(),
+                            )))))
+    }
+
+    /// The Book and the receipt are of the manager that asks, and its token is the one that the Book has for its
+    /// number.
+    #[tactic(auto, using(crate::proofs::Known::kept_facts))]
+    pub(crate) fn keeps(&self, receipt: &Receipt<N>, id: u64, epoch: u64) -> bool
+        ensures test { result ≡ is_kept self.now receipt.now id epoch }
+        ensures facts { result ≡ true → IsKept self.now receipt.now id epoch }
+    {
+        self.id == id
+            && (self.epoch == epoch
+                && (receipt.id == id
+                    && (receipt.epoch == epoch
+                        && (0 < receipt.number
+                            && is_at(
+                                self.tokens.as_slice(),
+                                receipt.number as usize,
+                                receipt.token.index(),
+                            )))))
+    }
+
+    /// How many commits there are.
+    fn count(&self) -> u64
+        ensures count { result ≡ length self.now.core.records }
+        ensures log { IsLog (log_of self.now.core) }
+        ensures book { IsBook (N.shelf self.now.id) (N.limits self.now.id) self.now }
+    {
+        self.core.is_log();
+        self.core.records().len() as u64
+    }
+
+    /// The token of a number.
+    fn token_of(&self, number: u64) -> Token
+        requires { number < length self.now.tokens }
+        ensures at { slice_get self.now.tokens number ≡ Some result }
+        ensures is { let core = self.now.core in
+            IsToken (N.shelf self.now.id) self.now.epoch core.declared core.start core.records number result }
+        ensures count { length self.now.tokens ≡ length self.now.core.records + 1 }
+    {
+        token_at(self.tokens.as_slice(), number as usize)
+    }
+
+    /// The token of the newest number, which shows the newest tables.
+    fn newest_token(&self) -> Token
+        ensures at { slice_get self.now.tokens (length self.now.core.records) ≡ Some result }
+        ensures shown { Shows (N.shelf self.now.id) result }
+        ensures number { result.value.number ≡ length self.now.core.records }
+        ensures view { result.value.view ≡ newest_tables self.now.core }
+        ensures idle { self.now.core.prepared ≡ None }
+    {
+        self.core.is_log();
+        token_at(self.tokens.as_slice(), self.core.records().len())
+    }
+
+    /// COMMIT of a transaction that is known.
+    fn commit_own<R: Wait>(
+        &mut self,
+        rt: &R,
+        shelf: &Shelf,
+        id: u64,
+        epoch: u64,
+        session: &mut Session<N>,
+        closed: Closed<N>,
+    ) -> Result<Receipt<N>, CommitFault<N>>
+        requires shelf { shelf.now ≡ N.shelf id }
+        requires id { self.old.id ≡ id }
+        requires epoch { self.old.epoch ≡ epoch }
+        requires seen { session.old.seen ≤ length self.old.core.records }
+        requires live { IsLive self.old.core closed.inner }
+        ensures answer { IfOk result (λ receipt.
+            IsCommitAnswer self.old.core session.old.name closed.inner (Ok receipt.number)) }
+        ensures whose { IfOk result (λ receipt. (receipt.id ≡ id) × (receipt.epoch ≡ epoch)) }
+        ensures commit { IfOk result (λ receipt.
+            receipt.token.value.commit ≡ Some (record_of self.old.core session.old.name closed.inner)) }
+        ensures newer { IfOk result (λ receipt. session.old.seen < receipt.number) }
+        ensures after { IfOk result (λ receipt.
+            self.new ≡ after_commit self.old session.old.name closed.inner receipt.token) }
+        ensures seen { IfOk result (λ receipt. session.new ≡ record session.old { seen = receipt.number }) }
+        ensures refused { IfErr result (λ fault.
+            IsNotCommitted self.old true session.old.name closed fault.refusal fault.txn fault.shown self.new) }
+        ensures reason { IfErr result (λ fault.
+            IsReason (N.limits id).commits session.old.name closed.inner fault.refusal fault.shown) }
+        ensures same { IfErr result (λ _. session.new ≡ session.old) }
+    {
+        let count = self.count();
+        let Closed { inner, ticket } = closed;
+        let made = match append(
+            rt,
+            shelf,
+            &mut self.core,
+            &mut self.tokens,
+            epoch,
+            session,
+            inner,
+        ) {
+            Ok(made) => made,
+            Err(fault) => {
+                return Err(not_committed(
+                    self.tokens.as_slice(),
+                    self.id,
+                    self.epoch,
+                    count,
+                    ticket,
+                    fault,
+                ));
+            }
+        };
+        session.sees(made.number);
+        Ok(Receipt::new(id, epoch, made.number, made.token))
+    }
+
+    /// A ticket whose index is that of the Book's own token shows the tables of its snapshot.
+    fn settle(
+        &self,
+        shelf: &Shelf,
+        ticket: &Ticket<N>,
+        number: u64,
+        snapshot: u64,
+        id: u64,
+        epoch: u64,
+    )
+        requires shelf { shelf.now ≡ N.shelf id }
+        requires owned { IsOwned self.now ticket.now number snapshot id epoch }
+        ensures id { self.now.id ≡ id }
+        ensures epoch { self.now.epoch ≡ epoch }
+        ensures idle { self.now.core.prepared ≡ None }
+        ensures held { Contains self.now.core.live.snapshots (record { ticket = number; snapshot = snapshot }) }
+        ensures within { snapshot ≤ length self.now.core.records }
+        ensures view { ticket.now.token.value.view
+            ≡ record {
+              declared = self.now.core.declared;
+              state = state_of self.now.core.declared self.now.core.start (log_of self.now.core) snapshot;
+            } }
+    {
+        let _ = &self.core;
+        let mine = self.token_of(snapshot);
+        shelf.agrees(&mine, &ticket.token);
+    }
+
+    /// A token whose index is that of the Book's first shows the tables before the first commit.
+    fn begins_on(&self, shelf: &Shelf, id: u64, loaded: &Token)
+        requires shelf { shelf.now ≡ N.shelf id }
+        requires shown { Shows (N.shelf id) loaded.now }
+        requires id { self.now.id ≡ id }
+        requires same { is_index loaded.now.index (slice_get self.now.tokens 0) ≡ true }
+        ensures { self.now.core.declared ≡ loaded.now.value.view.declared }
+    {
+        let mine = self.token_of(0);
+        shelf.agrees(&mine, loaded);
+    }
+
+    /// The record of a receipt, which the Book keeps.
+    pub(crate) fn record_shown(
+        &self,
+        shelf: &Shelf,
+        receipt: &Receipt<N>,
+        id: u64,
+        epoch: u64,
+    ) -> &Record
+        requires shelf { shelf.now ≡ N.shelf id }
+        requires kept { IsKept self.now receipt.now id epoch }
+        ensures very { receipt.now.token.value.commit ≡ Some result.now }
+        ensures at { slice_get self.now.core.records (receipt.now.number - 1) ≡ Some result.now }
+    {
+        let mine = self.token_of(receipt.number);
+        shelf.agrees(&mine, &receipt.token);
+        record_before(self.core.records(), receipt.number)
+    }
+}
+
+/// What stands on the shelf before the first commit.
+fn first_item(epoch: u64, view: View) -> Item
+    ensures { result ≡ record { epoch = epoch; number = 0; commit = None; view = view } }
+{
+    Item {
+        epoch,
+        number: 0,
+        commit: None,
+        view,
+    }
+}
+
+fn record_before(records: &[Record], number: u64) -> &Record
+    requires { (0 < number) × (number < length records.now + 1) }
+    ensures { slice_get records.now (number - 1) ≡ Some result.now }
+{
+    &records[(number - 1) as usize]
+}
+
+fn is_at(tokens: &[Token], number: usize, index: usize) -> bool
+    ensures { result ≡ is_index index (slice_get tokens.now number) }
+{
+    match tokens.get(number) {
+        Some(token) => token.index() == index,
+        None => false,
+    }
+}
+
+fn token_at(tokens: &[Token], number: usize) -> Token
+    requires { number < length tokens.now }
+    ensures { slice_get tokens.now number ≡ Some result }
+{
+    tokens[number].again()
+}
+
+fn find_token(tokens: &[Token], number: usize) -> Option<Token>
+    ensures { result ≡ slice_get tokens.now number }
+{
+    match tokens.get(number) {
+        Some(token) => Some(token.again()),
+        None => None,
+    }
+}
+
+/// A transaction that was not committed, given back.
+fn given_back<N: Named>(refusal: Refusal, txn: Txn<N>) -> CommitFault<N>
+    ensures refusal { result.refusal ≡ refusal }
+    ensures txn { result.txn ≡ Some txn }
+    ensures shown { result.shown ≡ only None }
+{
+    CommitFault {
+        refusal,
+        txn: Some(txn),
+        shown: [None, None, None],
+    }
+}
+
+/// A commit that was not made, with the ticket of its transaction, or the receipts that show why.
+fn not_committed<N: Named>(
+    tokens: &[Token],
+    id: u64,
+    epoch: u64,
+    count: u64,
+    ticket: Ticket<N>,
+    fault: Uncommitted,
+) -> CommitFault<N>
+    requires receipts { AreReceipts (N.shelf id) epoch tokens.now }
+    requires ticketed { HoldsOf (λ t. IsTicketed (record { inner = t; ticket = ticket })) fault.txn }
+    ensures refusal { result.refusal ≡ fault.refusal }
+    ensures txn { result.txn ≡ with_ticket ticket fault.txn }
+    ensures shown { result.shown ≡ shown_unless fault.txn (shown_among tokens.now id epoch count fault.refusal) }
+{
+    let Uncommitted { refusal, txn } = fault;
+    match txn {
+        Some(inner) => given_back(refusal, Txn::new(inner, ticket)),
+        None => ended(tokens, id, epoch, count, refusal),
+    }
+}
+
+/// A transaction that was not committed, and has ended.
+fn ended<N: Named>(
+    tokens: &[Token],
+    id: u64,
+    epoch: u64,
+    count: u64,
+    refusal: Refusal,
+) -> CommitFault<N>
+    requires { AreReceipts (N.shelf id) epoch tokens.now }
+    ensures refusal { result.refusal ≡ refusal }
+    ensures txn { result.txn ≡ None }
+    ensures shown { result.shown ≡ shown_among tokens.now id epoch count refusal }
+{
+    let shown = shown_by(tokens, id, epoch, count, &refusal);
+    CommitFault {
+        refusal,
+        txn: None,
+        shown,
+    }
+}
+
+/// The receipts that a refusal shows.
+fn shown_by<N: Named>(
+    tokens: &[Token],
+    id: u64,
+    epoch: u64,
+    count: u64,
+    refusal: &Refusal,
+) -> [Option<Receipt<N>>; 3]
+    requires { AreReceipts (N.shelf id) epoch tokens.now }
+    ensures { result ≡ shown_among tokens.now id epoch count refusal.now }
+{
+    match refusal {
+        Refusal::WriteConflict {
+            table: _,
+            key: _,
+            by,
+        } => [receipt_at(tokens, id, epoch, *by), None, None],
+        Refusal::Dangerous {
+            reader,
+            pivot,
+            writer,
+        } => [
+            party_receipt(tokens, id, epoch, *reader),
+            party_receipt(tokens, id, epoch, *pivot),
+            party_receipt(tokens, id, epoch, *writer),
+        ],
+        Refusal::EpochFull => [receipt_at(tokens, id, epoch, count), None, None],
+        _ => [None, None, None],
+    }
+}
+
+/// The receipt of a party of a dangerous triple; none of the transaction that is refused.
+fn party_receipt<N: Named>(
+    tokens: &[Token],
+    id: u64,
+    epoch: u64,
+    party: Party,
+) -> Option<Receipt<N>>
+    requires { AreReceipts (N.shelf id) epoch tokens.now }
+    ensures { result ≡ party_receipt tokens.now id epoch party }
+{
+    match party {
+        Party::This => None,
+        Party::Number(number) => receipt_at(tokens, id, epoch, number),
+    }
+}
+
+/// The receipt of a number, if there is a token for it.
+fn receipt_at<N: Named>(tokens: &[Token], id: u64, epoch: u64, number: u64) -> Option<Receipt<N>>
+    requires { AreReceipts (N.shelf id) epoch tokens.now }
+    ensures { result ≡ receipt_at tokens.now id epoch number }
+{
+    match find_token(tokens, number as usize) {
+        Some(token) => Some(Receipt::new(id, epoch, number, token)),
+        None => None,
+    }
+}

@@ -1,0 +1,41 @@
+//! The running manager: sessions on threads, one lock, and the committed tables on a shelf beside it.
+//!
+//! A [`Manager`] is a [`Book`] under a lock, and a [`Shelf`]. The book is the commits (`commit::Core`), with a token
+//! of the shelf for each number; the shelf has for each number the record of that commit and the tables after it, and
+//! only grows. Each call of a manager takes the lock for one call of the book of the same name, which is one event of
+//! the core. A transaction ([`Txn`]) is run by its thread on values of its own: its statements, and the check of
+//! COMMIT, take no lock.
+//!
+//! What a thread brings to the lock is known again by its token. A transaction carries the token of its snapshot, and
+//! the book has its own token for that number; tokens of one index show one item. So the lock knows on which tables
+//! the transaction ran, and a [`Receipt`] shows the very record that was committed. Which shelf, and which limits,
+//! belong to a manager's id is said by an `N: `[`Named`], which is chosen once, where the shelves are made.
+//!
+//! What the layer above may rest on: whenever the lock is free, the book's type keeps that its core is serializable
+//! (`commit::Core::is_serializable`) and that its tokens are those of its commits (`specs/Books`); each call of a
+//! [`Book`] is decided by it (`specs/Answers`). Nothing is claimed of who comes first, or that a call that waits
+//! returns.
+#![tactic(auto)]
+
+mod book;
+mod history;
+mod items;
+mod limits;
+mod making;
+mod manager;
+mod named;
+mod receipts;
+mod sessions;
+mod shelf;
+mod tickets;
+
+pub use book::Book;
+pub use history::History;
+pub use items::Item;
+pub use limits::Limits;
+pub use manager::Manager;
+pub use named::Named;
+pub use receipts::Receipt;
+pub use sessions::Session;
+pub use shelf::{Shelf, Token};
+pub use tickets::{Closed, CommitFault, Txn, Unclosed};

@@ -1,0 +1,60 @@
+//! How much an epoch holds.
+
+ghost use Rattle.std.specs.Prelude.{◌≡◌, true, false, IfSome, IfNone};
+ghost use Rattle.session.specs.Limits.{are_limits};
+
+use std::marker::Model;
+
+/// How many commits an epoch may have, 1 to 4,294,967,295, and how many sessions, 1 to 65,536.
+#[derive(Debug, Drop)]
+pub struct Limits {
+    commits: u64,
+    sessions: u64,
+}
+
+impl Model for Limits {
+    ghost use Rattle.std.specs.Prelude.{◌≡◌, true};
+    ghost use Rattle.session.specs.Limits.{LimitsState, are_limits};
+
+    ghost Value = { LimitsState };
+
+    ghost view = { λ l. record { commits = l.commits; sessions = l.sessions } };
+
+    ghost invariant = { λ l. are_limits l.commits l.sessions ≡ true };
+}
+
+impl Limits {
+    /// These limits, if they are within their ranges. It takes no memory.
+    pub fn new(commits: u64, sessions: u64) -> Option<Limits>
+        ensures some { IfSome result (λ limits.
+            (limits ≡ record { commits = commits; sessions = sessions }) × (are_limits commits sessions ≡ true)) }
+        ensures none { IfNone result (are_limits commits sessions ≡ false) }
+    {
+        if are_limits(commits, sessions) {
+            Some(Limits { commits, sessions })
+        } else {
+            None
+        }
+    }
+
+    /// How many commits.
+    pub fn commits(&self) -> u64
+        ensures value { result ≡ self.now.commits }
+        ensures within { are_limits result self.now.sessions ≡ true }
+    {
+        self.commits
+    }
+
+    /// How many sessions.
+    pub fn sessions(&self) -> u64
+        ensures { result ≡ self.now.sessions }
+    {
+        self.sessions
+    }
+}
+
+fn are_limits(commits: u64, sessions: u64) -> bool
+    ensures { result ≡ are_limits commits sessions }
+{
+    0 < commits && (commits <= 4_294_967_295 && (0 < sessions && sessions <= 65_536))
+}

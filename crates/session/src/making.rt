@@ -1,0 +1,192 @@
+//! Commits that are made.
+
+ghost use Rattle.std.specs.Prelude.{◌≡◌, ◌≢◌, ◌+◌, ◌++◌, ◌∷◌, [], Ok, Some, None, IfOk, IfErr, IfSome};
+ghost use Rattle.std.specs.Prelude.{IsOkUnless};
+ghost use Rattle.value.specs.declared.refusals.Refusal.TheVariants.{NoMemory};
+ghost use Rattle.boxcar.specs.Table.{Shows};
+ghost use Rattle.commit.specs.Cores.{IsCommitAnswer, IsLive, IsUncommitted, committed, log_of, pending_txn, unprepared};
+ghost use Rattle.serial.specs.Commits.{IsLog};
+ghost use Rattle.session.specs.Books.{item_after};
+ghost use Rattle.session.specs.Answers.{record_of};
+
+use crate::items::Item;
+use crate::named::Named;
+use crate::sessions::Session;
+use crate::shelf::{Shelf, Token};
+use commit::{Core, Prepared, Uncommitted};
+use copies::{copy_changes, copy_reads, copy_trace};
+use serial::Record;
+use std::alloc::Global;
+use std::sync::Wait;
+use txn::Closed;
+use value::{Refusal, Text};
+
+/// A commit that was made: its number, and the token of its item.
+#[derive(Drop)]
+pub struct Made {
+    pub number: u64,
+    pub token: Token,
+}
+
+/// Makes a commit of a session, with its item on the shelf, and notes its token behind the others. Where it is
+/// refused, the tokens are as they were.
+///
+/// # Errors
+///
+/// Those of `commit::Core::commit`.
+pub fn append<N: Named, R: Wait>(
+    rt: &R,
+    shelf: &Shelf,
+    core: &mut Core,
+    tokens: &mut Vec<Token>,
+    epoch: u64,
+    session: &Session<N>,
+    closed: Closed,
+) -> Result<Made, Uncommitted>
+    requires live { IsLive core.old closed }
+    requires idle { core.old.prepared ≡ None }
+    ensures number { IfOk result (λ made. IsCommitAnswer core.old session.now.name closed (Ok made.number)) }
+    ensures shown { IfOk result (λ made. Shows shelf.now made.token) }
+    ensures item { IfOk result (λ made. made.token.value ≡ item_after epoch core.old session.now.name closed) }
+    ensures log { IfOk result (λ _. IsLog (log_of core.new)) }
+    ensures after { IfOk result (λ _. core.new ≡ committed core.old session.now.name closed) }
+    ensures tokens { IfOk result (λ made. tokens.new.items ≡ tokens.old.items ++ made.token ∷ []) }
+    ensures refused { IfErr result (λ fault.
+        IsUncommitted core.old session.now.name closed fault.refusal fault.txn core.new) }
+    ensures same { IfErr result (λ _. tokens.new.items ≡ tokens.old.items) }
+{
+    if tokens.reserve(1).is_err() {
+        return Err(Uncommitted {
+            refusal: Refusal::NoMemory,
+            txn: Some(closed.reopen()),
+        });
+    }
+    let alloc = *tokens.allocator();
+    let made = make(rt, alloc, shelf, core, epoch, session.name(), closed)?;
+    tokens.push_reserved(made.token.again());
+    Ok(made)
+}
+
+/// Makes a commit, with its item on the shelf: it is prepared, the item is pushed, and it is finished; or, where the
+/// item finds no memory, it is given up. The number and the item's token are answered.
+///
+/// # Errors
+///
+/// Those of `commit::Core::commit`.
+fn make<R: Wait>(
+    rt: &R,
+    alloc: Global,
+    shelf: &Shelf,
+    core: &mut Core,
+    epoch: u64,
+    session: &Text,
+    closed: Closed,
+) -> Result<Made, Uncommitted>
+    requires live { IsLive core.old closed }
+    requires idle { core.old.prepared ≡ None }
+    ensures number { IfOk result (λ made. IsCommitAnswer core.old session.now closed (Ok made.number)) }
+    ensures shown { IfOk result (λ made. Shows shelf.now made.token) }
+    ensures item { IfOk result (λ made. made.token.value ≡ item_after epoch core.old session.now closed) }
+    ensures log { IfOk result (λ _. IsLog (log_of core.new)) }
+    ensures after { IfOk result (λ _. core.new ≡ committed core.old session.now closed) }
+    ensures refused { IfErr result (λ fault.
+        IsUncommitted core.old session.now closed fault.refusal fault.txn core.new) }
+{
+    let number = core.prepare(session, closed)?;
+    match put_on(rt, alloc, shelf, core, epoch) {
+        Ok(token) => {
+            core.finish();
+            core.is_log();
+            Ok(Made { number, token })
+        }
+        Err(refusal) => Err(cancel(core, refusal)),
+    }
+}
+
+/// Gives the prepared commit up, and its transaction back.
+fn cancel(core: &mut Core, refusal: Refusal) -> Uncommitted
+    ensures refusal { result.refusal ≡ refusal }
+    ensures txn { result.txn ≡ pending_txn core.old.prepared }
+    ensures after { core.new ≡ unprepared core.old }
+{
+    match core.cancel() {
+        Some(closed) => Uncommitted {
+            refusal,
+            txn: Some(closed.reopen()),
+        },
+        None => Uncommitted { refusal, txn: None },
+    }
+}
+
+/// Puts the item of the prepared commit on the shelf. NoMemory is the only error.
+fn put_on<R: Wait>(
+    rt: &R,
+    alloc: Global,
+    shelf: &Shelf,
+    core: &Core,
+    epoch: u64,
+) -> Result<Token, Refusal>
+    requires prepared { core.now.prepared ≢ None }
+    ensures only_memory { IsOkUnless result NoMemory }
+    ensures shown { IfOk result (λ token. Shows shelf.now token) }
+    ensures item { IfOk result (λ token.
+        IfSome core.now.prepared (λ p. token.value ≡ item_after epoch core.now p.session p.txn)) }
+{
+    let item = next_item(alloc, core, epoch)?;
+    shelf.put(rt, item)
+}
+
+/// The item of the prepared commit. NoMemory is the only error.
+fn next_item(alloc: Global, core: &Core, epoch: u64) -> Result<Item, Refusal>
+    requires prepared { core.now.prepared ≢ None }
+    ensures only_memory { IsOkUnless result NoMemory }
+    ensures item { IfOk result (λ item.
+        IfSome core.now.prepared (λ p. item ≡ item_after epoch core.now p.session p.txn)) }
+{
+    let number = core.records().len() as u64 + 1;
+    match core.prepared() {
+        Some(prepared) => item_of(alloc, prepared, epoch, number),
+        None => unreachable!(),
+    }
+}
+
+/// The item of a commit that has this number.
+fn item_of(alloc: Global, prepared: &Prepared, epoch: u64, number: u64) -> Result<Item, Refusal>
+    ensures only_memory { IsOkUnless result NoMemory }
+    ensures item { IfOk result (λ item.
+        item ≡ record {
+          epoch = epoch;
+          number = number;
+          commit = Some (record_of number prepared.now.session prepared.now.closed);
+          view = prepared.now.tables;
+        }) }
+{
+    let commit = record_of(alloc, prepared, number)?;
+    let view = prepared.tables.copy()?;
+    Ok(Item {
+        epoch,
+        number,
+        commit: Some(commit),
+        view,
+    })
+}
+
+/// The record of a commit that has this number.
+fn record_of(alloc: Global, prepared: &Prepared, number: u64) -> Result<Record, Refusal>
+    ensures only_memory { IsOkUnless result NoMemory }
+    ensures commit { IfOk result (λ commit. commit ≡ record_of number prepared.now.session prepared.now.closed) }
+{
+    let closed = &prepared.closed;
+    let session = prepared.session.copy()?;
+    let trace = copy_trace(alloc, closed.trace())?;
+    let reads = copy_reads(alloc, closed.reads())?;
+    let changes = copy_changes(alloc, closed.changes())?;
+    Ok(Record {
+        number,
+        snapshot: closed.snapshot(),
+        session,
+        trace,
+        reads,
+        changes,
+    })
+}

@@ -1,0 +1,181 @@
+//! The manager.
+
+ghost use Rattle.std.specs.Prelude.{◌≡◌, ◌≢◌, ◌≤◌, ◌<◌, Ok, Err, Some, IfOk, IfErr, OnErr};
+ghost use Rattle.std.specs.Arc.{arc_value};
+ghost use Rattle.value.specs.declared.refusals.Refusal.TheVariants.{NoMemory, Stranger, TooManySessions};
+ghost use Rattle.boxcar.specs.Table.{Shows};
+ghost use Rattle.modes.specs.Modes.{assertion_of};
+ghost use Rattle.commit.specs.Admission.{satisfied};
+ghost use Rattle.session.specs.Books.{IsTicketed};
+ghost use Rattle.session.specs.Answers.{IsReason, IsRefused, IsSatisfied, IsStanding, record_of};
+
+use crate::book::Book;
+use crate::history::History;
+use crate::limits::Limits;
+use crate::named::Named;
+use crate::receipts::Receipt;
+use crate::sessions::Session;
+use crate::shelf::{Shelf, Token};
+use crate::tickets::{CommitFault, Txn, Unclosed};
+use commit::satisfied;
+use definitions::Definitions;
+use std::alloc::Global;
+use std::sync::{Arc, Mutex, Wait};
+use threeval::Truth;
+use value::{Refusal, Text};
+
+/// The manager: the Book under its lock, and the shelf beside it. Threads share it.
+#[derive(Drop)]
+pub struct Manager<N: Named> {
+    shelf: Arc<Shelf>,
+    id: u64,
+    epoch: u64,
+    /// The token of the tables before the first commit.
+    loaded: Token,
+    book: Mutex<Book<N>>,
+    ghost shelf_is: { arc_value shelf ≡ N.shelf id },
+    ghost loaded_is: { Shows (N.shelf id) loaded },
+    ghost good: { IsSatisfied loaded.value.view },
+}
+
+impl<N: Named> Manager<N> {
+    /// A manager of what these definitions define, on the shelf and with the limits that `N` gives for its id. A
+    /// refused call gives neither shelf nor definitions back.
+    ///
+    /// # Errors
+    ///
+    /// [`Refusal::FalseAtCreation`] by the first assertion that is false on the loaded rows, with its least bad root;
+    /// or [`Refusal::NoMemory`].
+    pub fn open<R: Wait>(
+        rt: &R,
+        alloc: Global,
+        shelf: Shelf,
+        id: u64,
+        definitions: Definitions,
+        limits: Limits,
+    ) -> Result<Manager<N>, Refusal>
+        requires shelf { shelf ≡ N.shelf id }
+        requires limits { limits ≡ N.limits id }
+        ensures admitted { IfOk result (λ _. satisfied definitions ≡ Ok definitions) }
+        ensures opened { IfOk result (λ manager.
+            (manager.id ≡ id) × (manager.epoch ≡ 0) × (manager.loaded.value.view ≡ definitions)) }
+        ensures refused { IfErr result (λ refusal. refusal ≢ NoMemory → satisfied definitions ≡ Err refusal) }
+    {
+        let view = definitions.load(alloc)?;
+        let view = satisfied(alloc, view)?;
+        let shared = match Arc::new(alloc, shelf) {
+            Ok(shared) => shared,
+            Err(_) => return Err(Refusal::NoMemory),
+        };
+        let (book, loaded) = Book::open(rt, alloc, &shared, id, 0, view, &limits)?;
+        Ok(Manager {
+            shelf: shared,
+            id,
+            epoch: 0,
+            loaded,
+            book: Mutex::new(book),
+        })
+    }
+
+    /// A session of this name, which stands in its records and refused commits, and may repeat.
+    ///
+    /// # Errors
+    ///
+    /// [`Refusal::TooManySessions`] where as many were handed out as the limit says; or [`Refusal::NoMemory`]. None is
+    /// handed out then.
+    pub fn session<R: Wait>(&self, rt: &R, name: &Text) -> Result<Session<N>, Refusal>
+        ensures session { IfOk result (λ session.
+            session ≡ record { id = self.now.id; epoch = self.now.epoch; name = name.now; seen = 0 }) }
+        ensures refused { IfErr result (λ refusal. refusal ≢ NoMemory → refusal ≡ TooManySessions) }
+    {
+        let name = name.copy()?;
+        self.book.lock(rt).session(self.id, self.epoch, name)
+    }
+
+    /// A transaction begins, on tables that are no older than all that the session has seen.
+    ///
+    /// # Errors
+    ///
+    /// [`Refusal::Stranger`] for another manager's session; or [`Refusal::NoMemory`]. The session is then as it was.
+    pub fn begin<R: Wait>(&self, rt: &R, session: &mut Session<N>) -> Result<Txn<N>, Refusal>
+        ensures fresh { IfOk result (λ txn. session.old.seen ≤ txn.inner.snapshot) }
+        ensures seen { IfOk result (λ txn. session.new ≡ record session.old { seen = txn.inner.snapshot }) }
+        ensures view { IfOk result (λ txn. (txn.ticket.token.value.number ≡ txn.inner.snapshot) × IsTicketed txn) }
+        ensures refused { IfErr result (λ refusal. refusal ≢ NoMemory → refusal ≡ Stranger) }
+        ensures same { OnErr result (session.new ≡ session.old) }
+    {
+        self.book.lock(rt).begin(self.id, self.epoch, session)
+    }
+
+    /// COMMIT. The check of the transaction's own tables takes no lock.
+    ///
+    /// # Errors
+    ///
+    /// [`Refusal::NoMemory`], and [`Refusal::Stranger`] for another manager's session or transaction: the transaction
+    /// is then given back. Any other refusal has ended it, and receipts show why. The session is then as it was.
+    pub fn commit<R: Wait>(
+        &self,
+        rt: &R,
+        session: &mut Session<N>,
+        txn: Txn<N>,
+    ) -> Result<Receipt<N>, CommitFault<N>>
+        ensures newer { IfOk result (λ receipt. session.old.seen < receipt.number) }
+        ensures seen { IfOk result (λ receipt. session.new ≡ record session.old { seen = receipt.number }) }
+        ensures commit { IfOk result (λ receipt.
+            receipt.token.value.commit ≡ Some (record_of receipt.number session.old.name txn.inner)) }
+        ensures whose { IfOk result (λ receipt. (receipt.id ≡ self.now.id) × (receipt.epoch ≡ self.now.epoch)) }
+        ensures refused { IfErr result (λ fault. IsRefused txn fault.refusal fault.txn) }
+        ensures reason { IfErr result (λ fault.
+            IsReason (N.limits self.now.id).commits session.old.name txn.inner fault.refusal fault.shown) }
+        ensures same { OnErr result (session.new ≡ session.old) }
+    {
+        match txn.close_check() {
+            Ok(closed) => self
+                .book
+                .lock(rt)
+                .commit(rt, &self.shelf, self.id, self.epoch, session, closed),
+            Err(Unclosed { refusal, txn }) => Err(CommitFault {
+                refusal,
+                txn: Some(txn),
+                shown: [None, None, None],
+            }),
+        }
+    }
+
+    /// ROLLBACK. It takes no memory.
+    ///
+    /// # Errors
+    ///
+    /// [`Refusal::Stranger`] for another manager's transaction, which is given back.
+    pub fn rollback<R: Wait>(&self, rt: &R, txn: Txn<N>) -> Result<(), (Refusal, Txn<N>)>
+        ensures { IfErr result (λ fault. (fault.0 ≡ Stranger) × (fault.1 ≡ txn)) }
+    {
+        self.book
+            .lock(rt)
+            .rollback(&self.shelf, self.id, self.epoch, txn)
+    }
+
+    /// The truth of the assertion of a name on the newest committed tables; none where no assertion has it. It is
+    /// never false. It takes no memory.
+    pub fn verdict<R: Wait>(&self, rt: &R, name: &Text) -> Option<Truth>
+        ensures { IsStanding (assertion_of name.now self.now.loaded.value.view.declared.assertions) result }
+    {
+        self.book
+            .lock(rt)
+            .standing(&self.shelf, self.id, &self.loaded, name)
+    }
+
+    /// Ends the manager. Its commits are left. It takes no memory.
+    pub fn close(self) -> History<N>
+        ensures { (result.id ≡ self.id) × (result.epoch ≡ self.epoch) }
+    {
+        let Manager {
+            shelf,
+            id,
+            epoch,
+            loaded: _,
+            book,
+        } = self;
+        History::new(shelf, id, epoch, book.into_inner())
+    }
+}
