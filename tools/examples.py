@@ -3,8 +3,8 @@
 
     tools/examples.py [NAME..]        all examples, or those of these names
 
-A folder holds defs.sql, script.sql and expected.txt. The program is built once, by `rt try`, which proves nothing: that is the
-part of `rt ci`, which gives tests no files to read and runs a program on one command line alone.
+A folder holds defs.sql, script.sql and expected.txt. The program is built once, by `rt try`, which proves nothing:
+that is the part of `rt ci`, which gives tests no files to read and runs a program on one command line alone.
 """
 import os
 import shutil

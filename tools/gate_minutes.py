@@ -4,10 +4,10 @@
     tools/gate_minutes.py [--log FILE]        runs `rt ci` here, and prints the table of docs/GATE.md
     tools/gate_minutes.py --watch PID         looks on at a command that runs already, until it ends
 
-The gate itself reports no times. Its work is done by processes of the prover, one a check, so this reads from /proc what
-each of them has used so far, every half second, and adds up by the crate that its command line names. What a process uses
-between the last look and its end is missed, less than half a second a check. Minutes are processor minutes, not those of a
-clock; the runs of tests and programs and the gate's own script are in the last line alone.
+The gate itself reports no times. Its work is done by processes of the prover, one a check, so this reads from /proc
+what each of them has used so far, every half second, and adds up by the crate that its command line names. What a
+process uses between the last look and its end is missed, less than half a second a check. Minutes are processor
+minutes, not those of a clock; the runs of tests and programs and the gate's own script are in the last line alone.
 """
 import argparse
 import collections

@@ -3,8 +3,9 @@
 
     tools/hostile.py PROGRAM        each text, file and limit in turn; prints what was answered, and what differs
 
-No answer may be a signal, a text cut short, or silence: there is one line on standard error with the fault, or the report. What
-is expected of a text stands beside it here, as a status and the line; none of it is taken from the program.
+No answer may be a signal, a text cut short, or silence: there is one line on standard error with the fault, or the
+report. What is expected of a text stands beside it here, as a status and the line; none of it is taken from the
+program.
 """
 import os
 import resource
@@ -28,11 +29,14 @@ def texts():
         yield name, TABLE, text, *refused("SCRIPT", f"2 - SYNTAX {at}")
     for name, byte in (("NUL", b"\0"), ("a byte outside ASCII", b"\xc3"), ("a control byte", b"\x07")):
         yield f"{name} between tokens", TABLE, b"A: " + byte + b"BEGIN;", *refused("SCRIPT", "2 - SYNTAX 3")
-        yield f"{name} in a quoted text", b"INSERT INTO T VALUES ('" + byte + b"');", "", *refused("DEFS", "2 - SYNTAX 22")
-    yield "a name of 128 bytes", TABLE, "A" * 128 + ": VERDICT B;", 0, "A" * 128 + ": REFUSED 14 - NO TRANSACTION\n" + CLOSED
+        quoted = b"INSERT INTO T VALUES ('" + byte + b"');"
+        yield f"{name} in a quoted text", quoted, "", *refused("DEFS", "2 - SYNTAX 22")
+    name = "A" * 128
+    yield "a name of 128 bytes", TABLE, f"{name}: VERDICT B;", 0, f"{name}: REFUSED 14 - NO TRANSACTION\n{CLOSED}"
     yield "a name of 129 bytes", TABLE, "A" * 129 + ": BEGIN;", *refused("SCRIPT", "2 - SYNTAX 0")
     yield "a number past the limit", "INSERT INTO T VALUES (9000000000000000);", "", *refused("DEFS", "2 - SYNTAX 22")
-    yield "a number of a million digits", TABLE, WHERE + "ID = " + "9" * 10**6, *refused("SCRIPT", f"2 - SYNTAX {len(WHERE) + 5}")
+    digits = WHERE + "ID = " + "9" * 10**6
+    yield "a number of a million digits", TABLE, digits, *refused("SCRIPT", f"2 - SYNTAX {len(WHERE) + 5}")
     yield from long_texts()
 
 
@@ -45,7 +49,8 @@ def long_texts():
     """Ten megabytes of one thing, where it may stand and where it may not."""
     size = f"{MEGABYTES} MB of"
     yield f"{size} `(`", TABLE, "(" * LONG, *refused("SCRIPT", "2 - SYNTAX 0")
-    yield f"{size} `(` in a condition", TABLE, WHERE + "(" * LONG, *refused("SCRIPT", f"19 - TOO DEEP {len(WHERE) + 64}")
+    deep = refused("SCRIPT", f"19 - TOO DEEP {len(WHERE) + 64}")
+    yield f"{size} `(` in a condition", TABLE, WHERE + "(" * LONG, *deep
     yield f"{size} quotes", TABLE, "'" * LONG, *refused("SCRIPT", "2 - SYNTAX 0")
     yield f"{size} quotes without an end", TABLE, "'" * (LONG + 1), *refused("SCRIPT", "2 - SYNTAX 0")
     yield f"{size} one name", TABLE, "A" * LONG, *refused("SCRIPT", "2 - SYNTAX 0")
@@ -87,7 +92,7 @@ def run(program, defs, script, megabytes=None, out=subprocess.PIPE):
 def told(done, text):
     """What was answered: what stands on standard output where that was expected, else standard error."""
     said = done.stdout or b""
-    return (said if text.startswith(CLOSED) or text.endswith(CLOSED) else done.stderr).decode(errors="replace")
+    return (said if text.endswith(CLOSED) else done.stderr).decode(errors="replace")
 
 
 def main(program):
@@ -99,7 +104,8 @@ def main(program):
             wrong += judge(name, run(program, defs, script), status, line)
             # (with little memory each is answered the same, or that there is none: never by a signal)
             for megabytes in (64, 256):
-                wrong += judge_short(f"{name}, {megabytes} MB of memory", run(program, defs, script, megabytes), status, line)
+                done = run(program, defs, script, megabytes)
+                wrong += judge_short(f"{name}, {megabytes} MB of memory", done, status, line)
         for name, one, two, status, line in files(folder):
             wrong += judge(name, run(program, one, two), status, line)
         write(defs, TABLE), write(script, "A: BEGIN;")

@@ -1,5 +1,5 @@
-// Refuses one allocation of a program, the one whose number (from 1) stands in REFUSE; or, with REFUSE_ALL, that one and
-// all that come after it. What was refused is said on the file descriptor 9, if it is open.
+// Refuses one allocation of a program, the one whose number (from 1) stands in REFUSE. That it was met is said on the
+// file descriptor 9, if it is open.
 #define _GNU_SOURCE
 #include <dlfcn.h>
 #include <errno.h>
@@ -9,20 +9,17 @@
 
 static atomic_long seen;
 static long refused = -1;
-static int all;
 
 static int refuses(void)
 {
     if (refused < 0) {
         const char *number = getenv("REFUSE");
         refused = number ? atol(number) : 0;
-        all = getenv("REFUSE_ALL") != NULL;
     }
     long now = atomic_fetch_add(&seen, 1) + 1;
-    if (refused == 0 || (now != refused && !(all && now > refused)))
+    if (now != refused)
         return 0;
-    if (now == refused)
-        (void)!write(9, "refused\n", 8);
+    (void)!write(9, "refused\n", 8);
     errno = ENOMEM;
     return 1;
 }

@@ -3,14 +3,14 @@
 
     tools/refused_growth.py PROGRAM [NAME..]      all histories below, or those of these names
 
-For each history and each number N, the program is run with its Nth allocation refused (tools/refuse_malloc.c, which this
-compiles), until a run meets no refusal. One of these must come of it:
+For each history and each number N, the program is run with its Nth allocation refused (tools/refuse_malloc.c, which
+this compiles), until a run meets no refusal. One of these must come of it:
 
 - the words of the command line find no memory, or DEFS or SCRIPT is refused `1 - NO MEMORY`, and nothing is written on
   standard output;
 - the run is stopped (`SCRIPT: STOPPED 1 - NO MEMORY`), and what was written before is a beginning of the report;
-- one event is answered `REFUSED 1 - NO MEMORY`, and the rest is the report of the script without that event: nothing of it
-  was kept, and nothing was lost;
+- one event is answered `REFUSED 1 - NO MEMORY`, and the rest is the report of the script without that event: nothing
+  of it was kept, and nothing was lost;
 - all is answered as ever.
 
 And where an event was answered so and stands in the script once more right behind, it is answered the second time as it
@@ -33,7 +33,9 @@ CREATE ASSERTION COVER CHECK (NOT EXISTS (SELECT * FROM SHIFTS S
 INSERT INTO SHIFTS VALUES (7); INSERT INTO DUTY VALUES (1, 7, 1); INSERT INTO DUTY VALUES (2, 7, 1);
 INSERT INTO ACCT VALUES (1, 'KIM', 100); INSERT INTO ACCT VALUES (2, 'KIM', 50);
 """
-FUNDS = "CREATE ASSERTION FUNDS CHECK (NOT EXISTS (SELECT OWNER FROM ACCT GROUP BY OWNER HAVING SUM(BAL) < 0)) DEFERRABLE;\n"
+FUNDS = """CREATE ASSERTION FUNDS CHECK (NOT EXISTS (SELECT OWNER FROM ACCT GROUP BY OWNER HAVING SUM(BAL) < 0))
+    DEFERRABLE;
+"""
 
 # By name: more definitions, the events, and words for the command line.
 HISTORIES = {
@@ -47,10 +49,10 @@ HISTORIES = {
     "deferred_then_immediate": (FUNDS, ["A: BEGIN", "A: SET CONSTRAINTS FUNDS DEFERRED",
         "A: INSERT INTO ACCT VALUES (9, 'LEE', -1)", "A: VERDICT FUNDS", "A: SET CONSTRAINTS ALL IMMEDIATE",
         "A: INSERT INTO ACCT VALUES (10, 'LEE', 5)", "A: SET CONSTRAINTS ALL IMMEDIATE", "A: COMMIT"], []),
-    "epoch_full": ("", ["A: BEGIN", "A: DELETE FROM ACCT WHERE ID = 1", "A: COMMIT", "A: BEGIN", "A: SELECT * FROM ACCT",
-        "A: COMMIT"], ["--max-commits", "1"]),
-    "rolled_back": ("", ["A: BEGIN", "A: INSERT INTO ACCT VALUES (9, 'LEE', 1)", "A: DELETE FROM DUTY", "A: ROLLBACK", "A: BEGIN",
-        "A: SELECT * FROM ACCT", "B: VERDICT COVER", "B: BEGIN", "B: VERDICT COVER"], []),
+    "epoch_full": ("", ["A: BEGIN", "A: DELETE FROM ACCT WHERE ID = 1", "A: COMMIT", "A: BEGIN",
+        "A: SELECT * FROM ACCT", "A: COMMIT"], ["--max-commits", "1"]),
+    "rolled_back": ("", ["A: BEGIN", "A: INSERT INTO ACCT VALUES (9, 'LEE', 1)", "A: DELETE FROM DUTY", "A: ROLLBACK",
+        "A: BEGIN", "A: SELECT * FROM ACCT", "B: VERDICT COVER", "B: BEGIN", "B: VERDICT COVER"], []),
 }
 
 
@@ -58,7 +60,8 @@ class Program:
     def __init__(self, path, folder):
         self.path, self.folder = path, folder
         self.shim = f"{folder}/refuse.so"
-        subprocess.run(["gcc", "-shared", "-fPIC", "-O1", "-o", self.shim, f"{HERE}/refuse_malloc.c", "-ldl"], check=True)
+        source = f"{HERE}/refuse_malloc.c"
+        subprocess.run(["gcc", "-shared", "-fPIC", "-O1", "-o", self.shim, source, "-ldl"], check=True)
 
     def run(self, definitions, events, words, refuse=None):
         """Status, standard output, standard error, and whether an allocation was refused."""
@@ -91,8 +94,8 @@ def replies(output, events):
 def refused_event(output, events):
     """The place of the event that was answered that there is no memory, if one was."""
     lines, ends = replies(output, events)
-    starts = [0, *ends[:-1]]
-    return next((at for at, start in enumerate(starts) if start < len(lines) and lines[start].endswith(NO_MEMORY)), None)
+    starts = enumerate([0, *ends[:-1]])
+    return next((at for at, start in starts if start < len(lines) and lines[start].endswith(NO_MEMORY)), None)
 
 
 def with_line(output, events, at):
@@ -159,9 +162,10 @@ def main(path, names):
                     print(f"DIFFERS  {name}, allocation {number}: status {got[0]}, {got[2]!r}\n{got[1]}")
                 count[what] = count.get(what, 0) + 1
             tried = [again(program, definitions, events, words, at, whole) for at in range(len(events))]
-            bad += sum(wrong for _, wrong in tried)
-            print(f"{name}: {sum(count.values())} allocations refused: {count}; tried again {sum(met for met, _ in tried)} times,"
-                f" {sum(wrong for _, wrong in tried)} answered otherwise")
+            met, otherwise = (sum(column) for column in zip(*tried))
+            bad += otherwise
+            print(f"{name}: {sum(count.values())} allocations refused: {count}; tried again {met} times,"
+                f" {otherwise} answered otherwise")
     print(f"{bad} differ")
     return bad != 0
 

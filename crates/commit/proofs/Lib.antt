@@ -7,3 +7,4 @@ pub mod Deciding
 pub mod Living
 pub mod Weighing
 pub mod Seating
+pub mod Satisfying

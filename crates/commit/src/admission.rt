@@ -1,18 +1,18 @@
 //! Definitions that are admitted.
 
-ghost use Rattle.std.specs.Prelude.{◌≡◌, ◌≢◌, IfOk, IfErr, IsOkUnless, Ok, Err, None};
-ghost use Rattle.value.specs.declared.refusals.Refusal.TheVariants.{NoMemory};
+ghost use Rattle.std.specs.Prelude.{◌≡◌, ◌≢◌, IfOk, IfErr, IfNone, IfSome, Ok, Err, None, Some};
+ghost use Rattle.value.specs.declared.refusals.Refusal.TheVariants.{NoMemory, Violated};
+ghost use Rattle.assertion.specs.Declarations.{layouts_in};
 ghost use Rattle.alone.specs.Alone.{IsSound};
+ghost use Rattle.alone.specs.Checks.{violation};
 ghost use Rattle.definitions.specs.Written.{AreWritten};
-ghost use Rattle.commit.specs.Admission.{admitted, at_creation, false_at_creation, satisfied};
+ghost use Rattle.commit.specs.Admission.{admitted, satisfied};
 
 use definitions::Definitions;
 use delta::View;
-use modes::Modes;
 use statement_syntax::Definition;
 use std::alloc::Global;
-use txn::violation;
-use value::Refusal;
+use value::{Refusal, Root, Text};
 
 /// The tables that definitions begin with. Every assertion is satisfied on them, and means what the definitions write.
 ///
@@ -29,7 +29,7 @@ pub fn admit(alloc: Global, definitions: &[Definition]) -> Result<View, Refusal>
 {
     let taken = Definitions::take(alloc, definitions)?;
     let loaded = taken.load(alloc)?;
-    let view = satisfied(alloc, loaded)?;
+    let view = satisfied(loaded)?;
     Ok(view)
 }
 
@@ -39,38 +39,36 @@ pub fn admit(alloc: Global, definitions: &[Definition]) -> Result<View, Refusal>
 ///
 /// [`Refusal::FalseAtCreation`] with the first assertion that is false, and the least root at which it is. Or
 /// [`Refusal::NoMemory`].
-pub fn satisfied(alloc: Global, view: View) -> Result<View, Refusal>
+pub fn satisfied(view: View) -> Result<View, Refusal>
     ensures satisfied { IfOk result (λ same. satisfied view ≡ Ok same) }
     ensures same { IfOk result (λ same. same ≡ view) }
     ensures sound { IfOk result (λ same. IsSound same.declared same.state) }
     ensures refused { IfErr result (λ refusal. refusal ≢ NoMemory → satisfied view ≡ Err refusal) }
 {
-    match false_at_creation(alloc, &view)? {
-        None => Ok(view),
-        Some(refusal) => Err(refusal),
-    }
-}
-
-/// The refusal by the first assertion that is false on the rows that it begins with.
-fn false_at_creation(alloc: Global, view: &View) -> Result<Option<Refusal>, Refusal>
-    ensures only_memory { IsOkUnless result NoMemory }
-    ensures first { IfOk result (λ found. found ≡ false_at_creation view.now) }
-    ensures sound { IfOk result (λ found. found ≡ None → IsSound view.now.declared view.now.state) }
-{
+    // (that a view's tables are as its declarations say is the invariant of its catalog)
     let _ = view.catalog();
-    let meant = Modes::all_immediate(alloc, view.assertions())?;
-    match violation(view, meant.as_slice())? {
-        None => Ok(None),
-        Some(refusal) => Ok(Some(at_creation(refusal))),
+    match first_false(&view) {
+        None => Ok(view),
+        Some((assertion, group)) => Err(Refusal::FalseAtCreation {
+            assertion: assertion.copy()?,
+            group: group.copy()?,
+        }),
     }
 }
 
-/// A violation as it is answered to definitions.
-fn at_creation(refusal: Refusal) -> Refusal
-    ensures { result ≡ at_creation refusal }
+/// The first assertion that is false on a view's tables, by its name, and the least root at which it is. What is
+/// unknown is not false. It takes no memory.
+pub fn first_false(view: &View) -> Option<(&Text, &Root)>
+    ensures found { IfSome result (λ found.
+        violation (layouts_in view.now.declared) view.now.declared.assertions view.now.state
+        ≡ Some (Violated found.0.now found.1.now)) }
+    ensures none { IfNone result (
+        violation (layouts_in view.now.declared) view.now.declared.assertions view.now.state ≡ None) }
 {
-    match refusal {
-        Refusal::Violated { assertion, group } => Refusal::FalseAtCreation { assertion, group },
-        other => other,
+    for place in 0..view.assertions().len() {
+        if let Some(root) = view.least_bad(place) {
+            return Some((&view.assertions()[place].name, root));
+        }
     }
+    None
 }

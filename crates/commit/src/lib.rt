@@ -43,7 +43,7 @@ mod laws;
 mod prepared;
 mod seats;
 
-pub use admission::{admit, satisfied};
+pub use admission::{admit, first_false, satisfied};
 pub use cores::{Core, Uncommitted};
 pub use engine::{Engine, Outcome, run};
 pub use laws::replies;

@@ -3,10 +3,11 @@
 ghost use Rattle.std.specs.Prelude.{◌≡◌, IfOk, IsOkUnless};
 ghost use Rattle.value.specs.declared.refusals.Refusal.TheVariants.{NoMemory};
 
+use crate::parts::{Part, copy_all, copy_if};
 use siread::LockKey;
 use sqlite_items::Items;
 use std::alloc::Global;
-use table::{Change, Row};
+use table::Change;
 use value::Refusal;
 
 /// Changes equal to these. NoMemory is the only error.
@@ -14,11 +15,7 @@ pub fn copy_changes(alloc: Global, changes: &[Change]) -> Result<Items<Change>, 
     ensures only_memory { IsOkUnless result NoMemory }
     ensures equal { IfOk result (λ copy. copy ≡ changes.now) }
 {
-    let mut made = Vec::with_capacity(alloc, changes.len())?;
-    for change in changes {
-        made.push(copy_change(change)?)?;
-    }
-    Ok(Items::from_vec(made))
+    copy_all(alloc, changes)
 }
 
 /// Keys equal to these. NoMemory is the only error.
@@ -26,34 +23,19 @@ pub fn copy_reads(alloc: Global, reads: &[LockKey]) -> Result<Items<LockKey>, Re
     ensures only_memory { IsOkUnless result NoMemory }
     ensures equal { IfOk result (λ copy. copy ≡ reads.now) }
 {
-    let mut made = Vec::with_capacity(alloc, reads.len())?;
-    for key in reads {
-        made.push(key.copy()?)?;
-    }
-    Ok(Items::from_vec(made))
+    copy_all(alloc, reads)
 }
 
-fn copy_change(change: &Change) -> Result<Change, Refusal>
-    ensures only_memory { IsOkUnless result NoMemory }
-    ensures equal { IfOk result (λ copy. copy ≡ change.now) }
-{
-    Ok(Change {
-        table: change.table,
-        key: change.key.copy()?,
-        old: copy_row(&change.old)?,
-        new: copy_row(&change.new)?,
-    })
-}
-
-fn copy_row(row: &Option<Row>) -> Result<Option<Row>, Refusal>
-    ensures only_memory { IsOkUnless result NoMemory }
-    ensures equal { IfOk result (λ copy. copy ≡ row.now) }
-{
-    match row {
-        None => Ok(None),
-        Some(row) => {
-            let row = row.copy()?;
-            Ok(Some(row))
-        }
+impl Part for Change {
+    fn copied(&self, alloc: Global) -> Result<Change, Refusal>
+        ensures only_memory { IsOkUnless result NoMemory }
+        ensures equal { IfOk result (λ copy. copy ≡ self.now) }
+    {
+        Ok(Change {
+            table: self.table,
+            key: self.key.copy()?,
+            old: copy_if(alloc, &self.old)?,
+            new: copy_if(alloc, &self.new)?,
+        })
     }
 }

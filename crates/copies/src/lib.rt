@@ -5,6 +5,7 @@
 #![tactic(auto)]
 
 mod changes;
+mod parts;
 mod traces;
 
 pub use changes::{copy_changes, copy_reads};

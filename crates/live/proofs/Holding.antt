@@ -2,19 +2,15 @@
 use Rattle.std.proofs.Common.{◌≡◌, ℕ, suc, true, ◌==◌, List, [], ◌∷◌, arith, ap, ◌∙◌, inl, inr}
 use Rattle.std.specs.Prelude.{Contains}
 use Rattle.std.specs.List.{list_any}
-use Rattle.std.proofs.lemmas.Bool.{and_parts, or_cases}
-use Rattle.std.proofs.lemmas.Bool.Decides.{nat_tests}
+use Rattle.std.proofs.lemmas.Bool.{and_parts, eqb-true, or_cases}
 use Rattle.live.specs.declared.snapshots.LiveSnapshot.{LiveSnapshot}
 use Rattle.live.specs.Held.{is_held, is_one}
-
-same_numbers : (a b : ℕ) → (a == b) ≡ true → a ≡ b
-same_numbers a b h = grind (arith, nat_tests)
 
 same_one : (ticket snapshot : ℕ) (one : LiveSnapshot) → is_one ticket snapshot one ≡ true → one ≡ record { ticket = ticket; snapshot = snapshot }
 same_one ticket snapshot one h =
     let parts = and_parts (one.ticket == ticket) (one.snapshot == snapshot) h in
-    let t : one.ticket ≡ ticket = same_numbers one.ticket ticket parts.0 in
-    let s : one.snapshot ≡ snapshot = same_numbers one.snapshot snapshot parts.1 in
+    let t : one.ticket ≡ ticket = eqb-true one.ticket ticket parts.0 in
+    let s : one.snapshot ≡ snapshot = eqb-true one.snapshot snapshot parts.1 in
     ap (λ n. record one { ticket = n }) t ∙ ap (λ (n : ℕ). record { ticket = ticket; snapshot = n }) s
 
 pub held_facts : (ticket snapshot : ℕ) (xs : List LiveSnapshot) → is_held ticket snapshot xs ≡ true → Contains xs (record { ticket = ticket; snapshot = snapshot })

@@ -62,7 +62,7 @@ impl<N: Named> Manager<N> {
         ensures refused { IfErr result (λ refusal. refusal ≢ NoMemory → satisfied definitions ≡ Err refusal) }
     {
         let view = definitions.load(alloc)?;
-        let view = satisfied(alloc, view)?;
+        let view = satisfied(view)?;
         let shared = match Arc::new(alloc, shelf) {
             Ok(shared) => shared,
             Err(_) => return Err(Refusal::NoMemory),

@@ -1,0 +1,93 @@
+//! Copies of lists and options, by the copy of one part.
+
+ghost use Rattle.std.specs.Prelude.{◌≡◌, IfOk, IsOkUnless};
+ghost use Rattle.value.specs.declared.refusals.Refusal.TheVariants.{NoMemory};
+
+use cond::Expr;
+use siread::LockKey;
+use sqlite_items::Items;
+use std::alloc::Global;
+use table::Row;
+use value::{Refusal, Text};
+
+/// What has a copy equal to it where there is memory. `Clone` could not answer that there is none.
+pub trait Part {
+    ghost use Rattle.std.specs.Prelude.{◌≡◌, IfOk, IsOkUnless};
+    ghost use Rattle.value.specs.declared.refusals.Refusal.TheVariants.{NoMemory};
+
+    /// NoMemory is the only error.
+    fn copied(&self, alloc: Global) -> Result<Self, Refusal>
+        ensures only_memory { IsOkUnless result NoMemory }
+        ensures equal { IfOk result (λ copy. copy ≡ self.now) };
+}
+
+/// Parts equal to these, in their order. NoMemory is the only error.
+pub fn copy_all<T: Part + Drop>(alloc: Global, parts: &[T]) -> Result<Items<T>, Refusal>
+    ensures only_memory { IsOkUnless result NoMemory }
+    ensures equal { IfOk result (λ copy. copy ≡ parts.now) }
+{
+    let mut made = Vec::with_capacity(alloc, parts.len())?;
+    for part in parts {
+        made.push(part.copied(alloc)?)?;
+    }
+    Ok(Items::from_vec(made))
+}
+
+/// A part equal to this one, if there is one. NoMemory is the only error.
+pub fn copy_if<T: Part + Drop>(alloc: Global, part: &Option<T>) -> Result<Option<T>, Refusal>
+    ensures only_memory { IsOkUnless result NoMemory }
+    ensures equal { IfOk result (λ copy. copy ≡ part.now) }
+{
+    match part {
+        None => Ok(None),
+        Some(part) => {
+            let copy = part.copied(alloc)?;
+            Ok(Some(copy))
+        }
+    }
+}
+
+impl Part for usize {
+    fn copied(&self, _alloc: Global) -> Result<usize, Refusal>
+        ensures only_memory { IsOkUnless result NoMemory }
+        ensures equal { IfOk result (λ copy. copy ≡ self.now) }
+    {
+        Ok(*self)
+    }
+}
+
+impl Part for Text {
+    fn copied(&self, _alloc: Global) -> Result<Text, Refusal>
+        ensures only_memory { IsOkUnless result NoMemory }
+        ensures equal { IfOk result (λ copy. copy ≡ self.now) }
+    {
+        Ok(self.copy()?)
+    }
+}
+
+impl Part for Row {
+    fn copied(&self, _alloc: Global) -> Result<Row, Refusal>
+        ensures only_memory { IsOkUnless result NoMemory }
+        ensures equal { IfOk result (λ copy. copy ≡ self.now) }
+    {
+        self.copy()
+    }
+}
+
+impl Part for LockKey {
+    fn copied(&self, _alloc: Global) -> Result<LockKey, Refusal>
+        ensures only_memory { IsOkUnless result NoMemory }
+        ensures equal { IfOk result (λ copy. copy ≡ self.now) }
+    {
+        self.copy()
+    }
+}
+
+impl Part for Expr {
+    fn copied(&self, alloc: Global) -> Result<Expr, Refusal>
+        ensures only_memory { IsOkUnless result NoMemory }
+        ensures equal { IfOk result (λ copy. copy ≡ self.now) }
+    {
+        self.copy(alloc)
+    }
+}
