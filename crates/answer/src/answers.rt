@@ -33,8 +33,8 @@ pub enum Answer {
     Committed(u64),
     /// The transaction was ended, and nothing of it kept.
     RolledBack,
-    /// The event was refused. A COMMIT refused as violated, as a write conflict, as dangerous or by a full epoch has ended
-    /// its transaction, and the committed tables are as before; after any other refusal nothing has changed.
+    /// The event was refused. A COMMIT refused as violated, as a write conflict, as dangerous or by a full epoch has
+    /// ended its transaction, and the committed tables are as before; after any other refusal nothing has changed.
     Refused(Refusal),
 }
 

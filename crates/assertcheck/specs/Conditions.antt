@@ -19,10 +19,13 @@ target_of tables name = found name (source_of tables name None)
 
 -- a condition of rows, if it is typed and its expressions are bounded
 abbrev pub sound_condition : Scope → Cond → Result Cond Refusal
-sound_condition scope made = provided (is_typed_condition scope.layout.columns [] made) TypeMismatch (provided (is_bounded [] made) TooWide (Ok made))
+sound_condition scope made =
+    provided (is_typed_condition scope.layout.columns [] made) TypeMismatch
+    (provided (is_bounded [] made) TooWide (Ok made))
 
 -- WHERE of a statement: names, the shape, types and widths; a missing one keeps every row
 abbrev pub where_of : Tables → Scope → Option Condition → Result Cond Refusal
 where_of tables scope None = Ok (cond_of.And [])
 where_of tables scope (Some condition) =
-    unless (condition_fault tables condition (scope ∷ [])) (and_then (row_condition scope condition) (sound_condition scope))
+    unless (condition_fault tables condition (scope ∷ []))
+    (and_then (row_condition scope condition) (sound_condition scope))

@@ -39,7 +39,8 @@ new_place columns before name = and_then (named_column columns name) (unlisted b
 -- the columns of these names from the left, none of them twice
 abbrev pub places_of : List Column → List ℕ → List (List ℕ) → Result (List ℕ) Refusal
 places_of columns before [] = Ok before
-places_of columns before (name ∷ names) = and_then (new_place columns before name) (λ new. places_of columns (before ++ new ∷ []) names)
+places_of columns before (name ∷ names) =
+    and_then (new_place columns before name) (λ new. places_of columns (before ++ new ∷ []) names)
 
 -- the places of all columns, from one on
 abbrev pub places_from : ℕ → List Column → List ℕ
@@ -62,7 +63,8 @@ given_to places values column = value_at values (position (λ place. place == co
 -- what it gives to the columns from a place on
 abbrev pub row_from : ℕ → List Column → List ℕ → List Value → RowValues
 row_from place [] places values = []
-row_from place (column ∷ columns) places values = given_to places values place ∷ row_from (place + 1) columns places values
+row_from place (column ∷ columns) places values =
+    given_to places values place ∷ row_from (place + 1) columns places values
 
 -- the whole row
 abbrev pub row_of : List Column → List ℕ → List Value → RowValues
@@ -78,7 +80,8 @@ typed_row target places values =
 abbrev pub insert_of : Tables → Insert → Result NewRow Refusal
 insert_of tables insert =
     and_then (target_of tables insert.table) (λ target.
-    and_then (listed_places target.scope.layout.columns insert.columns) (λ places. typed_row target places insert.values))
+    and_then (listed_places target.scope.layout.columns insert.columns) (λ places.
+    typed_row target places insert.values))
 
 -- the columns that a SELECT lists, from the left, each as often as it is listed; * is all of them in the table's order
 abbrev pub selected : List Column → Which → Result (List ℕ) Refusal
@@ -90,4 +93,5 @@ abbrev pub select_of : Tables → Which → List ℕ → Option Condition → Re
 select_of tables columns name condition =
     and_then (target_of tables name) (λ target.
     and_then (selected target.scope.layout.columns columns) (λ places.
-    and_then (where_of tables target.scope condition) (λ kept. Ok (record { table = target.table; columns = places; kept = kept }))))
+    and_then (where_of tables target.scope condition) (λ kept.
+    Ok (record { table = target.table; columns = places; kept = kept }))))

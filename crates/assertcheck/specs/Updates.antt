@@ -34,7 +34,8 @@ assignable layout before name = and_then (new_place layout.columns before name) 
 -- the assigned columns from the left, behind those before them
 abbrev pub assigned_places : Layout → List ℕ → List Assignment → Result (List ℕ) Refusal
 assigned_places layout before [] = Ok before
-assigned_places layout before (assignment ∷ rest) = and_then (assignable layout before assignment.column) (λ new. assigned_places layout (before ++ new ∷ []) rest)
+assigned_places layout before (assignment ∷ rest) =
+    and_then (assignable layout before assignment.column) (λ new. assigned_places layout (before ++ new ∷ []) rest)
 
 -- what is wrong with the names in what is assigned
 abbrev pub value_fault : Tables → Scope → Assigned → Option Refusal
@@ -43,7 +44,8 @@ value_fault tables scope (To expression) = expression_fault tables expression (s
 
 abbrev pub values_fault : Tables → Scope → List Assignment → Option Refusal
 values_fault tables scope [] = None
-values_fault tables scope (assignment ∷ rest) = first_of (value_fault tables scope assignment.value) (values_fault tables scope rest)
+values_fault tables scope (assignment ∷ rest) =
+    first_of (value_fault tables scope assignment.value) (values_fault tables scope rest)
 
 abbrev pub where_fault : Tables → Scope → Option Condition → Option Refusal
 where_fault tables scope None = None
@@ -93,7 +95,8 @@ sound_update columns update =
     provided (list_all is_bounded_setting update.sets && is_bounded [] update.kept) TooWide (
     Ok update))
 
--- the UPDATE that gives these columns their values, where each expression and the condition are over the rows of the table alone
+-- the UPDATE that gives these columns their values, where each expression and the condition are over the rows of the
+-- table alone
 abbrev pub update_over : Source → List ℕ → List Assignment → Option Condition → Result Update Refusal
 update_over target columns sets condition =
     and_then (settings_of target.scope columns sets) (λ settings.

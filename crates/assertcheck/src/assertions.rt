@@ -15,8 +15,8 @@ use table::Catalog;
 use type_check::{form_is_bounded, form_is_typed};
 use value::{Refusal, Text};
 
-/// The assertion that `CREATE ASSERTION name CHECK (condition) attributes` defines over the tables of a catalog. Whether an
-/// assertion of that name is there already is for who keeps them to test.
+/// The assertion that `CREATE ASSERTION name CHECK (condition) attributes` defines over the tables of a catalog.
+/// Whether an assertion of that name is there already is for who keeps them to test.
 ///
 /// # Errors
 ///
@@ -31,7 +31,8 @@ pub fn check(
     attributes: Attributes,
 ) -> Result<Assertion, Refusal>
     ensures made { IfOk result (λ assertion. checked catalog.now name.now condition.now attributes ≡ Ok assertion) }
-    ensures refused { IfErr result (λ refusal. refusal ≢ NoMemory → checked catalog.now name.now condition.now attributes ≡ Err refusal) }
+    ensures refused { IfErr result (λ refusal.
+        refusal ≢ NoMemory → checked catalog.now name.now condition.now attributes ≡ Err refusal) }
     ensures bounded { IfOk result (λ assertion. IsBounded assertion.form) }
 {
     if are_at_odds(attributes) {
@@ -59,7 +60,8 @@ fn of_form(
     form: Form,
 ) -> Result<Assertion, Refusal>
     ensures made { IfOk result (λ assertion. of_form catalog.now name.now attributes form ≡ Ok assertion) }
-    ensures refused { IfErr result (λ refusal. refusal ≢ NoMemory → of_form catalog.now name.now attributes form ≡ Err refusal) }
+    ensures refused { IfErr result (λ refusal.
+        refusal ≢ NoMemory → of_form catalog.now name.now attributes form ≡ Err refusal) }
     ensures bounded { IfOk result (λ assertion. IsBounded assertion.form) }
 {
     if !form_is_typed(alloc, catalog, &form)? {

@@ -25,7 +25,8 @@ pub fn assigned_places(
     sets: &[Assignment],
 ) -> Result<Vec<usize>, Refusal>
     ensures made { IfOk result (λ places. assigned_places schema.now [] sets.now ≡ Ok places.items) }
-    ensures refused { IfErr result (λ refusal. refusal ≢ NoMemory → assigned_places schema.now [] sets.now ≡ Err refusal) }
+    ensures refused { IfErr result (λ refusal.
+        refusal ≢ NoMemory → assigned_places schema.now [] sets.now ≡ Err refusal) }
     ensures as_many { IfOk result (λ places. length places.items ≡ length sets.now) }
 {
     let mut places = Vec::new(alloc);
@@ -39,7 +40,8 @@ pub fn assigned_places(
 /// The place of the column of a name, if it isn't among those before it, and isn't the key.
 fn assignable(schema: &Schema, before: &[usize], name: &Text) -> Result<usize, Refusal>
     ensures made { IfOk result (λ place. assignable schema.now before.now name.now ≡ Ok place) }
-    ensures refused { IfErr result (λ refusal. refusal ≢ NoMemory → assignable schema.now before.now name.now ≡ Err refusal) }
+    ensures refused { IfErr result (λ refusal.
+        refusal ≢ NoMemory → assignable schema.now before.now name.now ≡ Err refusal) }
 {
     let column = new_place(schema, before, name)?;
     if column == schema.key() {
@@ -59,7 +61,8 @@ pub fn known_names(
     condition: &Option<Condition>,
 ) -> Result<(), Refusal>
     ensures known { IfOk result (λ _. names_fault catalog.now (shown scope.entry) sets.now condition.now ≡ None) }
-    ensures refused { IfErr result (λ refusal. refusal ≢ NoMemory → names_fault catalog.now (shown scope.entry) sets.now condition.now ≡ Some refusal) }
+    ensures refused { IfErr result (λ refusal.
+        refusal ≢ NoMemory → names_fault catalog.now (shown scope.entry) sets.now condition.now ≡ Some refusal) }
 {
     known_values(alloc, catalog, scope, sets)?;
     match condition {
@@ -75,7 +78,8 @@ fn known_values(
     sets: &[Assignment],
 ) -> Result<(), Refusal>
     ensures known { IfOk result (λ _. values_fault catalog.now (shown scope.entry) sets.now ≡ None) }
-    ensures refused { IfErr result (λ refusal. refusal ≢ NoMemory → values_fault catalog.now (shown scope.entry) sets.now ≡ Some refusal) }
+    ensures refused { IfErr result (λ refusal.
+        refusal ≢ NoMemory → values_fault catalog.now (shown scope.entry) sets.now ≡ Some refusal) }
 {
     for assignment in sets {
         known_value(alloc, catalog, scope, &assignment.value)?;
@@ -90,7 +94,8 @@ fn known_value(
     value: &Assigned,
 ) -> Result<(), Refusal>
     ensures known { IfOk result (λ _. value_fault catalog.now (shown scope.entry) value.now ≡ None) }
-    ensures refused { IfErr result (λ refusal. refusal ≢ NoMemory → value_fault catalog.now (shown scope.entry) value.now ≡ Some refusal) }
+    ensures refused { IfErr result (λ refusal.
+        refusal ≢ NoMemory → value_fault catalog.now (shown scope.entry) value.now ≡ Some refusal) }
 {
     match value {
         Assigned::Null => Ok(()),
@@ -108,7 +113,8 @@ pub fn settings(
 ) -> Result<Vec<Setting>, Refusal>
     requires { length places.now ≡ length sets.now }
     ensures made { IfOk result (λ made. settings_of (shown scope.entry) places.now sets.now ≡ Ok made.items) }
-    ensures refused { IfErr result (λ refusal. refusal ≢ NoMemory → settings_of (shown scope.entry) places.now sets.now ≡ Err refusal) }
+    ensures refused { IfErr result (λ refusal.
+        refusal ≢ NoMemory → settings_of (shown scope.entry) places.now sets.now ≡ Err refusal) }
 {
     let mut made = Vec::new(alloc);
     for i in 0..sets.len() {
@@ -122,7 +128,8 @@ pub fn settings(
 /// What is given to one column; none is NULL.
 fn given(alloc: Global, scope: Scope, value: &Assigned) -> Result<Option<Expr>, Refusal>
     ensures made { IfOk result (λ made. value_of (shown scope.entry) value.now ≡ Ok made) }
-    ensures refused { IfErr result (λ refusal. refusal ≢ NoMemory → value_of (shown scope.entry) value.now ≡ Err refusal) }
+    ensures refused { IfErr result (λ refusal.
+        refusal ≢ NoMemory → value_of (shown scope.entry) value.now ≡ Err refusal) }
 {
     match value {
         Assigned::Null => Ok(None),

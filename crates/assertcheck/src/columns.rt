@@ -27,7 +27,8 @@ pub fn all_places(alloc: Global, columns: &[Column]) -> Result<Vec<usize>, Refus
 #[tactic(auto, using(crate::proofs::SoFar::behind_next, crate::proofs::SoFar::behind_none))]
 pub fn named_columns(alloc: Global, schema: &Schema, names: &[Text]) -> Result<Vec<usize>, Refusal>
     ensures made { IfOk result (λ places. each (named_column schema.now.columns) names.now ≡ Ok places.items) }
-    ensures refused { IfErr result (λ refusal. refusal ≢ NoMemory → each (named_column schema.now.columns) names.now ≡ Err refusal) }
+    ensures refused { IfErr result (λ refusal.
+        refusal ≢ NoMemory → each (named_column schema.now.columns) names.now ≡ Err refusal) }
 {
     let mut places = Vec::new(alloc);
     for name in names {
@@ -39,7 +40,8 @@ pub fn named_columns(alloc: Global, schema: &Schema, names: &[Text]) -> Result<V
 /// The places of the columns of these names, none of them twice.
 pub fn places_of(alloc: Global, schema: &Schema, names: &[Text]) -> Result<Vec<usize>, Refusal>
     ensures made { IfOk result (λ places. places_of schema.now.columns [] names.now ≡ Ok places.items) }
-    ensures refused { IfErr result (λ refusal. refusal ≢ NoMemory → places_of schema.now.columns [] names.now ≡ Err refusal) }
+    ensures refused { IfErr result (λ refusal.
+        refusal ≢ NoMemory → places_of schema.now.columns [] names.now ≡ Err refusal) }
 {
     let mut places = Vec::new(alloc);
     for name in names {
@@ -52,7 +54,8 @@ pub fn places_of(alloc: Global, schema: &Schema, names: &[Text]) -> Result<Vec<u
 /// The place of the column of a name, if it isn't among those before it.
 pub fn new_place(schema: &Schema, before: &[usize], name: &Text) -> Result<usize, Refusal>
     ensures made { IfOk result (λ place. new_place schema.now.columns before.now name.now ≡ Ok place) }
-    ensures refused { IfErr result (λ refusal. refusal ≢ NoMemory → new_place schema.now.columns before.now name.now ≡ Err refusal) }
+    ensures refused { IfErr result (λ refusal.
+        refusal ≢ NoMemory → new_place schema.now.columns before.now name.now ≡ Err refusal) }
 {
     let column = named_column(schema, name)?;
     if is_listed(before, column) {
@@ -64,7 +67,8 @@ pub fn new_place(schema: &Schema, before: &[usize], name: &Text) -> Result<usize
 /// The place of the column of a name.
 fn named_column(schema: &Schema, name: &Text) -> Result<usize, Refusal>
     ensures made { IfOk result (λ place. named_column schema.now.columns name.now ≡ Ok place) }
-    ensures refused { IfErr result (λ refusal. refusal ≢ NoMemory → named_column schema.now.columns name.now ≡ Err refusal) }
+    ensures refused { IfErr result (λ refusal.
+        refusal ≢ NoMemory → named_column schema.now.columns name.now ≡ Err refusal) }
 {
     match schema.column(name) {
         Some(column) => Ok(column),

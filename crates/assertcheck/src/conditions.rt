@@ -42,7 +42,8 @@ pub fn where_condition(
     condition: &Option<Condition>,
 ) -> Result<Cond, Refusal>
     ensures made { IfOk result (λ made. where_of catalog.now (shown scope.entry) condition.now ≡ Ok made) }
-    ensures refused { IfErr result (λ refusal. refusal ≢ NoMemory → where_of catalog.now (shown scope.entry) condition.now ≡ Err refusal) }
+    ensures refused { IfErr result (λ refusal.
+        refusal ≢ NoMemory → where_of catalog.now (shown scope.entry) condition.now ≡ Err refusal) }
     ensures bounded { IfOk result (λ made. IsTrue (is_bounded [] made)) }
 {
     let Some(condition) = condition else {

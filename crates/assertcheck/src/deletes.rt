@@ -25,7 +25,8 @@ pub struct Delete {
 /// # Errors
 ///
 /// The first fault: [`Refusal::UnknownName`] of the table and then of the condition's names; then
-/// [`Refusal::OutsideClass`], [`Refusal::TypeMismatch`] and [`Refusal::TooWide`] of the condition. Or [`Refusal::NoMemory`].
+/// [`Refusal::OutsideClass`], [`Refusal::TypeMismatch`] and [`Refusal::TooWide`] of the condition. Or
+/// [`Refusal::NoMemory`].
 pub fn check_delete(
     alloc: Global,
     catalog: &Catalog,
@@ -33,7 +34,8 @@ pub fn check_delete(
     condition: &Option<Condition>,
 ) -> Result<Delete, Refusal>
     ensures made { IfOk result (λ delete. delete_of catalog.now table.now condition.now ≡ Ok delete) }
-    ensures refused { IfErr result (λ refusal. refusal ≢ NoMemory → delete_of catalog.now table.now condition.now ≡ Err refusal) }
+    ensures refused { IfErr result (λ refusal.
+        refusal ≢ NoMemory → delete_of catalog.now table.now condition.now ≡ Err refusal) }
     ensures within { IfOk result (λ delete. delete.table < length catalog.now) }
     ensures bounded { IfOk result (λ delete. IsTrue (is_bounded [] delete.kept)) }
 {

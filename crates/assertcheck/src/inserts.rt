@@ -26,9 +26,9 @@ pub struct NewRow {
 ///
 /// # Errors
 ///
-/// The first fault: [`Refusal::UnknownName`] of the table; of the listed columns from the left [`Refusal::UnknownName`], and
-/// [`Refusal::NameTaken`] where one stands twice; and [`Refusal::TypeMismatch`] where there are more or fewer constants than
-/// columns, or one is not of its column's type. Or [`Refusal::NoMemory`].
+/// The first fault: [`Refusal::UnknownName`] of the table; of the listed columns from the left
+/// [`Refusal::UnknownName`], and [`Refusal::NameTaken`] where one stands twice; and [`Refusal::TypeMismatch`] where
+/// there are more or fewer constants than columns, or one is not of its column's type. Or [`Refusal::NoMemory`].
 pub fn check_insert(alloc: Global, catalog: &Catalog, insert: &Insert) -> Result<NewRow, Refusal>
     ensures made { IfOk result (λ new. insert_of catalog.now insert.now ≡ Ok new) }
     ensures refused { IfErr result (λ refusal. refusal ≢ NoMemory → insert_of catalog.now insert.now ≡ Err refusal) }
@@ -51,7 +51,8 @@ fn typed_row(
     values: &[Value],
 ) -> Result<NewRow, Refusal>
     ensures made { IfOk result (λ new. typed_row (shown_source target.entry) places.now values.now ≡ Ok new) }
-    ensures refused { IfErr result (λ refusal. refusal ≢ NoMemory → typed_row (shown_source target.entry) places.now values.now ≡ Err refusal) }
+    ensures refused { IfErr result (λ refusal.
+        refusal ≢ NoMemory → typed_row (shown_source target.entry) places.now values.now ≡ Err refusal) }
     ensures place { IfOk result (λ new. new.table ≡ target.entry.table) }
 {
     if values.len() != places.len() {

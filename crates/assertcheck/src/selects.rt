@@ -30,8 +30,8 @@ pub struct Select {
 /// # Errors
 ///
 /// The first fault: [`Refusal::UnknownName`] of the table, then of the listed columns from the left, and then of the
-/// condition's names; then [`Refusal::OutsideClass`], [`Refusal::TypeMismatch`] and [`Refusal::TooWide`] of the condition. Or
-/// [`Refusal::NoMemory`].
+/// condition's names; then [`Refusal::OutsideClass`], [`Refusal::TypeMismatch`] and [`Refusal::TooWide`] of the
+/// condition. Or [`Refusal::NoMemory`].
 pub fn check_select(
     alloc: Global,
     catalog: &Catalog,
@@ -40,7 +40,8 @@ pub fn check_select(
     condition: &Option<Condition>,
 ) -> Result<Select, Refusal>
     ensures made { IfOk result (λ select. select_of catalog.now columns.now table.now condition.now ≡ Ok select) }
-    ensures refused { IfErr result (λ refusal. refusal ≢ NoMemory → select_of catalog.now columns.now table.now condition.now ≡ Err refusal) }
+    ensures refused { IfErr result (λ refusal.
+        refusal ≢ NoMemory → select_of catalog.now columns.now table.now condition.now ≡ Err refusal) }
     ensures within { IfOk result (λ select. select.table < length catalog.now) }
     ensures bounded { IfOk result (λ select. IsTrue (is_bounded [] select.kept)) }
 {
@@ -57,7 +58,8 @@ pub fn check_select(
 /// The places of the columns that are listed.
 fn selected(alloc: Global, schema: &Schema, columns: &Which) -> Result<Vec<usize>, Refusal>
     ensures made { IfOk result (λ places. selected schema.now.columns columns.now ≡ Ok places.items) }
-    ensures refused { IfErr result (λ refusal. refusal ≢ NoMemory → selected schema.now.columns columns.now ≡ Err refusal) }
+    ensures refused { IfErr result (λ refusal.
+        refusal ≢ NoMemory → selected schema.now.columns columns.now ≡ Err refusal) }
 {
     match columns {
         Which::All => all_places(alloc, schema.columns()),

@@ -27,8 +27,8 @@ pub struct Setting {
     pub value: Option<Expr>,
 }
 
-/// An UPDATE with its names found: in the rows of a table that a condition keeps, these columns get other values. Whether
-/// NULL may stand there and whether a value is in range is not tested yet.
+/// An UPDATE with its names found: in the rows of a table that a condition keeps, these columns get other values.
+/// Whether NULL may stand there and whether a value is in range is not tested yet.
 #[derive(Debug, Drop)]
 pub struct Update {
     /// The table's place in the catalog.
@@ -41,11 +41,11 @@ pub struct Update {
 ///
 /// # Errors
 ///
-/// The first fault: [`Refusal::UnknownName`] of the table; of the assigned columns from the left [`Refusal::UnknownName`],
-/// [`Refusal::NameTaken`] where one stands twice, and [`Refusal::KeyUpdate`] where one is the key; [`Refusal::UnknownName`] of
-/// the names in the assigned expressions, and then in the condition. After all names, of all expressions and the
-/// condition, [`Refusal::OutsideClass`], then [`Refusal::TypeMismatch`] (also where an expression is not of its column's type), and
-/// then [`Refusal::TooWide`]. Or [`Refusal::NoMemory`].
+/// The first fault: [`Refusal::UnknownName`] of the table; of the assigned columns from the left
+/// [`Refusal::UnknownName`], [`Refusal::NameTaken`] where one stands twice, and [`Refusal::KeyUpdate`] where one is
+/// the key; [`Refusal::UnknownName`] of the names in the assigned expressions, and then in the condition. After all
+/// names, of all expressions and the condition, [`Refusal::OutsideClass`], then [`Refusal::TypeMismatch`] (also where
+/// an expression is not of its column's type), and then [`Refusal::TooWide`]. Or [`Refusal::NoMemory`].
 pub fn check_update(
     alloc: Global,
     catalog: &Catalog,
@@ -54,7 +54,8 @@ pub fn check_update(
     condition: &Option<Condition>,
 ) -> Result<Update, Refusal>
     ensures made { IfOk result (λ update. update_of catalog.now table.now sets.now condition.now ≡ Ok update) }
-    ensures refused { IfErr result (λ refusal. refusal ≢ NoMemory → update_of catalog.now table.now sets.now condition.now ≡ Err refusal) }
+    ensures refused { IfErr result (λ refusal.
+        refusal ≢ NoMemory → update_of catalog.now table.now sets.now condition.now ≡ Err refusal) }
     ensures within { IfOk result (λ update. update.table < length catalog.now) }
     ensures bounded { IfOk result (λ update. All IsBoundedSetting update.sets) }
     ensures bounded_condition { IfOk result (λ update. IsTrue (is_bounded_of [] update.kept)) }
@@ -65,8 +66,8 @@ pub fn check_update(
     update_over(alloc, target, places.as_slice(), sets, condition)
 }
 
-/// The UPDATE that gives these columns their values, if its expressions and its condition are over the rows of its table
-/// alone, typed and bounded.
+/// The UPDATE that gives these columns their values, if its expressions and its condition are over the rows of its
+/// table alone, typed and bounded.
 fn update_over(
     alloc: Global,
     target: Source,
@@ -75,8 +76,10 @@ fn update_over(
     condition: &Option<Condition>,
 ) -> Result<Update, Refusal>
     requires { length places.now ≡ length sets.now }
-    ensures made { IfOk result (λ update. update_over (shown_source target.entry) places.now sets.now condition.now ≡ Ok update) }
-    ensures refused { IfErr result (λ refusal. refusal ≢ NoMemory → update_over (shown_source target.entry) places.now sets.now condition.now ≡ Err refusal) }
+    ensures made { IfOk result (λ update.
+        update_over (shown_source target.entry) places.now sets.now condition.now ≡ Ok update) }
+    ensures refused { IfErr result (λ refusal. refusal ≢ NoMemory
+        → update_over (shown_source target.entry) places.now sets.now condition.now ≡ Err refusal) }
     ensures place { IfOk result (λ update. update.table ≡ target.entry.table) }
     ensures bounded { IfOk result (λ update. All IsBoundedSetting update.sets) }
     ensures bounded_condition { IfOk result (λ update. IsTrue (is_bounded_of [] update.kept)) }

@@ -21,6 +21,9 @@ plain_kinds queries = map (λ q. kind_of_aggregate q.aggregate) queries
 
 -- each condition of a form has only bounded expressions; a WHERE has no slots
 abbrev pub IsBounded : Form → Type 0
-IsBounded (ByRow table condition queries) = IsBoundedOver (linked_kinds queries) condition × All (λ q. IsBoundedOver [] q.kept) queries
-IsBounded (ByGroup table kept group having aggregates) = IsBoundedOver [] kept × IsBoundedOver (map kind_of_aggregate aggregates) having
-IsBounded (Single condition queries) = IsBoundedOver (plain_kinds queries) condition × All (λ q. IsBoundedOver [] q.kept) queries
+IsBounded (ByRow table condition queries) =
+    IsBoundedOver (linked_kinds queries) condition × All (λ q. IsBoundedOver [] q.kept) queries
+IsBounded (ByGroup table kept group having aggregates) =
+    IsBoundedOver [] kept × IsBoundedOver (map kind_of_aggregate aggregates) having
+IsBounded (Single condition queries) =
+    IsBoundedOver (plain_kinds queries) condition × All (λ q. IsBoundedOver [] q.kept) queries

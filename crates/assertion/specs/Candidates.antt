@@ -31,11 +31,13 @@ abbrev pub is_named : ℕ → List Plain → Bool
 is_named table [] = false
 is_named table (q ∷ qs) = (q.table == table) || is_named table qs
 
--- by rows: the key of a changed row of the table, and then what its subqueries' linked columns hold; by groups: the groups
--- of the old and the new row; a single condition: the whole
+-- by rows: the key of a changed row of the table, and then what its subqueries' linked columns hold; by groups: the
+-- groups of the old and the new row; a single condition: the whole
 abbrev pub candidates : Change → Form → List Root
-candidates change (ByRow table condition queries) = (if table == change.table then Of change.key ∷ [] else []) ++ flat_map (query_candidates change) queries
-candidates change (ByGroup table kept group having aggregates) = if table == change.table then group_candidates group (touched change) else []
+candidates change (ByRow table condition queries) =
+    (if table == change.table then Of change.key ∷ [] else []) ++ flat_map (query_candidates change) queries
+candidates change (ByGroup table kept group having aggregates) =
+    if table == change.table then group_candidates group (touched change) else []
 candidates change (Single condition queries) = if is_named change.table queries then All ∷ [] else []
 
 -- the candidates of changes, in their order

@@ -37,7 +37,8 @@ links link key row = is_of (compared Equal key (value_in link row)) True
 
 -- what a subquery gives for the row of a key: SELECT aggregate FROM d WHERE key = link AND kept
 abbrev pub linked_answer : State → Value → Linked → Value
-linked_answer state key q = aggregate q.aggregate (filter (λ row. links q.link key row && keeps row [] q.kept) (rows_of q.table state))
+linked_answer state key q =
+    aggregate q.aggregate (filter (λ row. links q.link key row && keeps row [] q.kept) (rows_of q.table state))
 
 -- what a subquery of its own gives: SELECT aggregate FROM t WHERE kept
 abbrev pub plain_answer : State → Plain → Value
@@ -49,7 +50,9 @@ lists_row state condition queries key row = keeps row (map (linked_answer state 
 
 -- the keys of the listed rows of a table
 abbrev pub row_roots : State → ℕ → ℕ → Cond → List Linked → List Root
-row_roots state table key condition queries = map (λ row. Of (value_in key row)) (filter (λ row. lists_row state condition queries (value_in key row) row) (rows_of table state))
+row_roots state table key condition queries =
+    map (λ row. Of (value_in key row))
+    (filter (λ row. lists_row state condition queries (value_in key row) row) (rows_of table state))
 
 -- the rows that a WHERE keeps
 abbrev pub kept_rows : Cond → List RowValues → List RowValues
@@ -57,11 +60,13 @@ kept_rows kept rows = filter (λ row. keeps row [] kept) rows
 
 -- whether a group of rows is listed: HAVING is true of its value, with the aggregates of its rows in the slots
 abbrev pub lists_group : List RowValues → ℕ → Cond → List Aggregate → Value → Bool
-lists_group rows group having aggregates v = keeps (v ∷ []) (map (λ a. aggregate a (rows_of_group group v rows)) aggregates) having
+lists_group rows group having aggregates v =
+    keeps (v ∷ []) (map (λ a. aggregate a (rows_of_group group v rows)) aggregates) having
 
 -- the values of the listed groups of rows, each as often as it has rows
 abbrev pub group_roots : List RowValues → ℕ → Cond → List Aggregate → List Root
-group_roots rows group having aggregates = map Of (filter (lists_group rows group having aggregates) (map (value_in group) rows))
+group_roots rows group having aggregates =
+    map Of (filter (lists_group rows group having aggregates) (map (value_in group) rows))
 
 -- the truth of a condition that sees no row, with its subqueries in the slots
 abbrev pub single_truth : State → Cond → List Plain → Truth
@@ -70,8 +75,10 @@ single_truth state condition queries = truth [] (map (plain_answer state) querie
 -- the roots at which an assertion is false
 abbrev pub bad_roots : List Layout → Form → State → List Root
 bad_roots layouts (ByRow table condition queries) state = row_roots state table (key_of table layouts) condition queries
-bad_roots layouts (ByGroup table kept group having aggregates) state = group_roots (kept_rows kept (rows_of table state)) group having aggregates
-bad_roots layouts (Single condition queries) state = if is_of (single_truth state condition queries) False then All ∷ [] else []
+bad_roots layouts (ByGroup table kept group having aggregates) state =
+    group_roots (kept_rows kept (rows_of table state)) group having aggregates
+bad_roots layouts (Single condition queries) state =
+    if is_of (single_truth state condition queries) False then All ∷ [] else []
 
 -- NOT EXISTS of the listed roots
 abbrev pub truth_of_roots : List Root → Truth
@@ -80,8 +87,10 @@ truth_of_roots (r ∷ rs) = False
 
 -- the truth of an assertion
 abbrev pub verdict_of : List Layout → Form → State → Truth
-verdict_of layouts (ByRow table condition queries) state = truth_of_roots (bad_roots layouts (ByRow table condition queries) state)
-verdict_of layouts (ByGroup table kept group having aggregates) state = truth_of_roots (bad_roots layouts (ByGroup table kept group having aggregates) state)
+verdict_of layouts (ByRow table condition queries) state =
+    truth_of_roots (bad_roots layouts (ByRow table condition queries) state)
+verdict_of layouts (ByGroup table kept group having aggregates) state =
+    truth_of_roots (bad_roots layouts (ByGroup table kept group having aggregates) state)
 verdict_of layouts (Single condition queries) state = single_truth state condition queries
 
 -- the least root at which an assertion is false

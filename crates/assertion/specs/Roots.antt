@@ -24,14 +24,17 @@ is_bad_row state condition queries key (Some row) = lists_row state condition qu
 
 -- whether a group has a row and is listed
 abbrev pub is_bad_group : List RowValues → ℕ → Cond → List Aggregate → Value → Bool
-is_bad_group rows group having aggregates v = nat_lt 0 (length (rows_of_group group v rows)) && lists_group rows group having aggregates v
+is_bad_group rows group having aggregates v =
+    nat_lt 0 (length (rows_of_group group v rows)) && lists_group rows group having aggregates v
 
 -- whether an assertion is false at a root
 abbrev pub is_bad_root : List Layout → Form → State → Root → Bool
 is_bad_root layouts (ByRow table condition queries) state All = false
-is_bad_root layouts (ByRow table condition queries) state (Of v) = is_bad_row state condition queries v (row_at (key_of table layouts) v (rows_of table state))
+is_bad_root layouts (ByRow table condition queries) state (Of v) =
+    is_bad_row state condition queries v (row_at (key_of table layouts) v (rows_of table state))
 is_bad_root layouts (ByGroup table kept group having aggregates) state All = false
-is_bad_root layouts (ByGroup table kept group having aggregates) state (Of v) = is_bad_group (kept_rows kept (rows_of table state)) group having aggregates v
+is_bad_root layouts (ByGroup table kept group having aggregates) state (Of v) =
+    is_bad_group (kept_rows kept (rows_of table state)) group having aggregates v
 is_bad_root layouts (Single condition queries) state All = is_of (single_truth state condition queries) False
 is_bad_root layouts (Single condition queries) state (Of v) = false
 
@@ -46,7 +49,8 @@ pub record AreBad (layouts : List Layout) (form : Form) (state : State) (bad : L
 
 -- each table's rows are in key order
 abbrev pub IsOrdered : List Layout → State → Type 0
-IsOrdered layouts state = (table : ℕ) → ordered.IsAscending value_cmp (value_in (key_of table layouts)) (rows_of table state)
+IsOrdered layouts state =
+    (table : ℕ) → ordered.IsAscending value_cmp (value_in (key_of table layouts)) (rows_of table state)
 
 -- the change is of a table of the state: its old row stands under its key, and its new row has that key
 pub record IsChangeOf (layouts : List Layout) (change : Change) (state : State) : Type 0 where
@@ -56,7 +60,9 @@ pub record IsChangeOf (layouts : List Layout) (change : Change) (state : State) 
 
 -- the state after a change
 abbrev pub state_after : List Layout → Change → State → State
-state_after layouts change state = slice_set state change.table (put_row (key_of change.table layouts) change.key change.new (rows_of change.table state))
+state_after layouts change state =
+    slice_set state change.table
+    (put_row (key_of change.table layouts) change.key change.new (rows_of change.table state))
 
 -- the state after changes one after the other
 abbrev pub state_after_all : List Layout → List Change → State → State
@@ -66,4 +72,5 @@ state_after_all layouts (change ∷ changes) state = state_after_all layouts cha
 -- each change is one of the state that those before it leave
 abbrev pub AreChangesOf : List Layout → List Change → State → Type 0
 AreChangesOf layouts [] state = Unit {0}
-AreChangesOf layouts (change ∷ changes) state = IsChangeOf layouts change state × AreChangesOf layouts changes (state_after layouts change state)
+AreChangesOf layouts (change ∷ changes) state =
+    IsChangeOf layouts change state × AreChangesOf layouts changes (state_after layouts change state)

@@ -7,8 +7,8 @@ use crate::forms::Form;
 use std::alloc::Global;
 use value::{Refusal, Text};
 
-/// When an assertion is checked (SQL-92, constraint attributes): after each statement, or at COMMIT where it is deferred.
-/// What is initially deferred is deferrable; that is for who makes one to see to.
+/// When an assertion is checked (SQL-92, constraint attributes): after each statement, or at COMMIT where it is
+/// deferred. What is initially deferred is deferrable; that is for who makes one to see to.
 #[derive(Clone, Copy, Debug, PartialEq, Eq)]
 pub struct ConstraintAttributes {
     /// Whether a transaction may defer it.

@@ -2,8 +2,8 @@
 
 ghost use Rattle.assertion.specs.Laws.{KeepsTruthAfterChange, KeepsTruthAfterChanges, ListsBadRoots, IsFalseAtBadRoots, IsKnownUnlessSingle, NamesLeastBad, AnswersLeastBad, AnswersVerdict};
 
-/// A root that is no candidate of a change is bad after it exactly where it was bad before, and so with a list of changes
-/// that are put in one after the other.
+/// A root that is no candidate of a change is bad after it exactly where it was bad before, and so with a list of
+/// changes that are put in one after the other.
 pub fn untouched_roots_keep_their_truth()
     ensures one { KeepsTruthAfterChange }
     ensures list { KeepsTruthAfterChanges }

@@ -12,30 +12,31 @@
 //! - `Form::Single`: a condition that sees no row, and in its slots the subqueries `(SELECT aggregate FROM t WHERE f)`.
 //!
 //! In a resolved assertion a table is its place in the order of creation and a column its place in the table. The slots
-//! of a condition are the subqueries or aggregates beside it, in order. A WHERE that is not written is an And of no part,
-//! which is true.
+//! of a condition are the subqueries or aggregates beside it, in order. A WHERE that is not written is an And of no
+//! part, which is true.
 //!
-//! **Bad roots.** Where an assertion is false, it is false *at* something: at a key of `t` for which the outer query lists
-//! the row, at a value of `k` that it lists (NULL is one group), or, in the third form, as a whole (`Root::All`). An
-//! assertion is false exactly where it has a bad root; the third form alone can be unknown. The least bad root is named
-//! when a statement is refused.
+//! **Bad roots.** Where an assertion is false, it is false *at* something: at a key of `t` for which the outer query
+//! lists the row, at a value of `k` that it lists (NULL is one group), or, in the third form, as a whole
+//! (`Root::All`). An assertion is false exactly where it has a bad root; the third form alone can be unknown. The
+//! least bad root is named when a statement is refused.
 //!
 //! **Candidates.** A change of one row can turn an assertion only at few roots, its *candidates*:
 //!
-//! - by rows, the key of the changed row if it is of `t`, and, if it is of a subquery's table, each value other than NULL
-//!   that the linked column has in the old or the new row;
+//! - by rows, the key of the changed row if it is of `t`, and, if it is of a subquery's table, each value other than
+//!   NULL that the linked column has in the old or the new row;
 //! - by groups, the value of `k` in the old and in the new row, if it is of `t`;
 //! - of a single condition, the whole, if it is of one of its tables.
 //!
-//! That these are all is the law [`untouched_roots_keep_their_truth`]. At a root, an assertion reads one row and filters
-//! of tables. A change under another key leaves the row; and a filter that neither the old nor the new row passes keeps
-//! the same rows as before. A row passes the filter of a subquery only for the key that its linked column holds, and that
-//! of a group only for its own value of `k`. NULL is linked to no key, since a comparison with it is unknown, and so is no
-//! candidate by a link; as a group it is one.
+//! That these are all is the law [`untouched_roots_keep_their_truth`]. At a root, an assertion reads one row and
+//! filters of tables. A change under another key leaves the row; and a filter that neither the old nor the new row
+//! passes keeps the same rows as before. A row passes the filter of a subquery only for the key that its linked
+//! column holds, and that of a group only for its own value of `k`. NULL is linked to no key, since a comparison with
+//! it is unknown, and so is no candidate by a link; as a group it is one.
 //!
-//! What the layer above may rest on: a copy is equal to its original, or memory ran out; `kind` is the kind of slot that a
-//! set function fills, by which `cond` bounds its number; and three laws, each the contract of a function that does
-//! nothing: [`untouched_roots_keep_their_truth`], [`bad_roots_are_those_that_are_bad`] and [`kept_roots_answer`].
+//! What the layer above may rest on: a copy is equal to its original, or memory ran out; `kind` is the kind of slot
+//! that a set function fills, by which `cond` bounds its number; and three laws, each the contract of a function that
+//! does nothing: [`untouched_roots_keep_their_truth`], [`bad_roots_are_those_that_are_bad`] and
+//! [`kept_roots_answer`].
 //!
 //! The definitions are in `specs/`: `Meaning` (bad roots, verdict and least bad root from scratch, on whole lists of
 //! rows), `Roots` (whether one root is bad, changes of a state), `Candidates`, `Bounded` (which forms are evaluated

@@ -72,8 +72,10 @@ record_of c session t = record {
 
 -- the commit is the pivot of the triple that is named, or its reader
 abbrev pub IsDangerNamed : List Record → Record → Party → Party → Party → Type 0
-IsDangerNamed log commit (Numbered reader) This (Numbered writer) = IsAnswer log commit (Triple reader commit.number writer)
-IsDangerNamed log commit This (Numbered pivot) (Numbered writer) = IsAnswer log commit (Triple commit.number pivot writer)
+IsDangerNamed log commit (Numbered reader) This (Numbered writer) =
+    IsAnswer log commit (Triple reader commit.number writer)
+IsDangerNamed log commit This (Numbered pivot) (Numbered writer) =
+    IsAnswer log commit (Triple commit.number pivot writer)
 IsDangerNamed log commit reader pivot writer = ⊥
 
 -- the row of a write conflict, by the name of its table
@@ -114,7 +116,8 @@ abbrev pub with_commit : CoreState → Record → CoreState
 with_commit c commit = record c { records = c.records ++ commit ∷ [] }
 
 abbrev pub with_refusal : CoreState → List ℕ → Refusal → CoreState
-with_refusal c session refusal = record c { refused = c.refused ++ record { session = session; refusal = refusal } ∷ [] }
+with_refusal c session refusal =
+    record c { refused = c.refused ++ record { session = session; refusal = refusal } ∷ [] }
 
 -- a transaction is the next commit, or is refused; either ends it
 abbrev pub committed : CoreState → List ℕ → OpenTransaction → CoreState

@@ -22,7 +22,8 @@ IsDecision c session t (Refused refusal) = IsCommitAnswer c session t (Err refus
 
 -- the same of what the commits before it make of it
 abbrev pub IsJudgment : CoreState → Record → Decision → Type 0
-IsJudgment c commit (Accepted place) = IsJudged c commit (Ok (length c.records + 1)) × (place ≡ least_out (log_of c) commit)
+IsJudgment c commit (Accepted place) =
+    IsJudged c commit (Ok (length c.records + 1)) × (place ≡ least_out (log_of c) commit)
 IsJudgment c commit (Refused refusal) = IsJudged c commit (Err refusal) × (refusal ≢ NoMemory)
 
 -- the refusal by a commit that changed the same row

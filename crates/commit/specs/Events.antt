@@ -116,7 +116,8 @@ seats_with seats place txn = seats_set seats place txn (slice_get seats place)
 -- what an event of the session in a seat is answered; a session without a seat is refused
 abbrev pub IsAnsweredAt : EngineState → List ℕ → Event → Option ℕ → Answer → Type 0
 IsAnsweredAt now session event None answer = answer ≡ Refused TooManySessions
-IsAnsweredAt now session event (Some place) answer = IsReply now.core session event (txn_of (slice_get now.seats place)) answer
+IsAnsweredAt now session event (Some place) answer =
+    IsReply now.core session event (txn_of (slice_get now.seats place)) answer
 
 -- what it leaves
 abbrev pub after_at : EngineState → List ℕ → Event → Option ℕ → Answer → EngineState

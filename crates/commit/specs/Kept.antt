@@ -57,7 +57,9 @@ IsReadyIf c None = ⊤
 IsReadyIf c (Some p) = IsReady c p
 
 -- All that is kept beside the records. Where a commit is prepared there is room for it.
-abbrev pub IsKept : CoreState → (newest : Shown) → (places order : List ℕ) → (locks : Reads) → Option Prepared → (Room : Type 0) → Type 0
+abbrev pub IsKept : CoreState → (newest : Shown) → (places order : List ℕ) → (locks : Reads) → Option Prepared
+    → (Room : Type 0) → Type 0
 IsKept c newest places order locks prepared Room =
-    IsCore c newest places order × IsReadyIf c prepared × (locks ≡ locks_of (record c { prepared = pending_of prepared }))
+    IsCore c newest places order × IsReadyIf c prepared
+    × (locks ≡ locks_of (record c { prepared = pending_of prepared }))
     × IfSome prepared (λ _. Room)

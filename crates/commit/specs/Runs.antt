@@ -28,7 +28,15 @@ all_seated seats (step ∷ rest) = all_seated (seated seats step.session) rest
 -- before the first commit
 abbrev pub empty_core : (limit : ℕ) → Shown → CoreState
 empty_core limit loaded =
-    record { limit = limit; declared = loaded.declared; start = loaded.state; records = []; refused = []; live = none_live; prepared = None }
+    record {
+      limit = limit;
+      declared = loaded.declared;
+      start = loaded.state;
+      records = [];
+      refused = [];
+      live = none_live;
+      prepared = None;
+    }
 
 -- before the first of these events
 abbrev pub beginning : (limit : ℕ) → Shown → List Step → EngineState
@@ -48,7 +56,8 @@ led_to now (step ∷ rest) [] = now
 led_to now (step ∷ rest) (answer ∷ more) = led_to (after now step answer) rest more
 
 -- an event more is answered
-pub record IsNext (now : EngineState) (step : Step) (answers : List Answer) (left : EngineState) (more : List Answer) : Type 0 where
+pub record IsNext (now : EngineState) (step : Step) (answers : List Answer) (left : EngineState)
+    (more : List Answer) : Type 0 where
   pub answer : Answer
   pub answered : IsAnswered now step answer
   pub left_is : left ≡ after now step answer

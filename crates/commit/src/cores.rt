@@ -65,9 +65,12 @@ impl Model for Core {
 
     ghost coded = { Prim.hlevel (codes, cond_type.the_row.coded, expr_type.the_row.coded) };
 
-    ghost view = { λ c. record (idle_core c.limit c.loaded c.records.items c.refused.items c.live) { prepared = pending_of c.prepared } };
+    ghost view = { λ c. record (idle_core c.limit c.loaded c.records.items c.refused.items c.live)
+        { prepared = pending_of c.prepared } };
 
-    ghost invariant = { λ c. IsKept (idle_core c.limit c.loaded c.records.items c.refused.items c.live) c.newest c.places.items c.order.items (readers_at c.locks) c.prepared
+    ghost invariant = { λ c.
+        IsKept (idle_core c.limit c.loaded c.records.items c.refused.items c.live) c.newest c.places.items
+        c.order.items (readers_at c.locks) c.prepared
         ((vec_len c.records < vec_capacity c.records) × (vec_len c.places < vec_capacity c.places) × (vec_len c.order < vec_capacity c.order)) };
 }
 
@@ -123,7 +126,8 @@ impl Core {
     pub fn begin(&mut self) -> Result<Txn, Refusal>
         requires idle { self.old.prepared ≡ None }
         ensures only_memory { IsOkUnless result NoMemory }
-        ensures begun { IfOk result (λ txn. txn ≡ begun self.old.live.begun (length self.old.records) (newest_tables self.old)) }
+        ensures begun { IfOk result (λ txn.
+            txn ≡ begun self.old.live.begun (length self.old.records) (newest_tables self.old)) }
         ensures live { IfOk result (λ txn. IsLive self.new txn) }
         ensures after { OnOk result (self.new ≡ with_begun self.old) }
         ensures same { OnErr result (self.new ≡ self.old) }
@@ -154,7 +158,8 @@ impl Core {
         requires idle { self.old.prepared ≡ None }
         ensures number { IfOk result (λ number. IsCommitAnswer self.old session.now txn (Ok number)) }
         ensures after { IfOk result (λ _. self.new ≡ committed self.old session.now txn) }
-        ensures refused { IfErr result (λ fault. IsUncommitted self.old session.now txn fault.refusal fault.txn self.new) }
+        ensures refused { IfErr result (λ fault.
+            IsUncommitted self.old session.now txn fault.refusal fault.txn self.new) }
     {
         let closed = match txn.close_check() {
             Ok(closed) => closed,
@@ -181,7 +186,8 @@ impl Core {
         requires idle { self.old.prepared ≡ None }
         ensures number { IfOk result (λ number. IsCommitAnswer self.old session.now closed (Ok number)) }
         ensures after { IfOk result (λ _. self.new ≡ with_prepared self.old session.now closed) }
-        ensures refused { IfErr result (λ fault. IsUncommitted self.old session.now closed fault.refusal fault.txn self.new) }
+        ensures refused { IfErr result (λ fault.
+            IsUncommitted self.old session.now closed fault.refusal fault.txn self.new) }
     {
         match self.decide(&closed) {
             Ok(Decision::Accepted(place)) => self.make_ready(session, closed, place),
@@ -294,15 +300,18 @@ impl Core {
     /// Whether a transaction with this ticket and this snapshot has begun and has not ended. It takes no memory.
     pub fn holds(&self, ticket: u64, snapshot: u64) -> bool
         ensures test { result ≡ is_held ticket snapshot self.now.live.snapshots }
-        ensures held { result ≡ true → Contains self.now.live.snapshots (record { ticket = ticket; snapshot = snapshot }) }
+        ensures held { result ≡ true
+            → Contains self.now.live.snapshots (record { ticket = ticket; snapshot = snapshot }) }
     {
         self.live.holds(ticket, snapshot)
     }
 
     /// The commit that is prepared, with the tables after it.
     pub fn prepared(&self) -> Option<&Prepared>
-        ensures some { IfSome result (λ p. self.now.prepared ≡ Some (record { session = p.now.session; txn = p.now.closed })) }
-        ensures tables { IfSome result (λ p. p.now.tables ≡ newest_tables (with_commit self.now (record_of self.now p.now.session p.now.closed))) }
+        ensures some { IfSome result (λ p.
+            self.now.prepared ≡ Some (record { session = p.now.session; txn = p.now.closed })) }
+        ensures tables { IfSome result (λ p.
+            p.now.tables ≡ newest_tables (with_commit self.now (record_of self.now p.now.session p.now.closed))) }
         ensures none { IfNone result (self.now.prepared ≡ None) }
     {
         self.prepared.as_ref()
@@ -331,7 +340,8 @@ impl Core {
         requires live { IsLive self.now closed.now }
         requires idle { self.now.prepared ≡ None }
         ensures only_memory { IsOkUnless result NoMemory }
-        ensures decided { IfOk result (λ decision. (session : List ℕ) → IsDecision self.now session closed.now decision) }
+        ensures decided { IfOk result (λ decision.
+            (session : List ℕ) → IsDecision self.now session closed.now decision) }
     {
         if let Some(refusal) = closed.refused() {
             let refusal = refusal.copy()?;
@@ -349,7 +359,8 @@ impl Core {
         requires live { IsLive self.now closed.now }
         requires idle { self.now.prepared ≡ None }
         ensures only_memory { IsOkUnless result NoMemory }
-        ensures judged { IfOk result (λ decision. (session : List ℕ) → IsJudgment self.now (record_of self.now session closed.now) decision) }
+        ensures judged { IfOk result (λ decision.
+            (session : List ℕ) → IsJudgment self.now (record_of self.now session closed.now) decision) }
     {
         let records = self.records.as_slice();
         let changes = closed.changes();
@@ -374,9 +385,11 @@ impl Core {
     fn tables_with(&self, closed: &Closed) -> Result<View, Refusal>
         requires live { IsLive self.now closed.now }
         requires idle { self.now.prepared ≡ None }
-        requires free { (session : List ℕ) → HasNoWriteConflict (log_of self.now) (record_of self.now session closed.now) }
+        requires free { (session : List ℕ)
+            → HasNoWriteConflict (log_of self.now) (record_of self.now session closed.now) }
         ensures only_memory { IsOkUnless result NoMemory }
-        ensures tables { IfOk result (λ view. (session : List ℕ) → view ≡ newest_tables (with_commit self.now (record_of self.now session closed.now))) }
+        ensures tables { IfOk result (λ view. (session : List ℕ)
+            → view ≡ newest_tables (with_commit self.now (record_of self.now session closed.now))) }
     {
         let own = closed.own();
         let _ = own.catalog();
@@ -395,7 +408,8 @@ impl Core {
         requires idle { self.now.prepared ≡ None }
         requires answered { IsCommitAnswer self.now session.now closed.now (Ok (length self.now.records + 1)) }
         ensures only_memory { IsOkUnless result NoMemory }
-        ensures tables { IfOk result (λ made. made.0 ≡ newest_tables (with_commit self.now (record_of self.now session.now closed.now))) }
+        ensures tables { IfOk result (λ made.
+            made.0 ≡ newest_tables (with_commit self.now (record_of self.now session.now closed.now))) }
         ensures session { IfOk result (λ made. made.1 ≡ session.now) }
     {
         let tables = self.tables_with(closed)?;
@@ -467,7 +481,15 @@ fn forget(live: &mut Live, locks: &mut LockTable, ticket: u64, newest: u64)
 
 /// The record of a commit.
 fn record_of(number: u64, snapshot: u64, session: Text, parts: Parts) -> Record
-    ensures { result ≡ record { number = number; snapshot = snapshot; session = session; trace = parts.trace.items; reads = parts.reads.items; changes = parts.changes.items } }
+    ensures { result
+        ≡ record {
+          number = number;
+          snapshot = snapshot;
+          session = session;
+          trace = parts.trace.items;
+          reads = parts.reads.items;
+          changes = parts.changes.items;
+        } }
 {
     let Parts {
         trace,
@@ -494,7 +516,8 @@ fn make_room(
     ensures records { records.new.items ≡ records.old.items }
     ensures places { places.new.items ≡ places.old.items }
     ensures order { order.new.items ≡ order.old.items }
-    ensures room { OnOk result ((vec_len records.new < vec_capacity records.new) × (vec_len places.new < vec_capacity places.new) × (vec_len order.new < vec_capacity order.new)) }
+    ensures room { OnOk result ((vec_len records.new < vec_capacity records.new)
+        × (vec_len places.new < vec_capacity places.new) × (vec_len order.new < vec_capacity order.new)) }
 {
     records.reserve(1)?;
     places.reserve(1)?;
@@ -505,7 +528,8 @@ fn make_room(
 /// Notes a refused commit behind the others.
 fn note(refused: &mut Vec<RefusedCommit>, session: &Text, refusal: &Refusal) -> Result<(), Refusal>
     ensures only_memory { IsOkUnless result NoMemory }
-    ensures noted { OnOk result (refused.new.items ≡ refused.old.items ++ record { session = session.now; refusal = refusal.now } ∷ []) }
+    ensures noted { OnOk result (refused.new.items
+        ≡ refused.old.items ++ record { session = session.now; refusal = refusal.now } ∷ []) }
     ensures same { OnErr result (refused.new.items ≡ refused.old.items) }
 {
     let entry = RefusedCommit {

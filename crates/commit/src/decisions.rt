@@ -28,7 +28,8 @@ pub fn write_conflict(
     requires within { row < length changes.now }
     requires tables { All (λ change. change.table < length (names_of catalog.now)) changes.now }
     ensures only_memory { IsOkUnless result NoMemory }
-    ensures named { IfOk result (λ refusal. (change : AnyChange) → IsConflictOf catalog.now (slice_index_or changes.now row change) by refusal) }
+    ensures named { IfOk result (λ refusal.
+        (change : AnyChange) → IsConflictOf catalog.now (slice_index_or changes.now row change) by refusal) }
 {
     let change = &changes[row];
     match catalog.name(change.table) {

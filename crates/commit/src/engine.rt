@@ -98,8 +98,13 @@ pub fn run(alloc: Global, limit: u64, loaded: View, steps: &[Step]) -> Result<Ou
     requires within { limit ≤ 4294967295 }
     ensures only_memory { IsOkUnless result NoMemory }
     ensures within { IfOk result (λ outcome. length outcome.answers.items ≤ length steps.now) }
-    ensures answers { IfOk result (λ outcome. AreAnswers (beginning limit loaded steps.now) (take (length outcome.answers.items) steps.now) outcome.answers.items) }
-    ensures left { IfOk result (λ outcome. outcome.engine ≡ led_to (beginning limit loaded steps.now) (take (length outcome.answers.items) steps.now) outcome.answers.items) }
+    ensures answers { IfOk result (λ outcome.
+        AreAnswers (beginning limit loaded steps.now) (take (length outcome.answers.items) steps.now)
+        outcome.answers.items) }
+    ensures left { IfOk result (λ outcome.
+        outcome.engine
+        ≡ led_to (beginning limit loaded steps.now) (take (length outcome.answers.items) steps.now)
+        outcome.answers.items) }
     ensures serializable { IfOk result (λ outcome. IsSerializable outcome.engine.core) }
 {
     let mut engine = Engine::new(alloc, limit, loaded, steps)?;

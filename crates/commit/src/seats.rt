@@ -110,7 +110,8 @@ pub fn answer_event(core: &mut Core, seat: &mut Seat, step: &Step) -> Result<Ans
     ensures only_memory { IsOkUnless result NoMemory }
     ensures answered { IfOk result (IsReply core.old step.now.session step.now.event seat.old.txn) }
     ensures known { IfOk result (λ answer. found_no_memory answer ≡ false) }
-    ensures commits { IfOk result (λ answer. core.new ≡ core_after core.old step.now.session step.now.event seat.old.txn answer) }
+    ensures commits { IfOk result (λ answer.
+        core.new ≡ core_after core.old step.now.session step.now.event seat.old.txn answer) }
     ensures seat { OnOk result (seat.new ≡ record seat.old { txn = txn_after core.old step.now.event seat.old.txn }) }
     ensures same { OnErr result ((core.new ≡ core.old) × (seat.new ≡ seat.old)) }
     ensures live { HoldsOf (IsLive core.new) seat.new.txn }
@@ -130,7 +131,8 @@ fn begin(core: &mut Core, seat: &mut Seat) -> Result<Answer, Refusal>
     ensures only_memory { IsOkUnless result NoMemory }
     ensures answered { IfOk result (λ answer. answer ≡ begin_answer core.old seat.old.txn) }
     ensures known { IfOk result (λ answer. found_no_memory answer ≡ false) }
-    ensures commits { IfOk result (λ answer. core.new ≡ core_after core.old seat.old.session Begin seat.old.txn answer) }
+    ensures commits { IfOk result (λ answer.
+        core.new ≡ core_after core.old seat.old.session Begin seat.old.txn answer) }
     ensures seat { OnOk result (seat.new ≡ record seat.old { txn = txn_after core.old Begin seat.old.txn }) }
     ensures same { OnErr result ((core.new ≡ core.old) × (seat.new ≡ seat.old)) }
     ensures live { HoldsOf (IsLive core.new) seat.new.txn }

@@ -1,4 +1,5 @@
--- What arithmetic, comparisons and search conditions make of values and truths (ISO/IEC 9075:1992, subclauses in brackets).
+-- What arithmetic, comparisons and search conditions make of values and truths (ISO/IEC 9075:1992, subclauses in
+-- brackets).
 use Rattle.std.specs.Prelude.{ℤ, neg_ℤ, List, [], ◌∷◌, Option, Some, None}
 use Rattle.std.specs.declared.cmp.Ordering.{Ordering}
 use Rattle.value.specs.declared.values.Value.{Value}

@@ -25,7 +25,8 @@ pub fn evaluate<'a>(expr: &'a Expr, row: &'a Row, slots: &'a Slots) -> Given<'a>
     requires bounded { IsSome (bound_of (kinds_of slots.now) expr.now) }
     requires small_row { IsSmallRow row.now }
     ensures value { shown result ≡ answer row.now (values_of slots.now) expr.now }
-    ensures small { IfSome (bound_of (kinds_of slots.now) expr.now) (λ b. (magnitude (shown result) ≤ b) × (b ≤ 2 ^ 126)) }
+    ensures small { IfSome (bound_of (kinds_of slots.now) expr.now) (λ b.
+        (magnitude (shown result) ≤ b) × (b ≤ 2 ^ 126)) }
 {
     match expr {
         Expr::Literal(value) => lent(value),

@@ -38,7 +38,8 @@ linked_by child root aggregate condition =
     Ok (record { table = child.table; kept = cond_of.And kept; link = link; aggregate = aggregate })))
 
 -- a query of a row has WHERE, and neither GROUP BY nor HAVING
-abbrev pub linked_where : Source → Scope → Aggregate → Option Condition → Option ColumnName → Option Condition → Result Linked Refusal
+abbrev pub linked_where : Source → Scope → Aggregate → Option Condition → Option ColumnName → Option Condition
+    → Result Linked Refusal
 linked_where child root aggregate (Some condition) None None = linked_by child root aggregate condition
 linked_where child root aggregate None group having = Err OutsideClass
 linked_where child root aggregate (Some condition) (Some group) having = Err OutsideClass
@@ -47,12 +48,14 @@ linked_where child root aggregate (Some condition) None (Some having) = Err Outs
 abbrev pub linked_exists : Tables → Scope → Clauses → Result Linked Refusal
 linked_exists tables root query =
     in_class (source_of tables query.table query.correlation_name) (λ child.
-    only_if (may_be_selected (own_column child.scope) query.select_list) (linked_where child root CountRows query.keeps query.group query.having))
+    only_if (may_be_selected (own_column child.scope) query.select_list)
+    (linked_where child root CountRows query.keeps query.group query.having))
 
 abbrev pub linked_value : Tables → Scope → Clauses → Result Linked Refusal
 linked_value tables root query =
     in_class (source_of tables query.table query.correlation_name) (λ child.
-    in_class (selected_aggregate child.scope query.select_list) (λ aggregate. linked_where child root aggregate query.keeps query.group query.having))
+    in_class (selected_aggregate child.scope query.select_list) (λ aggregate.
+    linked_where child root aggregate query.keeps query.group query.having))
 
 -- what stands in a slot of a condition over a row
 abbrev pub linked : Tables → Scope → Leaf → Result Linked Refusal
@@ -63,15 +66,19 @@ linked tables root (Value query) = linked_value tables root (out-Query query)
 
 -- ---- queries of their own
 
-abbrev pub plain_by : Source → Option Aggregate → Option Condition → Option ColumnName → Option Condition → Result Plain Refusal
+abbrev pub plain_by : Source → Option Aggregate → Option Condition → Option ColumnName → Option Condition
+    → Result Plain Refusal
 plain_by source aggregate keeps None None =
-    in_class aggregate (λ a. and_then (row_filter source.scope keeps) (λ kept. Ok (record { table = source.table; kept = kept; aggregate = a })))
+    in_class aggregate (λ a.
+    and_then (row_filter source.scope keeps) (λ kept.
+    Ok (record { table = source.table; kept = kept; aggregate = a })))
 plain_by source aggregate keeps (Some group) having = Err OutsideClass
 plain_by source aggregate keeps None (Some having) = Err OutsideClass
 
 abbrev pub plain_value : Tables → Clauses → Result Plain Refusal
 plain_value tables query =
-    in_class (source_of tables query.table query.correlation_name) (λ source. plain_by source (selected_aggregate source.scope query.select_list) query.keeps query.group query.having)
+    in_class (source_of tables query.table query.correlation_name) (λ source.
+    plain_by source (selected_aggregate source.scope query.select_list) query.keeps query.group query.having)
 
 -- what stands in a slot of a single condition
 abbrev pub plain : Tables → Leaf → Result Plain Refusal
@@ -103,7 +110,8 @@ by_row tables source query =
 abbrev pub having_over : Source → ℕ → Cond → Condition → Result Form Refusal
 having_over source group kept having =
     and_then (numbered (grouping_column source.scope group) having []) (λ made.
-    and_then (each (aggregate_of source.scope) made.1) (λ aggregates. Ok (ByGroup source.table kept group made.0 aggregates)))
+    and_then (each (aggregate_of source.scope) made.1) (λ aggregates.
+    Ok (ByGroup source.table kept group made.0 aggregates)))
 
 abbrev pub by_group : Source → Clauses → ColumnName → Condition → Result Form Refusal
 by_group source query column having =
@@ -119,7 +127,9 @@ by_clauses tables source query None (Some having) = Err OutsideClass
 by_clauses tables source query (Some column) None = Err OutsideClass
 
 abbrev pub not_exists : Tables → Clauses → Result Form Refusal
-not_exists tables query = in_class (source_of tables query.table query.correlation_name) (λ source. by_clauses tables source query query.group query.having)
+not_exists tables query =
+    in_class (source_of tables query.table query.correlation_name) (λ source.
+    by_clauses tables source query query.group query.having)
 
 abbrev pub single : Tables → Condition → Result Form Refusal
 single tables condition =

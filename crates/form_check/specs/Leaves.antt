@@ -55,7 +55,9 @@ abbrev pub slot : Leaf → Numbered Expr
 slot leaf leaves = Ok (expr.Slot (length leaves), leaves ++ leaf ∷ [])
 
 -- an expression, with each part and what it becomes in its place
-abbrev pub expression_step : (ColumnName → Option ℕ) → Expression-F (Condition × Numbered Cond) (Expression × Numbered Expr) (SelectList × Unit {0}) (Query × Unit {0}) → Numbered Expr
+abbrev pub expression_step : (ColumnName → Option ℕ)
+    → Expression-F (Condition × Numbered Cond) (Expression × Numbered Expr) (SelectList × Unit {0}) (Query × Unit {0})
+    → Numbered Expr
 expression_step place (Expression-F.Number n) leaves = Ok (expr.Literal (value.Int n), leaves)
 expression_step place (Expression-F.Text t) leaves = Ok (expr.Literal (value.Text t), leaves)
 expression_step place (Expression-F.Column column) leaves = placed (place column) leaves
@@ -67,30 +69,40 @@ expression_step place (Expression-F.Sum parts) leaves = then_made expr_of.Sum (a
 expression_step place (Expression-F.Product parts) leaves = then_made expr_of.Product (all parts leaves)
 
 -- a condition, likewise
-abbrev pub condition_step : (ColumnName → Option ℕ) → Condition-F (Condition × Numbered Cond) (Expression × Numbered Expr) (SelectList × Unit {0}) (Query × Unit {0}) → Numbered Cond
+abbrev pub condition_step : (ColumnName → Option ℕ)
+    → Condition-F (Condition × Numbered Cond) (Expression × Numbered Expr) (SelectList × Unit {0}) (Query × Unit {0})
+    → Numbered Cond
 condition_step place (Condition-F.Or parts) leaves = then_made cond_of.Or (all parts leaves)
 condition_step place (Condition-F.And parts) leaves = then_made cond_of.And (all parts leaves)
 condition_step place (Condition-F.Not part) leaves = then_made cond_of.Not (part.1 leaves)
 condition_step place (Condition-F.Is part truth) leaves = then_made (λ c. cond_of.Is c truth) (part.1 leaves)
 condition_step place (Condition-F.Exists query) leaves = Ok (cond.Exists (length leaves), leaves ++ Exists query.0 ∷ [])
-condition_step place (Condition-F.Compare left comparison right) leaves = both (λ a b. cond.Compare comparison a b) left.1 right.1 leaves
+condition_step place (Condition-F.Compare left comparison right) leaves =
+    both (λ a b. cond.Compare comparison a b) left.1 right.1 leaves
 condition_step place (Condition-F.IsNull part) leaves = then_made cond.IsNull (part.1 leaves)
-condition_step place (Condition-F.Between subject low high) leaves = and_then (subject.1 leaves) (λ s. both (between_of s.0) low.1 high.1 s.1)
+condition_step place (Condition-F.Between subject low high) leaves =
+    and_then (subject.1 leaves) (λ s. both (between_of s.0) low.1 high.1 s.1)
 condition_step place (Condition-F.In subject values) leaves = both in_of subject.1 (all values) leaves
 
-abbrev pub select_list_step : SelectList-F (Condition × Numbered Cond) (Expression × Numbered Expr) (SelectList × Unit {0}) (Query × Unit {0}) → Unit {0}
+abbrev pub select_list_step : SelectList-F (Condition × Numbered Cond) (Expression × Numbered Expr) (SelectList
+    × Unit {0}) (Query × Unit {0}) → Unit {0}
 select_list_step select_list = tt
 
-abbrev pub query_step : Query-F (Condition × Numbered Cond) (Expression × Numbered Expr) (SelectList × Unit {0}) (Query × Unit {0}) → Unit {0}
+abbrev pub query_step : Query-F (Condition × Numbered Cond) (Expression × Numbered Expr) (SelectList
+    × Unit {0}) (Query × Unit {0}) → Unit {0}
 query_step query = tt
 
--- a condition with its columns found by their names, and each set function and query in a slot of its own, from the left;
--- `place` says which column a name means there, if any
+-- a condition with its columns found by their names, and each set function and query in a slot of its own, from the
+-- left; `place` says which column a name means there, if any
 unfoldable pub numbered : (ColumnName → Option ℕ) → Condition → Numbered Cond
-numbered place = para-Condition (Numbered Cond) (Numbered Expr) (Unit {0}) (Unit {0}) (condition_step place) (expression_step place) select_list_step query_step
+numbered place =
+    para-Condition (Numbered Cond) (Numbered Expr) (Unit {0}) (Unit {0}) (condition_step place) (expression_step place)
+    select_list_step query_step
 
 unfoldable pub numbered_expression : (ColumnName → Option ℕ) → Expression → Numbered Expr
-numbered_expression place = para-Expression (Numbered Cond) (Numbered Expr) (Unit {0}) (Unit {0}) (condition_step place) (expression_step place) select_list_step query_step
+numbered_expression place =
+    para-Expression (Numbered Cond) (Numbered Expr) (Unit {0}) (Unit {0}) (condition_step place)
+    (expression_step place) select_list_step query_step
 
 -- several conditions, or expressions, from the left
 unfoldable pub numbered_conditions : (ColumnName → Option ℕ) → List Condition → Numbered (List Cond)

@@ -1,5 +1,5 @@
--- Queries that are linked to the row around them: one of the parts that AND joins in WHERE is an equality of a column of
--- the query's table and the key of the row, and the others are over the query's table alone.
+-- Queries that are linked to the row around them: one of the parts that AND joins in WHERE is an equality of a column
+-- of the query's table and the key of the row, and the others are over the query's table alone.
 use Rattle.std.specs.Prelude.{ℕ, ◌==◌, Bool, false, List, [], ◌∷◌, ◌++◌, filter, Option, Some, None, is_none, option_to_list, Result, if◌then◌else◌}
 use Rattle.value.specs.declared.refusals.Refusal.{Refusal}
 use Rattle.value.specs.declared.comparisons.Comparison.TheVariants.{Equal}
@@ -38,7 +38,8 @@ outer_column child root name = if is_name_of name.qualifier name.name child then
 
 -- a column of the child, where the other name means the key of the row around
 abbrev pub linked_column : Scope → Scope → ColumnName → ColumnName → Option ℕ
-linked_column child root inner outer = if is_key root (outer_column child root outer) then own_column child inner else None
+linked_column child root inner outer =
+    if is_key root (outer_column child root outer) then own_column child inner else None
 
 -- the first that is there
 abbrev pub either : Option ℕ → Option ℕ → Option ℕ
@@ -48,10 +49,12 @@ either (Some column) other = Some column
 abbrev pub link_between : Scope → Scope → Option ColumnName → Option ColumnName → Option ℕ
 link_between child root None right = None
 link_between child root (Some left) None = None
-link_between child root (Some left) (Some right) = either (linked_column child root left right) (linked_column child root right left)
+link_between child root (Some left) (Some right) =
+    either (linked_column child root left right) (linked_column child root right left)
 
 abbrev pub link_in : Scope → Scope → Condition-F Condition Expression SelectList Query → Option ℕ
-link_in child root (Condition-F.Compare left Equal right) = link_between child root (name_in (out-Expression left)) (name_in (out-Expression right))
+link_in child root (Condition-F.Compare left Equal right) =
+    link_between child root (name_in (out-Expression left)) (name_in (out-Expression right))
 link_in child root other = None
 
 -- the column of the child that a part links to the key of the row around, if it is a link

@@ -33,7 +33,8 @@ sourced name (Some table) (Some layout) =
     Some (record { table = table; scope = record { exposed_name = name; layout = layout } })
 
 abbrev pub source_of : Tables → List ℕ → Option (List ℕ) → Option Source
-source_of tables table correlation_name = sourced (unwrap_or correlation_name table) (position_of table tables) (layout_of table tables)
+source_of tables table correlation_name =
+    sourced (unwrap_or correlation_name table) (position_of table tables) (layout_of table tables)
 
 -- nothing but the row's own columns stood there
 abbrev pub alone : {A : Type 0} → A → Leaves → Result A Refusal
@@ -46,7 +47,8 @@ row_condition scope condition = and_then (numbered (own_column scope) condition 
 
 -- an expression over the rows of one table, likewise
 abbrev pub row_expression : Scope → Expression → Result Expr Refusal
-row_expression scope expression = and_then (numbered_expression (own_column scope) expression []) (λ made. alone made.0 made.1)
+row_expression scope expression =
+    and_then (numbered_expression (own_column scope) expression []) (λ made. alone made.0 made.1)
 
 -- a condition that may be missing, and then keeps every row
 abbrev pub row_filter : Scope → Option Condition → Result Cond Refusal

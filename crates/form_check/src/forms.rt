@@ -42,7 +42,8 @@ pub fn form(alloc: Global, catalog: &Catalog, condition: &Condition) -> Result<F
 /// NOT EXISTS of a query: by rows without GROUP BY and HAVING, by groups with both.
 fn not_exists(alloc: Global, catalog: &Catalog, query: &Query) -> Result<Form, Refusal>
     ensures made { IfOk result (λ made. not_exists catalog.now (out-Query query.now) ≡ Ok made) }
-    ensures refused { IfErr result (λ refusal. refusal ≢ NoMemory → not_exists catalog.now (out-Query query.now) ≡ Err refusal) }
+    ensures refused { IfErr result (λ refusal.
+        refusal ≢ NoMemory → not_exists catalog.now (out-Query query.now) ≡ Err refusal) }
 {
     let Some(source) = Source::of(catalog, &query.table, &query.correlation_name) else {
         return Err(Refusal::OutsideClass);
@@ -56,8 +57,10 @@ fn not_exists(alloc: Global, catalog: &Catalog, query: &Query) -> Result<Form, R
 
 /// No row for which WHERE is true.
 fn by_row(alloc: Global, catalog: &Catalog, source: Source, query: &Query) -> Result<Form, Refusal>
-    ensures made { IfOk result (λ made. by_row catalog.now (shown_source source.entry) (out-Query query.now) ≡ Ok made) }
-    ensures refused { IfErr result (λ refusal. refusal ≢ NoMemory → by_row catalog.now (shown_source source.entry) (out-Query query.now) ≡ Err refusal) }
+    ensures made { IfOk result (λ made.
+        by_row catalog.now (shown_source source.entry) (out-Query query.now) ≡ Ok made) }
+    ensures refused { IfErr result (λ refusal.
+        refusal ≢ NoMemory → by_row catalog.now (shown_source source.entry) (out-Query query.now) ≡ Err refusal) }
 {
     if !may_be_selected(&Columns::Own(source.scope), &query.select_list) {
         return Err(Refusal::OutsideClass);
@@ -77,8 +80,10 @@ fn row_where<'a>(
     scope: Scope,
     keeps: &'a Option<Condition>,
 ) -> Result<(Cond, Vec<Leaf<'a>>), Refusal>
-    ensures made { IfOk result (λ made. row_where (shown scope.entry) keeps.now ≡ Ok (made.0, shown_leaves made.1.items)) }
-    ensures refused { IfErr result (λ refusal. refusal ≢ NoMemory → row_where (shown scope.entry) keeps.now ≡ Err refusal) }
+    ensures made { IfOk result (λ made.
+        row_where (shown scope.entry) keeps.now ≡ Ok (made.0, shown_leaves made.1.items)) }
+    ensures refused { IfErr result (λ refusal.
+        refusal ≢ NoMemory → row_where (shown scope.entry) keeps.now ≡ Err refusal) }
 {
     let mut leaves = Vec::new(alloc);
     let condition = match keeps {
@@ -96,8 +101,10 @@ fn by_group(
     column: &ColumnName,
     having: &Condition,
 ) -> Result<Form, Refusal>
-    ensures made { IfOk result (λ made. by_group (shown_source source.entry) (out-Query query.now) column.now having.now ≡ Ok made) }
-    ensures refused { IfErr result (λ refusal. refusal ≢ NoMemory → by_group (shown_source source.entry) (out-Query query.now) column.now having.now ≡ Err refusal) }
+    ensures made { IfOk result (λ made.
+        by_group (shown_source source.entry) (out-Query query.now) column.now having.now ≡ Ok made) }
+    ensures refused { IfErr result (λ refusal. refusal ≢ NoMemory
+        → by_group (shown_source source.entry) (out-Query query.now) column.now having.now ≡ Err refusal) }
 {
     let Some(group) = source.scope.own(column) else {
         return Err(Refusal::OutsideClass);
@@ -118,7 +125,8 @@ fn having_over(
     having: &Condition,
 ) -> Result<Form, Refusal>
     ensures made { IfOk result (λ made. having_over (shown_source source.entry) group kept having.now ≡ Ok made) }
-    ensures refused { IfErr result (λ refusal. refusal ≢ NoMemory → having_over (shown_source source.entry) group kept having.now ≡ Err refusal) }
+    ensures refused { IfErr result (λ refusal.
+        refusal ≢ NoMemory → having_over (shown_source source.entry) group kept having.now ≡ Err refusal) }
 {
     let mut leaves = Vec::new(alloc);
     let having = numbered(
@@ -140,8 +148,10 @@ fn having_over(
 /// The set functions of a condition over groups.
 #[tactic(auto, using(crate::proofs::Numberings::behind_next, crate::proofs::Numberings::behind_none))]
 fn all_aggregates(alloc: Global, scope: Scope, leaves: &[Leaf]) -> Result<Vec<Aggregate>, Refusal>
-    ensures made { IfOk result (λ made. each (aggregate_of (shown scope.entry)) (shown_leaves leaves.now) ≡ Ok made.items) }
-    ensures refused { IfErr result (λ refusal. refusal ≢ NoMemory → each (aggregate_of (shown scope.entry)) (shown_leaves leaves.now) ≡ Err refusal) }
+    ensures made { IfOk result (λ made.
+        each (aggregate_of (shown scope.entry)) (shown_leaves leaves.now) ≡ Ok made.items) }
+    ensures refused { IfErr result (λ refusal.
+        refusal ≢ NoMemory → each (aggregate_of (shown scope.entry)) (shown_leaves leaves.now) ≡ Err refusal) }
 {
     let mut made = Vec::new(alloc);
     for leaf in leaves {

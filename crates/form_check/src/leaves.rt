@@ -56,8 +56,8 @@ impl<'a> Columns<'a> {
 ///
 /// # Errors
 ///
-/// [`Refusal::OutsideClass`] where a column stands that may not, or [`Refusal::NoMemory`]. The slots found up to there may
-/// then have been put behind the others.
+/// [`Refusal::OutsideClass`] where a column stands that may not, or [`Refusal::NoMemory`]. The slots found up to
+/// there may then have been put behind the others.
 #[cycle(conditions)]
 #[tactic(auto, using(crate::proofs::Equations::condition_or, crate::proofs::Equations::condition_and, crate::proofs::Equations::condition_not, crate::proofs::Equations::condition_is, crate::proofs::Equations::condition_exists, crate::proofs::Equations::condition_compare, crate::proofs::Equations::condition_isnull, crate::proofs::Equations::condition_between, crate::proofs::Equations::condition_in))]
 pub fn numbered<'a>(
@@ -66,8 +66,11 @@ pub fn numbered<'a>(
     condition: &'a Condition,
     leaves: &mut Vec<Leaf<'a>>,
 ) -> Result<Cond, Refusal>
-    ensures made { IfOk result (λ made. numbered (place columns.now) condition.now (shown_leaves leaves.old.items) ≡ Ok (made, shown_leaves leaves.new.items)) }
-    ensures refused { IfErr result (λ refusal. refusal ≢ NoMemory → numbered (place columns.now) condition.now (shown_leaves leaves.old.items) ≡ Err refusal) }
+    ensures made { IfOk result (λ made.
+        numbered (place columns.now) condition.now (shown_leaves leaves.old.items)
+        ≡ Ok (made, shown_leaves leaves.new.items)) }
+    ensures refused { IfErr result (λ refusal. refusal ≢ NoMemory
+        → numbered (place columns.now) condition.now (shown_leaves leaves.old.items) ≡ Err refusal) }
 {
     match condition {
         Condition::Or(parts) => {
@@ -118,8 +121,11 @@ fn all_numbered<'a>(
     parts: &'a [Condition],
     leaves: &mut Vec<Leaf<'a>>,
 ) -> Result<Vec<Cond>, Refusal>
-    ensures made { IfOk result (λ made. numbered_conditions (place columns.now) parts.now (shown_leaves leaves.old.items) ≡ Ok (made.items, shown_leaves leaves.new.items)) }
-    ensures refused { IfErr result (λ refusal. refusal ≢ NoMemory → numbered_conditions (place columns.now) parts.now (shown_leaves leaves.old.items) ≡ Err refusal) }
+    ensures made { IfOk result (λ made.
+        numbered_conditions (place columns.now) parts.now (shown_leaves leaves.old.items)
+        ≡ Ok (made.items, shown_leaves leaves.new.items)) }
+    ensures refused { IfErr result (λ refusal. refusal ≢ NoMemory
+        → numbered_conditions (place columns.now) parts.now (shown_leaves leaves.old.items) ≡ Err refusal) }
 {
     let mut made = Vec::new(alloc);
     for part in parts {
@@ -137,8 +143,11 @@ pub fn numbered_expression<'a>(
     expression: &'a Expression,
     leaves: &mut Vec<Leaf<'a>>,
 ) -> Result<Expr, Refusal>
-    ensures made { IfOk result (λ made. numbered_expression (place columns.now) expression.now (shown_leaves leaves.old.items) ≡ Ok (made, shown_leaves leaves.new.items)) }
-    ensures refused { IfErr result (λ refusal. refusal ≢ NoMemory → numbered_expression (place columns.now) expression.now (shown_leaves leaves.old.items) ≡ Err refusal) }
+    ensures made { IfOk result (λ made.
+        numbered_expression (place columns.now) expression.now (shown_leaves leaves.old.items)
+        ≡ Ok (made, shown_leaves leaves.new.items)) }
+    ensures refused { IfErr result (λ refusal. refusal ≢ NoMemory
+        → numbered_expression (place columns.now) expression.now (shown_leaves leaves.old.items) ≡ Err refusal) }
 {
     match expression {
         Expression::Number(number) => Ok(Expr::Literal(Value::Int(*number))),
@@ -174,8 +183,11 @@ fn all_expressions<'a>(
     parts: &'a [Expression],
     leaves: &mut Vec<Leaf<'a>>,
 ) -> Result<Vec<Expr>, Refusal>
-    ensures made { IfOk result (λ made. numbered_expressions (place columns.now) parts.now (shown_leaves leaves.old.items) ≡ Ok (made.items, shown_leaves leaves.new.items)) }
-    ensures refused { IfErr result (λ refusal. refusal ≢ NoMemory → numbered_expressions (place columns.now) parts.now (shown_leaves leaves.old.items) ≡ Err refusal) }
+    ensures made { IfOk result (λ made.
+        numbered_expressions (place columns.now) parts.now (shown_leaves leaves.old.items)
+        ≡ Ok (made.items, shown_leaves leaves.new.items)) }
+    ensures refused { IfErr result (λ refusal. refusal ≢ NoMemory
+        → numbered_expressions (place columns.now) parts.now (shown_leaves leaves.old.items) ≡ Err refusal) }
 {
     let mut made = Vec::new(alloc);
     for part in parts {
@@ -187,7 +199,8 @@ fn all_expressions<'a>(
 /// One more slot that stands for a value.
 fn slot<'a>(leaves: &mut Vec<Leaf<'a>>, leaf: Leaf<'a>) -> Result<Expr, Refusal>
     ensures only_memory { IsOkUnless result NoMemory }
-    ensures made { IfOk result (λ made. slot (shown_leaf leaf.entry) (shown_leaves leaves.old.items) ≡ Ok (made, shown_leaves leaves.new.items)) }
+    ensures made { IfOk result (λ made.
+        slot (shown_leaf leaf.entry) (shown_leaves leaves.old.items) ≡ Ok (made, shown_leaves leaves.new.items)) }
 {
     Ok(Expr::Slot(put(leaves, leaf)?))
 }
@@ -196,7 +209,8 @@ fn slot<'a>(leaves: &mut Vec<Leaf<'a>>, leaf: Leaf<'a>) -> Result<Expr, Refusal>
 fn put<'a>(leaves: &mut Vec<Leaf<'a>>, leaf: Leaf<'a>) -> Result<usize, Refusal>
     ensures only_memory { IsOkUnless result NoMemory }
     ensures place { IfOk result (λ place. place ≡ length (shown_leaves leaves.old.items)) }
-    ensures behind { OnOk result (shown_leaves leaves.new.items ≡ shown_leaves leaves.old.items ++ shown_leaf leaf.entry ∷ []) }
+    ensures behind { OnOk result (shown_leaves leaves.new.items
+        ≡ shown_leaves leaves.old.items ++ shown_leaf leaf.entry ∷ []) }
 {
     let place = leaves.len();
     leaves.push(leaf)?;

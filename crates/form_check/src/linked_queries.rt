@@ -30,8 +30,10 @@ pub fn all_linked(
     root: Scope,
     leaves: &[Leaf],
 ) -> Result<Vec<Linked>, Refusal>
-    ensures made { IfOk result (λ made. each (linked catalog.now (shown root.entry)) (shown_leaves leaves.now) ≡ Ok made.items) }
-    ensures refused { IfErr result (λ refusal. refusal ≢ NoMemory → each (linked catalog.now (shown root.entry)) (shown_leaves leaves.now) ≡ Err refusal) }
+    ensures made { IfOk result (λ made.
+        each (linked catalog.now (shown root.entry)) (shown_leaves leaves.now) ≡ Ok made.items) }
+    ensures refused { IfErr result (λ refusal. refusal ≢ NoMemory
+        → each (linked catalog.now (shown root.entry)) (shown_leaves leaves.now) ≡ Err refusal) }
 {
     let mut made = Vec::new(alloc);
     for leaf in leaves {
@@ -43,7 +45,8 @@ pub fn all_linked(
 /// What stands in one slot: a query of the row.
 fn linked(alloc: Global, catalog: &Catalog, root: Scope, leaf: &Leaf) -> Result<Linked, Refusal>
     ensures made { IfOk result (λ made. linked catalog.now (shown root.entry) (shown_leaf leaf.now) ≡ Ok made) }
-    ensures refused { IfErr result (λ refusal. refusal ≢ NoMemory → linked catalog.now (shown root.entry) (shown_leaf leaf.now) ≡ Err refusal) }
+    ensures refused { IfErr result (λ refusal.
+        refusal ≢ NoMemory → linked catalog.now (shown root.entry) (shown_leaf leaf.now) ≡ Err refusal) }
 {
     match leaf {
         Leaf::Rows | Leaf::Of(_, _) => Err(Refusal::OutsideClass),
@@ -60,7 +63,8 @@ fn linked_exists(
     query: &Query,
 ) -> Result<Linked, Refusal>
     ensures made { IfOk result (λ made. linked_exists catalog.now (shown root.entry) (out-Query query.now) ≡ Ok made) }
-    ensures refused { IfErr result (λ refusal. refusal ≢ NoMemory → linked_exists catalog.now (shown root.entry) (out-Query query.now) ≡ Err refusal) }
+    ensures refused { IfErr result (λ refusal.
+        refusal ≢ NoMemory → linked_exists catalog.now (shown root.entry) (out-Query query.now) ≡ Err refusal) }
 {
     let Some(child) = Source::of(catalog, &query.table, &query.correlation_name) else {
         return Err(Refusal::OutsideClass);
@@ -87,7 +91,8 @@ fn linked_value(
     query: &Query,
 ) -> Result<Linked, Refusal>
     ensures made { IfOk result (λ made. linked_value catalog.now (shown root.entry) (out-Query query.now) ≡ Ok made) }
-    ensures refused { IfErr result (λ refusal. refusal ≢ NoMemory → linked_value catalog.now (shown root.entry) (out-Query query.now) ≡ Err refusal) }
+    ensures refused { IfErr result (λ refusal.
+        refusal ≢ NoMemory → linked_value catalog.now (shown root.entry) (out-Query query.now) ≡ Err refusal) }
 {
     let Some(child) = Source::of(catalog, &query.table, &query.correlation_name) else {
         return Err(Refusal::OutsideClass);
@@ -116,8 +121,11 @@ fn linked_where(
     group: &Option<ColumnName>,
     having: &Option<Condition>,
 ) -> Result<Linked, Refusal>
-    ensures made { IfOk result (λ made. linked_where (shown_source child.entry) (shown root.entry) aggregate keeps.now group.now having.now ≡ Ok made) }
-    ensures refused { IfErr result (λ refusal. refusal ≢ NoMemory → linked_where (shown_source child.entry) (shown root.entry) aggregate keeps.now group.now having.now ≡ Err refusal) }
+    ensures made { IfOk result (λ made.
+        linked_where (shown_source child.entry) (shown root.entry) aggregate keeps.now group.now having.now ≡ Ok made) }
+    ensures refused { IfErr result (λ refusal. refusal ≢ NoMemory
+        → linked_where (shown_source child.entry) (shown root.entry) aggregate keeps.now group.now having.now
+        ≡ Err refusal) }
 {
     match (keeps, group, having) {
         (Some(condition), None, None) => linked_by(alloc, child, root, aggregate, condition),
@@ -135,8 +143,10 @@ fn linked_by(
     aggregate: Aggregate,
     condition: &Condition,
 ) -> Result<Linked, Refusal>
-    ensures made { IfOk result (λ made. linked_by (shown_source child.entry) (shown root.entry) aggregate condition.now ≡ Ok made) }
-    ensures refused { IfErr result (λ refusal. refusal ≢ NoMemory → linked_by (shown_source child.entry) (shown root.entry) aggregate condition.now ≡ Err refusal) }
+    ensures made { IfOk result (λ made.
+        linked_by (shown_source child.entry) (shown root.entry) aggregate condition.now ≡ Ok made) }
+    ensures refused { IfErr result (λ refusal. refusal ≢ NoMemory
+        → linked_by (shown_source child.entry) (shown root.entry) aggregate condition.now ≡ Err refusal) }
 {
     let tables = Link {
         child: child.scope,

@@ -39,8 +39,10 @@ impl<'a> Link<'a> {
     /// The parts that are no links, as conditions over the child's rows.
     #[tactic(auto, using(crate::proofs::Numberings::behind_next, crate::proofs::Numberings::behind_none))]
     pub fn kept_parts(&self, alloc: Global, parts: &[Condition]) -> Result<Vec<Cond>, Refusal>
-        ensures made { IfOk result (λ made. kept_parts (shown self.now.child) (shown self.now.root) parts.now ≡ Ok made.items) }
-        ensures refused { IfErr result (λ refusal. refusal ≢ NoMemory → kept_parts (shown self.now.child) (shown self.now.root) parts.now ≡ Err refusal) }
+        ensures made { IfOk result (λ made.
+            kept_parts (shown self.now.child) (shown self.now.root) parts.now ≡ Ok made.items) }
+        ensures refused { IfErr result (λ refusal.
+            refusal ≢ NoMemory → kept_parts (shown self.now.child) (shown self.now.root) parts.now ≡ Err refusal) }
     {
         let mut made = Vec::new(alloc);
         for part in parts {
@@ -51,7 +53,8 @@ impl<'a> Link<'a> {
         Ok(made)
     }
 
-    /// The child's column that a part links to the root's key, if it is a link: an equality of the two, either way round.
+    /// The child's column that a part links to the root's key, if it is a link: an equality of the two, either way
+    /// round.
     fn column(&self, part: &Condition) -> Option<usize>
         ensures { result ≡ link_of (shown self.now.child) (shown self.now.root) part.now }
     {

@@ -19,7 +19,8 @@ use value::Refusal;
 #[tactic(auto, using(crate::proofs::Numberings::behind_next, crate::proofs::Numberings::behind_none))]
 pub fn all_plain(alloc: Global, catalog: &Catalog, leaves: &[Leaf]) -> Result<Vec<Plain>, Refusal>
     ensures made { IfOk result (λ made. each (plain catalog.now) (shown_leaves leaves.now) ≡ Ok made.items) }
-    ensures refused { IfErr result (λ refusal. refusal ≢ NoMemory → each (plain catalog.now) (shown_leaves leaves.now) ≡ Err refusal) }
+    ensures refused { IfErr result (λ refusal.
+        refusal ≢ NoMemory → each (plain catalog.now) (shown_leaves leaves.now) ≡ Err refusal) }
 {
     let mut made = Vec::new(alloc);
     for leaf in leaves {
@@ -31,7 +32,8 @@ pub fn all_plain(alloc: Global, catalog: &Catalog, leaves: &[Leaf]) -> Result<Ve
 /// What stands in one slot: a query that stands for its value.
 fn plain(alloc: Global, catalog: &Catalog, leaf: &Leaf) -> Result<Plain, Refusal>
     ensures made { IfOk result (λ made. plain catalog.now (shown_leaf leaf.now) ≡ Ok made) }
-    ensures refused { IfErr result (λ refusal. refusal ≢ NoMemory → plain catalog.now (shown_leaf leaf.now) ≡ Err refusal) }
+    ensures refused { IfErr result (λ refusal.
+        refusal ≢ NoMemory → plain catalog.now (shown_leaf leaf.now) ≡ Err refusal) }
 {
     match leaf {
         Leaf::Rows | Leaf::Of(_, _) | Leaf::Exists(_) => Err(Refusal::OutsideClass),
@@ -41,7 +43,8 @@ fn plain(alloc: Global, catalog: &Catalog, leaf: &Leaf) -> Result<Plain, Refusal
 
 fn plain_value(alloc: Global, catalog: &Catalog, query: &Query) -> Result<Plain, Refusal>
     ensures made { IfOk result (λ made. plain_value catalog.now (out-Query query.now) ≡ Ok made) }
-    ensures refused { IfErr result (λ refusal. refusal ≢ NoMemory → plain_value catalog.now (out-Query query.now) ≡ Err refusal) }
+    ensures refused { IfErr result (λ refusal.
+        refusal ≢ NoMemory → plain_value catalog.now (out-Query query.now) ≡ Err refusal) }
 {
     let Some(source) = Source::of(catalog, &query.table, &query.correlation_name) else {
         return Err(Refusal::OutsideClass);
@@ -66,8 +69,10 @@ fn plain_by(
     group: &Option<ColumnName>,
     having: &Option<Condition>,
 ) -> Result<Plain, Refusal>
-    ensures made { IfOk result (λ made. plain_by (shown_source source.entry) aggregate keeps.now group.now having.now ≡ Ok made) }
-    ensures refused { IfErr result (λ refusal. refusal ≢ NoMemory → plain_by (shown_source source.entry) aggregate keeps.now group.now having.now ≡ Err refusal) }
+    ensures made { IfOk result (λ made.
+        plain_by (shown_source source.entry) aggregate keeps.now group.now having.now ≡ Ok made) }
+    ensures refused { IfErr result (λ refusal. refusal ≢ NoMemory
+        → plain_by (shown_source source.entry) aggregate keeps.now group.now having.now ≡ Err refusal) }
 {
     let (Some(aggregate), None, None) = (aggregate, group, having) else {
         return Err(Refusal::OutsideClass);

@@ -46,7 +46,8 @@ impl<'a> Source<'a> {
 
     /// The rows of this table under a name that it goes by.
     fn named(catalog: &'a Catalog, table: &Text, name: &'a Text) -> Option<Source<'a>>
-        ensures source { option_map shown_source result ≡ sourced name.now (position_of table.now catalog.now) (layout_of table.now catalog.now) }
+        ensures source { option_map shown_source result
+            ≡ sourced name.now (position_of table.now catalog.now) (layout_of table.now catalog.now) }
         ensures within { IfSome result (λ source. source.table < length catalog.now) }
     {
         let place = catalog.position(table)?;
@@ -69,7 +70,8 @@ impl<'a> Source<'a> {
 /// [`Refusal::NoMemory`].
 pub fn row_condition(alloc: Global, scope: Scope, condition: &Condition) -> Result<Cond, Refusal>
     ensures made { IfOk result (λ made. row_condition (shown scope.entry) condition.now ≡ Ok made) }
-    ensures refused { IfErr result (λ refusal. refusal ≢ NoMemory → row_condition (shown scope.entry) condition.now ≡ Err refusal) }
+    ensures refused { IfErr result (λ refusal.
+        refusal ≢ NoMemory → row_condition (shown scope.entry) condition.now ≡ Err refusal) }
 {
     let mut leaves = Vec::new(alloc);
     let made = numbered(alloc, &Columns::Own(scope), condition, &mut leaves)?;
@@ -84,7 +86,8 @@ pub fn row_condition(alloc: Global, scope: Scope, condition: &Condition) -> Resu
 /// [`Refusal::NoMemory`].
 pub fn row_expression(alloc: Global, scope: Scope, expression: &Expression) -> Result<Expr, Refusal>
     ensures made { IfOk result (λ made. row_expression (shown scope.entry) expression.now ≡ Ok made) }
-    ensures refused { IfErr result (λ refusal. refusal ≢ NoMemory → row_expression (shown scope.entry) expression.now ≡ Err refusal) }
+    ensures refused { IfErr result (λ refusal.
+        refusal ≢ NoMemory → row_expression (shown scope.entry) expression.now ≡ Err refusal) }
 {
     let mut leaves = Vec::new(alloc);
     let made = numbered_expression(alloc, &Columns::Own(scope), expression, &mut leaves)?;
@@ -109,7 +112,8 @@ pub fn row_filter(
     condition: &Option<Condition>,
 ) -> Result<Cond, Refusal>
     ensures made { IfOk result (λ made. row_filter (shown scope.entry) condition.now ≡ Ok made) }
-    ensures refused { IfErr result (λ refusal. refusal ≢ NoMemory → row_filter (shown scope.entry) condition.now ≡ Err refusal) }
+    ensures refused { IfErr result (λ refusal.
+        refusal ≢ NoMemory → row_filter (shown scope.entry) condition.now ≡ Err refusal) }
 {
     match condition {
         Some(condition) => row_condition(alloc, scope, condition),

@@ -102,7 +102,8 @@ abbrev pub named_as : List ℕ → Layout → Scope
 named_as name layout = record { exposed_name = name; layout = layout }
 
 abbrev pub read_by : Tables → List ℕ → Option (List ℕ) → Option Scope
-read_by tables table correlation_name = option_map (named_as (unwrap_or correlation_name table)) (layout_of table tables)
+read_by tables table correlation_name =
+    option_map (named_as (unwrap_or correlation_name table)) (layout_of table tables)
 
 -- a name means a column of this table, the innermost
 abbrev pub IsOwn : Scope → ColumnName → Type 0

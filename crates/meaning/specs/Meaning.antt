@@ -222,7 +222,8 @@ rows_at (Some table) state = rows_of table state
 -- the table of a name with its rows, under its correlation name where one is written
 abbrev pub table_of : Tables → State → List ℕ → Option (List ℕ) → Reference
 table_of tables state name correlation_name = record {
-  table = record { exposed_name = unwrap_or correlation_name name; layout = unwrap_or (layout_of name tables) no_layout };
+  table =
+      record { exposed_name = unwrap_or correlation_name name; layout = unwrap_or (layout_of name tables) no_layout };
   rows = rows_at (position_of name tables) state;
 }
 
@@ -267,7 +268,8 @@ roots_of_answers group table given = map (root_of (grouping group table []) tabl
 
 abbrev pub query_roots : Tables → State → Query → Query-F Condition Expression SelectList Query → List Root
 query_roots tables state whole query =
-    roots_of_answers query.group (table_of tables state query.table query.correlation_name) (answers tables state whole [])
+    roots_of_answers query.group (table_of tables state query.table query.correlation_name)
+    (answers tables state whole [])
 
 -- NOT EXISTS of a query lists what the query gives, and any other assertion the whole, where it is false
 abbrev pub roots_of_whole : Truth → List Root

@@ -27,8 +27,9 @@ pub fn class_has_forms()
     ensures { HasFormInClass }
 {}
 
-/// An assertion that has a form is false at the roots that its text names, and true, false or unknown as its text is; its
-/// least bad root is that of its text. It keeps its form where more tables come after those that it was given one over.
+/// An assertion that has a form is false at the roots that its text names, and true, false or unknown as its text is;
+/// its least bad root is that of its text. It keeps its form where more tables come after those that it was given one
+/// over.
 pub fn form_means_what_is_written()
     ensures roots { HasWrittenRoots }
     ensures truth { HasWrittenTruth }
@@ -36,9 +37,9 @@ pub fn form_means_what_is_written()
     ensures kept { KeepsForm }
 {}
 
-/// An assertion that is taken is the one that is written, and stays that where more tables are created. And exactly those
-/// are taken whose attributes don't contradict each other, whose names are known, and whose condition is of the class,
-/// typed and bounded.
+/// An assertion that is taken is the one that is written, and stays that where more tables are created. And exactly
+/// those are taken whose attributes don't contradict each other, whose names are known, and whose condition is of the
+/// class, typed and bounded.
 pub fn assertion_means_what_is_written()
     ensures written { TakesWritten }
     ensures later { StaysWritten }

@@ -50,8 +50,8 @@ impl Modes {
         Ok(Modes { immediate })
     }
 
-    /// The assertions of these names are immediate and no others, as SET CONSTRAINTS .. IMMEDIATE checks them. NoMemory is the
-    /// only error.
+    /// The assertions of these names are immediate and no others, as SET CONSTRAINTS .. IMMEDIATE checks them.
+    /// NoMemory is the only error.
     pub fn named_immediate(
         alloc: Global,
         assertions: &[Assertion],

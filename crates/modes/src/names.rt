@@ -49,7 +49,8 @@ fn tested_names(
     names: &[Text],
 ) -> Result<Items<Text>, Refusal>
     ensures found { IfOk result (λ made. tested_names assertions.now names.now ≡ Ok made) }
-    ensures refused { IfErr result (λ refusal. refusal ≢ NoMemory → tested_names assertions.now names.now ≡ Err refusal) }
+    ensures refused { IfErr result (λ refusal.
+        refusal ≢ NoMemory → tested_names assertions.now names.now ≡ Err refusal) }
 {
     let mut made = Vec::new(alloc);
     for name in names {
@@ -60,7 +61,8 @@ fn tested_names(
 
 fn tested_name(assertions: &[Assertion], name: &Text) -> Result<Text, Refusal>
     ensures found { IfOk result (λ made. settable name.now (assertion_of name.now assertions.now) ≡ Ok made) }
-    ensures refused { IfErr result (λ refusal. refusal ≢ NoMemory → settable name.now (assertion_of name.now assertions.now) ≡ Err refusal) }
+    ensures refused { IfErr result (λ refusal.
+        refusal ≢ NoMemory → settable name.now (assertion_of name.now assertions.now) ≡ Err refusal) }
 {
     match assertion_named(assertions, name) {
         None => Err(Refusal::UnknownName { name: name.copy()? }),

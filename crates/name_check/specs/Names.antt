@@ -52,7 +52,8 @@ condition_step (Condition-F.Is part truth) scopes = part scopes
 condition_step (Condition-F.Exists query) scopes = query scopes
 condition_step (Condition-F.Compare left comparison right) scopes = first_of (left scopes) (right scopes)
 condition_step (Condition-F.IsNull part) scopes = part scopes
-condition_step (Condition-F.Between subject low high) scopes = first_of (subject scopes) (first_of (low scopes) (high scopes))
+condition_step (Condition-F.Between subject low high) scopes =
+    first_of (subject scopes) (first_of (low scopes) (high scopes))
 condition_step (Condition-F.In subject values) scopes = first_of (subject scopes) (parts_fault values scopes)
 
 -- what a query lists
@@ -63,11 +64,15 @@ select_list_step (SelectList-F.One part) scopes = part scopes
 -- a query's list, WHERE, GROUP BY and HAVING, seen from its own table inside those around it
 abbrev pub clauses_fault : Query-F Fault Fault Fault Fault → Fault
 clauses_fault query scopes =
-    first_of (query.select_list scopes) (first_of (part_fault query.keeps scopes) (first_of (group_fault query.group scopes) (part_fault query.having scopes)))
+    first_of (query.select_list scopes)
+    (first_of (part_fault query.keeps scopes)
+    (first_of (group_fault query.group scopes) (part_fault query.having scopes)))
 
 abbrev pub inner_fault : Option Layout → Query-F Fault Fault Fault Fault → Fault
 inner_fault None query scopes = Some (UnknownName query.table)
-inner_fault (Some layout) query scopes = clauses_fault query (record { exposed_name = unwrap_or query.correlation_name query.table; layout = layout } ∷ scopes)
+inner_fault (Some layout) query scopes =
+    clauses_fault query
+    (record { exposed_name = unwrap_or query.correlation_name query.table; layout = layout } ∷ scopes)
 
 -- a query: its table first
 abbrev pub query_step : Tables → Query-F Fault Fault Fault Fault → Fault
@@ -75,13 +80,17 @@ query_step tables query scopes = inner_fault (layout_of query.table tables) quer
 
 -- what is wrong with the names of a condition, an expression, a list or a query
 abbrev pub condition_fault : Tables → Condition → Fault
-condition_fault tables = fold-Condition Fault Fault Fault Fault condition_step expression_step select_list_step (query_step tables)
+condition_fault tables =
+    fold-Condition Fault Fault Fault Fault condition_step expression_step select_list_step (query_step tables)
 
 abbrev pub expression_fault : Tables → Expression → Fault
-expression_fault tables = fold-Expression Fault Fault Fault Fault condition_step expression_step select_list_step (query_step tables)
+expression_fault tables =
+    fold-Expression Fault Fault Fault Fault condition_step expression_step select_list_step (query_step tables)
 
 abbrev pub select_list_fault : Tables → SelectList → Fault
-select_list_fault tables = fold-SelectList Fault Fault Fault Fault condition_step expression_step select_list_step (query_step tables)
+select_list_fault tables =
+    fold-SelectList Fault Fault Fault Fault condition_step expression_step select_list_step (query_step tables)
 
 abbrev pub query_fault : Tables → Query → Fault
-query_fault tables = fold-Query Fault Fault Fault Fault condition_step expression_step select_list_step (query_step tables)
+query_fault tables =
+    fold-Query Fault Fault Fault Fault condition_step expression_step select_list_step (query_step tables)

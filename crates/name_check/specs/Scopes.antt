@@ -21,8 +21,8 @@ Scopes = List Scope
 abbrev pub named_in : List ℕ → Scope → Option ℕ
 named_in name scope = column_of name scope.layout.columns
 
--- whether a name is of a table, seen from where the table is the innermost: the table goes by its qualifier, or, without
--- one, has such a column
+-- whether a name is of a table, seen from where the table is the innermost: the table goes by its qualifier, or,
+-- without one, has such a column
 abbrev pub is_name_of : Option (List ℕ) → List ℕ → Scope → Bool
 is_name_of None name scope = is_some (named_in name scope)
 is_name_of (Some qualifier) name scope = bytes_eq scope.exposed_name qualifier

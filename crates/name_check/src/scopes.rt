@@ -73,7 +73,8 @@ pub fn within<'a>(
 /// Refuses a column's name that means nothing: UnknownName of the qualifier if no table goes by it, else of the column.
 pub fn known_column(scopes: &[Scope], column: &ColumnName) -> Result<(), Refusal>
     ensures known { IfOk result (λ _. column_fault column.now (all_shown scopes.now) ≡ None) }
-    ensures refused { IfErr result (λ refusal. refusal ≢ NoMemory → column_fault column.now (all_shown scopes.now) ≡ Some refusal) }
+    ensures refused { IfErr result (λ refusal.
+        refusal ≢ NoMemory → column_fault column.now (all_shown scopes.now) ≡ Some refusal) }
 {
     for scope in scopes {
         if scope.is_named(column) {
@@ -90,7 +91,8 @@ pub fn known_column(scopes: &[Scope], column: &ColumnName) -> Result<(), Refusal
 /// Refuses the name of a column that this table does not have.
 fn known_in(scope: &Scope, name: &Text) -> Result<(), Refusal>
     ensures known { IfOk result (λ _. column_error name.now (shown scope.now) ≡ None) }
-    ensures refused { IfErr result (λ refusal. refusal ≢ NoMemory → column_error name.now (shown scope.now) ≡ Some refusal) }
+    ensures refused { IfErr result (λ refusal.
+        refusal ≢ NoMemory → column_error name.now (shown scope.now) ≡ Some refusal) }
 {
     if scope.schema.column(name).is_some() {
         return Ok(());

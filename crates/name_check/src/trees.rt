@@ -25,7 +25,8 @@ pub fn known_condition(
     condition: &Condition,
 ) -> Result<(), Refusal>
     ensures known { IfOk result (λ _. condition_fault catalog.now condition.now (all_shown scopes.now) ≡ None) }
-    ensures refused { IfErr result (λ refusal. refusal ≢ NoMemory → condition_fault catalog.now condition.now (all_shown scopes.now) ≡ Some refusal) }
+    ensures refused { IfErr result (λ refusal.
+        refusal ≢ NoMemory → condition_fault catalog.now condition.now (all_shown scopes.now) ≡ Some refusal) }
 {
     match condition {
         Condition::Or(parts) | Condition::And(parts) => {
@@ -67,7 +68,8 @@ pub fn known_expression(
     expression: &Expression,
 ) -> Result<(), Refusal>
     ensures known { IfOk result (λ _. expression_fault catalog.now expression.now (all_shown scopes.now) ≡ None) }
-    ensures refused { IfErr result (λ refusal. refusal ≢ NoMemory → expression_fault catalog.now expression.now (all_shown scopes.now) ≡ Some refusal) }
+    ensures refused { IfErr result (λ refusal.
+        refusal ≢ NoMemory → expression_fault catalog.now expression.now (all_shown scopes.now) ≡ Some refusal) }
 {
     match expression {
         Expression::Number(_) | Expression::Text(_) | Expression::CountRows => Ok(()),
@@ -94,7 +96,8 @@ fn known_query(
     query: &Query,
 ) -> Result<(), Refusal>
     ensures known { IfOk result (λ _. query_fault catalog.now query.now (all_shown scopes.now) ≡ None) }
-    ensures refused { IfErr result (λ refusal. refusal ≢ NoMemory → query_fault catalog.now query.now (all_shown scopes.now) ≡ Some refusal) }
+    ensures refused { IfErr result (λ refusal.
+        refusal ≢ NoMemory → query_fault catalog.now query.now (all_shown scopes.now) ≡ Some refusal) }
 {
     let Some(schema) = catalog.get(&query.table) else {
         return Err(Refusal::UnknownName {
@@ -126,7 +129,8 @@ fn known_query(
 /// Looks up the column of GROUP BY, if there is one.
 fn known_group(scopes: &[Scope], group: &Option<ColumnName>) -> Result<(), Refusal>
     ensures known { IfOk result (λ _. group_fault group.now (all_shown scopes.now) ≡ None) }
-    ensures refused { IfErr result (λ refusal. refusal ≢ NoMemory → group_fault group.now (all_shown scopes.now) ≡ Some refusal) }
+    ensures refused { IfErr result (λ refusal.
+        refusal ≢ NoMemory → group_fault group.now (all_shown scopes.now) ≡ Some refusal) }
 {
     match group {
         Some(column) => known_column(scopes, column),

@@ -12,10 +12,17 @@ use Rattle.pages.specs.Levels.{Tree, highest}
 use Rattle.pages.specs.Shapes.{seen}
 
 module _ {V : Type 0} where
-  most_le-highest : (weight : Arc (Tree V) Global → ℕ) → ((node : Arc (Tree V) Global) → weight node ≤ (arc_value node).0 + 1) → (nodes : List (Arc (Tree V) Global)) → most weight nodes ≤ highest (map arc_value nodes) + 1
+  most_le-highest : (weight : Arc (Tree V) Global → ℕ)
+      → ((node : Arc (Tree V) Global) → weight node ≤ (arc_value node).0 + 1) → (nodes : List (Arc (Tree V) Global))
+      → most weight nodes ≤ highest (map arc_value nodes) + 1
   most_le-highest weight low [] = omega arith
   most_le-highest weight low (node ∷ nodes) = omega (arith, low node, most_le-highest weight low nodes)
 
   pub deep_le-height : (shape : Shape V) → max (deep-Shape V shape) 0 ≤ (seen shape).0
   deep_le-height (Leaf page) = omega arith
-  deep_le-height (Inner nodes) = omega (arith, most_le-highest ((weighed-Shape-Inner-0-at-1 V).weight (Tree V) (λ below. below.0 + 1)) (λ node. omega arith) nodes.items)
+  deep_le-height (Inner nodes) =
+      omega (
+        arith,
+        most_le-highest ((weighed-Shape-Inner-0-at-1 V).weight (Tree V) (λ below. below.0 + 1))
+            (λ node. omega arith) nodes.items,
+      )

@@ -9,4 +9,5 @@ use Rattle.pages.specs.Reach.{key_of}
 pub record IsTakenFrom {V : Type 0} (key : Value) (front behind : ℕ) (page : List (Value × V)) : Type 0 where
   pub order : front ≤ behind
   pub within : behind ≤ length page
-  pub changed : (new : Option (Value × V)) → put value_cmp key_of key new page ≡ take front page ++ (option_to_list new ++ drop behind page)
+  pub changed : (new : Option (Value × V))
+      → put value_cmp key_of key new page ≡ take front page ++ (option_to_list new ++ drop behind page)

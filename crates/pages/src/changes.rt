@@ -30,7 +30,9 @@ pub fn changed_page<V: Drop>(
     requires most { length page.now ≤ 64 }
     requires order { AreInOrder (map arc_value page.now) }
     ensures only_memory { IsOkUnless result NoMemory }
-    ensures changed { IfOk result (λ made. map arc_value made.items ≡ put value_cmp key_of key.now (option_map arc_value new.now) (map arc_value page.now)) }
+    ensures changed { IfOk result (λ made.
+        map arc_value made.items
+        ≡ put value_cmp key_of key.now (option_map arc_value new.now) (map arc_value page.now)) }
     ensures most { IfOk result (λ made. length made.items ≤ 65) }
 {
     let (front, behind) = span(page, key);
@@ -44,7 +46,8 @@ pub fn changed_page<V: Drop>(
 /// Adds the items, which stay shared.
 pub fn push_shared<T: Drop>(made: &mut Vec<Arc<T>>, items: &[Arc<T>]) -> Result<(), Refusal>
     ensures only_memory { IsOkUnless result NoMemory }
-    ensures pushed { OnOk result (map arc_value made.new.items ≡ map arc_value made.old.items ++ map arc_value items.now) }
+    ensures pushed { OnOk result (map arc_value made.new.items
+        ≡ map arc_value made.old.items ++ map arc_value items.now) }
 {
     for item in items {
         made.push(Arc::try_clone(item)?)?;
@@ -55,7 +58,8 @@ pub fn push_shared<T: Drop>(made: &mut Vec<Arc<T>>, items: &[Arc<T>]) -> Result<
 /// Adds the new entry, if there is one.
 pub fn push_new<T: Drop>(made: &mut Vec<Arc<T>>, new: &Option<Arc<T>>) -> Result<(), Refusal>
     ensures only_memory { IsOkUnless result NoMemory }
-    ensures pushed { OnOk result (map arc_value made.new.items ≡ map arc_value made.old.items ++ option_to_list (option_map arc_value new.now)) }
+    ensures pushed { OnOk result (map arc_value made.new.items
+        ≡ map arc_value made.old.items ++ option_to_list (option_map arc_value new.now)) }
 {
     if let Some(item) = new {
         made.push(Arc::try_clone(item)?)?;
@@ -88,7 +92,8 @@ pub fn push_page<V: Drop>(
     requires most { length page.items ≤ 65 }
     requires order { AreInOrder (map arc_value page.items) }
     ensures only_memory { IsOkUnless result NoMemory }
-    ensures added { OnOk result (Adds 0 2 (map arc_value page.items) (map arc_value out.old.items) (map arc_value out.new.items)) }
+    ensures added { OnOk result
+        (Adds 0 2 (map arc_value page.items) (map arc_value out.old.items) (map arc_value out.new.items)) }
 {
     if page.len() > MOST_ENTRIES {
         let behind = page.split_off(page.len() / 2)?;
@@ -108,7 +113,8 @@ fn push_leaf<V: Drop>(
     requires most { length page.items ≤ 64 }
     requires order { AreInOrder (map arc_value page.items) }
     ensures only_memory { IsOkUnless result NoMemory }
-    ensures added { OnOk result (Adds 0 1 (map arc_value page.items) (map arc_value out.old.items) (map arc_value out.new.items)) }
+    ensures added { OnOk result
+        (Adds 0 1 (map arc_value page.items) (map arc_value out.old.items) (map arc_value out.new.items)) }
 {
     let node = leaf(alloc, page)?;
     push_node(out, node)
@@ -159,7 +165,8 @@ fn push_node<V: Drop>(
     node: Option<Arc<Node<V>>>,
 ) -> Result<(), Refusal>
     ensures only_memory { IsOkUnless result NoMemory }
-    ensures pushed { OnOk result (map arc_value out.new.items ≡ map arc_value out.old.items ++ option_to_list (option_map arc_value node)) }
+    ensures pushed { OnOk result (map arc_value out.new.items
+        ≡ map arc_value out.old.items ++ option_to_list (option_map arc_value node)) }
 {
     if let Some(node) = node {
         out.push(node)?;

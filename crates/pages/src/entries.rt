@@ -68,7 +68,8 @@ fn next_page<'a, V>(
 ) -> (&'a [Arc<(Value, V)>], usize)
     requires { place ≤ length pages.now }
     ensures within { result.1 ≤ length pages.now }
-    ensures left { map arc_value result.0.now ++ drop result.1 pages.now ≡ map arc_value page.now ++ drop place pages.now }
+    ensures left { map arc_value result.0.now ++ drop result.1 pages.now
+        ≡ map arc_value page.now ++ drop place pages.now }
     ensures end { result.0.now ≡ [] → map arc_value page.now ++ drop place pages.now ≡ [] }
 {
     if !page.is_empty() {

@@ -135,7 +135,8 @@ pub fn leaf<V: Drop>(
     requires most { length page.items ≤ 64 }
     requires order { AreInOrder (map arc_value page.items) }
     ensures only_memory { IsOkUnless result NoMemory }
-    ensures entries { IfOk result (λ node. entries_of (option_to_list (option_map arc_value node)) ≡ map arc_value page.items) }
+    ensures entries { IfOk result (λ node.
+        entries_of (option_to_list (option_map arc_value node)) ≡ map arc_value page.items) }
     ensures level { IfOk result (λ node. HaveHeight 0 (option_to_list (option_map arc_value node))) }
 {
     let Some(last) = page.last() else {
@@ -159,8 +160,10 @@ pub fn inner<V: Drop>(
     requires level { HaveHeight (highest (map arc_value nodes.items)) (map arc_value nodes.items) }
     requires order { AreInOrder (entries_of (map arc_value nodes.items)) }
     ensures only_memory { IsOkUnless result NoMemory }
-    ensures entries { IfOk result (λ node. entries_of (option_to_list (option_map arc_value node)) ≡ entries_of (map arc_value nodes.items)) }
-    ensures level { (height : ℕ) → HaveHeight height (map arc_value nodes.items) → IfOk result (λ node. HaveHeight (height + 1) (option_to_list (option_map arc_value node))) }
+    ensures entries { IfOk result (λ node.
+        entries_of (option_to_list (option_map arc_value node)) ≡ entries_of (map arc_value nodes.items)) }
+    ensures level { (height : ℕ) → HaveHeight height (map arc_value nodes.items)
+        → IfOk result (λ node. HaveHeight (height + 1) (option_to_list (option_map arc_value node))) }
 {
     let Some(last) = nodes.last() else {
         return Ok(None);

@@ -146,7 +146,8 @@ impl<V: Drop> Pages<V> {
     /// NoMemory.
     pub fn with(&self, key: &Value, value: Option<V>) -> Result<Pages<V>, Refusal>
         ensures only_memory { IsOkUnless result NoMemory }
-        ensures changed { IfOk result (λ pages. pages ≡ put value_cmp key_of key.now (entry_of key.now value) self.now) }
+        ensures changed { IfOk result (λ pages.
+            pages ≡ put value_cmp key_of key.now (entry_of key.now value) self.now) }
         ensures order { IfOk result (λ pages. AreInOrder pages) }
         ensures short { IfOk result (λ pages. length pages < 2 ^ 63) }
     {
@@ -177,7 +178,8 @@ fn next_root<V: Drop>(
     requires keyed { HasKey value_cmp key_of key.now (option_map arc_value new.now) }
     requires order { AreInOrder (entries_in root.now) }
     ensures only_memory { IsOkUnless result NoMemory }
-    ensures changed { IfOk result (λ made. entries_in made ≡ put value_cmp key_of key.now (option_map arc_value new.now) (entries_in root.now)) }
+    ensures changed { IfOk result (λ made.
+        entries_in made ≡ put value_cmp key_of key.now (option_map arc_value new.now) (entries_in root.now)) }
     ensures order { IfOk result (λ made. AreInOrder (entries_in made)) }
 {
     match root {
@@ -196,7 +198,8 @@ fn changed_root<V: Drop>(
     requires keyed { HasKey value_cmp key_of key.now (option_map arc_value new.now) }
     requires order { AreInOrder root.now.1 }
     ensures only_memory { IsOkUnless result NoMemory }
-    ensures changed { IfOk result (λ made. entries_in made ≡ put value_cmp key_of key.now (option_map arc_value new.now) root.now.1) }
+    ensures changed { IfOk result (λ made.
+        entries_in made ≡ put value_cmp key_of key.now (option_map arc_value new.now) root.now.1) }
     ensures order { IfOk result (λ made. AreInOrder (entries_in made)) }
 {
     let mut made = Vec::new(alloc);

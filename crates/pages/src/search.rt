@@ -19,7 +19,8 @@ use value::{Value, order};
 fn seek<V>(page: &[Arc<(Value, V)>], key: &Value) -> Result<usize, usize>
     requires { AreInOrder (map arc_value page.now) }
     ensures within { IfOk result (λ place. place < length page.now) }
-    ensures found { IfOk result (λ place. item_at value_cmp key_of key.now (map arc_value page.now) ≡ slice_get (map arc_value page.now) place) }
+    ensures found { IfOk result (λ place.
+        item_at value_cmp key_of key.now (map arc_value page.now) ≡ slice_get (map arc_value page.now) place) }
     ensures put { IfOk result (λ place. IsTakenFrom key.now place (place + 1) (map arc_value page.now)) }
     ensures none { IfErr result (λ _. item_at value_cmp key_of key.now (map arc_value page.now) ≡ None) }
     ensures beside { IfErr result (λ place. IsTakenFrom key.now place place (map arc_value page.now)) }
@@ -65,8 +66,10 @@ pub fn place<V>(nodes: &[Arc<Node<V>>], key: &Value) -> usize
     requires some { 0 < length nodes.now }
     requires order { AreInOrder (entries_of (map arc_value nodes.now)) }
     ensures within { result < length nodes.now }
-    ensures found { item_at value_cmp key_of key.now (entries_of (map arc_value nodes.now)) ≡ item_at value_cmp key_of key.now (entries_at (map arc_value nodes.now) result) }
-    ensures changed { (new : Option (values × V)) → put value_cmp key_of key.now new (entries_of (map arc_value nodes.now))
+    ensures found { item_at value_cmp key_of key.now (entries_of (map arc_value nodes.now))
+        ≡ item_at value_cmp key_of key.now (entries_at (map arc_value nodes.now) result) }
+    ensures changed { (new : Option (values × V))
+        → put value_cmp key_of key.now new (entries_of (map arc_value nodes.now))
         ≡ entries_of (take result (map arc_value nodes.now)) ++ (put value_cmp key_of key.now new (entries_at (map arc_value nodes.now) result)
         ++ entries_of (drop (result + 1) (map arc_value nodes.now))) }
 {

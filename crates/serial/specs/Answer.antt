@@ -78,4 +78,5 @@ pub record AreJudged (log : List Record) (commit : Record) : Type 0 where
   pub pivot : is_pivot log commit ≡ true → IsPivotNamed log commit (greatest_in log commit) (least_out log commit)
   pub no_pivot : is_pivot log commit ≡ false → IsNoPivot log commit
   pub reader : is_reader log commit ≡ true → (pivot : Record) × IsLeastPivot log commit pivot
-  pub named : (pivot : Record) → IsLeastPivot log commit pivot → IsReaderNamed log commit pivot.number (least_out log pivot)
+  pub named : (pivot : Record) → IsLeastPivot log commit pivot
+      → IsReaderNamed log commit pivot.number (least_out log pivot)

@@ -35,7 +35,8 @@ Replays put run answered state (first ∷ rest) =
     (run first state ≡ answered first) × Replays put run answered (put state (run first state).changes) rest
 
 -- what is asked of running a transaction alone on a state
-pub record IsSemantics (S : Type 0) (put : S → List Change → S) (look : S → Place → Option RowValues) (run : Record → S → Outcome) (keys : Record → S → List LockKey) (IsGood : S → Type 0) : Type 0 where
+pub record IsSemantics (S : Type 0) (put : S → List Change → S) (look : S → Place → Option RowValues)
+    (run : Record → S → Outcome) (keys : Record → S → List LockKey) (IsGood : S → Type 0) : Type 0 where
   -- a change has the old row that stands in the state
   pub exact : (transaction : Record) (state : S) (change : Change)
       → Contains (run transaction state).changes change → look state (place_of change) ≡ change.old
@@ -50,7 +51,8 @@ pub record IsSemantics (S : Type 0) (put : S → List Change → S) (look : S �
 
 -- The record is that of the transaction's run on the state of its snapshot: its COMMIT is accepted there, its net
 -- change is the one recorded, and the keys recorded are those that it reads, in any order.
-pub record IsRecorded {S : Type 0} (state : S) (run : Record → S → Outcome) (keys : Record → S → List LockKey) (commit : Record) : Type 0 where
+pub record IsRecorded {S : Type 0} (state : S) (run : Record → S → Outcome) (keys : Record → S → List LockKey)
+    (commit : Record) : Type 0 where
   pub accepted : (run commit state).refused ≡ None
   pub changes : (run commit state).changes ≡ commit.changes
   pub reads : are_among (keys commit state) commit.reads ≡ true

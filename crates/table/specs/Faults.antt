@@ -34,7 +34,8 @@ text_fault name (Varchar most) bytes = if nat_le (length bytes) most then None e
 -- what is wrong with a value in a column: NULL where it takes none, or out of its range
 abbrev pub fault_in : Column → Value → Option Refusal
 fault_in column Null = if column.nullable then None else Some (NullNotAllowed column.name)
-fault_in column (Int n) = if nat_le (unsigned_abs n) (10 ^ 15) then None else Some (OutOfRange column.name excess.Number)
+fault_in column (Int n) =
+    if nat_le (unsigned_abs n) (10 ^ 15) then None else Some (OutOfRange column.name excess.Number)
 fault_in column (Text bytes) = text_fault column.name column.kind bytes
 
 -- the first of two faults

@@ -13,8 +13,8 @@
 //! range. `Catalog` holds the schemas of a database: each name once, in the order of creation.
 //!
 //! What the layer above may rest on: an admitted row fits its columns; a refused one is refused for its first fault,
-//! or memory ran out; what a catalog holds is found under its name or at its place, and nothing else; a copy is equal to
-//! its original or memory ran out.
+//! or memory ran out; what a catalog holds is found under its name or at its place, and nothing else; a copy is equal
+//! to its original or memory ran out.
 //!
 //! The definitions are in `specs/`: `Rows` (rows, columns and what fits them, tables in key order, catalogs), `Faults`
 //! (what is wrong with a row) and `Aggregates` (the set functions of SQL-92, which a layer above computes).

@@ -143,8 +143,8 @@ impl Schema {
         self.columns.iter().position(|column| *name == column.name)
     }
 
-    /// Whether there is a value for each column, each of its type. NULL is of every type, and a text with a byte outside
-    /// 0x20 to 0x7E of none.
+    /// Whether there is a value for each column, each of its type. NULL is of every type, and a text with a byte
+    /// outside 0x20 to 0x7E of none.
     pub fn is_typed(&self, row: &Row) -> bool
         ensures { result ≡ are_typed self.now.columns row.now }
     {
@@ -159,7 +159,8 @@ impl Schema {
         ensures wide { OnOk result (length row.now ≡ length self.now.columns) }
         ensures none { OnOk result (row_refusal self.now.columns row.now ≡ None) }
         ensures admitted { IsNone (row_refusal self.now.columns row.now) → IsOk result }
-        ensures refused { IfErr result (λ refusal. (refusal ≡ NoMemory) ⊎ (row_refusal self.now.columns row.now ≡ Some refusal)) }
+        ensures refused { IfErr result (λ refusal.
+            (refusal ≡ NoMemory) ⊎ (row_refusal self.now.columns row.now ≡ Some refusal)) }
     {
         let columns = self.columns();
         let values = row.values();

@@ -11,7 +11,8 @@ use Rattle.net.specs.Nets.{DifferAt}
 use Rattle.txn.specs.Transactions.{OpenTransaction, keys_of, outcome_of, own_view, run_of, standing_of}
 
 -- its own view, its modes, the places of the rows that it has changed, and what it has read
-pub record IsHeld (t : OpenTransaction) (own : Shown) (modes : Immediates) (touched : List Place) (reads : List LockKey) : Type 0 where
+pub record IsHeld (t : OpenTransaction) (own : Shown) (modes : Immediates) (touched : List Place)
+    (reads : List LockKey) : Type 0 where
   pub own_is : own ≡ own_view t
   pub modes_are : modes ≡ (standing_of t).modes
   pub long : length modes ≡ length t.declared.assertions
@@ -20,7 +21,8 @@ pub record IsHeld (t : OpenTransaction) (own : Shown) (modes : Immediates) (touc
 
 -- what a transaction that goes to COMMIT has beside: its net change, the refusal by a false assertion, and what it
 -- has read
-pub record IsClosed (t : OpenTransaction) (changes : List Change) (refused : Option Refusal) (reads : List LockKey) : Type 0 where
+pub record IsClosed (t : OpenTransaction) (changes : List Change) (refused : Option Refusal)
+    (reads : List LockKey) : Type 0 where
   pub changes_are : changes ≡ (outcome_of t).changes
   pub refused_is : refused ≡ (outcome_of t).refused
   pub reads_are : reads ≡ keys_of t

@@ -65,12 +65,15 @@ shown_effect made = record { reply = made.reply; changes = made.changes.items }
 -- the steps of the statements that change rows
 abbrev pub insert_step : Shown → Immediates → NewRow → Step
 insert_step own modes new =
-    effected own.declared (standing own modes) (OneRow (place_in (layouts_in own.declared) new)) (insert_effect own.declared.tables new own.state)
+    effected own.declared (standing own modes) (OneRow (place_in (layouts_in own.declared) new))
+    (insert_effect own.declared.tables new own.state)
 
 abbrev pub update_step : Shown → Immediates → Update → Step
 update_step own modes u =
-    effected own.declared (standing own modes) (where_key u.table (key_of u.table (layouts_in own.declared)) u.kept) (update_of own u)
+    effected own.declared (standing own modes) (where_key u.table (key_of u.table (layouts_in own.declared)) u.kept)
+    (update_of own u)
 
 abbrev pub delete_step : Shown → Immediates → Delete → Step
 delete_step own modes d =
-    effected own.declared (standing own modes) (where_key d.table (key_of d.table (layouts_in own.declared)) d.kept) (Ok (delete_of own d))
+    effected own.declared (standing own modes) (where_key d.table (key_of d.table (layouts_in own.declared)) d.kept)
+    (Ok (delete_of own d))

@@ -22,7 +22,10 @@ pub fn violation(view: &View, meant: &[bool]) -> Result<Option<Refusal>, Refusal
     requires { length meant.now ≡ length view.now.declared.assertions }
     ensures only_memory { IsOkUnless result NoMemory }
     ensures named { IfOk result (HoldsOf (λ refusal. refusal ≢ NoMemory)) }
-    ensures first { IfOk result (λ found. found ≡ violation (layouts_in view.now.declared) (immediate_ones meant.now view.now.declared.assertions) view.now.state) }
+    ensures first { IfOk result (λ found.
+        found
+        ≡ violation (layouts_in view.now.declared) (immediate_ones meant.now view.now.declared.assertions)
+        view.now.state) }
 {
     for place in 0..meant.len() {
         if let Some(refusal) = refused_at(view, meant[place], place)? {
@@ -37,7 +40,10 @@ fn refused_at(view: &View, meant: bool, place: usize) -> Result<Option<Refusal>,
     requires { place < length view.now.declared.assertions }
     ensures only_memory { IsOkUnless result NoMemory }
     ensures named { IfOk result (HoldsOf (λ refusal. refusal ≢ NoMemory)) }
-    ensures found { IfOk result (λ found. (a : AnyAssertion) → found ≡ refused_at (layouts_in view.now.declared) (slice_index_or view.now.declared.assertions place a) meant view.now.state) }
+    ensures found { IfOk result (λ found. (a : AnyAssertion)
+        → found
+        ≡ refused_at (layouts_in view.now.declared) (slice_index_or view.now.declared.assertions place a) meant
+        view.now.state) }
 {
     match view.least_bad(place) {
         Some(group) if meant => Ok(Some(Refusal::Violated {
@@ -51,7 +57,8 @@ fn refused_at(view: &View, meant: bool, place: usize) -> Result<Option<Refusal>,
 /// The place of the first assertion of a name. It takes no memory.
 pub fn place_named(assertions: &[Assertion], name: &Text) -> Option<usize>
     ensures within { IfSome result (λ place. place < length assertions.now) }
-    ensures found { IfSome result (λ place. (a : AnyAssertion) → assertion_of name.now assertions.now ≡ Some (slice_index_or assertions.now place a)) }
+    ensures found { IfSome result (λ place. (a : AnyAssertion)
+        → assertion_of name.now assertions.now ≡ Some (slice_index_or assertions.now place a)) }
     ensures none { IfNone result (assertion_of name.now assertions.now ≡ None) }
 {
     for place in 0..assertions.len() {
@@ -92,7 +99,9 @@ pub fn false_names(alloc: Global, view: &View) -> Result<Vec<Text>, Refusal>
 fn push_if_false(names: &mut Vec<Text>, view: &View, place: usize) -> Result<(), Refusal>
     requires { place < length view.now.declared.assertions }
     ensures only_memory { IsOkUnless result NoMemory }
-    ensures pushed { OnOk result ((a : AnyAssertion) → names.new.items ≡ names.old.items ++ name_if_false view.now (slice_index_or view.now.declared.assertions place a)) }
+    ensures pushed { OnOk result ((a : AnyAssertion)
+        → names.new.items
+        ≡ names.old.items ++ name_if_false view.now (slice_index_or view.now.declared.assertions place a)) }
 {
     let assertion = &view.assertions()[place];
     if view.verdict(place) == Truth::False {

@@ -57,7 +57,8 @@ impl Model for Closed {
 
     ghost view = { λ c. opened c.ticket c.snapshot c.start c.trace.items };
 
-    ghost invariant = { λ c. IsHeld (opened c.ticket c.snapshot c.start c.trace.items) c.own c.modes c.touched (take c.run c.reads.items)
+    ghost invariant = { λ c.
+        IsHeld (opened c.ticket c.snapshot c.start c.trace.items) c.own c.modes c.touched (take c.run c.reads.items)
         × IsClosed (opened c.ticket c.snapshot c.start c.trace.items) c.changes.items c.refused c.reads.items };
 }
 

@@ -27,9 +27,13 @@ pub struct Effect {
 /// INSERT: the row comes to stand at its key. Its refusals are those of `changes::insertion`.
 pub fn insert_effect(alloc: Global, view: &View, new: &NewRow) -> Result<Effect, Refusal>
     requires table_in { new.now.table < length view.now.declared.tables }
-    ensures made { IfOk result (λ effect. insert_effect view.now.declared.tables new.now view.now.state ≡ Ok (record { reply = effect.reply; changes = effect.changes.items })) }
-    ensures refused { IfErr result (λ refusal. refusal ≢ NoMemory → insert_effect view.now.declared.tables new.now view.now.state ≡ Err refusal) }
-    ensures put_in { IfOk result (λ effect. ArePutIn (layouts_in view.now.declared) effect.changes.items view.now.state) }
+    ensures made { IfOk result (λ effect.
+        insert_effect view.now.declared.tables new.now view.now.state
+        ≡ Ok (record { reply = effect.reply; changes = effect.changes.items })) }
+    ensures refused { IfErr result (λ refusal.
+        refusal ≢ NoMemory → insert_effect view.now.declared.tables new.now view.now.state ≡ Err refusal) }
+    ensures put_in { IfOk result (λ effect.
+        ArePutIn (layouts_in view.now.declared) effect.changes.items view.now.state) }
 {
     has_table(view, new.table);
     let change = insertion(
@@ -50,9 +54,11 @@ pub fn insert_effect(alloc: Global, view: &View, new: &NewRow) -> Result<Effect,
 /// UPDATE of the rows that its condition keeps. Its refusals are those of `changes::renewals`.
 pub fn update_effect(alloc: Global, view: &View, update: &Update) -> Result<Effect, Refusal>
     requires runnable { IsRunnableUpdate view.now.declared update.now }
-    ensures made { IfOk result (λ effect. update_of view.now update.now ≡ Ok (record { reply = effect.reply; changes = effect.changes.items })) }
+    ensures made { IfOk result (λ effect.
+        update_of view.now update.now ≡ Ok (record { reply = effect.reply; changes = effect.changes.items })) }
     ensures refused { IfErr result (λ refusal. refusal ≢ NoMemory → update_of view.now update.now ≡ Err refusal) }
-    ensures put_in { IfOk result (λ effect. ArePutIn (layouts_in view.now.declared) effect.changes.items view.now.state) }
+    ensures put_in { IfOk result (λ effect.
+        ArePutIn (layouts_in view.now.declared) effect.changes.items view.now.state) }
 {
     has_table(view, update.table);
     let changes = renewals(
@@ -73,8 +79,10 @@ pub fn update_effect(alloc: Global, view: &View, update: &Update) -> Result<Effe
 pub fn delete_effect(alloc: Global, view: &View, delete: &Delete) -> Result<Effect, Refusal>
     requires runnable { IsRunnableDelete view.now.declared delete.now }
     ensures only_memory { IsOkUnless result NoMemory }
-    ensures made { IfOk result (λ effect. delete_of view.now delete.now ≡ record { reply = effect.reply; changes = effect.changes.items }) }
-    ensures put_in { IfOk result (λ effect. ArePutIn (layouts_in view.now.declared) effect.changes.items view.now.state) }
+    ensures made { IfOk result (λ effect.
+        delete_of view.now delete.now ≡ record { reply = effect.reply; changes = effect.changes.items }) }
+    ensures put_in { IfOk result (λ effect.
+        ArePutIn (layouts_in view.now.declared) effect.changes.items view.now.state) }
 {
     has_table(view, delete.table);
     let changes = removals(

@@ -66,10 +66,14 @@ pub fn step(
     requires declared { own.now.declared ≡ start.now.declared }
     requires differ { DifferAt (layouts_in start.now.declared) start.now.state own.now.state touched.now }
     ensures only_memory { IsOkUnless result NoMemory }
-    ensures done { IfOk result (IsDone (standing own.now modes.now) (stepped own.now.declared start.now.state (standing own.now modes.now) statement.now)) }
+    ensures done { IfOk result
+        (IsDone (standing own.now modes.now)
+        (stepped own.now.declared start.now.state (standing own.now modes.now) statement.now)) }
     ensures of { IfOk result (IsOf own.now.declared) }
     ensures known { IfOk result IsKnown }
-    ensures changes { IfOk result (λ done. DifferAt (layouts_in own.now.declared) own.now.state (left_by (standing own.now modes.now) done).view (map place_of done.changes.items)) }
+    ensures changes { IfOk result (λ done.
+        DifferAt (layouts_in own.now.declared) own.now.state (left_by (standing own.now modes.now) done).view
+        (map place_of done.changes.items)) }
 {
     match statement {
         Resolved::Refused(refusal) => Ok(refused(refusal.copy()?, Vec::new(alloc))),
@@ -146,7 +150,9 @@ fn insert(alloc: Global, own: &View, modes: &Modes, new: &NewRow) -> Result<Done
     ensures done { IfOk result (IsDone (standing own.now modes.now) (insert_step own.now modes.now new.now)) }
     ensures of { IfOk result (IsOf own.now.declared) }
     ensures known { IfOk result IsKnown }
-    ensures changes { IfOk result (λ done. DifferAt (layouts_in own.now.declared) own.now.state (left_by (standing own.now modes.now) done).view (map place_of done.changes.items)) }
+    ensures changes { IfOk result (λ done.
+        DifferAt (layouts_in own.now.declared) own.now.state (left_by (standing own.now modes.now) done).view
+        (map place_of done.changes.items)) }
 {
     let reads = only(alloc, LockKey::Row(place_in(own, new)?))?;
     match insert_effect(alloc, own, new) {
@@ -163,7 +169,9 @@ fn change(alloc: Global, own: &View, modes: &Modes, update: &Update) -> Result<D
     ensures done { IfOk result (IsDone (standing own.now modes.now) (update_step own.now modes.now update.now)) }
     ensures of { IfOk result (IsOf own.now.declared) }
     ensures known { IfOk result IsKnown }
-    ensures changes { IfOk result (λ done. DifferAt (layouts_in own.now.declared) own.now.state (left_by (standing own.now modes.now) done).view (map place_of done.changes.items)) }
+    ensures changes { IfOk result (λ done.
+        DifferAt (layouts_in own.now.declared) own.now.state (left_by (standing own.now modes.now) done).view
+        (map place_of done.changes.items)) }
 {
     let reads = only(alloc, read_key(own, update.table, &update.kept)?)?;
     match update_effect(alloc, own, update) {
@@ -180,7 +188,9 @@ fn take_out(alloc: Global, own: &View, modes: &Modes, delete: &Delete) -> Result
     ensures done { IfOk result (IsDone (standing own.now modes.now) (delete_step own.now modes.now delete.now)) }
     ensures of { IfOk result (IsOf own.now.declared) }
     ensures known { IfOk result IsKnown }
-    ensures changes { IfOk result (λ done. DifferAt (layouts_in own.now.declared) own.now.state (left_by (standing own.now modes.now) done).view (map place_of done.changes.items)) }
+    ensures changes { IfOk result (λ done.
+        DifferAt (layouts_in own.now.declared) own.now.state (left_by (standing own.now modes.now) done).view
+        (map place_of done.changes.items)) }
 {
     let reads = only(alloc, read_key(own, delete.table, &delete.kept)?)?;
     put_in(own, modes, reads, delete_effect(alloc, own, delete)?)
@@ -218,10 +228,14 @@ fn put_in(own: &View, modes: &Modes, reads: Vec<LockKey>, effect: Effect) -> Res
     requires modes { length modes.now ≡ length own.now.declared.assertions }
     requires changes { ArePutIn (layouts_in own.now.declared) effect.changes.items own.now.state }
     ensures only_memory { IsOkUnless result NoMemory }
-    ensures done { IfOk result (λ done. (read : AnyKey) → reads.items ≡ read ∷ [] → IsDone (standing own.now modes.now) (effected own.now.declared (standing own.now modes.now) read (Ok (shown_effect effect))) done) }
+    ensures done { IfOk result (λ done. (read : AnyKey) → reads.items ≡ read ∷ []
+        → IsDone (standing own.now modes.now)
+        (effected own.now.declared (standing own.now modes.now) read (Ok (shown_effect effect))) done) }
     ensures of { IfOk result (IsOf own.now.declared) }
     ensures known { IfOk result IsKnown }
-    ensures changes { IfOk result (λ done. DifferAt (layouts_in own.now.declared) own.now.state (left_by (standing own.now modes.now) done).view (map place_of done.changes.items)) }
+    ensures changes { IfOk result (λ done.
+        DifferAt (layouts_in own.now.declared) own.now.state (left_by (standing own.now modes.now) done).view
+        (map place_of done.changes.items)) }
 {
     let Effect { reply, changes } = effect;
     let alloc = *reads.allocator();
@@ -285,9 +299,14 @@ fn modes_unless(violated: Option<Refusal>, modes: Modes, reads: Vec<LockKey>) ->
 fn list(alloc: Global, own: &View, select: &Select) -> Result<Done, Refusal>
     requires runnable { IsRunnableSelect own.now.declared select.now }
     ensures only_memory { IsOkUnless result NoMemory }
-    ensures reply { IfOk result (λ done. done.reply ≡ Ok (replies.Rows (selected_rows select.now.columns (found_rows own.now.state select.now.table select.now.kept)))) }
+    ensures reply { IfOk result (λ done.
+        done.reply
+        ≡ Ok (replies.Rows
+        (selected_rows select.now.columns (found_rows own.now.state select.now.table select.now.kept)))) }
     ensures same { IfOk result (λ done. (done.view ≡ None) × (done.modes ≡ None) × (done.changes.items ≡ [])) }
-    ensures reads { IfOk result (λ done. done.reads.items ≡ where_key select.now.table (key_of select.now.table (layouts_in own.now.declared)) select.now.kept ∷ []) }
+    ensures reads { IfOk result (λ done.
+        done.reads.items
+        ≡ where_key select.now.table (key_of select.now.table (layouts_in own.now.declared)) select.now.kept ∷ []) }
 {
     let reads = only(alloc, read_key(own, select.table, &select.kept)?)?;
     has_table(own, select.table);
@@ -316,7 +335,9 @@ fn set_modes(
     requires declared { own.now.declared ≡ start.now.declared }
     requires differ { DifferAt (layouts_in start.now.declared) start.now.state own.now.state touched.now }
     ensures only_memory { IsOkUnless result NoMemory }
-    ensures done { IfOk result (IsDone (standing own.now modes.now) (modes_step own.now.declared start.now.state names.now (is_immediate mode) (standing own.now modes.now))) }
+    ensures done { IfOk result
+        (IsDone (standing own.now modes.now)
+        (modes_step own.now.declared start.now.state names.now (is_immediate mode) (standing own.now modes.now))) }
     ensures of { IfOk result (IsOf own.now.declared) }
     ensures known { IfOk result IsKnown }
     ensures rows { IfOk result (λ done. done.view ≡ None) }
@@ -337,7 +358,8 @@ fn set_modes(
 fn modes_after(own: &View, modes: &Modes, names: &[Text], mode: Mode) -> Result<Modes, Refusal>
     requires modes { length modes.now ≡ length own.now.declared.assertions }
     ensures only_memory { IsOkUnless result NoMemory }
-    ensures set { IfOk result (λ after. after ≡ modes_with names.now (is_immediate mode) own.now.declared.assertions modes.now) }
+    ensures set { IfOk result (λ after.
+        after ≡ modes_with names.now (is_immediate mode) own.now.declared.assertions modes.now) }
     ensures long { IfOk result (λ after. length after ≡ length own.now.declared.assertions) }
 {
     let after = modes.set(own.assertions(), names, mode)?;
@@ -354,7 +376,10 @@ fn made_immediate(
 ) -> Result<Done, Refusal>
     requires modes { length modes.now ≡ length own.now.declared.assertions }
     ensures only_memory { IsOkUnless result NoMemory }
-    ensures done { IfOk result (λ done. (start : State) → net.now ≡ net_change (layouts_in own.now.declared) start own.now.state → IsDone (standing own.now modes.now) (modes_step own.now.declared start names.now true (standing own.now modes.now)) done) }
+    ensures done { IfOk result (λ done. (start : State)
+        → net.now ≡ net_change (layouts_in own.now.declared) start own.now.state
+        → IsDone (standing own.now modes.now)
+        (modes_step own.now.declared start names.now true (standing own.now modes.now)) done) }
     ensures of { IfOk result (IsOf own.now.declared) }
     ensures known { IfOk result IsKnown }
     ensures rows { IfOk result (λ done. done.view ≡ None) }
@@ -370,7 +395,10 @@ fn made_immediate(
 fn verdict(alloc: Global, own: &View, name: &Text) -> Result<Done, Refusal>
     ensures only_memory { IsOkUnless result NoMemory }
     ensures known { IfOk result IsKnown }
-    ensures done { IfOk result (λ done. (modes : Immediates) → IsDone (standing own.now modes) (verdict_step own.now.declared (assertion_of name.now own.now.declared.assertions) name.now (standing own.now modes)) done) }
+    ensures done { IfOk result (λ done. (modes : Immediates)
+        → IsDone (standing own.now modes)
+        (verdict_step own.now.declared (assertion_of name.now own.now.declared.assertions) name.now
+        (standing own.now modes)) done) }
     ensures same { IfOk result (λ done. (done.view ≡ None) × (done.modes ≡ None) × (done.changes.items ≡ [])) }
 {
     match place_named(own.assertions(), name) {

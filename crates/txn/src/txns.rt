@@ -62,7 +62,8 @@ impl Model for Txn {
 
     ghost view = { λ t. opened t.ticket t.snapshot t.start t.trace.items };
 
-    ghost invariant = { λ t. IsHeld (opened t.ticket t.snapshot t.start t.trace.items) t.own t.modes t.touched t.reads.items };
+    ghost invariant = { λ t. IsHeld (opened t.ticket t.snapshot t.start t.trace.items) t.own t.modes t.touched
+        t.reads.items };
 }
 
 impl Txn {
@@ -132,10 +133,13 @@ impl Txn {
     /// statement stands in the trace. Or
     /// [`Refusal::NoMemory`]: then nothing has changed, and the statement is in no trace.
     pub fn execute(&mut self, statement: &Statement) -> Result<Reply, Refusal>
-        ensures replied { IfOk result (λ reply. (step_of self.old (resolved self.old.declared statement.now)).reply ≡ Ok reply) }
+        ensures replied { IfOk result (λ reply.
+            (step_of self.old (resolved self.old.declared statement.now)).reply ≡ Ok reply) }
         ensures run { IfOk result (λ _. self.new ≡ with_statement self.old (resolved self.old.declared statement.now)) }
-        ensures refused { IfErr result (λ refusal. refusal ≢ NoMemory → (step_of self.old (resolved self.old.declared statement.now)).reply ≡ Err refusal) }
-        ensures noted { IfErr result (λ refusal. refusal ≢ NoMemory → self.new ≡ with_statement self.old (resolved self.old.declared statement.now)) }
+        ensures refused { IfErr result (λ refusal.
+            refusal ≢ NoMemory → (step_of self.old (resolved self.old.declared statement.now)).reply ≡ Err refusal) }
+        ensures noted { IfErr result (λ refusal.
+            refusal ≢ NoMemory → self.new ≡ with_statement self.old (resolved self.old.declared statement.now)) }
         ensures same { IfErr result (λ refusal. refusal ≡ NoMemory → self.new ≡ self.old) }
     {
         let alloc = *self.trace.allocator();
@@ -148,7 +152,8 @@ impl Txn {
         requires runnable { IsRunnable self.old.declared statement }
         ensures replied { IfOk result (λ reply. (step_of self.old statement).reply ≡ Ok reply) }
         ensures run { IfOk result (λ _. self.new ≡ with_statement self.old statement) }
-        ensures refused { IfErr result (λ refusal. refusal ≢ NoMemory → (step_of self.old statement).reply ≡ Err refusal) }
+        ensures refused { IfErr result (λ refusal.
+            refusal ≢ NoMemory → (step_of self.old statement).reply ≡ Err refusal) }
         ensures noted { IfErr result (λ refusal. refusal ≢ NoMemory → self.new ≡ with_statement self.old statement) }
         ensures same { IfErr result (λ refusal. refusal ≡ NoMemory → self.new ≡ self.old) }
     {
@@ -274,7 +279,9 @@ impl Txn {
     /// What COMMIT is answered by.
     fn closing(&self) -> Result<Closing, Refusal>
         ensures only_memory { IsOkUnless result NoMemory }
-        ensures closed { IfOk result (λ closing. IsClosed self.now closing.changes.items closing.refused ((run_of self.now).reads ++ closing.checked.items)) }
+        ensures closed { IfOk result (λ closing.
+            IsClosed self.now closing.changes.items closing.refused ((run_of self.now).reads
+            ++ closing.checked.items)) }
     {
         let alloc = *self.trace.allocator();
         let changes = net_change(alloc, &self.start, &self.own, &self.touched)?;
@@ -324,7 +331,8 @@ fn make_room(
 ) -> Result<(), Refusal>
     ensures only_memory { IsOkUnless result NoMemory }
     ensures kept { (place : AnyPlace) → Contains touched.old place → Contains touched.new place }
-    ensures added { OnOk result ((place : AnyPlace) → Contains (map place_of changes.now) place → Contains touched.new place) }
+    ensures added { OnOk result ((place : AnyPlace) → Contains (map place_of changes.now) place
+        → Contains touched.new place) }
     ensures trace { trace.new.items ≡ trace.old.items }
     ensures room { OnOk result (vec_len trace.new < vec_capacity trace.new) }
     ensures read { OnOk result (reads.new.items ≡ reads.old.items ++ more.items) }

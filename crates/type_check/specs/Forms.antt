@@ -22,7 +22,8 @@ columns_of layouts table = columns_in (slice_get layouts table)
 
 -- the type of a table's key
 abbrev pub key_type : List Layout → ℕ → Option DataType
-key_type layouts table = option_and_then (λ (layout : Layout). column_type layout.columns layout.key) (slice_get layouts table)
+key_type layouts table =
+    option_and_then (λ (layout : Layout). column_type layout.columns layout.key) (slice_get layouts table)
 
 -- the grouping column as the only one, if there is one
 abbrev pub group_columns : List Column → ℕ → List Column
@@ -30,11 +31,16 @@ group_columns columns group = option_to_list (slice_get columns group)
 
 -- what a subquery of its own gives, if its WHERE is typed
 abbrev pub plain_type : List Layout → Plain → Option DataType
-plain_type layouts q = if is_typed_condition (columns_of layouts q.table) [] q.kept then aggregate_type (columns_of layouts q.table) q.aggregate else None
+plain_type layouts q =
+    if is_typed_condition (columns_of layouts q.table) [] q.kept
+    then aggregate_type (columns_of layouts q.table) q.aggregate
+    else None
 
 -- what a subquery of a row gives, if its WHERE is typed and its link compares the key with a column of the key's type
 abbrev pub linked_type : List Layout → Option DataType → Linked → Option DataType
-linked_type layouts key q = if is_typed_condition (columns_of layouts q.table) [] q.kept && are_comparable key (column_type (columns_of layouts q.table) q.link)
+linked_type layouts key q =
+    if is_typed_condition (columns_of layouts q.table) [] q.kept
+    && are_comparable key (column_type (columns_of layouts q.table) q.link)
     then aggregate_type (columns_of layouts q.table) q.aggregate else None
 
 -- the types of a list, if each is there
@@ -50,7 +56,12 @@ is_typed_over columns (Some slots) condition = is_typed_condition columns slots 
 
 -- whether each condition of a form is typed over what it sees, with each of its subqueries or aggregates
 abbrev pub is_typed_form : List Layout → Form → Bool
-is_typed_form layouts (ByRow table condition queries) = is_typed_over (columns_of layouts table) (all_types (map (linked_type layouts (key_type layouts table)) queries)) condition
-is_typed_form layouts (ByGroup table kept group having aggregates) = is_typed_condition (columns_of layouts table) [] kept
-    && is_typed_over (group_columns (columns_of layouts table) group) (all_types (map (aggregate_type (columns_of layouts table)) aggregates)) having
-is_typed_form layouts (Single condition queries) = is_typed_over [] (all_types (map (plain_type layouts) queries)) condition
+is_typed_form layouts (ByRow table condition queries) =
+    is_typed_over (columns_of layouts table) (all_types (map (linked_type layouts (key_type layouts table)) queries))
+    condition
+is_typed_form layouts (ByGroup table kept group having aggregates) =
+    is_typed_condition (columns_of layouts table) [] kept
+    && is_typed_over (group_columns (columns_of layouts table) group)
+    (all_types (map (aggregate_type (columns_of layouts table)) aggregates)) having
+is_typed_form layouts (Single condition queries) =
+    is_typed_over [] (all_types (map (plain_type layouts) queries)) condition

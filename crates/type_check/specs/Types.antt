@@ -1,4 +1,5 @@
--- The types of expressions, and which conditions compare and compute only what they may (SQL-92, value expressions and comparisons).
+-- The types of expressions, and which conditions compare and compute only what they may (SQL-92, value expressions
+-- and comparisons).
 use Rattle.std.specs.Prelude.{ℕ, Bool, true, false, List, Option, Some, None, slice_get, is_some, if◌then◌else◌}
 use Rattle.std.specs.List.{list_all}
 use Rattle.std.specs.Option.{option_map}
@@ -60,7 +61,8 @@ number_if numbers = if numbers then Some Number else None
 abbrev pub arithmetic_type : List (Option DataType) → Option DataType
 arithmetic_type parts = number_if (list_all is_number parts)
 
--- the type of a set function over the rows of these columns: SUM is for numbers alone, MIN and MAX give what the column holds
+-- the type of a set function over the rows of these columns: SUM is for numbers alone, MIN and MAX give what the
+-- column holds
 abbrev pub aggregate_type : List Column → Aggregate → Option DataType
 aggregate_type columns CountRows = Some Number
 aggregate_type columns (Count column) = Some Number
@@ -83,7 +85,8 @@ expression_type columns slots = fold-Expr (Option DataType) (type_step columns s
 
 -- one condition, with whether each part is typed in its place; what EXISTS asks of is a count
 abbrev pub typed_step : List Column → List DataType → Cond-F Bool → Bool
-typed_step columns slots (Cond-F.Compare comparison a b) = are_comparable (expression_type columns slots a) (expression_type columns slots b)
+typed_step columns slots (Cond-F.Compare comparison a b) =
+    are_comparable (expression_type columns slots a) (expression_type columns slots b)
 typed_step columns slots (Cond-F.IsNull a) = is_some (expression_type columns slots a)
 typed_step columns slots (Cond-F.Exists slot) = true
 typed_step columns slots (Cond-F.Is part truth) = part

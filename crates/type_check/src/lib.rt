@@ -1,33 +1,33 @@
 //! Which resolved conditions and assertions are typed, and which are bounded.
 //!
-//! SQL-92 (ISO/IEC 9075:1992, data types) lets two values be compared only where their types are comparable, numbers with
-//! numbers and character strings with character strings; it computes with numbers alone, and so does SUM. Here a column is
-//! INTEGER or VARCHAR(n), and what an expression gives is of one of two types, a *number* or a *text*: the length of a text
-//! plays no part, since texts of any lengths can be compared.
+//! SQL-92 (ISO/IEC 9075:1992, data types) lets two values be compared only where their types are comparable, numbers
+//! with numbers and character strings with character strings; it computes with numbers alone, and so does SUM. Here a
+//! column is INTEGER or VARCHAR(n), and what an expression gives is of one of two types, a *number* or a *text*: the
+//! length of a text plays no part, since texts of any lengths can be compared.
 //!
-//! - A literal is of its own type, a column of the declared one. COUNT and SUM give numbers, MIN and MAX what their column
-//!   holds. A negation, a sum and a product are numbers where each part is one.
+//! - A literal is of its own type, a column of the declared one. COUNT and SUM give numbers, MIN and MAX what their
+//!   column holds. A negation, a sum and a product are numbers where each part is one.
 //! - A *mismatch* is a comparison of a number with a text (BETWEEN and IN are comparisons already), arithmetic or a
-//!   negation on a text, SUM of a text column, and a link between a row's key and a column of the other type. IS NULL takes
-//!   either type, and the slot of EXISTS holds a count.
-//! - What can't stand in a resolved condition has no type, and so is a mismatch wherever its type is asked for: NULL as a
-//!   literal, and a column or a slot that is not there. A table past the end of the catalog has no columns.
+//!   negation on a text, SUM of a text column, and a link between a row's key and a column of the other type. IS NULL
+//!   takes either type, and the slot of EXISTS holds a count.
+//! - What can't stand in a resolved condition has no type, and so is a mismatch wherever its type is asked for: NULL
+//!   as a literal, and a column or a slot that is not there. A table past the end of the catalog has no columns.
 //!
-//! **What a condition sees.** A WHERE sees the columns of its table, and no slots. The condition of an assertion by rows
-//! sees the columns of its table and, in its slots, what the row's subqueries give; HAVING sees the grouping column alone,
-//! as column 0, and the aggregates of the group's rows; a single condition sees no column, only its subqueries. A form is
-//! *typed* where each of its conditions is, over what it sees.
+//! **What a condition sees.** A WHERE sees the columns of its table, and no slots. The condition of an assertion by
+//! rows sees the columns of its table and, in its slots, what the row's subqueries give; HAVING sees the grouping
+//! column alone, as column 0, and the aggregates of the group's rows; a single condition sees no column, only its
+//! subqueries. A form is *typed* where each of its conditions is, over what it sees.
 //!
-//! **Width.** A form is *bounded* where each expression of its conditions has a bound (see `cond`), by the set functions
-//! that fill its slots. A bounded form is evaluated in 128 bits without overflow.
+//! **Width.** A form is *bounded* where each expression of its conditions has a bound (see `cond`), by the set
+//! functions that fill its slots. A bounded form is evaluated in 128 bits without overflow.
 //!
-//! What the layer above may rest on: `form_is_typed` and `form_is_bounded` answer exactly by their definitions, or memory
-//! ran out; of a form that is bounded so, `assertion`'s `IsBounded` holds, which layers that evaluate it ask for. The
-//! functions below the forms take no memory, and are for conditions and expressions that stand in no assertion, as those
-//! of a statement.
+//! What the layer above may rest on: `form_is_typed` and `form_is_bounded` answer exactly by their definitions, or
+//! memory ran out; of a form that is bounded so, `assertion`'s `IsBounded` holds, which layers that evaluate it ask
+//! for. The functions below the forms take no memory, and are for conditions and expressions that stand in no
+//! assertion, as those of a statement.
 //!
-//! The definitions are in `specs/`: `Types` (types of expressions, typed conditions), `Forms` (typed forms) and `Widths`
-//! (bounded forms).
+//! The definitions are in `specs/`: `Types` (types of expressions, typed conditions), `Forms` (typed forms) and
+//! `Widths` (bounded forms).
 #![tactic(auto)]
 
 mod bounded_forms;

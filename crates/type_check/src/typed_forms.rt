@@ -16,8 +16,8 @@ use std::slice;
 use table::{Aggregate, Catalog, Column};
 use value::Refusal;
 
-/// Whether each condition of a form is typed over what it sees, each link is between two columns of one type, and no SUM is
-/// of a text column. The form's tables are those of the catalog, by their places.
+/// Whether each condition of a form is typed over what it sees, each link is between two columns of one type, and no
+/// SUM is of a text column. The form's tables are those of the catalog, by their places.
 ///
 /// # Errors
 ///
@@ -105,7 +105,8 @@ fn linked_types(
     queries: &[Linked],
 ) -> Result<Option<Items<DataType>>, Refusal>
     ensures only_memory { IsOkUnless result NoMemory }
-    ensures types { IfOk result (λ types. types ≡ all_types (map (linked_type_of (layouts_of catalog.now) key) queries.now)) }
+    ensures types { IfOk result (λ types.
+        types ≡ all_types (map (linked_type_of (layouts_of catalog.now) key) queries.now)) }
 {
     let mut types = Vec::new(alloc);
     for query in queries {
@@ -137,7 +138,8 @@ fn plain_types(
     queries: &[Plain],
 ) -> Result<Option<Items<DataType>>, Refusal>
     ensures only_memory { IsOkUnless result NoMemory }
-    ensures types { IfOk result (λ types. types ≡ all_types (map (plain_type_of (layouts_of catalog.now)) queries.now)) }
+    ensures types { IfOk result (λ types.
+        types ≡ all_types (map (plain_type_of (layouts_of catalog.now)) queries.now)) }
 {
     let mut types = Vec::new(alloc);
     for query in queries {
