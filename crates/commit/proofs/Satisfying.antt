@@ -1,8 +1,6 @@
 -- Assertions that are looked at one after the other.
-use Rattle.std.proofs.Common.{◌≡◌, ◌<◌, ◌+◌, ℕ, zero, suc, List, [], ◌∷◌, Option, Some, None, length, drop, sym, ◌∙◌, ap, add-one, arith}
+use Rattle.std.proofs.Common.{◌≡◌, ◌<◌, ◌+◌, ℕ, zero, suc, List, [], ◌∷◌, None, length, drop, sym, ap, add-one, arith}
 use Rattle.std.specs.Prelude.{slice_index_or}
-use Rattle.value.specs.declared.values.Root.{Root}
-use Rattle.value.specs.declared.refusals.Refusal.TheVariants.{Violated}
 use Rattle.table.specs.Rows.{Layout}
 use Rattle.assertion.specs.declared.assertions.Assertion.{Assertion}
 use Rattle.assertion.specs.Meaning.{State, least_bad_of}
@@ -21,14 +19,3 @@ module _ (layouts : List Layout) (state : State) where
       → ((a : Assertion) → None ≡ least_bad_of layouts (slice_index_or assertions i a).form state)
       → violation layouts (drop i assertions) state ≡ violation layouts (drop (i + 1) assertions) state
   passed assertions i h fine = rw (add-one) (passes assertions i h fine)
-
-  -- one that is false is the first from its place on
-  pub stopped : (assertions : List Assertion) (i : ℕ) → i < length assertions → (name : List ℕ) (root : Root)
-      → ((a : Assertion) → name ≡ (slice_index_or assertions i a).name)
-      → ((a : Assertion) → Some root ≡ least_bad_of layouts (slice_index_or assertions i a).form state)
-      → violation layouts (drop i assertions) state ≡ Some (Violated name root)
-  stopped [] i h name root named false = absurd (omega (arith, h))
-  stopped (a ∷ rest) zero h name root named false =
-      ap (λ found. refusal_at a.name found (violation layouts rest state)) (sym (false a))
-      ∙ ap (λ it. Some (Violated it root)) (sym (named a))
-  stopped (a ∷ rest) (suc i) h name root named false = stopped rest i (omega (arith, h)) name root named false

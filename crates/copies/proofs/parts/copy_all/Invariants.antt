@@ -3,4 +3,4 @@ use Rattle.copies.proofs.parts.copy_all.Given as goal
 
 -- the copies so far are those of the parts so far
 abbrev pub invariant-loop-part : goal.invariant-loop-part
-invariant-loop-part l = l.made.items ≡ take l.part-index l.parts
+invariant-loop-part g l = l.made.items ≡ take l.part-index l.parts
