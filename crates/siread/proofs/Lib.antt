@@ -1,6 +1,5 @@
 pub mod KeyOrder
 pub mod Members
+pub mod Entries
 pub mod Lookups
 pub mod Steps
-pub mod Trims
-pub mod Counts
