@@ -1,9 +1,9 @@
 //! The table of all reads.
 
-ghost use Rattle.std.specs.Prelude.{◌≡◌, ◌+◌, ℕ, not, IsOkUnless, OnOk, OnErr};
+ghost use Rattle.std.specs.Prelude.{◌≡◌, ◌+◌, ◌∷◌, [], ℕ, not, IsOkUnless, OnOk, OnErr};
 ghost use Rattle.table.specs.Rows.{value_in};
 ghost use Rattle.siread.specs.Families.{above_each, is_no_entry, last_in, last_over, last_under, readers_of, IsFamilyCount};
-ghost use Rattle.siread.specs.Locks.{above, changed_at, last_touched, no_reads, readers_at, with_reader, without_reader, AreAscending, AreBelow, IsCount, IsGreatestReader, IsPartlyPut, IsUndone};
+ghost use Rattle.siread.specs.Locks.{above, changed_at, no_reads, readers_at, with_reader, without_reader, AreBelow, IsCount, IsGreatestReader, IsPartlyPut, IsUndone};
 ghost use Rattle.siread.specs.Readers.{last_of, left_out, with_last};
 ghost use Rattle.value.specs.declared.refusals.Refusal.TheVariants.{NoMemory};
 
@@ -24,11 +24,13 @@ pub struct LockTable {
 }
 
 impl Model for LockTable {
-    ghost use Rattle.siread.specs.Locks.{Locks};
+    ghost use Rattle.siread.specs.Locks.{AreAscending, Locks, readers_at};
 
     ghost Value = { Locks };
 
     ghost view = { λ table. table.families.entries };
+
+    ghost invariant = { λ table. AreAscending (readers_at table.families.entries) };
 }
 
 impl LockTable {
@@ -68,12 +70,11 @@ impl LockTable {
 
     /// The greatest reader of the keys that some changes touch, or 0 where none has a reader. It takes no memory.
     pub fn greatest_reader(&self, changes: &[Change]) -> u64
-        requires { AreAscending (readers_at self.now) }
         ensures { IsGreatestReader (readers_at self.now) changes.now result }
     {
         let mut greatest = 0;
         for change in changes {
-            greatest = self.last_reader(change).max(greatest);
+            greatest = self.greatest_touched(change).max(greatest);
         }
         greatest
     }
@@ -113,12 +114,7 @@ impl LockTable {
     pub fn trim_below(&mut self, number: u64)
         ensures { readers_at self.new ≡ above number (readers_at self.old) }
     {
-        self.families.retain(
-            |_family, readers|
-                ensures kept { readers_of readers.new ≡ above_each number (readers_of readers.old) }
-                ensures some { result ≡ not (is_no_entry readers.new) }
-            { readers.keeps_some_above(number) },
-        );
+        keep_above(&mut self.families, number);
     }
 
     /// Puts a reader to these keys one after the other, up to the first that finds no memory.
@@ -136,6 +132,7 @@ impl LockTable {
 
     /// One reader more of a key, if it isn't the last of them already.
     fn put_one(&mut self, number: u64, key: &LockKey) -> Result<(), Refusal>
+        requires { AreBelow (number + 1) (readers_at self.old) }
         ensures only_memory { IsOkUnless result NoMemory }
         ensures put { OnOk result (readers_at self.new ≡ changed_at key.now (with_last number) (readers_at self.old)) }
         ensures unchanged { OnErr result (readers_at self.new ≡ readers_at self.old) }
@@ -167,16 +164,29 @@ impl LockTable {
         }
     }
 
-    /// The greatest of the last readers of the keys that a change touches, or 0 where none has a reader.
-    fn last_reader(&self, change: &Change) -> u64
-        ensures { result ≡ last_touched change.now self.now }
+    /// The greatest reader of the keys that a change touches, or 0 where none has a reader. The last reader of a key is
+    /// its greatest.
+    fn greatest_touched(&self, change: &Change) -> u64
+        ensures { IsGreatestReader (readers_at self.now) (change.now ∷ []) result }
     {
-        let mut last = 0;
+        let mut greatest = 0;
         for (family, readers) in self.families.iter() {
-            last = last_in(family, readers, change).max(last);
+            greatest = last_in(family, readers, change).max(greatest);
         }
-        last
+        greatest
     }
+}
+
+/// Takes out the readers numbered at most this, and the families without readers.
+fn keep_above(families: &mut BTreeMap<Family, ByValue>, number: u64)
+    ensures { readers_at families.new.entries ≡ above number (readers_at families.old.entries) }
+{
+    families.retain(
+        |_family, readers|
+            ensures kept { readers_of readers.new ≡ above_each number (readers_of readers.old) }
+            ensures some { result ≡ not (is_no_entry readers.new) }
+        { readers.keeps_some_above(number) },
+    );
 }
 
 /// The number of readers of a family's keys. All that is under a table is its key under NULL.

@@ -1,4 +1,4 @@
-use Rattle.std.proofs.Common.{◌≡◌, ℕ, List, [], false, filter, nat_lt, not, refl, sym, ap, ◌∙◌}
+use Rattle.std.proofs.Common.{◌≡◌, ℕ, List, filter, nat_lt, not, refl, sym, ap, ◌∙◌}
 use Rattle.value.specs.contracts.values.ValueOrd.TheImpl.{cmp-value as value_order}
 use Rattle.std.proofs.lemmas.Bool.{not-false}
 use Rattle.siread.specs.Keys.{same_value}
