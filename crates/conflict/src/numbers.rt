@@ -1,7 +1,7 @@
 //! The two numbers of a candidate.
 
 ghost use Rattle.std.specs.Prelude.{◌≡◌, ◌&&◌, List, if◌then◌else◌, min, nat_lt, reverse};
-ghost use Rattle.siread.specs.Locks.{readers_at, AreAscending};
+ghost use Rattle.siread.specs.Locks.{readers_at};
 ghost use Rattle.serial.specs.Commits.{conflicts_to, IsNext};
 ghost use Rattle.serial.specs.Numbers.{greatest_in};
 ghost use Rattle.serial.specs.Order.{least_out};
@@ -39,7 +39,6 @@ fn least_with(other: &Record, candidate: &Candidate, least: u64) -> u64
 /// The greatest of those that conflict to the candidate, 0 where none does: of those after its snapshot that read what
 /// it changes.
 pub fn greatest_in(locks: &LockTable, candidate: &Candidate) -> u64
-    requires ascending { AreAscending (readers_at locks.now) }
     ensures { (commits : List Record) → IsNext (record_of candidate.now) (reverse commits) → HasReaders (readers_at locks.now) commits candidate.now.snapshot
         → result ≡ greatest_in (reverse commits) (record_of candidate.now) }
 {

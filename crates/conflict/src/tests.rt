@@ -1,6 +1,6 @@
 //! Small histories, of transactions that all began before the first commit.
 
-ghost use Rattle.std.specs.Prelude.{◌≡◌, ◌≤◌, ◌<◌, ◌+◌, length, map, reverse, IfOk};
+ghost use Rattle.std.specs.Prelude.{◌≡◌, ◌≤◌, ◌<◌, ◌+◌, [], length, map, reverse, IfOk};
 ghost use Rattle.siread.specs.Locks.{above, readers_at};
 ghost use Rattle.serial.specs.Commits.{IsLog};
 ghost use Rattle.serial.specs.Order.{least_out};
@@ -15,6 +15,13 @@ use std::alloc::Global;
 use std::test::Fail;
 use table::{Change, Row};
 use value::{Refusal, Text, Value};
+
+/// That nobody has read anything.
+fn no_locks(alloc: Global) -> LockTable
+    ensures { readers_at result ≡ above 0 (reads_of []) }
+{
+    LockTable::new(alloc)
+}
 
 /// Puts the row of a key into the first table.
 fn insertion(alloc: Global, key: i64) -> Result<Change, Refusal> {
@@ -101,7 +108,7 @@ fn judge_whole(committed: &[Record], places: &[u64], locks: &LockTable, commit: 
 fn the_first_commit_joins(rt: HostRuntime) -> Result<(), Fail> {
     let mut committed = Vec::new(rt.alloc());
     let mut places = Vec::new(rt.alloc());
-    let mut locks = LockTable::new(rt.alloc());
+    let mut locks = no_locks(rt.alloc());
     let first = submit(rt.alloc(), &mut committed, &mut places, &mut locks, 7, 7)?;
     assert_eq!(rt; first, Verdict::Fine { place: 1 });
     Ok(())
@@ -111,7 +118,7 @@ fn the_first_commit_joins(rt: HostRuntime) -> Result<(), Fail> {
 fn the_first_committer_wins(rt: HostRuntime) -> Result<(), Fail> {
     let mut committed = Vec::new(rt.alloc());
     let mut places = Vec::new(rt.alloc());
-    let mut locks = LockTable::new(rt.alloc());
+    let mut locks = no_locks(rt.alloc());
     submit(rt.alloc(), &mut committed, &mut places, &mut locks, 1, 2)?;
     let second = submit(rt.alloc(), &mut committed, &mut places, &mut locks, 3, 2)?;
     assert_eq!(rt; second, Verdict::WriteConflict { row: 0, by: 1 });
@@ -122,7 +129,7 @@ fn the_first_committer_wins(rt: HostRuntime) -> Result<(), Fail> {
 fn each_read_what_the_other_wrote(rt: HostRuntime) -> Result<(), Fail> {
     let mut committed = Vec::new(rt.alloc());
     let mut places = Vec::new(rt.alloc());
-    let mut locks = LockTable::new(rt.alloc());
+    let mut locks = no_locks(rt.alloc());
     submit(rt.alloc(), &mut committed, &mut places, &mut locks, 1, 2)?;
     let second = submit(rt.alloc(), &mut committed, &mut places, &mut locks, 2, 1)?;
     let danger = Danger::AsPivot {
@@ -137,7 +144,7 @@ fn each_read_what_the_other_wrote(rt: HostRuntime) -> Result<(), Fail> {
 fn the_reader_comes_last(rt: HostRuntime) -> Result<(), Fail> {
     let mut committed = Vec::new(rt.alloc());
     let mut places = Vec::new(rt.alloc());
-    let mut locks = LockTable::new(rt.alloc());
+    let mut locks = no_locks(rt.alloc());
     submit(rt.alloc(), &mut committed, &mut places, &mut locks, 9, 1)?;
     let pivot = submit(rt.alloc(), &mut committed, &mut places, &mut locks, 1, 2)?;
     assert_eq!(rt; pivot, Verdict::Fine { place: 1 });
