@@ -1,12 +1,33 @@
 -- Who read what, as transactions begin, are committed, and end.
-use Rattle.std.proofs.Common.{◌≡◌, ℕ, ◌≤◌, List, [], ◌∷◌, ◌++◌, length, sym, ap, ◌∙◌, arith}
+use Rattle.std.proofs.Common.{◌≡◌, ℕ, ◌≤◌, List, [], ◌∷◌, ◌++◌, length, inl, inr, sym, ap, ◌∙◌, arith}
 use Rattle.std.proofs.lemmas.List.{length-append}
-use Rattle.siread.specs.Locks.{above, with_reader}
+use Rattle.std.specs.Prelude.{Contains}
+use Rattle.siread.specs.Locks.{Reads, above, with_reader}
+use Rattle.siread.proofs.Members.{in_cases, not_in_nil}
+use Rattle.live.specs.declared.snapshots.LiveSnapshot.{LiveSnapshot}
 use Rattle.live.specs.Live.{LiveState, is_other, least_held, with_begin, without}
 use Rattle.live.proofs.Least.{least_begun, least_grows}
 use Rattle.serial.specs.declared.records.Record.{Record}
-use Rattle.conflict.specs.Readers.{reads_of}
+use Rattle.conflict.specs.Readers.{HasReaders, reads_of}
 use Rattle.conflict.proofs.Readers.{above_put, above_twice, reads_more}
+use Rattle.txn.specs.Transactions.{OpenTransaction}
+use Rattle.commit.specs.Cores.{CoreState, IsLive, reads_kept}
+
+-- an open transaction's snapshot is no less than the least
+least_up_to : (newest : ℕ) (all : List LiveSnapshot) (one : LiveSnapshot) → Contains all one → least_held newest all ≤ one.snapshot
+least_up_to newest [] one m = absurd (not_in_nil one m)
+least_up_to newest (first ∷ rest) one m = elim (in_cases first rest one m) [
+  | inl here ↦ (let same = ap (λ (o : LiveSnapshot). o.snapshot) here in omega (arith, same))
+  | inr there ↦ (let more = least_up_to newest rest one there in omega (arith, more))
+]
+
+-- so it may ask for all readers above it
+pub readers_above : (core : CoreState) (t : OpenTransaction) (locks : Reads) → IsLive core t → locks ≡ reads_kept core → HasReaders locks core.records t.snapshot
+readers_above core t locks live e = record {
+  low = least_held (length core.records) core.live.snapshots;
+  within = least_up_to (length core.records) core.live.snapshots (record { ticket = t.ticket; snapshot = t.snapshot }) live.held;
+  are = e;
+}
 
 module _ (live : LiveState) (commits : List Record) where
   -- as a transaction begins, none may go
