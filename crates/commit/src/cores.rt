@@ -370,7 +370,7 @@ impl Core {
             reads: closed.reads(),
             changes,
         };
-        match judge(records, self.places.as_slice(), &candidate) {
+        match judge(records, self.places.as_slice(), &self.locks, &candidate) {
             Verdict::Fine { place } => Ok(Decision::Accepted(place)),
             Verdict::WriteConflict { row, by } => {
                 let refusal = write_conflict(self.loaded.catalog(), changes, row, by)?;

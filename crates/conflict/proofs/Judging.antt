@@ -10,7 +10,7 @@ use Rattle.serial.specs.Numbers.{greatest_in, is_pivot, is_reader, IsLeastPivot}
 use Rattle.serial.specs.Order.{least_out}
 use Rattle.serial.specs.Answer.{AreJudged, IsPivotNamed, IsReaderNamed}
 use Rattle.serial.proofs.Alike.{Alike, greatest_in_alike, is_reader_alike, least_out_alike, least_pivot_alike}
-use Rattle.serial.proofs.Snapshots.{Parts, parts, greatest_in_recent, least_out_recent}
+use Rattle.serial.proofs.Snapshots.{Parts, parts, least_out_recent}
 use Rattle.conflict.specs.declared.candidates.Candidate.{Candidate}
 use Rattle.conflict.specs.Candidates.{record_of, IsOf}
 use Rattle.conflict.specs.Judged.{IsConflictAt, IsFirstShared, IsVerdict}
@@ -28,6 +28,10 @@ pub record Asked (commits : List Record) (candidate : Candidate) (commit : Recor
 pub held_parts : (commits : List Record) (candidate : Candidate) → IsLog (reverse commits) → candidate.number ≡ length commits + 1 → candidate.snapshot < candidate.number
     → Parts commits candidate.snapshot
 held_parts commits candidate log next after = parts commits candidate.snapshot log (omega arith)
+
+-- the candidate is the next commit
+pub candidate_next : (commits : List Record) (candidate : Candidate) → IsLog (reverse commits) → candidate.number ≡ length commits + 1 → IsNext (record_of candidate) (reverse commits)
+candidate_next commits candidate log next = record { accepted = log; numbered = omega (arith, length-reverse commits, next) }
 
 -- the commits after the snapshot, as a slice that goes to the end
 abbrev pub recent_of : List Record → Candidate → List Record
@@ -57,8 +61,8 @@ module _ (commits : List Record) (candidate : Candidate) (commit : Record) (aske
   least_is : (place : ℕ) → place ≡ least_out (reverse recent) (record_of candidate) → place ≡ least_out (reverse commits) commit
   least_is place e = e ∙ ap (λ o. least_out (reverse o) (record_of candidate)) recent_is ∙ sym (least_out_recent commits (record_of candidate) held) ∙ least_out_alike (reverse commits) (record_of candidate) commit same
 
-  greatest_is : (reader : ℕ) → reader ≡ greatest_in (reverse recent) (record_of candidate) → reader ≡ greatest_in (reverse commits) commit
-  greatest_is reader e = e ∙ ap (λ o. greatest_in (reverse o) (record_of candidate)) recent_is ∙ sym (greatest_in_recent commits (record_of candidate) held) ∙ greatest_in_alike (reverse commits) (record_of candidate) commit same
+  greatest_is : (reader : ℕ) → reader ≡ greatest_in (reverse commits) (record_of candidate) → reader ≡ greatest_in (reverse commits) commit
+  greatest_is reader e = e ∙ greatest_in_alike (reverse commits) (record_of candidate) commit same
 
   pub conflict_at : (row by : ℕ) → IsFirstShared recent candidate.changes.now row by → IsConflictAt (reverse commits) commit row by
   conflict_at row by f =
@@ -79,10 +83,10 @@ module _ (commits : List Record) (candidate : Candidate) (commit : Record) (aske
       (subst (λ snapshot. list_any (λ other. share_row candidate.changes.now other.changes) (drop snapshot commits) ≡ false) asked.is.snapshot
       (subst (λ o. list_any (λ other. share_row candidate.changes.now other.changes) o ≡ false) recent_is none)))
 
-  -- the two numbers, found among those after the snapshot
+  -- the two numbers: the one found among those after the snapshot, the other by who read what
   pub record Found (place reader : ℕ) : Type 0 where
     pub least : place ≡ least_out (reverse recent) (record_of candidate)
-    pub greatest : reader ≡ greatest_in (reverse recent) (record_of candidate)
+    pub greatest : reader ≡ greatest_in (reverse commits) (record_of candidate)
 
   pub as_pivot : (place reader : ℕ) → AreJudged (reverse commits) commit → IsFree → Found place reader → place ≤ reader
       → IsVerdict (reverse commits) commit (Dangerous (AsPivot reader place))

@@ -4,3 +4,5 @@ pub mod Shared
 pub mod Puts
 pub mod Judging
 pub mod Joined
+pub mod Reading
+pub mod Readers

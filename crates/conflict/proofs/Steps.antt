@@ -1,11 +1,10 @@
 -- One record more, in the words of the definitions.
-use Rattle.std.proofs.Common.{◌≡◌, ℕ, ◌+◌, ◌<◌, cond, ltb, min, max, List, [], ◌∷◌, reverse, length, take, get_or, sym, ap, ◌∙◌}
+use Rattle.std.proofs.Common.{◌≡◌, ℕ, ◌+◌, ◌<◌, cond, ltb, min, List, [], ◌∷◌, reverse, length, take, get_or, sym, ap, ◌∙◌}
 use Rattle.std.specs.Prelude.{◌&&◌}
 use Rattle.std.proofs.lemmas.List.{take_more, reverse-append}
 use Rattle.serial.specs.declared.records.Record.{Record}
 use Rattle.serial.specs.Commits.{conflicts_to}
 use Rattle.serial.specs.Order.{least_out}
-use Rattle.serial.specs.Numbers.{greatest_in}
 
 pub log_more : (xs : List Record) (i : ℕ) (item : Record) → i < length xs → item ≡ get_or xs i item → reverse (take (i + 1) xs) ≡ item ∷ reverse (take i xs)
 log_more xs i item l is =
@@ -17,10 +16,3 @@ pub least_more : (xs : List Record) (i : ℕ) (item commit : Record) (least next
 least_more xs i item commit least next l is e f =
     f ∙ ap (λ m. cond (ltb item.number commit.number && conflicts_to commit item) (min item.number m) m) e
     ∙ ap (λ o. least_out o commit) (sym (log_more xs i item l is))
-
-pub greatest_more : (xs : List Record) (i : ℕ) (item commit : Record) (greatest next : ℕ) → i < length xs → item ≡ get_or xs i item → greatest ≡ greatest_in (reverse (take i xs)) commit
-    → next ≡ cond (conflicts_to item commit) (max item.number greatest) greatest
-    → next ≡ greatest_in (reverse (take (i + 1) xs)) commit
-greatest_more xs i item commit greatest next l is e f =
-    f ∙ ap (λ m. cond (conflicts_to item commit) (max item.number m) m) e
-    ∙ ap (λ o. greatest_in o commit) (sym (log_more xs i item l is))

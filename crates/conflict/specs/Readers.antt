@@ -1,9 +1,9 @@
 -- Who of the commits read what.
-use Rattle.std.specs.Prelude.{Bool, List, map, filter}
+use Rattle.std.specs.Prelude.{◌≡◌, ◌≤◌, ℕ, Bool, List, map, filter}
 use Rattle.std.specs.List.{list_any}
 use Rattle.siread.specs.declared.keys.LockKey.{LockKey}
 use Rattle.siread.specs.Keys.{same_key}
-use Rattle.siread.specs.Locks.{Reads}
+use Rattle.siread.specs.Locks.{Reads, above}
 use Rattle.serial.specs.declared.records.Record.{Record}
 
 abbrev pub has_read : LockKey → Record → Bool
@@ -12,3 +12,9 @@ has_read key commit = list_any (same_key key) commit.reads
 -- for each key the numbers of the commits that read it, in their order
 abbrev pub reads_of : List Record → Reads
 reads_of commits key = map (λ (commit : Record). commit.number) (filter (has_read key) commits)
+
+-- these are the readers of these commits, but for those up to a number that is at most the snapshot
+pub record HasReaders (reads : Reads) (commits : List Record) (snapshot : ℕ) : Type 0 where
+  pub low : ℕ
+  pub within : low ≤ snapshot
+  pub are : reads ≡ above low (reads_of commits)

@@ -1,14 +1,18 @@
 //! The two numbers of a candidate.
 
-ghost use Rattle.std.specs.Prelude.{◌≡◌, ◌&&◌, if◌then◌else◌, max, min, nat_lt, reverse};
-ghost use Rattle.serial.specs.Commits.{conflicts_to};
+ghost use Rattle.std.specs.Prelude.{◌≡◌, ◌&&◌, List, if◌then◌else◌, min, nat_lt, reverse};
+ghost use Rattle.siread.specs.Locks.{readers_at};
+ghost use Rattle.serial.specs.Commits.{conflicts_to, IsNext};
 ghost use Rattle.serial.specs.Numbers.{greatest_in};
 ghost use Rattle.serial.specs.Order.{least_out};
 ghost use Rattle.conflict.specs.Candidates.{record_of};
+ghost use Rattle.conflict.specs.Readers.{HasReaders};
+ghost use Rattle.serial.specs.declared.records.Record.{Record};
 
 use crate::candidates::Candidate;
-use crate::pairs::{conflicts_to, is_conflict_from};
+use crate::pairs::conflicts_to;
 use serial::Record;
+use siread::LockTable;
 
 /// The least of the earlier commits to which the candidate conflicts, or its own number where there is none.
 pub fn least_out(others: &[Record], candidate: &Candidate) -> u64
@@ -32,24 +36,16 @@ fn least_with(other: &Record, candidate: &Candidate, least: u64) -> u64
     }
 }
 
-/// The greatest of those that conflict to the candidate, 0 where none does.
-pub fn greatest_in(others: &[Record], candidate: &Candidate) -> u64
-    ensures { result ≡ greatest_in (reverse others.now) (record_of candidate.now) }
+/// The greatest of those that conflict to the candidate, 0 where none does: of those after its snapshot that read what
+/// it changes.
+pub fn greatest_in(locks: &LockTable, candidate: &Candidate) -> u64
+    ensures { (commits : List Record) → IsNext (record_of candidate.now) (reverse commits) → HasReaders (readers_at locks.now) commits candidate.now.snapshot
+        → result ≡ greatest_in (reverse commits) (record_of candidate.now) }
 {
-    let mut greatest = 0;
-    for other in others {
-        greatest = greatest_with(other, candidate, greatest);
-    }
-    greatest
-}
-
-fn greatest_with(other: &Record, candidate: &Candidate, greatest: u64) -> u64
-    ensures { result ≡ (if conflicts_to other.now (record_of candidate.now)
-        then max other.now.number greatest else greatest) }
-{
-    if is_conflict_from(other, candidate) {
-        other.number.max(greatest)
-    } else {
+    let greatest = locks.greatest_reader(candidate.changes);
+    if candidate.snapshot < greatest {
         greatest
+    } else {
+        0
     }
 }

@@ -64,13 +64,6 @@ pub fn conflicts_to(candidate: &Candidate, writer: &Record) -> bool
     is_overlap(candidate, writer) && touch_any(writer.changes.as_slice(), candidate.reads)
 }
 
-/// Whether a commit conflicts to the candidate: they overlap, and the candidate wrote what that one read.
-pub fn is_conflict_from(reader: &Record, candidate: &Candidate) -> bool
-    ensures { result ≡ conflicts_to reader.now (record_of candidate.now) }
-{
-    is_overlap(candidate, reader) && touch_any(candidate.changes, reader.reads.as_slice())
-}
-
 /// Whether neither's snapshot holds the other.
 fn is_overlap(candidate: &Candidate, other: &Record) -> bool
     ensures { result ≡ overlap (record_of candidate.now) other.now }

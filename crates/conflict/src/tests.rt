@@ -1,18 +1,27 @@
 //! Small histories, of transactions that all began before the first commit.
 
-ghost use Rattle.std.specs.Prelude.{◌≡◌, ◌≤◌, ◌<◌, ◌+◌, length, map, reverse, IfOk};
+ghost use Rattle.std.specs.Prelude.{◌≡◌, ◌≤◌, ◌<◌, ◌+◌, [], length, map, reverse, IfOk};
+ghost use Rattle.siread.specs.Locks.{above, readers_at};
 ghost use Rattle.serial.specs.Commits.{IsLog};
 ghost use Rattle.serial.specs.Order.{least_out};
 ghost use Rattle.conflict.specs.Judged.{IsVerdict};
+ghost use Rattle.conflict.specs.Readers.{reads_of};
 
 use super::*;
 use serial::Record;
-use siread::{LockKey, Place};
+use siread::{LockKey, LockTable, Place};
 use sqlite_items::Items;
 use std::alloc::Global;
 use std::test::Fail;
 use table::{Change, Row};
 use value::{Refusal, Text, Value};
+
+/// That nobody has read anything.
+fn no_locks(alloc: Global) -> LockTable
+    ensures { readers_at result ≡ above 0 (reads_of []) }
+{
+    LockTable::new(alloc)
+}
 
 /// Puts the row of a key into the first table.
 fn insertion(alloc: Global, key: i64) -> Result<Change, Refusal> {
@@ -53,19 +62,24 @@ fn submit(
     alloc: Global,
     committed: &mut Vec<Record>,
     places: &mut Vec<u64>,
+    locks: &mut LockTable,
     read: i64,
     written: i64,
 ) -> Result<Verdict, Refusal>
     requires few { length committed.old.items < 9 }
     requires log { IsLog (reverse committed.old.items) }
     requires places { places.old.items ≡ map (least_out (reverse committed.old.items)) committed.old.items }
+    requires readers { readers_at locks.old ≡ above 0 (reads_of committed.old.items) }
     ensures few { length committed.new.items ≤ length committed.old.items + 1 }
     ensures log { IfOk result (λ _. IsLog (reverse committed.new.items)) }
     ensures places { IfOk result (λ _. places.new.items ≡ map (least_out (reverse committed.new.items)) committed.new.items) }
+    ensures readers { IfOk result (λ _. readers_at locks.new ≡ above 0 (reads_of committed.new.items)) }
 {
     let commit = next(alloc, committed.as_slice(), read, written)?;
-    let verdict = judge_whole(committed.as_slice(), places.as_slice(), &commit);
+    let verdict = judge_whole(committed.as_slice(), places.as_slice(), locks, &commit);
     if let Verdict::Fine { place } = verdict {
+        locks.put(commit.number, commit.reads.as_slice())?;
+        locks.trim_below(0);
         places.push(place)?;
         committed.push(commit)?;
     }
@@ -73,11 +87,12 @@ fn submit(
 }
 
 /// Judges a transaction that is a record already.
-fn judge_whole(committed: &[Record], places: &[u64], commit: &Record) -> Verdict
+fn judge_whole(committed: &[Record], places: &[u64], locks: &LockTable, commit: &Record) -> Verdict
     requires log { IsLog (reverse committed.now) }
     requires next { commit.now.number ≡ length committed.now + 1 }
     requires after_snapshot { commit.now.snapshot < commit.now.number }
     requires places { places.now ≡ map (least_out (reverse committed.now)) committed.now }
+    requires readers { readers_at locks.now ≡ above 0 (reads_of committed.now) }
     ensures { IsVerdict (reverse committed.now) commit.now result }
 {
     let candidate = Candidate {
@@ -86,14 +101,15 @@ fn judge_whole(committed: &[Record], places: &[u64], commit: &Record) -> Verdict
         reads: commit.reads.as_slice(),
         changes: commit.changes.as_slice(),
     };
-    judge(committed, places, &candidate)
+    judge(committed, places, locks, &candidate)
 }
 
 #[test]
 fn the_first_commit_joins(rt: HostRuntime) -> Result<(), Fail> {
     let mut committed = Vec::new(rt.alloc());
     let mut places = Vec::new(rt.alloc());
-    let first = submit(rt.alloc(), &mut committed, &mut places, 7, 7)?;
+    let mut locks = no_locks(rt.alloc());
+    let first = submit(rt.alloc(), &mut committed, &mut places, &mut locks, 7, 7)?;
     assert_eq!(rt; first, Verdict::Fine { place: 1 });
     Ok(())
 }
@@ -102,8 +118,9 @@ fn the_first_commit_joins(rt: HostRuntime) -> Result<(), Fail> {
 fn the_first_committer_wins(rt: HostRuntime) -> Result<(), Fail> {
     let mut committed = Vec::new(rt.alloc());
     let mut places = Vec::new(rt.alloc());
-    submit(rt.alloc(), &mut committed, &mut places, 1, 2)?;
-    let second = submit(rt.alloc(), &mut committed, &mut places, 3, 2)?;
+    let mut locks = no_locks(rt.alloc());
+    submit(rt.alloc(), &mut committed, &mut places, &mut locks, 1, 2)?;
+    let second = submit(rt.alloc(), &mut committed, &mut places, &mut locks, 3, 2)?;
     assert_eq!(rt; second, Verdict::WriteConflict { row: 0, by: 1 });
     Ok(())
 }
@@ -112,8 +129,9 @@ fn the_first_committer_wins(rt: HostRuntime) -> Result<(), Fail> {
 fn each_read_what_the_other_wrote(rt: HostRuntime) -> Result<(), Fail> {
     let mut committed = Vec::new(rt.alloc());
     let mut places = Vec::new(rt.alloc());
-    submit(rt.alloc(), &mut committed, &mut places, 1, 2)?;
-    let second = submit(rt.alloc(), &mut committed, &mut places, 2, 1)?;
+    let mut locks = no_locks(rt.alloc());
+    submit(rt.alloc(), &mut committed, &mut places, &mut locks, 1, 2)?;
+    let second = submit(rt.alloc(), &mut committed, &mut places, &mut locks, 2, 1)?;
     let danger = Danger::AsPivot {
         reader: 1,
         writer: 1,
@@ -126,10 +144,11 @@ fn each_read_what_the_other_wrote(rt: HostRuntime) -> Result<(), Fail> {
 fn the_reader_comes_last(rt: HostRuntime) -> Result<(), Fail> {
     let mut committed = Vec::new(rt.alloc());
     let mut places = Vec::new(rt.alloc());
-    submit(rt.alloc(), &mut committed, &mut places, 9, 1)?;
-    let pivot = submit(rt.alloc(), &mut committed, &mut places, 1, 2)?;
+    let mut locks = no_locks(rt.alloc());
+    submit(rt.alloc(), &mut committed, &mut places, &mut locks, 9, 1)?;
+    let pivot = submit(rt.alloc(), &mut committed, &mut places, &mut locks, 1, 2)?;
     assert_eq!(rt; pivot, Verdict::Fine { place: 1 });
-    let reader = submit(rt.alloc(), &mut committed, &mut places, 2, 3)?;
+    let reader = submit(rt.alloc(), &mut committed, &mut places, &mut locks, 2, 3)?;
     let danger = Danger::AsReader {
         pivot: 2,
         writer: 1,

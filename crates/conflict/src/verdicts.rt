@@ -1,17 +1,20 @@
 //! What a candidate is answered by the commits before it.
 
 ghost use Rattle.std.specs.Prelude.{◌≡◌, ◌<◌, ◌+◌, length, map, reverse};
+ghost use Rattle.siread.specs.Locks.{readers_at};
 ghost use Rattle.serial.specs.declared.records.Record.{Record as Commit};
 ghost use Rattle.serial.specs.Commits.{IsLog};
 ghost use Rattle.serial.specs.Order.{least_out};
 ghost use Rattle.conflict.specs.Candidates.{IsOf};
 ghost use Rattle.conflict.specs.Judged.{IsVerdict};
+ghost use Rattle.conflict.specs.Readers.{HasReaders};
 
 use crate::candidates::Candidate;
 use crate::dangers::{Danger, find_pivot};
 use crate::numbers::{greatest_in, least_out};
 use crate::overwrites::find_write_conflict;
 use serial::{Record, numbers};
+use siread::LockTable;
 
 /// What a candidate is answered by the commits before it.
 #[derive(Clone, Copy, Debug, PartialEq, Eq)]
@@ -26,13 +29,19 @@ pub enum Verdict {
 }
 
 /// What the next candidate is answered by those committed: a write conflict, else a dangerous triple, else that it may
-/// join them. `places` are the least conflicts out of those committed, each kept since that one was judged. It takes no
-/// memory.
-pub fn judge(committed: &[Record], places: &[u64], candidate: &Candidate) -> Verdict
+/// join them. `places` are the least conflicts out of those committed, each kept since that one was judged; `locks` says
+/// who of them read what, of those above a number that is at most the candidate's snapshot. It takes no memory.
+pub fn judge(
+    committed: &[Record],
+    places: &[u64],
+    locks: &LockTable,
+    candidate: &Candidate,
+) -> Verdict
     requires log { IsLog (reverse committed.now) }
     requires next { candidate.now.number ≡ length committed.now + 1 }
     requires after_snapshot { candidate.now.snapshot < candidate.now.number }
     requires places { places.now ≡ map (least_out (reverse committed.now)) committed.now }
+    requires readers { HasReaders (readers_at locks.now) committed.now candidate.now.snapshot }
     ensures { (commit : Commit) → IsOf candidate.now commit → IsVerdict (reverse committed.now) commit result }
 {
     numbers();
@@ -41,7 +50,7 @@ pub fn judge(committed: &[Record], places: &[u64], candidate: &Candidate) -> Ver
         return Verdict::WriteConflict { row, by };
     }
     let place = least_out(recent, candidate);
-    let reader = greatest_in(recent, candidate);
+    let reader = greatest_in(locks, candidate);
     if place <= reader {
         return Verdict::Dangerous(Danger::AsPivot {
             reader,

@@ -1,5 +1,5 @@
 -- The order of keys tells all keys apart, and says that two are equal where `same_key` does.
-use Rattle.std.proofs.Common.{◌≡◌, ℕ, true, refl, sym, ap, ◌∙◌, subst, inl, inr, eqb-true, eq-eqb}
+use Rattle.std.proofs.Common.{◌≡◌, ℕ, Bool, true, false, refl, sym, ap, ◌∙◌, subst, inl, inr, eqb-true, eq-eqb}
 use Rattle.std.specs.Prelude.{◌&&◌, ◌==◌}
 use Rattle.std.specs.Ordering.{is_eq, nat_cmp, ordering_then}
 use Rattle.std.specs.declared.cmp.Ordering.{Ordering}
@@ -15,8 +15,11 @@ use Rattle.value.proofs.ValueOrders.{derived-value_cmp, value_exact, value_cmp_t
 use Rattle.siread.specs.declared.keys.Place.{Place}
 use Rattle.siread.specs.declared.keys.LockKey.{LockKey}
 use Rattle.siread.specs.declared.keys.LockKey.TheVariants.{Row as OneRow, Column as InColumn, Table as WholeTable}
+use Rattle.siread.specs.declared.keys.Family.{Family}
+use Rattle.siread.specs.declared.keys.Family.TheVariants.{Rows, Column, Table}
 use Rattle.siread.specs.Keys.{same_value, same_place, same_key}
-use Rattle.siread.specs.contracts.keys.LockKeyOrd.TheImpl.{cmp-value as key_order}
+use Rattle.siread.specs.Families.{family_of, same_family, value_of}
+use Rattle.siread.specs.contracts.keys.FamilyOrd.TheImpl.{cmp-value as family_order}
 
 is_eq-then : (a b : Ordering) → is_eq (ordering_then a b) ≡ (is_eq a && is_eq b)
 is_eq-then Less b = refl
@@ -26,22 +29,19 @@ is_eq-then Greater b = refl
 is_eq-nat : (a b : ℕ) → is_eq (nat_cmp a b) ≡ (a == b)
 is_eq-nat a b = unsigned_tied a b
 
-is_eq-value : (v w : Value) → is_eq (value_order.it v w) ≡ same_value v w
+pub is_eq-value : (v w : Value) → is_eq (value_order.it v w) ≡ same_value v w
 is_eq-value v w = ap is_eq (derived-value_cmp v w)
 
-pub is_eq-key : (a b : LockKey) → is_eq (key_order.it a b) ≡ same_key a b
-is_eq-key (OneRow a) (OneRow b) = is_eq-then (nat_cmp a.table b.table) (value_order.it a.key b.key) ∙ (λ i. is_eq-nat a.table b.table i && is_eq-value a.key b.key i)
-is_eq-key (OneRow a) (InColumn u d w) = refl
-is_eq-key (OneRow a) (WholeTable u) = refl
-is_eq-key (InColumn t c v) (OneRow b) = refl
-is_eq-key (InColumn t c v) (InColumn u d w) =
-    is_eq-then (nat_cmp t u) (ordering_then (nat_cmp c d) (value_order.it v w))
-    ∙ ap (λ b. is_eq (nat_cmp t u) && b) (is_eq-then (nat_cmp c d) (value_order.it v w))
-    ∙ (λ i. is_eq-nat t u i && (is_eq-nat c d i && is_eq-value v w i))
-is_eq-key (InColumn t c v) (WholeTable u) = refl
-is_eq-key (WholeTable t) (OneRow b) = refl
-is_eq-key (WholeTable t) (InColumn u d w) = refl
-is_eq-key (WholeTable t) (WholeTable u) = is_eq-nat t u
+pub is_eq-family : (a b : Family) → is_eq (family_order.it a b) ≡ same_family a b
+is_eq-family (Rows t) (Rows u) = is_eq-nat t u
+is_eq-family (Rows t) (Column u d) = refl
+is_eq-family (Rows t) (Table u) = refl
+is_eq-family (Column t c) (Rows u) = refl
+is_eq-family (Column t c) (Column u d) = is_eq-then (nat_cmp t u) (nat_cmp c d) ∙ (λ i. is_eq-nat t u i && is_eq-nat c d i)
+is_eq-family (Column t c) (Table u) = refl
+is_eq-family (Table t) (Rows u) = refl
+is_eq-family (Table t) (Column u d) = refl
+is_eq-family (Table t) (Table u) = is_eq-nat t u
 
 -- two values, places or keys are the same exactly where they are one
 pub same_value-true : (v w : Value) → same_value v w ≡ true → v ≡ w
@@ -90,3 +90,43 @@ same_key-turned a b = elim (cases_Bool (same_key a b)) [
     | inr also ↦ apart ∙ sym also
   ]
 ]
+
+pub same_family-true : (a b : Family) → same_family a b ≡ true → a ≡ b
+same_family-true (Rows t) (Rows u) h = ap Rows (eqb-true t u h)
+same_family-true (Rows t) (Column u d) h = cc
+same_family-true (Rows t) (Table u) h = cc
+same_family-true (Column t c) (Rows u) h = cc
+same_family-true (Column t c) (Column u d) h =
+    let p = and_parts (t == u) (c == d) h in
+    let et = eqb-true t u p.0 in
+    let ec = eqb-true c d p.1 in
+    λ i. Column (et i) (ec i)
+same_family-true (Column t c) (Table u) h = cc
+same_family-true (Table t) (Rows u) h = cc
+same_family-true (Table t) (Column u d) h = cc
+same_family-true (Table t) (Table u) h = ap Table (eqb-true t u h)
+
+pub same_family-refl : (a : Family) → same_family a a ≡ true
+same_family-refl (Rows t) = eq-eqb t t refl
+same_family-refl (Column t c) = and_from (t == t) (c == c) (eq-eqb t t refl) (eq-eqb c c refl)
+same_family-refl (Table t) = eq-eqb t t refl
+
+and_nested : (a b c : Bool) → (a && (b && c)) ≡ ((a && b) && c)
+and_nested true b c = refl
+and_nested false b c = refl
+
+and_last : (a : Bool) → a ≡ (a && true)
+and_last true = refl
+and_last false = refl
+
+-- two keys are the same where they are of one family, under one value
+pub same_parts : (a b : LockKey) → same_key a b ≡ (same_family (family_of a) (family_of b) && same_value (value_of a) (value_of b))
+same_parts (OneRow a) (OneRow b) = refl
+same_parts (OneRow a) (InColumn u d w) = refl
+same_parts (OneRow a) (WholeTable u) = refl
+same_parts (InColumn t c v) (OneRow b) = refl
+same_parts (InColumn t c v) (InColumn u d w) = and_nested (t == u) (c == d) (same_value v w)
+same_parts (InColumn t c v) (WholeTable u) = refl
+same_parts (WholeTable t) (OneRow b) = refl
+same_parts (WholeTable t) (InColumn u d w) = refl
+same_parts (WholeTable t) (WholeTable u) = and_last (t == u)

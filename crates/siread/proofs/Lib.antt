@@ -1,6 +1,8 @@
 pub mod KeyOrder
 pub mod Members
+pub mod Entries
 pub mod Lookups
 pub mod Steps
-pub mod Trims
+pub mod Greatest
 pub mod Counts
+pub mod Ascending

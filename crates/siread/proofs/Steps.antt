@@ -15,7 +15,7 @@ use Rattle.siread.specs.Locks.{Reads, AreBelow, changed_at, with_reader, without
 use Rattle.siread.proofs.KeyOrder.{same_key-turned}
 use Rattle.siread.proofs.Members.{in_head, in_tail, in_cases, not_in_nil}
 
-ends_later : (number x y : ℕ) (rest : List ℕ) → ends_in number (x ∷ y ∷ rest) ≡ ends_in number (y ∷ rest)
+pub ends_later : (number x y : ℕ) (rest : List ℕ) → ends_in number (x ∷ y ∷ rest) ≡ ends_in number (y ∷ rest)
 ends_later number x y rest =
     let shorter : suc (suc (length rest)) - 1 ≡ suc (suc (length rest) - 1) = omega arith in
     ap (λ i. is_number number (slice_get (x ∷ y ∷ rest) i)) shorter

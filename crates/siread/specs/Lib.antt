@@ -1,3 +1,4 @@
+pub mod Families
 pub mod Keys
 pub mod Locks
 pub mod Readers

@@ -1,18 +1,25 @@
 -- Who read what: for each key the ascending list of its readers, each the number of a commit.
-use Rattle.std.specs.Prelude.{◌≡◌, ◌≢◌, ◌<◌, ◌+◌, ◌^◌, ◌-◌, ℕ, nat_lt, List, [], ◌∷◌, ◌++◌, length, map, filter, take, Contains, min, unwrap_or, if◌then◌else◌}
+use Rattle.std.specs.Prelude.{◌≡◌, ◌≢◌, ◌<◌, ◌≤◌, ◌+◌, ◌^◌, ◌-◌, ◌⊎◌, ℕ, Bool, true, nat_lt, List, [], ◌∷◌, ◌++◌, length, map, filter, take, Contains, max, min, unwrap_or, if◌then◌else◌}
 use Rattle.std.specs.List.{list_any, IsDistinct}
 use Rattle.std.specs.Map.{lookup}
+use Rattle.table.specs.declared.rows.Change.{Change}
+use Rattle.siread.specs.declared.keys.Family.{Family}
 use Rattle.siread.specs.declared.keys.LockKey.{LockKey}
-use Rattle.siread.specs.Keys.{same_key}
-use Rattle.siread.specs.Readers.{left_out}
+use Rattle.siread.specs.Keys.{same_key, touches}
+use Rattle.siread.specs.Families.{ValueReaders, family_of, last_in, readers_of, same_family, total, value_of}
+use Rattle.siread.specs.Readers.{IsAscending, left_out}
 
--- the keys, each once, with their readers
+-- the families, each once, with the readers of their keys
 abbrev pub Locks : Type 0
-Locks = List (LockKey × List ℕ)
+Locks = List (Family × ValueReaders)
 
--- the readers of a key; a key that is not there has none
+-- a family that is not there has no readers
+abbrev pub in_family : Locks → Family → ValueReaders
+in_family locks family = unwrap_or (lookup (same_family family) locks) []
+
+-- the readers of a key
 abbrev pub readers_at : Locks → LockKey → List ℕ
-readers_at locks key = unwrap_or (lookup (same_key key) locks) []
+readers_at locks key = readers_of (in_family locks (family_of key)) (value_of key)
 
 -- for each key its readers
 abbrev pub Reads : Type 0
@@ -55,12 +62,27 @@ pub record AreKeysRead (keys : List LockKey) (reads : Reads) : Type 0 where
   pub once : IsDistinct same_key keys
   pub all : (key : LockKey) → reads key ≢ [] → Contains keys key
 
-abbrev pub total : List ℕ → ℕ
-total [] = 0
-total (n ∷ rest) = n + total rest
-
 -- a count of the pairs of a key and a reader of it, or the most that a count can be
 pub record IsCount (reads : Reads) (count : ℕ) : Type 0 where
   pub keys : List LockKey
   pub are_all : AreKeysRead keys reads
   pub counted : count ≡ min (total (map (λ key. length (reads key)) keys)) (2 ^ 64 - 1)
+
+-- the readers of each key ascend
+abbrev pub AreAscending : Reads → Type 0
+AreAscending reads = (key : LockKey) → IsAscending (reads key)
+
+-- one of some changes touches a key
+abbrev pub touch : List Change → LockKey → Bool
+touch changes key = list_any (λ change. touches change key) changes
+
+-- the greatest reader of the keys that some changes touch, or 0 where none has a reader
+pub record IsGreatestReader (reads : Reads) (changes : List Change) (greatest : ℕ) : Type 0 where
+  pub all : (key : LockKey) (reader : ℕ)
+      → touch changes key ≡ true → Contains (reads key) reader → reader ≤ greatest
+  pub found : (greatest ≡ 0) ⊎ ((key : LockKey) × (touch changes key ≡ true) × Contains (reads key) greatest)
+
+-- the greatest of the last readers of the keys that a change touches, as the families come
+abbrev pub last_touched : Change → Locks → ℕ
+last_touched change [] = 0
+last_touched change (e ∷ locks) = max (last_in change e.0 e.1) (last_touched change locks)

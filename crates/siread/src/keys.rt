@@ -2,8 +2,10 @@
 
 ghost use Rattle.std.specs.Prelude.{◌≡◌, IfOk, IsOkUnless};
 ghost use Rattle.value.specs.declared.refusals.Refusal.TheVariants.{NoMemory};
+ghost use Rattle.value.specs.declared.values.Value.TheVariants.{Null};
 ghost use Rattle.table.specs.Rows.{value_in};
 ghost use Rattle.siread.specs.Keys.{holds, is_under, same_value, touches};
+ghost use Rattle.siread.specs.Families.{family_of, value_of};
 
 use table::{Change, Row};
 use value::{Refusal, Value, order};
@@ -31,7 +33,41 @@ pub enum LockKey {
     Table(usize),
 }
 
+/// The keys that differ by a value alone. In order the rows stand before the columns, and those before the tables.
+#[derive(Clone, Copy, Debug, PartialEq, Eq, PartialOrd, Ord)]
+pub enum Family {
+    /// The rows of a table, by their key.
+    Rows(usize),
+    /// The rows of a table, by what they have in a column.
+    Column { table: usize, column: usize },
+    /// A whole table: one key, under NULL.
+    Table(usize),
+}
+
 impl LockKey {
+    /// The family of a key, and its value there. NULL is the caller's to lend.
+    pub fn parts<'a>(&'a self, null: &'a Value) -> (Family, &'a Value)
+        requires { null.now ≡ Null }
+        ensures family { result.0 ≡ family_of self.now }
+        ensures value { result.1.now ≡ value_of self.now }
+    {
+        match self {
+            LockKey::Row(place) => (Family::Rows(place.table), &place.key),
+            LockKey::Column {
+                table,
+                column,
+                value,
+            } => {
+                let family = Family::Column {
+                    table: *table,
+                    column: *column,
+                };
+                (family, value)
+            }
+            LockKey::Table(table) => (Family::Table(*table), null),
+        }
+    }
+
     /// A key equal to this one. NoMemory is the only error.
     pub fn copy(&self) -> Result<LockKey, Refusal>
         ensures only_memory { IsOkUnless result NoMemory }

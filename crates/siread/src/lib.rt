@@ -16,6 +16,7 @@
 //! The definitions are in `specs/Keys` and `specs/Locks`.
 #![tactic(auto)]
 
+mod by_value;
 mod keys;
 mod locks;
 mod readers;

@@ -1,30 +1,36 @@
 //! The table of all reads.
 
-ghost use Rattle.std.specs.Prelude.{◌≡◌, ◌+◌, ℕ, [], true, filter, nat_lt, not, IsOkUnless, OnOk, OnErr};
-ghost use Rattle.siread.specs.Locks.{above, changed_at, no_reads, readers_at, with_reader, without_reader, AreBelow, IsCount, IsPartlyPut, IsUndone};
-ghost use Rattle.siread.specs.Readers.{is_none, left_out, with_last};
+ghost use Rattle.std.specs.Prelude.{◌≡◌, ◌+◌, ◌∷◌, [], ℕ, not, IsOkUnless, OnOk, OnErr};
+ghost use Rattle.table.specs.Rows.{value_in};
+ghost use Rattle.siread.specs.Families.{above_each, is_no_entry, last_in, last_over, last_under, readers_of, IsFamilyCount};
+ghost use Rattle.siread.specs.Locks.{above, changed_at, no_reads, readers_at, with_reader, without_reader, AreBelow, IsCount, IsGreatestReader, IsPartlyPut, IsUndone};
+ghost use Rattle.siread.specs.Readers.{last_of, left_out, with_last};
 ghost use Rattle.value.specs.declared.refusals.Refusal.TheVariants.{NoMemory};
 
-use crate::keys::LockKey;
-use crate::readers::Readers;
+use crate::by_value::ByValue;
+use crate::keys::{Family, LockKey};
 use std::alloc::Global;
 use std::collections::BTreeMap;
 use std::marker::Model;
-use value::Refusal;
+use table::{Change, Row};
+use value::{Refusal, Value};
 
-/// Who read what: for each key the ascending list of its readers, each the number of a commit.
+/// Who read what: for each key the ascending list of its readers, each the number of a commit. The keys of a family
+/// stand under their values, so that a value of a row is looked up as it stands there.
 #[derive(Drop)]
 pub struct LockTable {
     alloc: Global,
-    readers: BTreeMap<LockKey, Readers>,
+    families: BTreeMap<Family, ByValue>,
 }
 
 impl Model for LockTable {
-    ghost use Rattle.siread.specs.Locks.{Locks};
+    ghost use Rattle.siread.specs.Locks.{AreAscending, Locks, readers_at};
 
     ghost Value = { Locks };
 
-    ghost view = { λ table. table.readers.entries };
+    ghost view = { λ table. table.families.entries };
+
+    ghost invariant = { λ table. AreAscending (readers_at table.families.entries) };
 }
 
 impl LockTable {
@@ -35,7 +41,7 @@ impl LockTable {
     {
         LockTable {
             alloc,
-            readers: BTreeMap::new(alloc),
+            families: BTreeMap::new(alloc),
         }
     }
 
@@ -43,9 +49,11 @@ impl LockTable {
     pub fn readers(&self, key: &LockKey) -> &[u64]
         ensures { result.now ≡ readers_at self.now key.now }
     {
-        match self.readers.get(key) {
+        let null = Value::Null;
+        let (family, value) = key.parts(&null);
+        match self.families.get(&family) {
             None => &[],
-            Some(readers) => readers.as_slice(),
+            Some(readers) => readers.readers(value),
         }
     }
 
@@ -54,10 +62,21 @@ impl LockTable {
         ensures { IsCount (readers_at self.now) result }
     {
         let mut count = 0usize;
-        for readers in self.readers.values() {
-            count = count.saturating_add(readers.len());
+        for (family, readers) in self.families.iter() {
+            count = count.saturating_add(count_of(family, readers));
         }
         count
+    }
+
+    /// The greatest reader of the keys that some changes touch, or 0 where none has a reader. It takes no memory.
+    pub fn greatest_reader(&self, changes: &[Change]) -> u64
+        ensures { IsGreatestReader (readers_at self.now) changes.now result }
+    {
+        let mut greatest = 0;
+        for change in changes {
+            greatest = self.greatest_touched(change).max(greatest);
+        }
+        greatest
     }
 
     /// One reader more, of these keys. Its number is above those of all readers so far.
@@ -95,12 +114,7 @@ impl LockTable {
     pub fn trim_below(&mut self, number: u64)
         ensures { readers_at self.new ≡ above number (readers_at self.old) }
     {
-        self.readers.retain(
-            |_key, readers|
-                ensures kept { readers.new ≡ filter (nat_lt number) readers.old }
-                ensures some { result ≡ not (is_none readers.new) }
-            { readers.keeps_some_above(number) },
-        );
+        keep_above(&mut self.families, number);
     }
 
     /// Puts a reader to these keys one after the other, up to the first that finds no memory.
@@ -118,49 +132,112 @@ impl LockTable {
 
     /// One reader more of a key, if it isn't the last of them already.
     fn put_one(&mut self, number: u64, key: &LockKey) -> Result<(), Refusal>
+        requires { AreBelow (number + 1) (readers_at self.old) }
         ensures only_memory { IsOkUnless result NoMemory }
         ensures put { OnOk result (readers_at self.new ≡ changed_at key.now (with_last number) (readers_at self.old)) }
         ensures unchanged { OnErr result (readers_at self.new ≡ readers_at self.old) }
     {
-        match self.readers.get_mut(key) {
+        let null = Value::Null;
+        let (family, value) = key.parts(&null);
+        match self.families.get_mut(&family) {
             Some(readers) => {
-                readers.put_last(number)?;
+                readers.put(self.alloc, number, value)?;
                 Ok(())
             }
             None => {
-                let readers = Readers::one(self.alloc, number)?;
-                self.readers.insert(key.copy()?, readers)?;
+                let mut readers = ByValue::new(self.alloc);
+                readers.put(self.alloc, number, value)?;
+                self.families.insert(family, readers)?;
                 Ok(())
             }
         }
     }
 
-    /// A reader of a key taken out, and the key too where it was the last.
+    /// A reader of a key taken out.
     fn take_one(&mut self, number: u64, key: &LockKey)
         ensures { readers_at self.new ≡ changed_at key.now (left_out number) (readers_at self.old) }
     {
-        if self.is_left_by(number, key) {
-            self.forget(key);
+        let null = Value::Null;
+        let (family, value) = key.parts(&null);
+        if let Some(readers) = self.families.get_mut(&family) {
+            readers.take(number, value);
         }
     }
 
-    /// A reader of a key taken out, and whether the key then has none.
-    fn is_left_by(&mut self, number: u64, key: &LockKey) -> bool
-        ensures taken { readers_at self.new ≡ changed_at key.now (left_out number) (readers_at self.old) }
-        ensures left { result ≡ true → readers_at self.new key.now ≡ [] }
+    /// The greatest reader of the keys that a change touches, or 0 where none has a reader. The last reader of a key is
+    /// its greatest.
+    fn greatest_touched(&self, change: &Change) -> u64
+        ensures { IsGreatestReader (readers_at self.now) (change.now ∷ []) result }
     {
-        let Some(readers) = self.readers.get_mut(key) else {
-            return false;
-        };
-        readers.leave_out(number);
-        readers.is_empty()
+        let mut greatest = 0;
+        for (family, readers) in self.families.iter() {
+            greatest = last_in(family, readers, change).max(greatest);
+        }
+        greatest
     }
+}
 
-    /// A key without readers taken out.
-    fn forget(&mut self, key: &LockKey)
-        requires { readers_at self.old key.now ≡ [] }
-        ensures { readers_at self.new ≡ readers_at self.old }
-    {
-        self.readers.remove(key);
+/// Takes out the readers numbered at most this, and the families without readers.
+fn keep_above(families: &mut BTreeMap<Family, ByValue>, number: u64)
+    ensures { readers_at families.new.entries ≡ above number (readers_at families.old.entries) }
+{
+    families.retain(
+        |_family, readers|
+            ensures kept { readers_of readers.new ≡ above_each number (readers_of readers.old) }
+            ensures some { result ≡ not (is_no_entry readers.new) }
+        { readers.keeps_some_above(number) },
+    );
+}
+
+/// The number of readers of a family's keys. All that is under a table is its key under NULL.
+fn count_of(family: &Family, readers: &ByValue) -> usize
+    ensures { IsFamilyCount family.now readers.now result }
+{
+    match family {
+        Family::Table(_) => readers.readers(&Value::Null).len(),
+        Family::Rows(_) | Family::Column { .. } => readers.len(),
+    }
+}
+
+/// The greatest of the last readers of those keys of a family that a change touches, or 0 where none has a reader.
+fn last_in(family: &Family, readers: &ByValue, change: &Change) -> u64
+    ensures { result ≡ last_in change.now family.now readers.now }
+{
+    let old = last_over(family, readers, change, &change.old);
+    let new = last_over(family, readers, change, &change.new);
+    old.max(new)
+}
+
+/// The last reader of the key of a family that a row, if there is one, is under where the change stands.
+fn last_over(family: &Family, readers: &ByValue, change: &Change, row: &Option<Row>) -> u64
+    ensures { result ≡ last_over family.now readers.now (record { table = change.now.table; key = change.now.key }) row.now }
+{
+    match row {
+        None => 0,
+        Some(row) => last_under(family, readers, change, row),
+    }
+}
+
+/// The last reader of the key of a family that a row is under where the change stands.
+fn last_under(family: &Family, readers: &ByValue, change: &Change, row: &Row) -> u64
+    ensures { result ≡ last_under family.now readers.now (record { table = change.now.table; key = change.now.key }) row.now }
+{
+    match family {
+        Family::Rows(table) if *table == change.table => readers.last(&change.key),
+        Family::Column { table, column } if *table == change.table => {
+            last_with(readers, row, *column)
+        }
+        Family::Table(table) if *table == change.table => readers.last(&Value::Null),
+        _ => 0,
+    }
+}
+
+/// The last reader of what a row has in a column. Past its last column a row has NULL.
+fn last_with(readers: &ByValue, row: &Row, column: usize) -> u64
+    ensures { result ≡ last_of (readers_of readers.now (value_in column row.now)) }
+{
+    match row.values().get(column) {
+        Some(value) => readers.last(value),
+        None => readers.last(&Value::Null),
     }
 }

@@ -81,3 +81,15 @@ fn readers_are_taken_back_and_trimmed(rt: HostRuntime) -> Result<(), Fail> {
     assert!(rt; locks.len() == 0);
     Ok(())
 }
+
+#[test]
+fn the_greatest_reader_is_of_a_touched_key(rt: HostRuntime) -> Result<(), Fail> {
+    let mut locks = LockTable::new(rt.alloc());
+    locks.put(1, &[second_column(Value::Null)])?;
+    locks.put(2, &[second_column(Value::Int(1)), LockKey::Table(0)])?;
+    locks.put(3, &[second_column(Value::Int(2))])?;
+    let change = null_to_one(rt.alloc())?;
+    assert_eq!(rt; locks.greatest_reader(&[change]), 2);
+    assert_eq!(rt; locks.greatest_reader(&[]), 0);
+    Ok(())
+}

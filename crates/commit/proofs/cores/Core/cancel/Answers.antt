@@ -3,11 +3,11 @@ use Rattle.std.specs.Prelude.{vec_capacity, vec_len}
 use Rattle.siread.specs.Locks.{AreBelow, readers_at, with_reader}
 use Rattle.live.specs.Live.{least_held}
 use Rattle.txn.specs.Transactions.{keys_of}
+use Rattle.conflict.proofs.Readers.{reads_below}
 use Rattle.commit.specs.Cores.{reads_kept}
 use Rattle.commit.specs.Kept.{idle_core}
 use Rattle.commit.proofs.Accepting.{below}
 use Rattle.commit.proofs.Keeping.{kept_idle, kept_ready}
-use Rattle.commit.proofs.Locking.{reads_below}
 use Rattle.commit.proofs.cores.Core.cancel.Goals as goal
 
 pub invariant_of-self-2 : goal.invariant_of-self-2

@@ -1,19 +1,34 @@
 use Rattle.std.proofs.Common.{◌≡◌, ◌<◌, ◌+◌, [], List, ap, length, reverse, subst, sym}
-use Rattle.std.specs.Prelude.{All, slice_index_or}
+use Rattle.std.specs.Prelude.{All, slice_index_or, vec_capacity, vec_len}
 use Rattle.table.specs.declared.rows.Change.{Change}
 use Rattle.table.specs.Rows.{Tables, names_of}
+use Rattle.siread.specs.Locks.{readers_at}
 use Rattle.serial.specs.declared.records.Record.{Record}
 use Rattle.conflict.specs.declared.verdicts.Verdict.TheVariants.{Fine, Dangerous}
 use Rattle.conflict.specs.Judged.{IsConflictAt, IsVerdict}
+use Rattle.conflict.specs.Readers.{HasReaders}
 use Rattle.txn.specs.Transactions.{outcome_of}
 use Rattle.commit.specs.declared.decisions.Decision.TheVariants.{Accepted, Refused}
 use Rattle.commit.specs.Cores.{CoreState, IsLive, record_of}
 use Rattle.commit.specs.Decisions.{IsConflictOf, IsJudgment}
 use Rattle.commit.specs.Kept.{idle_core}
-use Rattle.commit.proofs.Keeping.{idle_view}
+use Rattle.commit.proofs.Keeping.{idle_view, is_idle, locks_idle}
 use Rattle.commit.proofs.Accepting.{tables_in}
+use Rattle.commit.proofs.Locking.{readers_above}
 use Rattle.commit.proofs.Weighing.{judged_conflict, judged_danger, judged_fine}
 use Rattle.commit.proofs.cores.Core.judge.Goals as goal
+
+pub judge-requires-clause-readers : goal.judge-requires-clause-readers
+judge-requires-clause-readers c =
+    let now = idle_core c.self.inside.limit c.self.inside.loaded c.self.inside.records.items c.self.inside.refused.items c.self.inside.live in
+    let Room : Type 0 = (vec_len c.self.inside.records < vec_capacity c.self.inside.records) × (vec_len c.self.inside.places < vec_capacity c.self.inside.places) × (vec_len c.self.inside.order < vec_capacity c.self.inside.order) in
+    let idle = is_idle now c.args.self.now c.self.inside.prepared c.self.view_is c.requires.idle in
+    let is : now ≡ c.args.self.now = idle_view now c.args.self.now c.self.inside.prepared c.self.view_is c.requires.idle in
+    let locks = locks_idle now c.self.inside.newest c.self.inside.places.items c.self.inside.order.items (readers_at c.self.inside.locks) Room c.self.inside.prepared idle c.self.invariant in
+    let live = subst (λ (s : CoreState). IsLive s c.args.closed.now) (sym is) c.requires.live in
+    subst (HasReaders (readers_at c.self.inside.locks) c.as_slice-records.result.now) (sym c.snapshot.ensures)
+    (subst (λ records. HasReaders (readers_at c.self.inside.locks) records c.args.closed.now.snapshot) (sym c.as_slice-records.ensures.value)
+    (readers_above now c.args.closed.now (readers_at c.self.inside.locks) live locks))
 
 pub returns-in-Fine-clause-judged : goal.returns-in-Fine-clause-judged
 returns-in-Fine-clause-judged c = λ session.

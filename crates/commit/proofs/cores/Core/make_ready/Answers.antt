@@ -2,11 +2,11 @@ use Rattle.std.proofs.Common.{◌≡◌, ◌<◌, ◌+◌, ◌∙◌, length, su
 use Rattle.std.specs.Prelude.{vec_capacity, vec_len}
 use Rattle.siread.specs.Locks.{AreBelow, readers_at}
 use Rattle.live.specs.Live.{least_held}
+use Rattle.conflict.proofs.Readers.{reads_below}
 use Rattle.commit.specs.Cores.{reads_kept}
 use Rattle.commit.specs.Kept.{idle_core}
 use Rattle.commit.proofs.Accepting.{below}
 use Rattle.commit.proofs.Keeping.{is_idle, kept_idle, locks_idle, same_core}
-use Rattle.commit.proofs.Locking.{reads_below}
 use Rattle.commit.proofs.cores.Core.make_ready.Goals as goal
 
 pub put-requires : goal.put-requires

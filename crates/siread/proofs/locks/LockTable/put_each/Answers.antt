@@ -1,8 +1,8 @@
-use Rattle.std.proofs.Common.{ap, ◌∙◌, take}
-use Rattle.siread.specs.Locks.{readers_at, changed_at, with_reader, IsPartlyPut}
+use Rattle.std.proofs.Common.{◌+◌, ap, sym, subst, ◌∙◌, take}
+use Rattle.siread.specs.Locks.{readers_at, changed_at, with_reader, AreBelow, IsPartlyPut}
 use Rattle.siread.specs.Readers.{with_last}
 use Rattle.siread.proofs.Lookups.{on_err}
-use Rattle.siread.proofs.Steps.{put_step, one_more, all_taken}
+use Rattle.siread.proofs.Steps.{below_after, put_step, one_more, all_taken}
 use Rattle.siread.proofs.locks.LockTable.put_each.Goals as goal
 
 pub returns-in_err-put_one-clause-part : goal.returns-in_err-put_one-clause-part
@@ -23,3 +23,8 @@ loop-key-preserved c =
 pub returns-clause-put : goal.returns-clause-put
 returns-clause-put c =
     c.loop-key.invariant ∙ ap (λ those. with_reader c.args.number those (readers_at c.args.self.now)) (all_taken c.args.keys.now c.loop-key.key-index c.loop-key-test.false)
+
+pub put_one-requires : goal.put_one-requires
+put_one-requires c =
+    subst (AreBelow (c.args.number + 1)) (sym c.loop-key.invariant)
+    (below_after c.args.number (take c.loop-key.key-index c.args.keys.now) (readers_at c.args.self.now) c.requires)
