@@ -11,6 +11,7 @@ use crate::updates::Setting;
 use cond::{Expr, bound};
 use form_check::row_expression;
 use name_check::{Scope, known_condition, known_expression};
+use sqlite_items::Boxed;
 use statement_syntax::{Assigned, Assignment};
 use std::alloc::Global;
 use syntax::Condition;
@@ -58,7 +59,7 @@ pub fn known_names(
     catalog: &Catalog,
     scope: Scope,
     sets: &[Assignment],
-    condition: &Option<Condition>,
+    condition: &Option<Boxed<Condition>>,
 ) -> Result<(), Refusal>
     ensures known { IfOk result (λ _. names_fault catalog.now (shown scope.entry) sets.now condition.now ≡ None) }
     ensures refused { IfErr result (λ refusal.
@@ -66,7 +67,7 @@ pub fn known_names(
 {
     known_values(alloc, catalog, scope, sets)?;
     match condition {
-        Some(condition) => known_condition(alloc, catalog, &[scope], condition),
+        Some(condition) => known_condition(alloc, catalog, &[scope], condition.get()),
         None => Ok(()),
     }
 }

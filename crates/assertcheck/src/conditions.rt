@@ -4,13 +4,14 @@ ghost use Rattle.std.specs.Prelude.{◌≡◌, ◌≢◌, ◌<◌, ◌∷◌, []
 ghost use Rattle.cond.specs.Bounds.{is_bounded};
 ghost use Rattle.value.specs.declared.refusals.Refusal.TheVariants.{NoMemory};
 ghost use Rattle.name_check.specs.Shown.{shown};
+ghost use Rattle.form_check.specs.Queries.{row_filter};
 ghost use Rattle.form_check.specs.Shown.{shown_source};
 ghost use Rattle.assertcheck.specs.Conditions.{sound_condition, target_of, where_of};
 
 use cond::{Cond, is_bounded};
 use form_check::{Source, row_condition};
 use name_check::{Scope, known_condition};
-use sqlite_items::Items;
+use sqlite_items::{Boxed, Items};
 use std::alloc::Global;
 use syntax::Condition;
 use table::Catalog;
@@ -39,7 +40,7 @@ pub fn where_condition(
     alloc: Global,
     catalog: &Catalog,
     scope: Scope,
-    condition: &Option<Condition>,
+    condition: &Option<Boxed<Condition>>,
 ) -> Result<Cond, Refusal>
     ensures made { IfOk result (λ made. where_of catalog.now (shown scope.entry) condition.now ≡ Ok made) }
     ensures refused { IfErr result (λ refusal.
@@ -49,9 +50,25 @@ pub fn where_condition(
     let Some(condition) = condition else {
         return Ok(Cond::And(Items::new(alloc)));
     };
-    known_condition(alloc, catalog, &[scope], condition)?;
-    let made = row_condition(alloc, scope, condition)?;
+    known_condition(alloc, catalog, &[scope], condition.get())?;
+    let made = row_condition(alloc, scope, condition.get())?;
     sound(scope, made)
+}
+
+/// The condition of WHERE over the rows of a table, its names known and its types not judged; a missing one keeps every
+/// row.
+pub fn row_filter(
+    alloc: Global,
+    scope: Scope,
+    condition: &Option<Boxed<Condition>>,
+) -> Result<Cond, Refusal>
+    ensures made { IfOk result (λ made. row_filter (shown scope.entry) condition.now ≡ Ok made) }
+    ensures refused { IfErr result (λ refusal. refusal ≢ NoMemory → row_filter (shown scope.entry) condition.now ≡ Err refusal) }
+{
+    match condition {
+        Some(condition) => row_condition(alloc, scope, condition.get()),
+        None => Ok(Cond::And(Items::new(alloc))),
+    }
 }
 
 /// The condition, if it is typed and its expressions are bounded.

@@ -7,6 +7,7 @@ ghost use Rattle.assertcheck.specs.Statements.{delete_of};
 
 use crate::conditions::{target, where_condition};
 use cond::Cond;
+use sqlite_items::Boxed;
 use std::alloc::Global;
 use syntax::Condition;
 use table::Catalog;
@@ -31,7 +32,7 @@ pub fn check_delete(
     alloc: Global,
     catalog: &Catalog,
     table: &Text,
-    condition: &Option<Condition>,
+    condition: &Option<Boxed<Condition>>,
 ) -> Result<Delete, Refusal>
     ensures made { IfOk result (λ delete. delete_of catalog.now table.now condition.now ≡ Ok delete) }
     ensures refused { IfErr result (λ refusal.

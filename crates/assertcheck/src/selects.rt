@@ -8,7 +8,7 @@ ghost use Rattle.assertcheck.specs.Statements.{select_of, selected};
 use crate::columns::{all_places, named_columns};
 use crate::conditions::{target, where_condition};
 use cond::Cond;
-use sqlite_items::Items;
+use sqlite_items::{Boxed, Items};
 use statement_syntax::Which;
 use std::alloc::Global;
 use syntax::Condition;
@@ -37,7 +37,7 @@ pub fn check_select(
     catalog: &Catalog,
     columns: &Which,
     table: &Text,
-    condition: &Option<Condition>,
+    condition: &Option<Boxed<Condition>>,
 ) -> Result<Select, Refusal>
     ensures made { IfOk result (λ select. select_of catalog.now columns.now table.now condition.now ≡ Ok select) }
     ensures refused { IfErr result (λ refusal.

@@ -92,14 +92,14 @@ fn assertions_are_checked(rt: HostRuntime) -> Result<(), Fail> {
 /// The place of the table that is deleted from.
 fn deleted(alloc: Global, table: &str) -> Result<usize, Refusal> {
     let table = Text::from_str(alloc, table)?;
-    let condition = Some(equals_seven(alloc, "SHIFT")?);
+    let condition = Some(Boxed::new(alloc, equals_seven(alloc, "SHIFT")?)?);
     deleted_from(alloc, &table, &condition)
 }
 
 fn deleted_from(
     alloc: Global,
     table: &Text,
-    condition: &Option<Condition>,
+    condition: &Option<Boxed<Condition>>,
 ) -> Result<usize, Refusal> {
     let delete = check_delete(alloc, &catalog(alloc)?, table, condition)?;
     Ok(delete.table)

@@ -1,7 +1,7 @@
 //! SELECT and UPDATE: one that is taken, and what refuses others.
 
 use super::*;
-use sqlite_items::Items;
+use sqlite_items::{Boxed, Items};
 use statement_syntax::{Assigned, Assignment, Which};
 use std::alloc::Global;
 use std::test::Fail;
@@ -107,7 +107,7 @@ fn updated(
         value: Assigned::Null,
     })?;
     let table = Text::from_str(alloc, "S")?;
-    let condition = Some(Condition::IsNull(column(alloc, "ID")?));
+    let condition = Some(Boxed::new(alloc, Condition::IsNull(column(alloc, "ID")?))?);
     match &check_update(alloc, &catalog(alloc)?, &table, &sets, &condition) {
         Ok(update) => Ok((update.sets.len(), "taken in")),
         Err(refusal) => Ok((0, word(refusal))),

@@ -7,10 +7,10 @@ ghost use Rattle.form_check.specs.Shown.{shown_source};
 ghost use Rattle.assertcheck.specs.Updates.{IsBoundedSetting, sound_update, update_of, update_over};
 
 use crate::assignments::{all_fit, are_bounded, assigned_places, known_names, settings};
-use crate::conditions::target;
+use crate::conditions::{row_filter, target};
 use cond::{Cond, Expr, is_bounded};
-use form_check::{Source, row_filter};
-use sqlite_items::Items;
+use form_check::Source;
+use sqlite_items::{Boxed, Items};
 use statement_syntax::Assignment;
 use std::alloc::Global;
 use syntax::Condition;
@@ -51,7 +51,7 @@ pub fn check_update(
     catalog: &Catalog,
     table: &Text,
     sets: &[Assignment],
-    condition: &Option<Condition>,
+    condition: &Option<Boxed<Condition>>,
 ) -> Result<Update, Refusal>
     ensures made { IfOk result (λ update. update_of catalog.now table.now sets.now condition.now ≡ Ok update) }
     ensures refused { IfErr result (λ refusal.
@@ -73,7 +73,7 @@ fn update_over(
     target: Source,
     places: &[usize],
     sets: &[Assignment],
-    condition: &Option<Condition>,
+    condition: &Option<Boxed<Condition>>,
 ) -> Result<Update, Refusal>
     requires { length places.now ≡ length sets.now }
     ensures made { IfOk result (λ update.

@@ -1,1 +1,2 @@
 pub mod Inner
+mod Alone

@@ -1,6 +1,6 @@
 //! Expressions: sums of products of signed values.
 
-ghost use Rattle.std.specs.Prelude.{◌≡◌, IfOk};
+ghost use Rattle.std.specs.Prelude.{◌≡◌, ◌||◌, IfOk};
 ghost use Rattle.reading.specs.Reading as rd;
 ghost use Rattle.syntax.specs.Readers as reader;
 ghost use Rattle.condition_parser.specs.Inside.{inside};
@@ -104,6 +104,13 @@ impl<'a, F: Fn(Global, &mut Cursor<'_>, usize, Want) -> Result<Found, Stop>> Rep
     fn begins(&self, kind: Kind) -> bool {
         matches!(kind, Kind::Plus | Kind::Minus)
     }
+}
+
+/// Whether an expression goes on behind a factor, with a token of this kind.
+fn goes_on(kind: Kind) -> bool
+    ensures { result ≡ (reader.is_star kind || reader.is_sign kind) }
+{
+    matches!(kind, Kind::Star | Kind::Plus | Kind::Minus)
 }
 
 impl<F: Fn(Global, &mut Cursor<'_>, usize, Want) -> Result<Found, Stop>> Level<F> {
@@ -228,11 +235,15 @@ impl<F: Fn(Global, &mut Cursor<'_>, usize, Want) -> Result<Found, Stop>> Level<F
     }
 
     /// The expression that begins with this factor.
-    #[tactic(auto, unfolding(syntax::specs::Readers::expr_after))]
+    #[tactic(auto, using(crate::proofs::Alone::alone), unfolding(syntax::specs::Readers::expr_after))]
     pub fn expr_after(&self, cursor: &mut Cursor<'_>, first: Expression) -> Result<Expression, Stop>
         requires { Nests self.now.depth (F.pre self.now.inner) (F.post self.now.inner) }
         ensures { Reads (reader.expr_after self.now.depth (inside self.now.depth) first cursor.old) result cursor.new }
     {
+        // Most expressions are one factor, and moving it costs as much as reading it.
+        if !goes_on(cursor.peek()) {
+            return Ok(first);
+        }
         let first = self.product_after(cursor, first)?;
         self.sum_after(cursor, first)
     }

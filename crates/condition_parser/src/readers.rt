@@ -5,6 +5,7 @@ ghost use Rattle.leaf_parser.specs.Reads.{Reads};
 
 use crate::levels::Level;
 use leaf_parser::{Cursor, Stop, stopped};
+use sqlite_items::Boxed;
 use std::alloc::Global;
 use syntax::{Condition, Expression, Found, Want};
 
@@ -27,11 +28,15 @@ pub fn read(
 
 /// A condition, where so many parentheses may be opened.
 #[tactic(auto, unfolding(syntax::specs::Readers::cond_at))]
-pub fn cond_at(alloc: Global, cursor: &mut Cursor<'_>, depth: usize) -> Result<Condition, Stop>
+pub fn cond_at(
+    alloc: Global,
+    cursor: &mut Cursor<'_>,
+    depth: usize,
+) -> Result<Boxed<Condition>, Stop>
     ensures { Reads (reader.cond_at depth cursor.old) result cursor.new }
 {
     match read(alloc, cursor, depth, Want::Condition)? {
-        Found::Condition(x) => Ok(x.into_inner()),
+        Found::Condition(x) => Ok(x),
         Found::Expression(x) => Err(stopped(Stop::Syntax, x)),
         Found::Query(x) => Err(stopped(Stop::Syntax, x)),
     }

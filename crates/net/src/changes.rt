@@ -47,7 +47,8 @@ fn differences(
     ensures made { IfOk result (λ made. made.items
         ≡ differences_at (layouts_in before.now.declared) before.now.state after.now.state touched.now) }
 {
-    let mut made = Vec::new(alloc);
+    // A commit keeps them, so there is no room to spare.
+    let mut made = Vec::with_capacity(alloc, touched.len())?;
     for place in touched.iter() {
         if let Some(change) = difference(before, after, place)? {
             made.push(change)?;

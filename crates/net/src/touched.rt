@@ -1,6 +1,6 @@
 //! Where two views may differ.
 
-ghost use Rattle.std.specs.Prelude.{◌≡◌, [], Contains, map, IsOkUnless, OnOk, OnErr};
+ghost use Rattle.std.specs.Prelude.{◌≡◌, [], Contains, map, length, IsOkUnless, OnOk, OnErr};
 ghost use Rattle.value.specs.Ordered.{IsAscending};
 ghost use Rattle.value.specs.declared.refusals.Refusal.TheVariants.{NoMemory};
 ghost use Rattle.siread.specs.declared.keys.Place.{Place as AnyPlace};
@@ -65,6 +65,13 @@ impl Touched {
         };
         self.places.insert(place)?;
         Ok(())
+    }
+
+    /// How many places there are.
+    pub fn len(&self) -> usize
+        ensures { result ≡ length self.now }
+    {
+        self.places.len()
     }
 
     /// The places, in their order.

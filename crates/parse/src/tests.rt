@@ -165,11 +165,15 @@ fn a_sum_under_a_minus_stays(rt: HostRuntime) -> Result<(), Fail> {
     let Event::Run(
         Statement::Delete {
             table,
-            keeps: Some(Condition::And(parts)),
+            keeps: Some(condition),
         },
     ) = &event
     else {
         assert!(rt; false, "a DELETE");
+        return Ok(());
+    };
+    let Condition::And(parts) = condition.get() else {
+        assert!(rt; false, "an AND");
         return Ok(());
     };
     assert_eq!(rt; table.as_bytes(), b"ACCT".as_slice());

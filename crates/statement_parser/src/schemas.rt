@@ -12,7 +12,7 @@ use crate::columns::parens_columns;
 use crate::inserts::insert;
 use condition_parser::cond_at;
 use leaf_parser::{Cursor, Part, Repeated, Stop, followed, many, name, parens, stopped};
-use sqlite_items::Items;
+use sqlite_items::{Boxed, Items};
 use statement_syntax::Definition;
 use std::alloc::Global;
 use syntax::Condition;
@@ -39,19 +39,23 @@ struct Checked {
 impl Part for Checked {
     ghost use Rattle.syntax.specs.Readers as condition;
 
-    type Tree = Condition;
+    type Tree = Boxed<Condition>;
 
     ghost ready = { λ _. Unit {0} };
 
     ghost reader = { λ c. condition.cond_at c.depth };
 
-    fn parse(&self, cursor: &mut Cursor<'_>) -> Result<Condition, Stop> {
+    fn parse(&self, cursor: &mut Cursor<'_>) -> Result<Boxed<Condition>, Stop> {
         cond_at(self.alloc, cursor, self.depth)
     }
 }
 
 /// `"(" cond ")"`
-fn parens_condition(alloc: Global, cursor: &mut Cursor<'_>, depth: usize) -> Result<Condition, Stop>
+fn parens_condition(
+    alloc: Global,
+    cursor: &mut Cursor<'_>,
+    depth: usize,
+) -> Result<Boxed<Condition>, Stop>
     ensures { Reads (rd.parens depth (condition.cond_at (depth - 1)) cursor.old) result cursor.new }
 {
     let checked = Checked {
@@ -73,7 +77,7 @@ fn assertion(alloc: Global, cursor: &mut Cursor<'_>, depth: usize) -> Result<Def
     match attributes(cursor) {
         Ok(attributes) => Ok(Definition::Assertion {
             name,
-            condition,
+            condition: condition.into_inner(),
             attributes,
         }),
         Err(stop) => Err(stopped(stop, (name, condition))),

@@ -7,6 +7,7 @@ ghost use Rattle.leaf_parser.specs.Reads.{Reads};
 use crate::inserts::insert;
 use condition_parser::{cond_at, expr_at};
 use leaf_parser::{Cursor, NamePart, Part, Stop, list, name, stopped};
+use sqlite_items::Boxed;
 use statement_syntax::{Assigned, Assignment, Mode, Statement, Which};
 use std::alloc::Global;
 use syntax::Condition;
@@ -82,7 +83,11 @@ fn verdict(alloc: Global, cursor: &mut Cursor<'_>) -> Result<Statement, Stop>
 
 /// `[WHERE cond]`
 #[tactic(auto, unfolding(statement_syntax::specs::Readers::where_))]
-fn where_(alloc: Global, cursor: &mut Cursor<'_>, depth: usize) -> Result<Option<Condition>, Stop>
+fn where_(
+    alloc: Global,
+    cursor: &mut Cursor<'_>,
+    depth: usize,
+) -> Result<Option<Boxed<Condition>>, Stop>
     ensures { Reads (reader.where_ depth cursor.old) result cursor.new }
 {
     if !cursor.is(Kind::Where) {

@@ -1,6 +1,6 @@
 //! The trees of statements and events.
 
-use sqlite_items::Items;
+use sqlite_items::{Boxed, Items};
 use syntax::{Condition, Expression};
 use value::{Text, Value};
 
@@ -40,23 +40,23 @@ pub enum Mode {
     Immediate,
 }
 
-/// A statement. `keeps` is the condition of its WHERE.
+/// A statement. `keeps` is the condition of its WHERE, in a box, since most steps of a script have none.
 #[derive(Drop)]
 pub enum Statement {
     Insert(Insert),
     Update {
         table: Text,
         sets: Items<Assignment>,
-        keeps: Option<Condition>,
+        keeps: Option<Boxed<Condition>>,
     },
     Delete {
         table: Text,
-        keeps: Option<Condition>,
+        keeps: Option<Boxed<Condition>>,
     },
     Select {
         columns: Which,
         table: Text,
-        keeps: Option<Condition>,
+        keeps: Option<Boxed<Condition>>,
     },
     SetConstraints {
         assertions: Which,

@@ -1,6 +1,6 @@
 //! Marks, at the front of a text.
 
-ghost use Rattle.std.specs.Prelude.{◌≡◌, map};
+ghost use Rattle.std.specs.Prelude.{◌≡◌, map, Some};
 ghost use Rattle.token.specs.Lexer as spec;
 
 use crate::kinds::{Kind, MARKS};
@@ -20,10 +20,33 @@ fn find_mark(marks: &[(&[u8], Kind)], text: &[u8]) -> Option<Front>
     None
 }
 
-/// The longest mark at the front.
-#[tactic(auto, unfolding(crate::specs::Lexer::mark))]
+/// A mark of one byte, with which no other mark begins.
+fn single(kind: Kind) -> Option<Front>
+    ensures { result ≡ Some (record { kind = kind; len = 1 }) }
+{
+    Some(Front { kind, len: 1 })
+}
+
+/// The longest mark at the front, by its first byte.
+#[tactic(auto, using(crate::proofs::FirstBytes::no_mark), unfolding(crate::specs::Lexer::mark))]
 pub fn mark(text: &[u8]) -> Option<Front>
     ensures { result ≡ spec.mark text.now }
 {
-    find_mark(&MARKS, text)
+    let [first, ..] = text else {
+        return None;
+    };
+    match *first {
+        b',' => single(Kind::Comma),
+        b'=' => single(Kind::Equal),
+        b'(' => single(Kind::Open),
+        b')' => single(Kind::Close),
+        b'.' => single(Kind::Dot),
+        b';' => single(Kind::Semicolon),
+        b':' => single(Kind::Colon),
+        b'*' => single(Kind::Star),
+        b'+' => single(Kind::Plus),
+        b'-' => single(Kind::Minus),
+        b'<' | b'>' => find_mark(&MARKS, text),
+        _ => None,
+    }
 }

@@ -78,12 +78,14 @@ fn token_at(text: &[u8], start: usize) -> Token
 }
 
 /// The next token from an offset on. A bad one goes up to the end.
-#[tactic(auto, unfolding(crate::specs::Lexer::next_of, crate::specs::Lexer::start_of))]
+#[tactic(auto, using(crate::proofs::All::none_at_end), unfolding(crate::specs::Lexer::next_of, crate::specs::Lexer::start_of))]
 fn token_from(text: &[u8], from: usize) -> Option<Token>
-    requires { from ≤ length text.now }
     ensures value { result ≡ spec.next_of text.now from }
     ensures within { IfSome result (λ t. (from ≤ t.start) × (t.start < t.end) × (t.end ≤ length text.now)) }
 {
+    if from >= text.len() {
+        return None;
+    }
     let start = from + gap_len(&text[from..]);
     if start >= text.len() {
         return None;
@@ -106,10 +108,10 @@ fn told(found: Option<Token>) -> Result<Option<Token>, Refusal>
 
 /// The next token of a text, from an offset on, which is 0 or the end of the token before.
 ///
-/// `None` says that only blanks and comments are left. `Syntax` says that a bad token stands there,
+/// `None` says that only blanks and comments are left, or nothing, as where `from` is at the end or
+/// past it. `Syntax` says that a bad token stands there,
 /// and names the offset at which it begins; no other refusal comes, and no memory is taken.
 pub fn next_token(text: &[u8], from: usize) -> Result<Option<Token>, Refusal>
-    requires { from ≤ length text.now }
     // As a function of the text.
     ensures value { result ≡ spec.answer (spec.next_of text.now from) }
     // In the words of the written rules: the answer is right, and no other is.

@@ -118,6 +118,13 @@ fn a_comment_ends_the_text(rt: HostRuntime) {
 }
 
 #[test]
+fn nothing_stands_past_the_end(rt: HostRuntime) {
+    assert!(rt; matches!(next_token(b"x", 1), Ok(None)));
+    assert!(rt; matches!(next_token(b"x", 2), Ok(None)));
+    assert!(rt; matches!(next_token(b"", usize::MAX), Ok(None)));
+}
+
+#[test]
 fn number_past_the_limit(rt: HostRuntime) {
     let largest = next_token(b"x 1000000000000000", 1);
     assert!(rt;

@@ -43,7 +43,7 @@ pub fn insert_effect(alloc: Global, view: &View, new: &NewRow) -> Result<Effect,
         view.rows(new.table),
         new.row.copy()?,
     )?;
-    let mut changes = Vec::new(alloc);
+    let mut changes = Vec::with_capacity(alloc, 1)?;
     changes.push(change)?;
     Ok(Effect {
         reply: Reply::Inserted,

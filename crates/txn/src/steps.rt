@@ -137,7 +137,7 @@ fn only(alloc: Global, key: LockKey) -> Result<Vec<LockKey>, Refusal>
     ensures only_memory { IsOkUnless result NoMemory }
     ensures only { IfOk result (λ keys. keys.items ≡ key ∷ []) }
 {
-    let mut keys = Vec::new(alloc);
+    let mut keys = Vec::with_capacity(alloc, 1)?;
     keys.push(key)?;
     Ok(keys)
 }
@@ -416,6 +416,10 @@ pub fn append(keys: &mut Vec<LockKey>, more: Vec<LockKey>) -> Result<(), Refusal
     ensures both { OnOk result (keys.new.items ≡ keys.old.items ++ more.items) }
     ensures same { OnErr result (keys.new.items ≡ keys.old.items) }
 {
+    if keys.is_empty() {
+        *keys = more;
+        return Ok(());
+    }
     let mut more = more;
     keys.append(&mut more)?;
     Ok(())

@@ -12,7 +12,7 @@ use cond::{Cond, Expr};
 use delta::View;
 use mvrows::Rows;
 use siread::LockKey;
-use sqlite_items::Items;
+use sqlite_items::{Boxed, Items};
 use statement_syntax::{Assigned, Assignment, Insert, Mode, Statement, Which};
 use std::alloc::Global;
 use std::test::Fail;
@@ -152,9 +152,10 @@ fn column_of(alloc: Global, name: &str) -> Result<Expression, Refusal> {
 /// `DELETE FROM .. WHERE SHIFT = shift`.
 fn delete(alloc: Global, table: &str, shift: i64) -> Result<Statement, Refusal> {
     let column = column_of(alloc, "SHIFT")?;
+    let equal = Condition::Compare(column, Comparison::Equal, Expression::Number(shift));
     Ok(Statement::Delete {
         table: Text::from_str(alloc, table)?,
-        keeps: Some(Condition::Compare(column, Comparison::Equal, Expression::Number(shift))),
+        keeps: Some(Boxed::new(alloc, equal)?),
     })
 }
 

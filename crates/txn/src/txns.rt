@@ -339,7 +339,12 @@ fn make_room(
     ensures unread { OnErr result (reads.new.items ≡ reads.old.items) }
 {
     touched.add(changes)?;
-    trace.reserve(1)?;
+    // A commit keeps the trace, and most transactions have few statements.
+    if trace.is_empty() {
+        trace.reserve_exact(1)?;
+    } else {
+        trace.reserve(1)?;
+    }
     append(reads, more)?;
     Ok(())
 }
