@@ -49,5 +49,6 @@ fn is_reader_of(candidate: &Candidate, pivot: &Record, writer: u64) -> bool
     ensures { result ≡ (conflicts_to (record_of candidate.now) pivot.now
         && (nat_lt writer pivot.now.number && nat_le writer candidate.now.number)) }
 {
-    conflicts_to(candidate, pivot) && (writer < pivot.number && writer <= candidate.number)
+    // (two numbers are compared sooner than keys)
+    (writer < pivot.number && writer <= candidate.number) && conflicts_to(candidate, pivot)
 }

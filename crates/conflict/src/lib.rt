@@ -1,6 +1,7 @@
 //! What a commit is answered by those before it, and where it then stands among them.
 //!
-//! [`judge`] compares a candidate with the commits after its snapshot. In this order:
+//! [`judge`] compares a candidate with the commits after its snapshot, and asks the table of reads who read what it
+//! changes. In this order:
 //!
 //! - *A write conflict*: one of them has a row of its net change, and the first committer wins. The first such row of
 //!   the net change is named, and the least such commit.

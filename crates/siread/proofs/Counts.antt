@@ -201,13 +201,13 @@ all_counted [] d once = refl
 all_counted (e ∷ es) d once =
     let size : LockKey → ℕ = λ key. length (readers_at (e ∷ es) key) in
     let inside = map_same size (λ key. length (readers_of e.1 (value_of key))) (keys_under e.0 e.1)
-        (all_weaker (λ key. family_of key ≡ e.0) (λ key. size key ≡ length (readers_of e.1 (value_of key)))
-        (λ key is. ap (λ readers. length (readers_of readers (value_of key))) (in_first e es (family_of key) (subst (λ f. same_family f e.0 ≡ true) (sym is) (same_family-refl e.0))))
-        (keys_under e.0 e.1) (of_family e.0 e.1)) in
+    (all_weaker (λ key. family_of key ≡ e.0) (λ key. size key ≡ length (readers_of e.1 (value_of key)))
+    (λ key is. ap (λ readers. length (readers_of readers (value_of key))) (in_first e es (family_of key) (subst (λ f. same_family f e.0 ≡ true) (sym is) (same_family-refl e.0))))
+    (keys_under e.0 e.1) (of_family e.0 e.1)) in
     let beside = map_same size (λ key. length (readers_at es key)) (keys_in es)
-        (all_weaker (λ key. same_family e.0 (family_of key) ≡ false) (λ key. size key ≡ length (readers_at es key))
-        (λ key apart. ap (λ readers. length (readers_of readers (value_of key))) (in_others e es (family_of key) (family_turned (family_of key) e.0 ∙ apart)))
-        (keys_in es) (families_apart e.0 es d.0)) in
+    (all_weaker (λ key. same_family e.0 (family_of key) ≡ false) (λ key. size key ≡ length (readers_at es key))
+    (λ key apart. ap (λ readers. length (readers_of readers (value_of key))) (in_others e es (family_of key) (family_turned (family_of key) e.0 ∙ apart)))
+    (keys_in es) (families_apart e.0 es d.0)) in
     ap total (map-append size (keys_under e.0 e.1) (keys_in es))
     ∙ total_both (map size (keys_under e.0 e.1)) (map size (keys_in es))
     ∙ (λ i. total (inside i) + total (beside i))

@@ -96,29 +96,29 @@ under : (family : Family) (readers : ValueReaders) (place : Place) (row : Option
 under family readers place None = inl refl
 under (Rows table) readers place (Some row) = elim (cases_Bool (table == place.table)) [
   | inl here ↦ inr (record {
-      key = OneRow (record { table = table; key = place.key });
-      of = refl;
-      under = and_from (table == place.table) (same_value place.key place.key) here (same_value-refl place.key);
-      last = ap (λ b. cond b (last_of (readers_of readers place.key)) 0) here;
-    })
+    key = OneRow (record { table = table; key = place.key });
+    of = refl;
+    under = and_from (table == place.table) (same_value place.key place.key) here (same_value-refl place.key);
+    last = ap (λ b. cond b (last_of (readers_of readers place.key)) 0) here;
+  })
   | inr apart ↦ inl (ap (λ b. cond b (last_of (readers_of readers place.key)) 0) apart)
 ]
 under (Column table column) readers place (Some row) = elim (cases_Bool (table == place.table)) [
   | inl here ↦ inr (record {
-      key = InColumn table column (value_in column row);
-      of = refl;
-      under = and_from (table == place.table) (same_value (value_in column row) (value_in column row)) here (same_value-refl (value_in column row));
-      last = ap (λ b. cond b (last_of (readers_of readers (value_in column row))) 0) here;
-    })
+    key = InColumn table column (value_in column row);
+    of = refl;
+    under = and_from (table == place.table) (same_value (value_in column row) (value_in column row)) here (same_value-refl (value_in column row));
+    last = ap (λ b. cond b (last_of (readers_of readers (value_in column row))) 0) here;
+  })
   | inr apart ↦ inl (ap (λ b. cond b (last_of (readers_of readers (value_in column row))) 0) apart)
 ]
 under (Table table) readers place (Some row) = elim (cases_Bool (table == place.table)) [
   | inl here ↦ inr (record {
-      key = WholeTable table;
-      of = refl;
-      under = here;
-      last = ap (λ b. cond b (last_of (readers_of readers Null)) 0) here;
-    })
+    key = WholeTable table;
+    of = refl;
+    under = here;
+    last = ap (λ b. cond b (last_of (readers_of readers Null)) 0) here;
+  })
   | inr apart ↦ inl (ap (λ b. cond b (last_of (readers_of readers Null)) 0) apart)
 ]
 

@@ -61,7 +61,7 @@ after_key old new key w f updates there = λ i q. at q i
     at : (q : LockKey) → readers_at new.entries q ≡ changed_at key f (readers_at old.entries) q
     at q =
         ap (λ (readers : Value → List ℕ). readers (value_of q))
-            (changed_by family_order.it same_family is_eq-family same_family-true readers_of old new (family_of key) w (changed_value (value_of key) f) updates there (family_of q))
+        (changed_by family_order.it same_family is_eq-family same_family-true readers_of old new (family_of key) w (changed_value (value_of key) f) updates there (family_of q))
         ∙ go (same_family (family_of key) (family_of q))
         ∙ both (same_family (family_of key) (family_of q)) (same_value (value_of key) (value_of q)) (f (readers_at old.entries q)) (readers_at old.entries q)
         ∙ ap (λ b. cond b (f (readers_at old.entries q)) (readers_at old.entries q)) (sym (same_parts key q))

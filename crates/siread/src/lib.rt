@@ -11,9 +11,10 @@
 //! BY puts them into one group (ISO/IEC 9075:1992, group by clause).
 //!
 //! A [`LockTable`] keeps for each key the numbers of the commits that read it. It is changed in place, and a look-up
-//! costs no more than the depth of a map. Readers that no running transaction overlaps are trimmed.
+//! costs no more than the depth of a map. The greatest reader of the keys that changes touch is found by what stands in
+//! the rows, without memory. Readers that no running transaction overlaps are trimmed.
 //!
-//! The definitions are in `specs/Keys` and `specs/Locks`.
+//! The definitions are in `specs/Keys`, `specs/Families` and `specs/Locks`.
 #![tactic(auto)]
 
 mod by_value;

@@ -16,7 +16,7 @@ returns-in-Some c =
     let there = family_is old family (Some c.in-Some.readers.now) c.in-Some.ensures.value in
     let updates = (c.get_mut.follows.holds w).3 (subst IsSome c.in-Some.ensures.value refl) in
     after_in old (c.get_mut.follows.lender w) c.args.key.now family value c.parts-family.ensures.family c.parts-family.ensures.value (Some w) (left_out c.args.number) updates.0
-        (c.take.ensures ∙ ap (λ readers. changed_value value (left_out c.args.number) (readers_of readers)) there)
+    (c.take.ensures ∙ ap (λ readers. changed_value value (left_out c.args.number) (readers_of readers)) there)
     ∙ ap (λ es. changed_at c.args.key.now (left_out c.args.number) (readers_at es)) c.self.view_is
 
 pub returns : goal.returns
@@ -38,5 +38,5 @@ invariant_of-self c =
     let updates = (c.get_mut.follows.holds w).3 (subst IsSome c.in-Some.ensures.value refl) in
     subst AreAscending
     (sym (after_in old (c.get_mut.follows.lender w) c.args.key.now family value c.parts-family.ensures.family c.parts-family.ensures.value (Some w) (left_out c.args.number) updates.0
-        (c.take.ensures ∙ ap (λ readers. changed_value value (left_out c.args.number) (readers_of readers)) there)))
+    (c.take.ensures ∙ ap (λ readers. changed_value value (left_out c.args.number) (readers_of readers)) there)))
     (taken_ascends c.args.number c.args.key.now (readers_at old.entries) c.self.invariant)
