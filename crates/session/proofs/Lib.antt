@@ -3,3 +3,4 @@ pub mod Tokens
 pub mod Reasons
 pub mod Standing
 pub mod Committing
+pub mod Crossing
