@@ -63,7 +63,8 @@ pub fn row_filter(
     condition: &Option<Boxed<Condition>>,
 ) -> Result<Cond, Refusal>
     ensures made { IfOk result (λ made. row_filter (shown scope.entry) condition.now ≡ Ok made) }
-    ensures refused { IfErr result (λ refusal. refusal ≢ NoMemory → row_filter (shown scope.entry) condition.now ≡ Err refusal) }
+    ensures refused { IfErr result (λ refusal.
+        refusal ≢ NoMemory → row_filter (shown scope.entry) condition.now ≡ Err refusal) }
 {
     match condition {
         Some(condition) => row_condition(alloc, scope, condition.get()),

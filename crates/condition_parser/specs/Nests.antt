@@ -12,6 +12,9 @@ use Rattle.leaf_parser.specs.Reads.{Reads}
 -- where one more may be opened, it reads with one fewer
 pub record Nests (depth : ℕ) (pre : Global → MutBor Lexemes → ℕ → Want → Type 0)
     (post : Global → MutBor Lexemes → ℕ → Want → Result Found Stop → MutBor Lexemes → Type 0) : Type 0 where
-  pub callable : (m : ℕ) → depth ≡ suc m → (alloc : Global) (old : MutBor Lexemes) (wanted : Want) → pre alloc old m wanted
-  pub reads : (m : ℕ) → depth ≡ suc m → (alloc : Global) (old new : MutBor Lexemes) (wanted : Want) (r : Result Found Stop) → post alloc old m wanted r new
+  pub callable : (m : ℕ) → depth ≡ suc m → (alloc : Global) (old : MutBor Lexemes) (wanted : Want)
+      → pre alloc old m wanted
+  pub reads : (m : ℕ) → depth ≡ suc m
+      → (alloc : Global) (old new : MutBor Lexemes) (wanted : Want) (r : Result Found Stop)
+      → post alloc old m wanted r new
       → Reads (read m wanted old.now) r new.now

@@ -137,7 +137,8 @@ impl<F: Fn(Global, &mut Cursor<'_>, usize, Want) -> Result<Found, Stop>> Level<F
         left: Expression,
     ) -> Result<Boxed<Condition>, Stop>
         requires { Nests self.now.depth (F.pre self.now.inner) (F.post self.now.inner) }
-        ensures { Reads (reader.range_or_list self.now.depth (inside self.now.depth) left cursor.old) result cursor.new }
+        ensures { Reads (reader.range_or_list self.now.depth (inside self.now.depth) left cursor.old) result
+            cursor.new }
     {
         match cursor.peek() {
             Kind::Between => self.between(cursor, left),

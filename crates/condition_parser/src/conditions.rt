@@ -196,7 +196,10 @@ impl<F: Fn(Global, &mut Cursor<'_>, usize, Want) -> Result<Found, Stop>> Level<F
         first: Boxed<Condition>,
     ) -> Result<Found, Stop>
         requires { Nests self.now.depth (F.pre self.now.inner) (F.post self.now.inner) }
-        ensures { Reads (rd.◌<$>◌ Found.Condition (rd.◌>>=◌ (reader.is_after self.now.depth (inside self.now.depth) first) (reader.cond_after self.now.depth (inside self.now.depth))) cursor.old) result cursor.new }
+        ensures { Reads
+            (rd.◌<$>◌ Found.Condition
+            (rd.◌>>=◌ (reader.is_after self.now.depth (inside self.now.depth) first)
+            (reader.cond_after self.now.depth (inside self.now.depth))) cursor.old) result cursor.new }
     {
         let test = self.is_after(cursor, first)?;
         let whole = self.cond_after(cursor, test)?;

@@ -118,7 +118,8 @@ impl<F: Fn(Global, &mut Cursor<'_>, usize, Want) -> Result<Found, Stop>> Level<F
     #[tactic(auto, unfolding(syntax::specs::Readers::aggregate_of))]
     fn aggregate_of(&self, cursor: &mut Cursor<'_>, function: Aggregate) -> Result<Expression, Stop>
         requires { Nests self.now.depth (F.pre self.now.inner) (F.post self.now.inner) }
-        ensures { Reads (reader.aggregate_of self.now.depth (inside self.now.depth) function cursor.old) result cursor.new }
+        ensures { Reads (reader.aggregate_of self.now.depth (inside self.now.depth) function cursor.old) result
+            cursor.new }
     {
         let column = parens(&NamedColumn(self.alloc), cursor, self.depth)?;
         Ok(Expression::Aggregate(function, column))
@@ -210,7 +211,8 @@ impl<F: Fn(Global, &mut Cursor<'_>, usize, Want) -> Result<Found, Stop>> Level<F
     #[tactic(auto, unfolding(syntax::specs::Readers::product_after, syntax::specs::Grammar::product_of))]
     fn product_after(&self, cursor: &mut Cursor<'_>, first: Expression) -> Result<Expression, Stop>
         requires { Nests self.now.depth (F.pre self.now.inner) (F.post self.now.inner) }
-        ensures { Reads (reader.product_after self.now.depth (inside self.now.depth) first cursor.old) result cursor.new }
+        ensures { Reads (reader.product_after self.now.depth (inside self.now.depth) first cursor.old) result
+            cursor.new }
     {
         joined::<NextFactor<'_, F>, Products>(self.alloc, &NextFactor(self), cursor, first)
     }

@@ -66,7 +66,9 @@ impl<F: Fn(Global, &mut Cursor<'_>, usize, Want) -> Result<Found, Stop>> Level<F
         correlation_name: Option<Text>,
     ) -> Result<Boxed<Query>, Stop>
         requires { Nests self.now.depth (F.pre self.now.inner) (F.post self.now.inner) }
-        ensures { Reads (reader.query_rest self.now.depth (inside self.now.depth) select_list table correlation_name cursor.old) result cursor.new }
+        ensures { Reads
+            (reader.query_rest self.now.depth (inside self.now.depth) select_list table correlation_name cursor.old)
+            result cursor.new }
     {
         let keeps = match self.where_(cursor) {
             Ok(keeps) => keeps,
@@ -102,7 +104,8 @@ impl<F: Fn(Global, &mut Cursor<'_>, usize, Want) -> Result<Found, Stop>> Level<F
         select_list: SelectList,
     ) -> Result<Boxed<Query>, Stop>
         requires { Nests self.now.depth (F.pre self.now.inner) (F.post self.now.inner) }
-        ensures { Reads (reader.query_from self.now.depth (inside self.now.depth) select_list cursor.old) result cursor.new }
+        ensures { Reads (reader.query_from self.now.depth (inside self.now.depth) select_list cursor.old) result
+            cursor.new }
     {
         let table = match name(self.alloc, cursor) {
             Ok(table) => table,
@@ -131,7 +134,9 @@ impl<F: Fn(Global, &mut Cursor<'_>, usize, Want) -> Result<Found, Stop>> Level<F
     /// A condition or an expression that begins with no NOT and no SELECT.
     pub fn first_from(&self, cursor: &mut Cursor<'_>) -> Result<Found, Stop>
         requires { Nests self.now.depth (F.pre self.now.inner) (F.post self.now.inner) }
-        ensures { Reads (rd.◌>>=◌ (reader.first self.now.depth (inside self.now.depth)) (reader.any_from self.now.depth (inside self.now.depth)) cursor.old) result cursor.new }
+        ensures { Reads
+            (rd.◌>>=◌ (reader.first self.now.depth (inside self.now.depth))
+            (reader.any_from self.now.depth (inside self.now.depth)) cursor.old) result cursor.new }
     {
         match self.first(cursor)? {
             Found::Condition(x) => self.rest_of_condition(cursor, x),

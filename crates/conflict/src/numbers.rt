@@ -26,7 +26,8 @@ pub fn least_out(others: &[Record], candidate: &Candidate) -> u64
 }
 
 fn least_with(other: &Record, candidate: &Candidate, least: u64) -> u64
-    ensures { result ≡ (if nat_lt other.now.number candidate.now.number && conflicts_to (record_of candidate.now) other.now
+    ensures { result
+        ≡ (if nat_lt other.now.number candidate.now.number && conflicts_to (record_of candidate.now) other.now
         then min other.now.number least else least) }
 {
     if other.number < candidate.number && conflicts_to(candidate, other) {
@@ -39,7 +40,8 @@ fn least_with(other: &Record, candidate: &Candidate, least: u64) -> u64
 /// The greatest of those that conflict to the candidate, 0 where none does: of those after its snapshot that read what
 /// it changes.
 pub fn greatest_in(locks: &LockTable, candidate: &Candidate) -> u64
-    ensures { (commits : List Record) → IsNext (record_of candidate.now) (reverse commits) → HasReaders (readers_at locks.now) commits candidate.now.snapshot
+    ensures { (commits : List Record) → IsNext (record_of candidate.now) (reverse commits)
+        → HasReaders (readers_at locks.now) commits candidate.now.snapshot
         → result ≡ greatest_in (reverse commits) (record_of candidate.now) }
 {
     let greatest = locks.greatest_reader(candidate.changes);

@@ -39,7 +39,8 @@ pub fn share_row(these: &[Change], those: &[Change]) -> bool
 }
 
 fn is_any_shared(these: &[Change], those: &[Change]) -> bool
-    ensures { result ≡ list_any (λ change. list_any (λ other. same_place (place_of change) (place_of other)) those.now) these.now }
+    ensures { result
+        ≡ list_any (λ change. list_any (λ other. same_place (place_of change) (place_of other)) those.now) these.now }
 {
     these.iter().any(|change| has_row_of(those, change))
 }

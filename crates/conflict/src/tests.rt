@@ -72,7 +72,8 @@ fn submit(
     requires readers { readers_at locks.old ≡ above 0 (reads_of committed.old.items) }
     ensures few { length committed.new.items ≤ length committed.old.items + 1 }
     ensures log { IfOk result (λ _. IsLog (reverse committed.new.items)) }
-    ensures places { IfOk result (λ _. places.new.items ≡ map (least_out (reverse committed.new.items)) committed.new.items) }
+    ensures places { IfOk result (λ _.
+        places.new.items ≡ map (least_out (reverse committed.new.items)) committed.new.items) }
     ensures readers { IfOk result (λ _. readers_at locks.new ≡ above 0 (reads_of committed.new.items)) }
 {
     let commit = next(alloc, committed.as_slice(), read, written)?;

@@ -29,8 +29,8 @@ pub enum Verdict {
 }
 
 /// What the next candidate is answered by those committed: a write conflict, else a dangerous triple, else that it may
-/// join them. `places` are the least conflicts out of those committed, each kept since that one was judged; `locks` says
-/// who of them read what, of those above a number that is at most the candidate's snapshot. It takes no memory.
+/// join them. `places` are the least conflicts out of those committed, each kept since that one was judged; `locks`
+/// says who of them read what, of those above a number that is at most the candidate's snapshot. It takes no memory.
 pub fn judge(
     committed: &[Record],
     places: &[u64],

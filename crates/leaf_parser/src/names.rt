@@ -46,7 +46,8 @@ fn signed(is_negative: bool, magnitude: u64) -> i64
 
 /// A number, whose sign is read.
 pub fn signed_number(cursor: &mut Cursor<'_>, is_negative: bool) -> Result<i64, Stop>
-    ensures { Reads (rd.◌<$>◌ (λ x. spec.signed is_negative (spec.digits_value x)) (rd.expect k.Number) cursor.old) result cursor.new }
+    ensures { Reads (rd.◌<$>◌ (λ x. spec.signed is_negative (spec.digits_value x)) (rd.expect k.Number) cursor.old)
+        result cursor.new }
 {
     let piece = cursor.expect(Kind::Number)?;
     Ok(signed(is_negative, value_of(&piece)))

@@ -217,7 +217,9 @@ pub fn joined<P: Repeated, J: Joint<P::Tree>>(
     first: P::Tree,
 ) -> Result<P::Tree, Stop>
     requires { P.ready part.now }
-    ensures { Reads (rd.◌<$>◌ (spec.alone_or J.parts J.whole) (rd.all P.begins (P.reader part.now) (first ∷ [])) cursor.old) result cursor.new }
+    ensures { Reads
+        (rd.◌<$>◌ (spec.alone_or J.parts J.whole) (rd.all P.begins (P.reader part.now) (first ∷ [])) cursor.old) result
+        cursor.new }
 {
     if !part.begins(cursor.peek()) {
         return Ok(first);
@@ -235,7 +237,9 @@ pub fn joined_boxed<P: Repeated, J: Joint<P::Tree>>(
     first: Boxed<P::Tree>,
 ) -> Result<Boxed<P::Tree>, Stop>
     requires { P.ready part.now }
-    ensures { Reads (rd.◌<$>◌ (spec.alone_or J.parts J.whole) (rd.all P.begins (P.reader part.now) (first ∷ [])) cursor.old) result cursor.new }
+    ensures { Reads
+        (rd.◌<$>◌ (spec.alone_or J.parts J.whole) (rd.all P.begins (P.reader part.now) (first ∷ [])) cursor.old) result
+        cursor.new }
 {
     if !part.begins(cursor.peek()) {
         return Ok(first);

@@ -13,7 +13,8 @@ use Rattle.reading.specs.Lexemes.{place}
 abbrev pub most_open : ℕ
 most_open = 64
 
--- A refusal names the first token that no text of the language has after the tokens before it, or the first parenthesis too many.
+-- A refusal names the first token that no text of the language has after the tokens before it, or the first
+-- parenthesis too many.
 abbrev pub Refused : {A : Type 0} → Language A → ℕ → Lexemes → ℕ → Refusal → Type 0
 Refused L most ts end refusal.NoMemory = Unit {0}
 Refused L most ts end (refusal.Syntax at) = (rest : Lexemes) × IsWrong L most ts rest × (at ≡ place end rest)

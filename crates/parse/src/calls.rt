@@ -28,7 +28,8 @@ pub fn parse_schema(alloc: Global, text: &[u8]) -> Result<Items<Definition>, Ref
     // A list is given only where the grammar relates it to the text, and no parenthesis opens while 64 are open.
     ensures found { IfOk result (λ d. IsSchema (lexemes text.now) d × Fits most_open (lexemes text.now)) }
     // There it is given, unless memory runs out.
-    ensures only { (d : List Definition) → IsSchema (lexemes text.now) d → Fits most_open (lexemes text.now) → Gave d result }
+    ensures only { (d : List Definition) → IsSchema (lexemes text.now) d → Fits most_open (lexemes text.now)
+        → Gave d result }
     // A refusal names the first wrong token, or the first parenthesis too many.
     ensures refused { IfErr result (Refused IsSchema most_open (lexemes text.now) (length text.now)) }
 {

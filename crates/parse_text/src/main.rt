@@ -1,11 +1,13 @@
 //! Says of texts whether they are of the language, and where they stop being so.
 //!
-//! `parse_text script FILE` reads a file as one script and prints how many steps it has. `parse_text lines FILE` reads each line of a file
-//! by itself and prints an answer for each: a line is a letter (S a script, D definitions, E an event), a space and the text.
+//! `parse_text script FILE` reads a file as one script and prints how many steps it has. `parse_text lines FILE`
+//! reads each line of a file by itself and prints an answer for each: a line is a letter (S a script, D definitions,
+//! E an event), a space and the text.
 //!
-//! The program `skewguard` stands on the same parser. This one shows what the parser alone says of a text, and its run in the gate
-//! holds that parser against a plain recogniser that tries every way on at once (`tools/recogniser.py`): some hundred short
-//! texts stand in `data/`, and in `stdout` what the recogniser says of each. Parsing is measured with it too (docs/PERFORMANCE.md).
+//! The program `skewguard` stands on the same parser. This one shows what the parser alone says of a text, and its
+//! run in the gate holds that parser against a plain recogniser that tries every way on at once
+//! (`tools/recogniser.py`): some hundred short texts stand in `data/`, and in `stdout` what the recogniser says of
+//! each. Parsing is measured with it too (docs/PERFORMANCE.md).
 #![tactic(auto)]
 
 ghost use Rattle.std.specs.Prelude.{◌≤◌};

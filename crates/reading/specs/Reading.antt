@@ -84,7 +84,8 @@ parens (suc n) p = expect k.Open >> (p >>= (λ x. expect k.Close >> pure x))
 -- More and more items, as long as the next token's kind says so. The number bounds the turns; each turn takes a token.
 unfoldable pub many : {A : Type 0} → (Kind → Bool) → Reader A → ℕ → List A → Reader (List A)
 many goes_on item zero found = pure found
-many goes_on item (suc n) found = by_kind (λ kind. cond (goes_on kind) (item >>= (λ x. many goes_on item n (found ++ x ∷ []))) (pure found))
+many goes_on item (suc n) found =
+    by_kind (λ kind. cond (goes_on kind) (item >>= (λ x. many goes_on item n (found ++ x ∷ []))) (pure found))
 
 abbrev pub all : {A : Type 0} → (Kind → Bool) → Reader A → List A → Reader (List A)
 all goes_on item found = λ ts. many goes_on item (length ts) found ts

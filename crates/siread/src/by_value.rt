@@ -59,7 +59,8 @@ impl ByValue {
     /// it was.
     pub fn put(&mut self, alloc: Global, number: u64, value: &Value) -> Result<(), Refusal>
         ensures only_memory { IsOkUnless result NoMemory }
-        ensures put { OnOk result (readers_of self.new ≡ changed_value value.now (with_last number) (readers_of self.old)) }
+        ensures put { OnOk result (readers_of self.new
+            ≡ changed_value value.now (with_last number) (readers_of self.old)) }
         ensures unchanged { OnErr result (readers_of self.new ≡ readers_of self.old) }
     {
         match self.readers.get_mut(value) {

@@ -210,7 +210,8 @@ fn last_in(family: &Family, readers: &ByValue, change: &Change) -> u64
 
 /// The last reader of the key of a family that a row, if there is one, is under where the change stands.
 fn last_over(family: &Family, readers: &ByValue, change: &Change, row: &Option<Row>) -> u64
-    ensures { result ≡ last_over family.now readers.now (record { table = change.now.table; key = change.now.key }) row.now }
+    ensures { result
+        ≡ last_over family.now readers.now (record { table = change.now.table; key = change.now.key }) row.now }
 {
     match row {
         None => 0,
@@ -220,7 +221,8 @@ fn last_over(family: &Family, readers: &ByValue, change: &Change, row: &Option<R
 
 /// The last reader of the key of a family that a row is under where the change stands.
 fn last_under(family: &Family, readers: &ByValue, change: &Change, row: &Row) -> u64
-    ensures { result ≡ last_under family.now readers.now (record { table = change.now.table; key = change.now.key }) row.now }
+    ensures { result
+        ≡ last_under family.now readers.now (record { table = change.now.table; key = change.now.key }) row.now }
 {
     match family {
         Family::Rows(table) if *table == change.table => readers.last(&change.key),

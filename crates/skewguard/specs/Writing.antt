@@ -9,14 +9,16 @@ use Rattle.report.specs.Report.{answer_line}
 use Rattle.skewguard.specs.Lines.{lines, report}
 
 -- an event is answered, and the writer gains the lines of the answer
-pub record PrintsAnswer (before : EngineState) (step : Step) (left : EngineState) (old new : Option (List ℕ)) : Type 0 where
-  pub answer : Answer
-  pub answered : IsAnswered before step answer
-  pub leaves : left ≡ after before step answer
-  pub written : Appends old new (answer_line step answer)
+pub record PrintsAnswer (before : EngineState) (step : Step) (left : EngineState) (old new : Option (List ℕ)) : Type 0
+  where
+    pub answer : Answer
+    pub answered : IsAnswered before step answer
+    pub leaves : left ≡ after before step answer
+    pub written : Appends old new (answer_line step answer)
 
 -- events are answered, each after those before it, and the writer gains the lines of the answers
-pub record PrintsAnswers (before : EngineState) (steps : List Step) (left : EngineState) (old new : Option (List ℕ)) : Type 0 where
+pub record PrintsAnswers (before : EngineState) (steps : List Step) (left : EngineState)
+    (old new : Option (List ℕ)) : Type 0 where
   pub answers : List Answer
   pub answered : AreAnswers before steps answers
   pub leaves : left ≡ led_to before steps answers

@@ -128,7 +128,8 @@ fn seated(alloc: Global, limit: u64, view: View, steps: &[Step]) -> Result<Engin
     requires within { limit ≤ 4294967295 }
     ensures begun { IfOk result (λ engine. engine ≡ beginning limit view steps.now) }
     ensures few { IfOk result (λ _. HasFewSessions steps.now) }
-    ensures refused { IfErr result (λ refusal. refusal ≢ NoMemory → HasManySessions steps.now × (refusal ≡ TooManySessions)) }
+    ensures refused { IfErr result (λ refusal.
+        refusal ≢ NoMemory → HasManySessions steps.now × (refusal ≡ TooManySessions)) }
 {
     // (before a seat is made for each: looking for each among so many would take the square of a long script)
     if !has_few_sessions(alloc, steps, MOST_SESSIONS)? {

@@ -79,7 +79,9 @@ fn column_type(cursor: &mut Cursor<'_>, depth: usize) -> Result<ColType, Stop>
 
 /// `[PRIMARY KEY]`, behind NOT NULL.
 fn marks_after_null(cursor: &mut Cursor<'_>) -> Result<Marks, Stop>
-    ensures { Reads (rd.◌<$>◌ (λ key. grammar.marks_of true (grammar.written key)) (rd.optional k.Primary reader.primary_key) cursor.old) result cursor.new }
+    ensures { Reads
+        (rd.◌<$>◌ (λ key. grammar.marks_of true (grammar.written key)) (rd.optional k.Primary reader.primary_key)
+        cursor.old) result cursor.new }
 {
     if !cursor.is(Kind::Primary) {
         return Ok(Marks {
@@ -97,7 +99,9 @@ fn marks_after_null(cursor: &mut Cursor<'_>) -> Result<Marks, Stop>
 
 /// `[NOT NULL]`, behind PRIMARY KEY.
 fn marks_after_key(cursor: &mut Cursor<'_>) -> Result<Marks, Stop>
-    ensures { Reads (rd.◌<$>◌ (λ other. grammar.marks_of (grammar.written other) true) (rd.optional k.Not reader.not_null) cursor.old) result cursor.new }
+    ensures { Reads
+        (rd.◌<$>◌ (λ other. grammar.marks_of (grammar.written other) true) (rd.optional k.Not reader.not_null)
+        cursor.old) result cursor.new }
 {
     if !cursor.is(Kind::Not) {
         return Ok(Marks {

@@ -13,7 +13,8 @@ use token::Kind;
 
 /// `[WORK]`, behind COMMIT.
 fn commit(cursor: &mut Cursor<'_>) -> Result<Event, Stop>
-    ensures { Reads (rd.◌<$>◌ (λ _. Event.Commit) (rd.optional k.Work (rd.expect k.Work)) cursor.old) result cursor.new }
+    ensures { Reads (rd.◌<$>◌ (λ _. Event.Commit) (rd.optional k.Work (rd.expect k.Work)) cursor.old) result
+        cursor.new }
 {
     if cursor.is(Kind::Work) {
         cursor.expect(Kind::Work)?;
@@ -23,7 +24,8 @@ fn commit(cursor: &mut Cursor<'_>) -> Result<Event, Stop>
 
 /// `[WORK]`, behind ROLLBACK.
 fn rollback(cursor: &mut Cursor<'_>) -> Result<Event, Stop>
-    ensures { Reads (rd.◌<$>◌ (λ _. Event.Rollback) (rd.optional k.Work (rd.expect k.Work)) cursor.old) result cursor.new }
+    ensures { Reads (rd.◌<$>◌ (λ _. Event.Rollback) (rd.optional k.Work (rd.expect k.Work)) cursor.old) result
+        cursor.new }
 {
     if cursor.is(Kind::Work) {
         cursor.expect(Kind::Work)?;

@@ -41,7 +41,9 @@ insert_of table columns values = record { table = table; columns = columns; valu
 
 -- INSERT INTO name [ "(" name { "," name } ")" ] VALUES "(" const { "," const } ")"
 unfoldable pub insert : Language Insert
-insert = token k.Insert >> (token k.Into >> (name >>= (λ table. columns >>= (λ columns. token k.Values >> (insert_of table columns <$> parens (list constant))))))
+insert =
+    token k.Insert >> (token k.Into >> (name >>= (λ table.
+    columns >>= (λ columns. token k.Values >> (insert_of table columns <$> parens (list constant))))))
 
 -- DEFERRED | IMMEDIATE
 unfoldable pub when_ : Language Mode
@@ -81,7 +83,9 @@ module _ (inner : Language Found) where
 
   -- UPDATE name SET set { "," set } [WHERE cond]
   unfoldable pub update : Language Statement
-  update = token k.Update >> (name >>= (λ table. token k.Set >> (list assignment >>= (λ sets. s.Update table sets <$> where_))))
+  update =
+      token k.Update >> (name >>= (λ table.
+      token k.Set >> (list assignment >>= (λ sets. s.Update table sets <$> where_))))
 
   -- DELETE FROM name [WHERE cond]
   unfoldable pub delete : Language Statement
@@ -89,7 +93,8 @@ module _ (inner : Language Found) where
 
   -- SELECT ( "*" | name { "," name } ) FROM name [WHERE cond]
   unfoldable pub select : Language Statement
-  select = token k.Select >> (selected >>= (λ which. token k.From >> (name >>= (λ table. s.Select which table <$> where_))))
+  select =
+      token k.Select >> (selected >>= (λ which. token k.From >> (name >>= (λ table. s.Select which table <$> where_))))
 
   unfoldable pub stmt : Language Statement
   stmt = (s.Insert <$> insert) ∪ update ∪ delete ∪ select ∪ set_constraints ∪ verdict

@@ -55,7 +55,8 @@ unfoldable pub selected : Reader Which
 selected = by_kind selected_by
 
 unfoldable pub set_constraints : Reader Statement
-set_constraints = expect k.Set >> (expect k.Constraints >> (constraints >>= (λ which. s.SetConstraints which <$> when_)))
+set_constraints =
+    expect k.Set >> (expect k.Constraints >> (constraints >>= (λ which. s.SetConstraints which <$> when_)))
 
 unfoldable pub verdict : Reader Statement
 verdict = expect k.Verdict >> (s.Verdict <$> name)
@@ -66,7 +67,9 @@ module _ (n : ℕ) where
   columns = optional k.Open (parens n (list name))
 
   unfoldable pub insert : Reader Insert
-  insert = expect k.Insert >> (expect k.Into >> (name >>= (λ table. columns >>= (λ columns. expect k.Values >> (insert_of table columns <$> parens n (list constant))))))
+  insert =
+      expect k.Insert >> (expect k.Into >> (name >>= (λ table.
+      columns >>= (λ columns. expect k.Values >> (insert_of table columns <$> parens n (list constant))))))
 
   unfoldable pub where_ : Reader (Option Condition)
   where_ = optional k.Where (expect k.Where >> cond_at n)
@@ -82,13 +85,17 @@ module _ (n : ℕ) where
   assignment = name >>= (λ column. expect k.Equal >> (assignment_of column <$> assigned))
 
   unfoldable pub update : Reader Statement
-  update = expect k.Update >> (name >>= (λ table. expect k.Set >> (list assignment >>= (λ sets. s.Update table sets <$> where_))))
+  update =
+      expect k.Update >> (name >>= (λ table.
+      expect k.Set >> (list assignment >>= (λ sets. s.Update table sets <$> where_))))
 
   unfoldable pub delete : Reader Statement
   delete = expect k.Delete >> (expect k.From >> (name >>= (λ table. s.Delete table <$> where_)))
 
   unfoldable pub select : Reader Statement
-  select = expect k.Select >> (selected >>= (λ which. expect k.From >> (name >>= (λ table. s.Select which table <$> where_))))
+  select =
+      expect k.Select >> (selected >>= (λ which.
+      expect k.From >> (name >>= (λ table. s.Select which table <$> where_))))
 
   abbrev pub stmt_by : Kind → Reader Statement
   stmt_by k.Insert = s.Insert <$> insert

@@ -26,7 +26,9 @@ varchar_of x = kind_of.Varchar (digits_value x)
 
 -- type: INTEGER | INT | VARCHAR "(" number ")"
 unfoldable pub column_type : Language ColType
-column_type = (token k.Integer >> pure kind_of.Integer) ∪ (token k.Int >> pure kind_of.Integer) ∪ (token k.Varchar >> parens (varchar_of <$> token_where k.Number is_width))
+column_type =
+    (token k.Integer >> pure kind_of.Integer) ∪ (token k.Int >> pure kind_of.Integer) ∪
+    (token k.Varchar >> parens (varchar_of <$> token_where k.Number is_width))
 
 abbrev pub not_null : Language Lexeme
 not_null = token k.Not >> token k.Null
@@ -81,7 +83,9 @@ step_of session event = record { session = session; event = event }
 module _ (inner : Language Found) where
   -- CREATE ASSERTION name CHECK "(" cond ")" [attrs]
   unfoldable pub assertion : Language Definition
-  assertion = token k.Create >> (token k.Assertion >> (name >>= (λ name. token k.Check >> (parens (inner_cond inner) >>= (λ c. d.Assertion name c <$> attrs)))))
+  assertion =
+      token k.Create >> (token k.Assertion >> (name >>= (λ name.
+      token k.Check >> (parens (inner_cond inner) >>= (λ c. d.Assertion name c <$> attrs)))))
 
   unfoldable pub def : Language Definition
   def = table ∪ assertion ∪ (d.Insert <$> insert)
@@ -96,7 +100,9 @@ module _ (inner : Language Found) where
 
   -- name ":" event ";"
   unfoldable pub step : Language Step
-  step = name >>= (λ session. token k.Colon >> (event_ inner >>= (λ event. token k.Semicolon >> pure (step_of session event))))
+  step =
+      name >>= (λ session.
+      token k.Colon >> (event_ inner >>= (λ event. token k.Semicolon >> pure (step_of session event))))
 
   -- { name ":" event ";" }
   unfoldable pub script : Language (List Step)

@@ -96,7 +96,9 @@ module _ (n : ℕ) where
   table = expect k.Table >> (name >>= (λ name. d.Table name <$> parens n (list (col (n - 1)))))
 
   unfoldable pub assertion : Reader Definition
-  assertion = expect k.Assertion >> (name >>= (λ name. expect k.Check >> (parens n (cond_at (n - 1)) >>= (λ c. d.Assertion name c <$> attrs))))
+  assertion =
+      expect k.Assertion >> (name >>= (λ name.
+      expect k.Check >> (parens n (cond_at (n - 1)) >>= (λ c. d.Assertion name c <$> attrs))))
 
   abbrev pub created_by : Kind → Reader Definition
   created_by k.Table = table
@@ -120,7 +122,9 @@ module _ (n : ℕ) where
   defs = all starts_def ended_def []
 
   unfoldable pub step : Reader Step
-  step = name >>= (λ session. expect k.Colon >> (event_ n >>= (λ event. expect k.Semicolon >> pure (step_of session event))))
+  step =
+      name >>= (λ session.
+      expect k.Colon >> (event_ n >>= (λ event. expect k.Semicolon >> pure (step_of session event))))
 
   unfoldable pub script : Reader (List Step)
   script = all starts_step step []

@@ -143,8 +143,17 @@ unfoldable pub group_by : Language (Option ColumnName)
 group_by = optional (token k.Group >> (token k.By >> column))
 
 -- the tree of a query
-abbrev pub query_of : SelectList → List ℕ → Option (List ℕ) → Option Condition → Option ColumnName → Option Condition → Query
-query_of list table correlation_name keeps group having = roll-Query (record { select_list = list; table = table; correlation_name = correlation_name; keeps = keeps; group = group; having = having })
+abbrev pub query_of : SelectList → List ℕ → Option (List ℕ) → Option Condition → Option ColumnName → Option Condition
+    → Query
+query_of list table correlation_name keeps group having =
+    roll-Query (record {
+      select_list = list;
+      table = table;
+      correlation_name = correlation_name;
+      keeps = keeps;
+      group = group;
+      having = having;
+    })
 
 module _ (inner : Language Found) where
   -- what stands in parentheses: an expression, a condition, a query
@@ -166,7 +175,9 @@ module _ (inner : Language Found) where
 
   -- [sign] prim. A minus before a number makes a literal.
   unfoldable pub factor : Language Expression
-  factor = prim ∪ (token k.Plus >> prim) ∪ (token k.Minus >> (number_of true <$> token k.Number)) ∪ (token k.Minus >> (e.Negation <$> other_prim))
+  factor =
+      prim ∪ (token k.Plus >> prim) ∪ (token k.Minus >> (number_of true <$> token k.Number)) ∪
+      (token k.Minus >> (e.Negation <$> other_prim))
 
   -- { "*" factor }
   unfoldable pub product_after : Expression → Language Expression
@@ -212,7 +223,8 @@ module _ (inner : Language Found) where
 
   -- [ IS [NOT] (TRUE | FALSE | UNKNOWN) ]
   unfoldable pub is_after : Condition → Language Condition
-  is_after x = pure x ∪ (token k.Is >> (b.Is x <$> truth)) ∪ (token k.Is >> (token k.Not >> ((λ y. b.Not (b.Is x y)) <$> truth)))
+  is_after x =
+      pure x ∪ (token k.Is >> (b.Is x <$> truth)) ∪ (token k.Is >> (token k.Not >> ((λ y. b.Not (b.Is x y)) <$> truth)))
 
   unfoldable pub btest : Language Condition
   btest = bprim >>= is_after
@@ -249,7 +261,8 @@ module _ (inner : Language Found) where
 
   -- [WHERE cond] [GROUP BY colref] [HAVING cond]
   unfoldable pub query_rest : SelectList → List ℕ → Option (List ℕ) → Language Query
-  query_rest list table other = where_ >>= (λ keeps. group_by >>= (λ group. query_of list table other keeps group <$> having))
+  query_rest list table other =
+      where_ >>= (λ keeps. group_by >>= (λ group. query_of list table other keeps group <$> having))
 
   -- name [ [AS] name ] [WHERE cond] [GROUP BY colref] [HAVING cond]
   unfoldable pub query_from : SelectList → Language Query

@@ -350,7 +350,8 @@ module _ (depth : ℕ) (inner : Want → Reader Found) where
   having = optional k.Having (expect k.Having >> condition)
 
   unfoldable pub query_rest : SelectList → List ℕ → Option (List ℕ) → Reader Query
-  query_rest list table other = where_ >>= (λ keeps. group_by >>= (λ group. query_of list table other keeps group <$> having))
+  query_rest list table other =
+      where_ >>= (λ keeps. group_by >>= (λ group. query_of list table other keeps group <$> having))
 
   unfoldable pub query_from : SelectList → Reader Query
   query_from list = name >>= (λ table. correlation_name >>= query_rest list table)
