@@ -71,7 +71,8 @@ impl Model for Core {
     ghost invariant = { λ c.
         IsKept (idle_core c.limit c.loaded c.records.items c.refused.items c.live) c.newest c.places.items
         c.order.items (readers_at c.locks) c.prepared
-        ((vec_len c.records < vec_capacity c.records) × (vec_len c.places < vec_capacity c.places) × (vec_len c.order < vec_capacity c.order)) };
+        ((vec_len c.records < vec_capacity c.records) × (vec_len c.places < vec_capacity c.places)
+        × (vec_len c.order < vec_capacity c.order)) };
 }
 
 impl Drop for Core {

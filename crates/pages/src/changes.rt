@@ -131,7 +131,8 @@ pub fn push_nodes<V: Drop>(
     requires order { AreInOrder (entries_of (map arc_value nodes.items)) }
     ensures only_memory { IsOkUnless result NoMemory }
     ensures added { (height : ℕ) → HaveHeight height (map arc_value nodes.items)
-        → OnOk result (Adds (height + 1) 2 (entries_of (map arc_value nodes.items)) (map arc_value out.old.items) (map arc_value out.new.items)) }
+        → OnOk result (Adds (height + 1) 2 (entries_of (map arc_value nodes.items))
+        (map arc_value out.old.items) (map arc_value out.new.items)) }
 {
     if nodes.len() > MOST_NODES {
         let behind = nodes.split_off(nodes.len() / 2)?;
@@ -153,7 +154,8 @@ fn push_inner<V: Drop>(
     requires order { AreInOrder (entries_of (map arc_value nodes.items)) }
     ensures only_memory { IsOkUnless result NoMemory }
     ensures added { (height : ℕ) → HaveHeight height (map arc_value nodes.items)
-        → OnOk result (Adds (height + 1) 1 (entries_of (map arc_value nodes.items)) (map arc_value out.old.items) (map arc_value out.new.items)) }
+        → OnOk result (Adds (height + 1) 1 (entries_of (map arc_value nodes.items))
+        (map arc_value out.old.items) (map arc_value out.new.items)) }
 {
     let node = inner(alloc, nodes)?;
     push_node(out, node)

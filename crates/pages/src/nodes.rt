@@ -108,7 +108,8 @@ impl<V: Drop> Node<V> {
     ) -> Result<(), Refusal>
         requires { HasKey value_cmp key_of key.now (option_map arc_value new.now) }
         ensures only_memory { IsOkUnless result NoMemory }
-        ensures changed { OnOk result (Adds self.now.0 2 (put value_cmp key_of key.now (option_map arc_value new.now) self.now.1)
+        ensures changed { OnOk result (Adds self.now.0 2
+            (put value_cmp key_of key.now (option_map arc_value new.now) self.now.1)
             (map arc_value out.old.items) (map arc_value out.new.items)) }
     {
         match &self.shape {

@@ -70,7 +70,8 @@ pub fn place<V>(nodes: &[Arc<Node<V>>], key: &Value) -> usize
         ≡ item_at value_cmp key_of key.now (entries_at (map arc_value nodes.now) result) }
     ensures changed { (new : Option (values × V))
         → put value_cmp key_of key.now new (entries_of (map arc_value nodes.now))
-        ≡ entries_of (take result (map arc_value nodes.now)) ++ (put value_cmp key_of key.now new (entries_at (map arc_value nodes.now) result)
+        ≡ entries_of (take result (map arc_value nodes.now))
+        ++ (put value_cmp key_of key.now new (entries_at (map arc_value nodes.now) result)
         ++ entries_of (drop (result + 1) (map arc_value nodes.now))) }
 {
     let mut low = 0;
@@ -92,7 +93,8 @@ pub fn node_at<V>(nodes: &[Arc<Node<V>>], number: usize) -> (usize, usize)
     ensures within { result.0 < length nodes.now }
     ensures there { result.1 < length (entries_at (map arc_value nodes.now) result.0) }
     ensures entries { drop number (entries_of (map arc_value nodes.now))
-        ≡ drop result.1 (entries_at (map arc_value nodes.now) result.0) ++ entries_of (drop (result.0 + 1) (map arc_value nodes.now)) }
+        ≡ drop result.1 (entries_at (map arc_value nodes.now) result.0)
+        ++ entries_of (drop (result.0 + 1) (map arc_value nodes.now)) }
 {
     let mut rest = number;
     for place in 0..nodes.len() {

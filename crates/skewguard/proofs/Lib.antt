@@ -1,3 +1,2 @@
 mod Printing
-mod Truths
 mod Reporting

@@ -8,7 +8,8 @@ use Rattle.answer.specs.declared.answers.Answer.{Answer}
 use Rattle.commit.specs.Events.{EngineState, IsAnswered, after}
 use Rattle.commit.specs.Runs.{AreAnswers, led_to}
 use Rattle.report.specs.Report.{answer_line}
-use Rattle.skewguard.specs.Lines.{ending, lines, report}
+use Rattle.running.specs.Lines.{lines}
+use Rattle.skewguard.specs.Lines.{ending, report}
 use Rattle.skewguard.specs.Writing.{PrintsAnswer, PrintsAnswers, PrintsRun}
 
 -- the answers so far are written, and with answers to the events that are left they answer all

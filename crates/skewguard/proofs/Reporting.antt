@@ -1,14 +1,15 @@
 -- What is printed of a run from the beginning of a script is its report.
-use Rattle.std.proofs.Common.{◌≡◌, ℕ, Bool, true, false, List, Option, Result, Ok, Err, refl, subst}
+use Rattle.std.proofs.Common.{◌≡◌, ℕ, true, List, Option, Result, Ok, Err, refl, subst}
 use Rattle.std.specs.Prelude.{OnOk, IfErr}
 use Rattle.std.specs.Io.KnownBytes.{Appends}
 use Rattle.statement_syntax.specs.declared.statements.Step.{Step}
 use Rattle.commit.specs.Events.{EngineState}
 use Rattle.commit.specs.Runs.{AreAnswers, beginning, led_to}
-use Rattle.skewguard.specs.declared.replay.ProgramFault.{ProgramFault}
-use Rattle.skewguard.specs.declared.replay.ProgramFault.TheVariants.{Defs, Script, Stopped, Output}
+use Rattle.running.specs.declared.faults.ProgramFault.{ProgramFault}
 use Rattle.skewguard.specs.Lines.{report}
-use Rattle.skewguard.specs.Replay.{IsBeginning, IsFirstFault, IsInTheRun, IsRun, WritesReport, is_before_the_run}
+use Rattle.running.specs.Texts.{IsFirstFault, IsInTheRun, IsRun, is_before_the_run}
+use Rattle.running.proofs.Late.{late_faults, nothing_before as nothing_before_late}
+use Rattle.skewguard.specs.Replay.{IsBeginning, WritesReport}
 use Rattle.skewguard.specs.Writing.{PrintsRun}
 
 module _ (defs script : List ℕ) (limit : ℕ) (engine : EngineState) (steps : List Step) (begun : IsBeginning defs script limit engine steps) where
@@ -33,22 +34,8 @@ module _ (defs script : List ℕ) (limit : ℕ) (engine : EngineState) (steps : 
   run : IsRun defs script
   run = record { shown = begun.shown; steps = steps; ready = begun.ready }
 
-  late : (fault : ProgramFault) → IsInTheRun fault → IsFirstFault defs script fault
-  late (Defs refusal) h = absurd h
-  late (Script refusal) h = absurd h
-  late Stopped h = run
-  late Output h = run
-
   pub first_fault : {A : Type 0} (printed : Result A ProgramFault) → IfErr printed IsInTheRun → IfErr printed (IsFirstFault defs script)
-  first_fault (Ok done) h = tt
-  first_fault (Err fault) h = late fault h
-
-not_before : (P : Type 0) (fault : ProgramFault) → IsInTheRun fault → is_before_the_run fault ≡ true → P
-not_before P (Defs refusal) h e = absurd h
-not_before P (Script refusal) h e = absurd h
-not_before P Stopped h e = let no : ⊥ = cc in absurd no
-not_before P Output h e = let no : ⊥ = cc in absurd no
+  first_fault printed h = late_faults defs script run printed h
 
 pub nothing_before : {A : Type 0} (P : Type 0) (printed : Result A ProgramFault) → IfErr printed IsInTheRun → IfErr printed (λ fault. is_before_the_run fault ≡ true → P)
-nothing_before P (Ok done) h = tt
-nothing_before P (Err fault) h = not_before P fault h
+nothing_before P printed h = nothing_before_late P printed h

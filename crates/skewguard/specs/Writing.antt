@@ -6,7 +6,8 @@ use Rattle.answer.specs.declared.answers.Answer.{Answer}
 use Rattle.commit.specs.Events.{EngineState, IsAnswered, after}
 use Rattle.commit.specs.Runs.{AreAnswers, led_to}
 use Rattle.report.specs.Report.{answer_line}
-use Rattle.skewguard.specs.Lines.{lines, report}
+use Rattle.running.specs.Lines.{lines}
+use Rattle.skewguard.specs.Lines.{report}
 
 -- an event is answered, and the writer gains the lines of the answer
 pub record PrintsAnswer (before : EngineState) (step : Step) (left : EngineState) (old new : Option (List ℕ)) : Type 0

@@ -1,5 +1,6 @@
 use crate::files::{ReadFault, read_all};
-use crate::replay::{ProgramFault, replay_into};
+use crate::replay::replay_into;
+use running::ProgramFault;
 use std::alloc::Global;
 use std::io;
 use std::io::{ErrorKind, Read, Write};

@@ -23,6 +23,10 @@
 //!   what COMMIT answers;
 //! * `report`: the bytes of each line.
 //!
+//! `skewguard threads` runs each session of a script on a thread of its own, over one manager (`session`), and
+//! prints the same lines by session; what it promises stands at `threads::threads_into`. The texts, the faults and
+//! the closing part are the same for both (`running`).
+//!
 //! All of these definitions evaluate whole lists of rows from scratch. None of them knows a total or a bad root
 //! that is kept: that evaluating afresh and keeping give the same is the promise of the crate `delta`.
 //!

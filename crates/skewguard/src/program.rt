@@ -1,17 +1,24 @@
-//! The command line: `skewguard replay [--max-commits N] DEFS SCRIPT`.
+//! The command line: `skewguard replay [--max-commits N] DEFS SCRIPT`, and `skewguard threads` with the same words.
 
 ghost use Rattle.std.specs.Prelude.{◌≤◌};
 
 use crate::files::{ReadFault, fault_of, read_all};
-use crate::replay::{ProgramFault, replay_into};
+use crate::replay::replay_into;
 use clap::{Arg, ArgMatches, Command, value_parser};
 use report::Report;
+use running::ProgramFault;
+use session::Shelf;
 use std::alloc::{AllocError, Global};
 use std::env;
 use std::fs::File;
 use std::io::Write;
+use std::marker::Brand;
 use std::rt::{Env, Files};
+use std::sync::Wait;
+use std::thread::Threads;
+use threads::threads_into;
 use value::Refusal;
+use workers::Free;
 
 /// The script was run whole, whatever it was answered.
 const RUN: u8 = 0;
@@ -28,7 +35,7 @@ const MOST_COMMITS: &str = "1000000";
 /// Does what the words of the command line ask for, and gives the status to end with.
 pub fn command_line<R, W, E>(rt: &R, out: &mut W, err: &mut E) -> u8
 where
-    R: Env + Files + Print + Eprint + AllocGlobal,
+    R: Env + Files + Print + Eprint + AllocGlobal + Threads + Wait + Sync,
     W: Write,
     E: Write,
     ensures { result ≤ 3 }
@@ -46,7 +53,7 @@ where
         Err(_) => return no_memory(err),
     };
     match command.try_get_matches_from(words.as_slice()) {
-        Ok(matches) => replay_matches(rt, &matches, out, err),
+        Ok(matches) => run_matches(rt, &matches, out, err),
         Err(error) => {
             if error.print(rt).is_err() {
                 return OUTSIDE;
@@ -66,6 +73,27 @@ fn no_memory<E: Write>(err: &mut E) -> u8
 
 /// The words that the program takes.
 fn command<'a>(alloc: Global) -> Result<Command<'a>, AllocError> {
+    let replay = with_texts(
+        alloc,
+        Command::new(alloc, "replay").about(
+            "Replays a script on definitions and prints the reply to each event",
+        ),
+    )?;
+    let threads = with_texts(
+        alloc,
+        Command::new(alloc, "threads").about(
+            "Runs each session of a script on a thread and prints the replies by session",
+        ),
+    )?;
+    Command::new(alloc, "skewguard")
+        .about("Runs transactions on tables that SQL-92 assertions guard")
+        .subcommand_required(true)
+        .subcommand(replay)?
+        .subcommand(threads)
+}
+
+/// The command with the words that name the two texts, and the limit.
+fn with_texts<'a>(alloc: Global, command: Command<'a>) -> Result<Command<'a>, AllocError> {
     let defs = Arg::new(alloc, "DEFS").required(true).help(
         "A file of definitions: tables, assertions and the rows to begin with",
     );
@@ -78,43 +106,45 @@ fn command<'a>(alloc: Global) -> Result<Command<'a>, AllocError> {
         .value_parser(value_parser!(u32).range(1..))
         .default_value(MOST_COMMITS)
         .help("At most so many commits");
-    let replay = Command::new(alloc, "replay")
-        .about("Replays a script on definitions and prints the reply to each event")
-        .arg(max_commits)?
-        .arg(defs)?
-        .arg(script)?;
-    Command::new(alloc, "skewguard")
-        .about("Runs transactions on tables that SQL-92 assertions guard")
-        .subcommand_required(true)
-        .subcommand(replay)
+    command.arg(max_commits)?.arg(defs)?.arg(script)
 }
 
-/// Replays the two files that the words name.
-fn replay_matches<R, W, E>(rt: &R, matches: &ArgMatches<'_>, out: &mut W, err: &mut E) -> u8
+/// Runs the two files that the words name.
+fn run_matches<R, W, E>(rt: &R, matches: &ArgMatches<'_>, out: &mut W, err: &mut E) -> u8
 where
-    R: Files + AllocGlobal,
+    R: Files + AllocGlobal + Threads + Wait + Sync,
     W: Write,
     E: Write,
     ensures { result ≤ 3 }
 {
-    let Some((_, replay)) = matches.subcommand() else {
+    let Some((name, words)) = matches.subcommand() else {
         return USAGE;
     };
     match (
-        replay.get_one::<u32>("max-commits"),
-        replay.get_str("DEFS"),
-        replay.get_str("SCRIPT"),
+        words.get_one::<u32>("max-commits"),
+        words.get_str("DEFS"),
+        words.get_str("SCRIPT"),
     ) {
         (Some(limit), Some(defs), Some(script)) if limit > 0 => {
-            replay_files(rt, u64::from(limit), defs, script, out, err)
+            run_files(
+                rt,
+                name == "threads",
+                u64::from(limit),
+                defs,
+                script,
+                out,
+                err,
+            )
         }
         _ => USAGE,
     }
 }
 
-/// Reads both files and replays them. What is refused or can't be read is said in one line on `err`.
-fn replay_files<R, W, E>(
+/// Reads both files and runs them, with threads or without. What is refused or can't be read is said in one line on
+/// `err`.
+fn run_files<R, W, E>(
     rt: &R,
+    threads: bool,
     limit: u64,
     defs: &str,
     script: &str,
@@ -122,7 +152,7 @@ fn replay_files<R, W, E>(
     err: &mut E,
 ) -> u8
 where
-    R: Files + AllocGlobal,
+    R: Files + AllocGlobal + Threads + Wait + Sync,
     W: Write,
     E: Write,
     requires some { 1 ≤ limit }
@@ -138,7 +168,46 @@ where
         Ok(script) => script,
         Err(fault) => return unread(alloc, "SCRIPT", fault, err),
     };
-    match replay_into(alloc, defs.as_slice(), script.as_slice(), limit, out) {
+    let run = if threads {
+        run_threads(rt, defs.as_slice(), script.as_slice(), limit, out)
+    } else {
+        replay_into(alloc, defs.as_slice(), script.as_slice(), limit, out)
+    };
+    status(alloc, run, out, err)
+}
+
+/// Runs each session of a script on a thread, which no gate holds.
+fn run_threads<R, W>(
+    rt: &R,
+    defs: &[u8],
+    script: &[u8],
+    limit: u64,
+    out: &mut W,
+) -> Result<(), ProgramFault>
+where
+    R: AllocGlobal + Threads + Wait + Sync,
+    W: Write,
+    requires some { 1 ≤ limit }
+    requires within { limit ≤ 4294967295 }
+{
+    let shelf = match Shelf::new(rt.alloc()) {
+        Ok(shelf) => shelf,
+        Err(refusal) => return Err(ProgramFault::Script(refusal)),
+    };
+    threads_into::<Brand, R, Free, W>(rt, rt.alloc(), shelf, 0, defs, script, limit, &Free, out)
+}
+
+/// The status to end with. A fault is said in one line on `err`; one of the writer is not, nor a session without a
+/// thread, of which a line of the report says it.
+fn status<W: Write, E: Write>(
+    alloc: Global,
+    run: Result<(), ProgramFault>,
+    out: &mut W,
+    err: &mut E,
+) -> u8
+    ensures { result ≤ 3 }
+{
+    match run {
         Ok(()) => RUN,
         Err(ProgramFault::Defs(refusal)) => refused(alloc, "DEFS", &refusal, err),
         Err(ProgramFault::Script(refusal)) => refused(alloc, "SCRIPT", &refusal, err),
@@ -147,6 +216,7 @@ where
             let _ = err.write_all(b"SCRIPT: STOPPED 1 - NO MEMORY\n");
             REFUSED
         }
+        Err(ProgramFault::NoThread) => REFUSED,
         Err(ProgramFault::Output) => OUTSIDE,
     }
 }

@@ -1,48 +1,26 @@
 //! The engine: two texts, of definitions and of a script, are replayed into a writer.
 
-ghost use Rattle.std.specs.Prelude.{◌≡◌, ◌≢◌, ◌≤◌, ◌++◌, true, IfOk, IfErr, IsOkUnless, OnOk, Err};
-ghost use Rattle.std.specs.Io.KnownBytes.{Appends, Keeps};
+ghost use Rattle.std.specs.Prelude.{◌≡◌, ◌≢◌, ◌≤◌, ◌++◌, true, IfOk, IfErr, OnOk};
+ghost use Rattle.std.specs.Io.KnownBytes.{Appends};
 ghost use Rattle.value.specs.declared.refusals.Refusal.TheVariants.{NoMemory, TooManySessions};
 ghost use Rattle.alone.specs.Alone.{IsSound};
 ghost use Rattle.commit.specs.Runs.{beginning};
 ghost use Rattle.report.specs.Report.{answer_line};
-ghost use Rattle.skewguard.specs.declared.replay.ProgramFault.TheVariants.{Output};
-ghost use Rattle.skewguard.specs.Lines.{closing, ending, left_line, left_lines, truths};
-ghost use Rattle.skewguard.specs.Replay.{AreRead, HasFewSessions, HasManySessions, IsBeginning, IsFirstFault, IsInTheRun, WritesReport, is_before_the_run, most_sessions};
+ghost use Rattle.running.specs.Texts.{HasFewSessions, HasManySessions, IsFirstFault, IsInTheRun, is_before_the_run, most_sessions};
+ghost use Rattle.skewguard.specs.Lines.{ending, left_line, left_lines};
+ghost use Rattle.skewguard.specs.Replay.{IsBeginning, WritesReport};
 ghost use Rattle.skewguard.specs.Writing.{PrintsAnswer, PrintsAnswers, PrintsRun};
 
 use answer::Answer;
-use commit::{Core, Engine, Seat, admit, has_few_sessions};
+use commit::{Engine, Seat, admit, has_few_sessions};
 use delta::View;
-use parse::{parse_schema, parse_script};
 use report::Report;
+use running::{MOST_SESSIONS, ProgramFault, close, flush, read_texts, write_all};
 use sqlite_items::Items;
-use statement_syntax::{Definition, Step};
+use statement_syntax::Step;
 use std::alloc::{AllocError, Global};
 use std::io::Write;
-use thiserror::Error;
-use threeval::Truth;
 use value::Refusal;
-
-/// At most so many sessions in one script.
-const MOST_SESSIONS: usize = 256;
-
-/// Why a replay did not come to its end.
-#[derive(Debug, Drop, Error)]
-pub enum ProgramFault {
-    /// The definitions were refused, or there was no memory to read them or take them in. Nothing was run or written.
-    #[error("the definitions were refused: {0}")]
-    Defs(Refusal),
-    /// The script was refused, or there was no memory to read it or to make ready for it. Nothing was run or written.
-    #[error("the script was refused: {0}")]
-    Script(Refusal),
-    /// Memory ended the run. What the writer took before stands.
-    #[error("memory ended the run")]
-    Stopped,
-    /// The writer failed. Of the bytes that went out before nothing is known.
-    #[error("the output can't be written")]
-    Output,
-}
 
 /// Replays a script of any sessions on definitions, with at most so many commits, and writes the lines of each
 /// answer as soon as it is answered; then a line for each transaction that is left open, and the closing part.
@@ -91,33 +69,13 @@ fn begun(
     ensures refused { IfErr result (IsFirstFault defs.now script.now) }
     ensures before { IfErr result (λ fault. is_before_the_run fault ≡ true) }
 {
-    let (definitions, steps) = read(alloc, defs, script)?;
+    let (definitions, steps) = read_texts(alloc, defs, script)?;
     let view = match admit(alloc, definitions.as_slice()) {
         Ok(view) => view,
         Err(refusal) => return Err(ProgramFault::Defs(refusal)),
     };
     match seated(alloc, limit, view, steps.as_slice()) {
         Ok(engine) => Ok((engine, steps)),
-        Err(refusal) => Err(ProgramFault::Script(refusal)),
-    }
-}
-
-/// The trees of both texts.
-fn read(
-    alloc: Global,
-    defs: &[u8],
-    script: &[u8],
-) -> Result<(Items<Definition>, Items<Step>), ProgramFault>
-    ensures read { IfOk result (λ trees. AreRead defs.now script.now trees.0 trees.1) }
-    ensures refused { IfErr result (IsFirstFault defs.now script.now) }
-    ensures before { IfErr result (λ fault. is_before_the_run fault ≡ true) }
-{
-    let definitions = match parse_schema(alloc, defs) {
-        Ok(definitions) => definitions,
-        Err(refusal) => return Err(ProgramFault::Defs(refusal)),
-    };
-    match parse_script(alloc, script) {
-        Ok(steps) => Ok((definitions, steps)),
         Err(refusal) => Err(ProgramFault::Script(refusal)),
     }
 }
@@ -251,50 +209,4 @@ fn leave_seat(seat: &Seat, lines: &mut Report) -> Result<(), AllocError>
         lines.left_open(&seat.session)?;
     }
     Ok(())
-}
-
-/// Adds the closing part.
-fn close(alloc: Global, core: &Core, lines: &mut Report) -> Result<(), AllocError>
-    ensures { OnOk result (lines.new ≡ lines.old ++ closing core.now) }
-{
-    let newest = core.newest();
-    let truths = truths(alloc, newest)?;
-    lines.close(
-        core.records(),
-        core.serial_order(),
-        core.refused(),
-        newest.assertions(),
-        truths.as_slice(),
-    )
-}
-
-/// The truth of each assertion on the tables.
-fn truths(alloc: Global, tables: &View) -> Result<Vec<Truth>, AllocError>
-    ensures { IfOk result (λ found. found.items ≡ truths tables.now) }
-{
-    let mut found = Vec::new(alloc);
-    for place in 0..tables.assertions().len() {
-        found.push(tables.verdict(place))?;
-    }
-    Ok(found)
-}
-
-fn write_all<W: Write>(bytes: &[u8], out: &mut W) -> Result<(), ProgramFault>
-    ensures written { OnOk result (Appends (W.contents out.old) (W.contents out.new) bytes.now) }
-    ensures output { IfErr result (λ fault. fault ≡ Output) }
-{
-    match out.write_all(bytes) {
-        Err(_) => Err(ProgramFault::Output),
-        Ok(()) => Ok(()),
-    }
-}
-
-fn flush<W: Write>(out: &mut W) -> Result<(), ProgramFault>
-    ensures kept { OnOk result (Keeps (W.contents out.old) (W.contents out.new)) }
-    ensures output { IfErr result (λ fault. fault ≡ Output) }
-{
-    match out.flush() {
-        Err(_) => Err(ProgramFault::Output),
-        Ok(()) => Ok(()),
-    }
 }

@@ -1,9 +1,10 @@
 //! Whole texts through the engine, by the bytes that it writes.
 
-use crate::replay::{ProgramFault, replay_into};
+use crate::replay::replay_into;
 use commit::{Engine, admit};
 use parse::{parse_schema, parse_script};
 use report::Report;
+use running::ProgramFault;
 use std::alloc::Global;
 use std::io;
 use std::io::{ErrorKind, Write};
@@ -39,6 +40,7 @@ fn written(alloc: Global, defs: &str, script: &str, most: u64) -> Result<Vec<u8>
         ProgramFault::Script(refusal) => line.refusal("SCRIPT", &refusal)?,
         ProgramFault::Stopped => return Err(Fail::from("memory ended the run")),
         ProgramFault::Output => return Err(Fail::from("the writer took no bytes")),
+        ProgramFault::NoThread => return Err(Fail::from("there are no threads here")),
     }
     out.extend_from_slice(line.as_bytes())?;
     Ok(out)

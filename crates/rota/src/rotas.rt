@@ -1,0 +1,154 @@
+//! The rota: what is defined, the doctors' threads, and what they leave.
+
+ghost use Rattle.std.specs.Prelude.{◌≡◌};
+ghost use denote.Param.Send.{IsSend, IsSync};
+
+use crate::doctors::{Ending, go_off_call};
+use definitions::Definitions;
+use parse::parse_schema;
+use session::{History, Limits, Manager, Named, Session, Shelf};
+use std::alloc::Global;
+use std::marker::Brand;
+use std::sync::Wait;
+use std::thread;
+use std::thread::Threads;
+use threeval::Truth;
+use value::{Refusal, Text};
+
+const DEFS: &str = "CREATE TABLE SHIFTS (ID INTEGER PRIMARY KEY);
+CREATE TABLE DUTY (ID INTEGER PRIMARY KEY, SHIFT INTEGER, ONCALL INTEGER);
+CREATE ASSERTION COVERED CHECK (NOT EXISTS (
+    SELECT * FROM SHIFTS S WHERE NOT EXISTS (SELECT * FROM DUTY D WHERE D.SHIFT = S.ID AND D.ONCALL = 1)));
+INSERT INTO SHIFTS VALUES (7);
+INSERT INTO DUTY VALUES (1, 7, 1);
+INSERT INTO DUTY VALUES (2, 7, 1);
+INSERT INTO DUTY VALUES (3, 7, 1);
+INSERT INTO DUTY VALUES (4, 7, 1);";
+
+/// The doctors, and what each wishes.
+const WISHES: [(&str, &str); 4] = [
+    ("ANN", "UPDATE DUTY SET ONCALL = 0 WHERE ID = 1"),
+    ("BOB", "UPDATE DUTY SET ONCALL = 0 WHERE ID = 2"),
+    ("KIM", "UPDATE DUTY SET ONCALL = 0 WHERE ID = 3"),
+    ("LEE", "UPDATE DUTY SET ONCALL = 0 WHERE ID = 4"),
+];
+
+/// A doctor's session and wish, and what came of it.
+#[derive(Drop)]
+struct Doctor<N: Named> {
+    session: Session<N>,
+    wish: &'static str,
+    ending: anyhow::Result<Ending<N>>,
+}
+
+/// Runs the rota on a new manager, and prints what became of it.
+pub fn run<R: Threads + Wait + Sync + Print + AllocGlobal>(rt: &R) -> anyhow::Result<()> {
+    let Some(limits) = Limits::new(100, 4) else {
+        anyhow::bail!("no limits");
+    };
+    let shelf = Shelf::new(rt.alloc())?;
+    run_on::<Brand, R>(rt, shelf, limits)
+}
+
+/// The same, on this shelf. Which shelf and limits are those of the manager 1 is said by `N`, once for all its calls.
+fn run_on<N: Named + Send + Sync, R: Threads + Wait + Sync + Print + AllocGlobal>(
+    rt: &R,
+    shelf: Shelf,
+    limits: Limits,
+) -> anyhow::Result<()>
+    requires shelf { shelf ≡ N.shelf 1 }
+    requires limits { limits ≡ N.limits 1 }
+{
+    let alloc = rt.alloc();
+    let schema = parse_schema(alloc, DEFS.as_bytes())?;
+    let definitions = Definitions::take(alloc, schema.as_slice())?;
+    let manager = Manager::<N>::open(rt, alloc, shelf, 1, definitions, limits)?;
+    let mut doctors = doctors_of(rt, alloc, &manager)?;
+    ask_all(rt, &manager, &mut doctors);
+    let covered = manager.verdict(rt, &Text::from_str(alloc, "COVERED")?);
+    tell(rt, doctors.as_slice(), covered, &manager.close())
+}
+
+/// A session for each doctor.
+fn doctors_of<N: Named, R: Wait>(
+    rt: &R,
+    alloc: Global,
+    manager: &Manager<N>,
+) -> Result<Vec<Doctor<N>>, Refusal> {
+    let mut doctors = Vec::new(alloc);
+    for (name, wish) in &WISHES {
+        doctors.push(Doctor {
+            session: manager.session(rt, &Text::from_str(alloc, name)?)?,
+            wish,
+            ending: Ok(Ending::Open),
+        })?;
+    }
+    Ok(doctors)
+}
+
+/// Asks each doctor on a thread of its own. The scope ends when all threads have.
+fn ask_all<N: Named + Send + Sync, R: Threads + Wait + Sync + AllocGlobal>(
+    rt: &R,
+    manager: &Manager<N>,
+    doctors: &mut [Doctor<N>],
+) {
+    thread::scope(
+        thread::scope_env(),
+        rt,
+        |scope|
+            requires sends { IsSend N.row }
+            requires shares { IsSync N.row }
+            requires runtime { IsSync R.row }
+        {
+            // (the iterator has a name, since what it lends goes on beyond its turn of the loop, to a thread)
+            let each = doctors.iter_mut();
+            for doctor in each {
+                let _ = scope.spawn(move || ask(rt, manager, doctor));
+            }
+        },
+    );
+}
+
+fn ask<N: Named, R: Wait + AllocGlobal>(rt: &R, manager: &Manager<N>, doctor: &mut Doctor<N>) {
+    doctor.ending = go_off_call(rt, manager, &mut doctor.session, doctor.wish);
+}
+
+/// Prints how many went off call, each by a commit that the history has, and whether the rule holds.
+fn tell<N: Named, R: Print>(
+    rt: &R,
+    doctors: &[Doctor<N>],
+    covered: Option<Truth>,
+    history: &History<N>,
+) -> anyhow::Result<()> {
+    for doctor in doctors {
+        match &doctor.ending {
+            Ok(Ending::OffCall(receipt)) => {
+                history.record(receipt)?;
+            }
+            Ok(Ending::OnCall | Ending::Open) => {}
+            Err(error) => println!(rt; "refused: {error}")?,
+        }
+    }
+    println!(rt;
+        "{} went off call, {} is on call",
+        off_call(doctors),
+        on_call(doctors)
+    )?;
+    println!(rt; "{} commits", history.core().records().len())?;
+    println!(rt; "COVERED {}", matches!(covered, Some(Truth::True)))?;
+    Ok(())
+}
+
+fn off_call<N: Named>(doctors: &[Doctor<N>]) -> usize {
+    doctors
+        .iter()
+        .filter(|doctor| matches!(&doctor.ending, Ok(Ending::OffCall(_))))
+        .count()
+}
+
+fn on_call<N: Named>(doctors: &[Doctor<N>]) -> usize {
+    doctors
+        .iter()
+        .filter(|doctor| matches!(&doctor.ending, Ok(Ending::OnCall)))
+        .count()
+}

@@ -1,0 +1,2 @@
+mod Truths
+pub mod Late

@@ -1,0 +1,29 @@
+-- How many scripts there are, and how they are made from the last step to the first and back.
+use Rattle.std.proofs.Common.{◌≡◌, ◌≤◌, ◌<◌, List, [], ◌∷◌, ◌++◌, length, reverse, sym, ap, ◌∙◌, subst, append_assoc}
+use Rattle.std.proofs.lemmas.List.{length-map, reverse-append, reverse-reverse}
+use Rattle.statement_syntax.specs.declared.statements.Step.{Step}
+use Rattle.commit.specs.Runs.{all_seated}
+use Rattle.workers.specs.declared.scripts.Script.{Script}
+use Rattle.running.specs.Texts.{HasFewSessions, HasManySessions, most_sessions}
+use Rattle.threads.specs.Adding.{added, all_added}
+use Rattle.threads.specs.Grouping.{grouped, script_for}
+use Rattle.threads.proofs.Adding.{grouped_are}
+
+pub few : (steps : List Step) (scripts : List Script) → scripts ≡ grouped steps → length scripts ≤ most_sessions → HasFewSessions steps
+few steps scripts are within = subst (λ n. n ≤ most_sessions) (ap length are ∙ length-map (all_seated [] steps) (script_for steps)) within
+
+pub many : (steps : List Step) (scripts : List Script) → scripts ≡ grouped steps → most_sessions < length scripts → HasManySessions steps
+many steps scripts are above = subst (λ n. most_sessions < n) (ap length are ∙ length-map (all_seated [] steps) (script_for steps)) above
+
+-- what is left, and the last item
+pub turn_step : {A : Type 0} (turned rest items : List A) (item : A) → items ≡ rest ++ item ∷ [] → (turned ++ item ∷ []) ++ reverse rest ≡ turned ++ reverse items
+turn_step turned rest items item e = append_assoc turned (item ∷ []) (reverse rest) ∙ ap (λ t. turned ++ t) (sym (reverse-append rest (item ∷ [])) ∙ ap reverse (sym e))
+
+-- the scripts so far, and the steps that are left, the last of them first
+pub group_step : (scripts new : List Script) (rest items : List Step) (item : Step) → items ≡ rest ++ item ∷ [] → new ≡ added scripts item
+    → all_added new (reverse rest) ≡ all_added scripts (reverse items)
+group_step scripts new rest items item e is =
+    ap (λ s. all_added s (reverse rest)) is ∙ ap (all_added scripts) (sym (reverse-append rest (item ∷ [])) ∙ ap reverse (sym e))
+
+pub group_start : (steps turned : List Step) → turned ≡ reverse steps → all_added [] (reverse turned) ≡ grouped steps
+group_start steps turned e = ap (all_added []) (ap reverse e ∙ reverse-reverse steps) ∙ grouped_are steps

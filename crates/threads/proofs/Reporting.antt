@@ -1,0 +1,112 @@
+-- What is opened, and what is then written, is the report that the contract has.
+use Rattle.std.proofs.Common.{◌≡◌, ℕ, Bool, true, false, List, Option, Result, Ok, Err, refl, sym, ap, ◌∙◌, subst, inl}
+use Rattle.std.specs.Prelude.{◌≢◌, OnOk, IfErr}
+use Rattle.std.specs.Io.KnownBytes.{Appends}
+use Rattle.value.specs.Results.{and_then}
+use Rattle.value.specs.declared.refusals.Refusal.TheVariants.{NoMemory}
+use Rattle.statement_syntax.specs.declared.definitions.Definition.{Definition}
+use Rattle.statement_syntax.specs.declared.statements.Step.{Step}
+use Rattle.delta.specs.Views.{Shown}
+use Rattle.definitions.specs.Taken.{taken}
+use Rattle.definitions.specs.Written.{AreWritten}
+use Rattle.commit.specs.Admission.{satisfied}
+use Rattle.commit.specs.Cores.{CoreState, IsSerializable}
+use Rattle.workers.specs.declared.scripts.Script.{Script}
+use Rattle.workers.specs.declared.scripts.ScriptAnswers.{ScriptAnswers}
+use Rattle.workers.specs.Scripts.{AreAnswered}
+use Rattle.running.specs.declared.faults.ProgramFault.{ProgramFault}
+use Rattle.running.specs.declared.faults.ProgramFault.TheVariants.{Defs, NoThread, Output, Stopped, Script as ScriptFault}
+use Rattle.running.specs.Texts.{AreRead, HasFewSessions, IsFirstFault, IsInTheRun, IsRun, is_before_the_run}
+use Rattle.running.proofs.Late.{late_fault}
+use Rattle.threads.specs.Grouping.{grouped}
+use Rattle.threads.specs.Grouped.{AreOpened, IsAdmitted, PrintsGrouped, WritesGrouped, all_ran, grouped_report}
+
+pub is_admitted : (definitions : List Definition) (shown : Shown) → taken definitions ≡ Ok shown → AreWritten definitions shown.declared
+    → satisfied shown ≡ Ok shown → IsAdmitted definitions
+is_admitted definitions shown takes written holds = record {
+  shown = shown;
+  admits = ap (λ r. and_then r satisfied) takes ∙ holds;
+  written = written;
+}
+
+pub are_opened : (defs script : List ℕ) (definitions : List Definition) (steps : List Step) (scripts : List Script)
+    → AreRead defs script definitions steps → IsAdmitted definitions → HasFewSessions steps → scripts ≡ grouped steps → AreOpened defs script scripts
+are_opened defs script definitions steps scripts read admits few are = record {
+  shown = admits.shown;
+  steps = steps;
+  ready = record {
+    admitted = record { definitions = definitions; read = read; admits = admits.admits; written = admits.written };
+    few = few;
+  };
+  are = are;
+}
+
+pub prints : (scripts : List Script) (found : List ScriptAnswers) (core : CoreState) (all : Bool) (old new : Option (List ℕ))
+    → IsSerializable core → all_ran found ≡ all → Appends old new (grouped_report scripts found core) → PrintsGrouped scripts found all old new
+prints scripts found core all old new serializable ran written = record { core = core; serializable = serializable; ran = ran; written = written }
+
+module _ (defs script : List ℕ) (scripts : List Script) (o : AreOpened defs script scripts) where
+  pub no_room : IsFirstFault defs script (ScriptFault NoMemory)
+  no_room = inl (record { definitions = o.ready.admitted.definitions; defs_read = o.ready.admitted.read.defs_read; refused = tt })
+
+  run : IsRun defs script
+  run = record { shown = o.shown; steps = o.steps; ready = o.ready }
+
+  reported : (found : List ScriptAnswers) (all : Bool) (old new : Option (List ℕ)) → AreAnswered scripts found → PrintsGrouped scripts found all old new
+      → WritesGrouped defs script all old new
+  reported found all old new answered p = record {
+    bytes = grouped_report scripts found p.core;
+    is = record {
+      shown = o.shown;
+      steps = o.steps;
+      found = found;
+      core = p.core;
+      ready = o.ready;
+      answered = subst (λ s. AreAnswered s found) o.are answered;
+      ran = p.ran;
+      serializable = p.serializable;
+      prints = ap (λ s. grouped_report s found p.core) o.are;
+    };
+    written = p.written;
+  }
+
+  pub reports : {A : Type 0} (printed : Result A ProgramFault) (found : List ScriptAnswers) (old new : Option (List ℕ)) → AreAnswered scripts found
+      → OnOk printed (PrintsGrouped scripts found true old new) → OnOk printed (WritesGrouped defs script true old new)
+  reports (Ok done) found old new answered p = reported found true old new answered p
+  reports (Err fault) found old new answered p = tt
+
+  pub reports_unrun : {A : Type 0} (printed : Result A ProgramFault) (found : List ScriptAnswers) (old new : Option (List ℕ)) → AreAnswered scripts found
+      → IfErr printed (λ fault. fault ≡ NoThread → PrintsGrouped scripts found false old new)
+      → IfErr printed (λ fault. fault ≡ NoThread → WritesGrouped defs script false old new)
+  reports_unrun (Ok done) found old new answered p = tt
+  reports_unrun (Err fault) found old new answered p = λ e. reported found false old new answered (p e)
+
+  pub first_fault : {A : Type 0} (printed : Result A ProgramFault) → IfErr printed (λ fault. fault ≢ NoThread → IsInTheRun fault)
+      → IfErr printed (λ fault. fault ≢ NoThread → IsFirstFault defs script fault)
+  first_fault (Ok done) h = tt
+  first_fault (Err fault) h = λ n. late_fault defs script run fault (h n)
+
+not_before : (P : Type 0) (fault : ProgramFault) → (fault ≢ NoThread → IsInTheRun fault) → is_before_the_run fault ≡ true → P
+not_before P (Defs refusal) h e = absurd (h (λ same. let no : ⊥ = cc in no))
+not_before P (ScriptFault refusal) h e = absurd (h (λ same. let no : ⊥ = cc in no))
+not_before P Stopped h e = let no : ⊥ = cc in absurd no
+not_before P Output h e = let no : ⊥ = cc in absurd no
+not_before P NoThread h e = let no : ⊥ = cc in absurd no
+
+pub nothing_before : {A : Type 0} (P : Type 0) (printed : Result A ProgramFault) → IfErr printed (λ fault. fault ≢ NoThread → IsInTheRun fault)
+    → IfErr printed (λ fault. is_before_the_run fault ≡ true → P)
+nothing_before P (Ok done) h = tt
+nothing_before P (Err fault) h = not_before P fault h
+
+no_unrun : (P : Type 0) (fault : ProgramFault) → is_before_the_run fault ≡ true → fault ≡ NoThread → P
+no_unrun P (Defs refusal) before e = let no : ⊥ = cc in absurd no
+no_unrun P (ScriptFault refusal) before e = let no : ⊥ = cc in absurd no
+no_unrun P Stopped before e = let no : ⊥ = cc in absurd no
+no_unrun P Output before e = let no : ⊥ = cc in absurd no
+no_unrun P NoThread before e = let no : ⊥ = cc in absurd no
+
+-- a session without a thread is met in the run alone
+pub not_unrun : {A : Type 0} (P : Type 0) (opened : Result A ProgramFault)
+    → IfErr opened (λ fault. is_before_the_run fault ≡ true) → IfErr opened (λ fault. fault ≡ NoThread → P)
+not_unrun P (Ok made) before = tt
+not_unrun P (Err fault) before = no_unrun P fault before

@@ -1,0 +1,79 @@
+-- What is written of scripts that ran on threads.
+use Rattle.std.specs.Prelude.{◌≡◌, ℕ, Bool, true, false, List, [], ◌∷◌, ◌++◌, Option, Ok}
+use Rattle.std.specs.List.{list_all}
+use Rattle.std.specs.Io.KnownBytes.{Appends}
+use Rattle.statement_syntax.specs.declared.statements.Step.{Step}
+use Rattle.statement_syntax.specs.declared.definitions.Definition.{Definition}
+use Rattle.delta.specs.Views.{Shown}
+use Rattle.definitions.specs.Written.{AreWritten}
+use Rattle.commit.specs.Admission.{admitted}
+use Rattle.commit.specs.Cores.{CoreState, IsSerializable}
+use Rattle.report.specs.Report.{left_open_line}
+use Rattle.workers.specs.declared.scripts.Script.{Script}
+use Rattle.workers.specs.declared.scripts.ScriptAnswers.{ScriptAnswers}
+use Rattle.workers.specs.Scripts.{AreAnswered}
+use Rattle.running.specs.Lines.{closing, lines}
+use Rattle.running.specs.Texts.{AreReady}
+use Rattle.threads.specs.Grouping.{grouped}
+
+-- the line of a transaction that was rolled back at the end
+abbrev pub ended_line : (rolled_back : Bool) → List ℕ → List ℕ
+ended_line false session = []
+ended_line true session = left_open_line session
+
+-- the lines of a script: of its answers, and of what was rolled back at its end
+abbrev pub script_lines : Script → ScriptAnswers → List ℕ
+script_lines script found = lines script.steps found.answers ++ ended_line found.rolled_back script.name
+
+abbrev pub all_lines : List Script → List ScriptAnswers → List ℕ
+all_lines [] found = []
+all_lines (script ∷ rest) [] = []
+all_lines (script ∷ rest) (one ∷ more) = script_lines script one ++ all_lines rest more
+
+-- the whole report: the lines of each script, and the closing part
+abbrev pub grouped_report : List Script → List ScriptAnswers → CoreState → List ℕ
+grouped_report scripts found core = all_lines scripts found ++ closing core
+
+-- whether each script was run
+abbrev pub all_ran : List ScriptAnswers → Bool
+all_ran found = list_all (λ (one : ScriptAnswers). one.ran) found
+
+-- the report of some answers to the scripts of the sessions, one for each step or the one refusal of a session that
+-- was not run, and of some commits that are serializable
+pub record IsGroupedReport (defs script : List ℕ) (all : Bool) (bytes : List ℕ) : Type 0 where
+  pub shown : Shown
+  pub steps : List Step
+  pub found : List ScriptAnswers
+  pub core : CoreState
+  pub ready : AreReady defs script shown steps
+  pub answered : AreAnswered (grouped steps) found
+  pub ran : all_ran found ≡ all
+  pub serializable : IsSerializable core
+  pub prints : bytes ≡ grouped_report (grouped steps) found core
+
+-- the writer gained the report and nothing else
+pub record WritesGrouped (defs script : List ℕ) (all : Bool) (old new : Option (List ℕ)) : Type 0 where
+  pub bytes : List ℕ
+  pub is : IsGroupedReport defs script all bytes
+  pub written : Appends old new bytes
+
+-- the same, of scripts that were run and of what was found of them
+pub record PrintsGrouped (scripts : List Script) (found : List ScriptAnswers) (all : Bool)
+    (old new : Option (List ℕ)) : Type 0 where
+  pub core : CoreState
+  pub serializable : IsSerializable core
+  pub ran : all_ran found ≡ all
+  pub written : Appends old new (grouped_report scripts found core)
+
+-- the definitions are admitted; each assertion means what they write
+pub record IsAdmitted (definitions : List Definition) : Type 0 where
+  pub shown : Shown
+  pub admits : admitted definitions ≡ Ok shown
+  pub written : AreWritten definitions shown.declared
+
+-- both texts are read, the definitions are admitted, and these are the scripts of the sessions, which are few
+pub record AreOpened (defs script : List ℕ) (scripts : List Script) : Type 0 where
+  pub shown : Shown
+  pub steps : List Step
+  pub ready : AreReady defs script shown steps
+  pub are : scripts ≡ grouped steps

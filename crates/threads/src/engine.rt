@@ -1,0 +1,168 @@
+//! From two texts to a report.
+
+ghost use Rattle.std.specs.Prelude.{◌≡◌, ◌≢◌, ◌≤◌, true, false, Err, IfOk, IfErr, OnOk};
+ghost use Rattle.value.specs.declared.refusals.Refusal.TheVariants.{NoMemory, TooManySessions};
+ghost use Rattle.commit.specs.Admission.{admitted};
+ghost use Rattle.running.specs.declared.faults.ProgramFault.TheVariants.{NoThread};
+ghost use Rattle.running.specs.Texts.{HasFewSessions, HasManySessions, IsFirstFault, is_before_the_run, most_sessions};
+ghost use Rattle.threads.specs.Grouping.{grouped};
+ghost use Rattle.threads.specs.Grouped.{AreOpened, IsAdmitted, WritesGrouped};
+
+use crate::grouping::grouped;
+use crate::printing::print_report;
+use commit::has_few_sessions;
+use definitions::Definitions;
+use running::{MOST_SESSIONS, ProgramFault, read_texts};
+use session::{Limits, Manager, Named, Shelf};
+use sqlite_items::Items;
+use statement_syntax::{Definition, Step};
+use std::alloc::Global;
+use std::io::Write;
+use std::sync::Wait;
+use std::thread::Threads;
+use value::Refusal;
+use workers::{Gate, Script, run_sessions};
+
+/// Runs a script of any sessions on definitions, with a thread for each session, on a shelf that is the manager's
+/// of this id, with at most so many commits. It writes all lines of a session together, sessions by their first
+/// events, and then the closing part.
+///
+/// Where both texts are read, the definitions are taken in and the script has 256 sessions or fewer, its events are
+/// run. The writer then gains the report of what the threads were answered and of the commits that they made, and
+/// nothing else. An event that finds no memory is answered so, and changes nothing.
+///
+/// # Errors
+///
+/// The first fault in the order of the work: [`ProgramFault::Defs`] where the definitions are no text of their
+/// grammar; [`ProgramFault::Script`] where the script is none of its own; `Defs` again where the definitions are
+/// refused; `Script` of [`Refusal::TooManySessions`] where the script has more than 256 sessions. After each of
+/// these the writer is as it was, and nothing was run. Then [`ProgramFault::Stopped`] where there is no memory for
+/// the lines of the report, of which none is written; [`ProgramFault::Output`] at the first fault of the writer;
+/// and [`ProgramFault::NoThread`] where a session got no thread or no place, of which its one line says why: the
+/// whole report was then written.
+#[tactic(auto, using(crate::proofs::Reporting::first_fault, crate::proofs::Reporting::nothing_before, crate::proofs::Reporting::no_room))]
+pub fn threads_into<N, R, G, W>(
+    rt: &R,
+    alloc: Global,
+    shelf: Shelf,
+    id: u64,
+    defs: &[u8],
+    script: &[u8],
+    max_commits: u64,
+    gate: &G,
+    out: &mut W,
+) -> Result<(), ProgramFault>
+where
+    N: Named + Send + Sync,
+    R: Threads + Wait + Sync,
+    G: Gate + Sync,
+    W: Write,
+    requires some { 1 ≤ max_commits }
+    requires within { max_commits ≤ 4294967295 }
+    requires shelf { shelf ≡ N.shelf id }
+    requires limits { N.limits id ≡ record { commits = max_commits; sessions = most_sessions } }
+    ensures written { OnOk result (WritesGrouped defs.now script.now true (W.contents out.old) (W.contents out.new)) }
+    ensures no_thread { IfErr result (λ fault. fault ≡ NoThread
+        → WritesGrouped defs.now script.now false (W.contents out.old) (W.contents out.new)) }
+    ensures refused { IfErr result (λ fault. fault ≢ NoThread → IsFirstFault defs.now script.now fault) }
+    ensures nothing { IfErr result (λ fault. is_before_the_run fault ≡ true → out.new ≡ out.old) }
+{
+    let (manager, scripts) = opened::<N, R>(rt, alloc, shelf, id, defs, script, max_commits)?;
+    let answered = match run_sessions(rt, alloc, &manager, scripts.as_slice(), gate) {
+        Ok(answered) => answered,
+        Err(refusal) => return Err(ProgramFault::Script(refusal)),
+    };
+    let history = manager.close();
+    let printed = print_report(
+        alloc,
+        &history,
+        scripts.as_slice(),
+        answered.as_slice(),
+        out,
+    );
+    let_go(history);
+    let_go(answered);
+    let_go(scripts);
+    printed
+}
+
+/// The manager of what the definitions define, and the scripts of the sessions.
+#[tactic(auto, using(crate::proofs::Reporting::are_opened))]
+fn opened<N: Named, R: Wait>(
+    rt: &R,
+    alloc: Global,
+    shelf: Shelf,
+    id: u64,
+    defs: &[u8],
+    script: &[u8],
+    max_commits: u64,
+) -> Result<(Manager<N>, Vec<Script>), ProgramFault>
+    requires some { 1 ≤ max_commits }
+    requires within { max_commits ≤ 4294967295 }
+    requires shelf { shelf ≡ N.shelf id }
+    requires limits { N.limits id ≡ record { commits = max_commits; sessions = most_sessions } }
+    ensures opened { IfOk result (λ made. AreOpened defs.now script.now made.1.items) }
+    ensures refused { IfErr result (IsFirstFault defs.now script.now) }
+    ensures before { IfErr result (λ fault. is_before_the_run fault ≡ true) }
+{
+    let (definitions, steps) = read_texts(alloc, defs, script)?;
+    let manager = match managed(rt, alloc, shelf, id, definitions.as_slice(), max_commits) {
+        Ok(manager) => manager,
+        Err(refusal) => return Err(ProgramFault::Defs(refusal)),
+    };
+    match few_scripts(alloc, steps) {
+        Ok(scripts) => Ok((manager, scripts)),
+        Err(refusal) => Err(ProgramFault::Script(refusal)),
+    }
+}
+
+/// A manager of what these definitions define, if no assertion is false on the rows that they begin with.
+#[tactic(auto, using(crate::proofs::Reporting::is_admitted))]
+fn managed<N: Named, R: Wait>(
+    rt: &R,
+    alloc: Global,
+    shelf: Shelf,
+    id: u64,
+    definitions: &[Definition],
+    max_commits: u64,
+) -> Result<Manager<N>, Refusal>
+    requires some { 1 ≤ max_commits }
+    requires within { max_commits ≤ 4294967295 }
+    requires shelf { shelf ≡ N.shelf id }
+    requires limits { N.limits id ≡ record { commits = max_commits; sessions = most_sessions } }
+    ensures admitted { IfOk result (λ _. IsAdmitted definitions.now) }
+    ensures refused { IfErr result (λ refusal. refusal ≢ NoMemory → admitted definitions.now ≡ Err refusal) }
+{
+    let taken = Definitions::take(alloc, definitions)?;
+    Manager::open(rt, alloc, shelf, id, taken, limits_of(max_commits))
+}
+
+/// So many commits, and as many sessions as a script may have.
+fn limits_of(max_commits: u64) -> Limits
+    requires some { 1 ≤ max_commits }
+    requires within { max_commits ≤ 4294967295 }
+    ensures { result ≡ record { commits = max_commits; sessions = most_sessions } }
+{
+    match Limits::new(max_commits, MOST_SESSIONS as u64) {
+        Some(limits) => limits,
+        None => unreachable!(),
+    }
+}
+
+/// The scripts of the sessions, if they are 256 or fewer.
+#[tactic(auto, using(crate::proofs::Collecting::few, crate::proofs::Collecting::many))]
+fn few_scripts(alloc: Global, steps: Items<Step>) -> Result<Vec<Script>, Refusal>
+    ensures grouped { IfOk result (λ scripts. scripts.items ≡ grouped steps) }
+    ensures few { IfOk result (λ _. HasFewSessions steps) }
+    ensures refused { IfErr result (λ refusal.
+        refusal ≢ NoMemory → HasManySessions steps × (refusal ≡ TooManySessions)) }
+{
+    if !has_few_sessions(alloc, steps.as_slice(), MOST_SESSIONS)? {
+        let_go(steps);
+        return Err(Refusal::TooManySessions);
+    }
+    let scripts = grouped(alloc, steps)?;
+    Ok(scripts)
+}
+
+fn let_go<T: Drop>(_value: T) {}

@@ -1,0 +1,137 @@
+//! The report of threads.
+
+ghost use Rattle.std.specs.Prelude.{◌≡◌, ◌≢◌, ◌++◌, true, false, IfErr, OnOk};
+ghost use Rattle.std.specs.Io.KnownBytes.{Appends};
+ghost use Rattle.running.specs.Lines.{lines};
+ghost use Rattle.running.specs.declared.faults.ProgramFault.TheVariants.{NoThread};
+ghost use Rattle.running.specs.Texts.{IsInTheRun};
+ghost use Rattle.threads.specs.Grouped.{PrintsGrouped, all_lines, all_ran, ended_line, grouped_report, script_lines};
+
+use answer::Answer;
+use commit::Core;
+use report::Report;
+use running::{ProgramFault, close, flush, write_all};
+use session::{History, Named};
+use statement_syntax::Step;
+use std::alloc::{AllocError, Global};
+use std::io::Write;
+use value::Text;
+use workers::{Script, ScriptAnswers};
+
+/// Writes the lines of each script, and then the closing part of the commits that are left, and flushes the writer.
+///
+/// # Errors
+///
+/// [`ProgramFault::NoThread`] where a script was not run: the whole report was then written.
+/// [`ProgramFault::Stopped`] where there is no memory for its lines, of which none was then written; or
+/// [`ProgramFault::Output`].
+#[tactic(auto, using(crate::proofs::Reporting::prints))]
+pub fn print_report<N: Named, W: Write>(
+    alloc: Global,
+    history: &History<N>,
+    scripts: &[Script],
+    answered: &[ScriptAnswers],
+    out: &mut W,
+) -> Result<(), ProgramFault>
+    ensures written { OnOk result (PrintsGrouped scripts.now answered.now true (W.contents out.old) (W.contents out.new)) }
+    ensures no_thread { IfErr result (λ fault. fault ≡ NoThread
+        → PrintsGrouped scripts.now answered.now false (W.contents out.old) (W.contents out.new)) }
+    ensures late { IfErr result (λ fault. fault ≢ NoThread → IsInTheRun fault) }
+{
+    history.is_serializable();
+    print_lines(alloc, history.core(), scripts, answered, out)?;
+    if all_ran(answered) {
+        Ok(())
+    } else {
+        Err(ProgramFault::NoThread)
+    }
+}
+
+/// Whether each script was run.
+fn all_ran(answered: &[ScriptAnswers]) -> bool
+    ensures { result ≡ all_ran answered.now }
+{
+    answered.iter().all(|script| script.ran)
+}
+
+fn print_lines<W: Write>(
+    alloc: Global,
+    core: &Core,
+    scripts: &[Script],
+    answered: &[ScriptAnswers],
+    out: &mut W,
+) -> Result<(), ProgramFault>
+    ensures written { OnOk result
+        (Appends (W.contents out.old) (W.contents out.new) (grouped_report scripts.now answered.now core.now)) }
+    ensures late { IfErr result IsInTheRun }
+{
+    let mut lines = Report::new(alloc);
+    if add_report(alloc, scripts, answered, core, &mut lines).is_err() {
+        return Err(ProgramFault::Stopped);
+    }
+    write_all(lines.as_bytes(), out)?;
+    flush(out)
+}
+
+fn add_report(
+    alloc: Global,
+    scripts: &[Script],
+    answered: &[ScriptAnswers],
+    core: &Core,
+    lines: &mut Report,
+) -> Result<(), AllocError>
+    ensures { OnOk result (lines.new ≡ lines.old ++ grouped_report scripts.now answered.now core.now) }
+{
+    add_scripts(scripts, answered, lines)?;
+    close(alloc, core, lines)
+}
+
+/// Adds the lines of each script.
+fn add_scripts(
+    scripts: &[Script],
+    answered: &[ScriptAnswers],
+    lines: &mut Report,
+) -> Result<(), AllocError>
+    ensures { OnOk result (lines.new ≡ lines.old ++ all_lines scripts.now answered.now) }
+{
+    let mut left = answered;
+    for script in scripts {
+        let Some((found, others)) = left.split_first() else {
+            return Ok(());
+        };
+        add_script(script, found, lines)?;
+        left = others;
+    }
+    Ok(())
+}
+
+/// Adds the lines of a script's answers, and of a transaction that was rolled back at its end.
+fn add_script(script: &Script, found: &ScriptAnswers, lines: &mut Report) -> Result<(), AllocError>
+    ensures { OnOk result (lines.new ≡ lines.old ++ script_lines script.now found.now) }
+{
+    add_answers(script.steps.as_slice(), found.answers.as_slice(), lines)?;
+    add_end(&script.name, found.rolled_back, lines)
+}
+
+fn add_end(session: &Text, rolled_back: bool, lines: &mut Report) -> Result<(), AllocError>
+    ensures { OnOk result (lines.new ≡ lines.old ++ ended_line rolled_back session.now) }
+{
+    if rolled_back {
+        lines.left_open(session)?;
+    }
+    Ok(())
+}
+
+fn add_answers(steps: &[Step], answers: &[Answer], report: &mut Report) -> Result<(), AllocError>
+    ensures { OnOk result (report.new ≡ report.old ++ lines steps.now answers.now) }
+{
+    let mut left = answers;
+    for step in steps {
+        let Some((answer, others)) = left.split_first() else {
+            return Ok(());
+        };
+        report.answer(step, answer)?;
+        left = others;
+    }
+    Ok(())
+}

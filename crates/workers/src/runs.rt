@@ -1,0 +1,209 @@
+//! A thread for each script.
+
+ghost use Rattle.std.specs.Prelude.{◌≡◌, map, IfOk, IsOkUnless};
+ghost use Rattle.value.specs.declared.refusals.Refusal.TheVariants.{NoMemory};
+ghost use denote.Param.Send.{IsSend, IsSync};
+ghost use Rattle.workers.specs.Scripts.{AreAnswered, IsAnswered, unrun};
+
+use crate::gates::Gate;
+use crate::scripts::{Script, ScriptAnswers};
+use crate::steps::{Told, end, run_event};
+use answer::Answer;
+use session::{Manager, Named, Txn};
+use sqlite_items::Items;
+use std::alloc::Global;
+use std::sync::Wait;
+use std::thread;
+use std::thread::Threads;
+use value::Refusal;
+
+/// Where a thread leaves what its script was answered. Until it has run, it says that it got no session.
+#[derive(Drop)]
+struct Room {
+    answers: Items<Answer>,
+    refusal: Option<Refusal>,
+    rolled_back: bool,
+}
+
+/// Runs each script on a thread of its own, with a session of its name, and gives what each was answered in the
+/// scripts' order. A transaction that is open at a script's end is rolled back. A script that gets no thread, or no
+/// session, is not run; the others are. Gates may hold threads, for which nothing of this call returning is
+/// claimed.
+///
+/// # Errors
+///
+/// [`Refusal::NoMemory`] where there is no room for all lists of answers. Nothing was then run.
+#[tactic(auto, using(crate::proofs::Lists::all_unrun))]
+pub fn run_sessions<N: Named + Send + Sync, R: Threads + Wait + Sync, G: Gate + Sync>(
+    rt: &R,
+    alloc: Global,
+    manager: &Manager<N>,
+    scripts: &[Script],
+    gate: &G,
+) -> Result<Vec<ScriptAnswers>, Refusal>
+    ensures only_memory { IsOkUnless result NoMemory }
+    ensures answered { IfOk result (λ answered. AreAnswered scripts.now answered.items) }
+{
+    let mut answered = unrun_all(alloc, scripts)?;
+    let mut rooms = rooms_for(alloc, scripts)?;
+    // (the bounds again, since the answer to whether a thread may take the manager can't name them from inside)
+    thread::scope(
+        thread::scope_env(),
+        rt,
+        |scope|
+            requires sends { IsSend N.row }
+            requires shares { IsSync N.row }
+            requires runtime { IsSync R.row }
+            requires gate { IsSync G.row }
+        {
+            for ((at, script), room) in scripts.iter().enumerate().zip(rooms.iter_mut()) {
+                let _ = scope.spawn(move || run_script(rt, manager, script, at, gate, room));
+            }
+        },
+    );
+    settle_all(scripts, &mut answered, rooms);
+    Ok(answered)
+}
+
+/// The answers of scripts that got no thread.
+fn unrun_all(alloc: Global, scripts: &[Script]) -> Result<Vec<ScriptAnswers>, Refusal>
+    ensures only_memory { IsOkUnless result NoMemory }
+    ensures unrun { IfOk result (λ answered. answered.items ≡ map unrun scripts.now) }
+{
+    let mut answered = Vec::with_capacity(alloc, scripts.len())?;
+    for script in scripts {
+        answered.push(unrun(alloc, script)?)?;
+    }
+    Ok(answered)
+}
+
+fn unrun(alloc: Global, script: &Script) -> Result<ScriptAnswers, Refusal>
+    ensures only_memory { IsOkUnless result NoMemory }
+    ensures unrun { IfOk result (λ answered. answered ≡ unrun script.now) }
+{
+    let mut answers = Items::new(alloc);
+    answers.push(Answer::Refused(Refusal::TooManySessions))?;
+    Ok(ScriptAnswers {
+        name: script.name.copy()?,
+        answers,
+        ran: false,
+        rolled_back: false,
+    })
+}
+
+/// Room for an answer to each step of each script.
+fn rooms_for(alloc: Global, scripts: &[Script]) -> Result<Vec<Room>, Refusal>
+    ensures { IsOkUnless result NoMemory }
+{
+    let mut rooms = Vec::with_capacity(alloc, scripts.len())?;
+    for script in scripts {
+        rooms.push(room_for(alloc, script.steps.len())?)?;
+    }
+    Ok(rooms)
+}
+
+fn room_for(alloc: Global, steps: usize) -> Result<Room, Refusal>
+    ensures { IsOkUnless result NoMemory }
+{
+    Ok(Room {
+        answers: Items::from_vec(Vec::with_capacity(alloc, steps)?),
+        refusal: Some(Refusal::TooManySessions),
+        rolled_back: false,
+    })
+}
+
+/// Runs a script in a session of its name.
+fn run_script<N: Named, R: Wait, G: Gate>(
+    rt: &R,
+    manager: &Manager<N>,
+    script: &Script,
+    at: usize,
+    gate: &G,
+    room: &mut Room,
+) {
+    let mut session = match manager.session(rt, &script.name) {
+        Ok(session) => session,
+        Err(refusal) => {
+            room.refusal = Some(refusal);
+            return;
+        }
+    };
+    room.refusal = None;
+    let mut open: Option<Txn<N>> = None;
+    for (step, event) in script.steps.as_slice().iter().enumerate() {
+        gate.before(at, step);
+        let told = run_event(rt, manager, &mut session, open, &event.event);
+        let Told { answer, txn: next } = told;
+        open = next;
+        let _ = room.answers.push(answer);
+        gate.after(at, step);
+    }
+    room.rolled_back = end(rt, manager, open);
+}
+
+/// Takes over what the threads left. What is taken over is looked at again, since nothing is known of what threads
+/// wrote.
+fn settle_all(scripts: &[Script], answered: &mut [ScriptAnswers], rooms: Vec<Room>)
+    requires { AreAnswered scripts.now answered.old }
+    ensures { AreAnswered scripts.now answered.new }
+{
+    for (at, room) in rooms.into_iter().enumerate() {
+        settle_at(scripts, answered, at, room);
+    }
+}
+
+#[tactic(auto, using(crate::proofs::Lists::answered_at, crate::proofs::Lists::answered_set))]
+fn settle_at(scripts: &[Script], answered: &mut [ScriptAnswers], at: usize, room: Room)
+    requires { AreAnswered scripts.now answered.old }
+    ensures { AreAnswered scripts.now answered.new }
+{
+    if at >= scripts.len() || at >= answered.len() {
+        return;
+    }
+    settle(&scripts[at], &mut answered[at], room);
+}
+
+/// Takes over what a thread left: an answer for each step, or the refusal of the session.
+fn settle(script: &Script, answered: &mut ScriptAnswers, room: Room)
+    requires { IsAnswered script.now answered.old }
+    ensures { IsAnswered script.now answered.new }
+{
+    let Room {
+        answers,
+        refusal,
+        rolled_back,
+    } = room;
+    match refusal {
+        None => take_over(script, answered, answers, rolled_back),
+        Some(Refusal::NoMemory) => say_no_memory(script, answered),
+        Some(_) => {}
+    }
+}
+
+fn take_over(
+    script: &Script,
+    answered: &mut ScriptAnswers,
+    answers: Items<Answer>,
+    rolled_back: bool,
+)
+    requires { IsAnswered script.now answered.old }
+    ensures { IsAnswered script.now answered.new }
+{
+    if answers.len() != script.steps.len() {
+        return;
+    }
+    answered.answers = answers;
+    answered.ran = true;
+    answered.rolled_back = rolled_back;
+}
+
+/// Says of a script that was not run that its session found no memory.
+fn say_no_memory(script: &Script, answered: &mut ScriptAnswers)
+    requires { IsAnswered script.now answered.old }
+    ensures { IsAnswered script.now answered.new }
+{
+    if answered.ran || answered.answers.is_empty() {
+        return;
+    }
+    answered.answers.set(0, Answer::Refused(Refusal::NoMemory));
+}

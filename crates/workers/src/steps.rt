@@ -1,0 +1,158 @@
+//! One step of a session.
+
+ghost use Rattle.std.specs.Prelude.{◌≡◌, ℕ};
+ghost use Rattle.answer.specs.declared.answers.Answer.TheVariants.{Refused};
+ghost use Rattle.statement_syntax.specs.declared.statements.Event.TheVariants.{Begin, Commit, Rollback, Run};
+ghost use Rattle.workers.specs.Steps.{IsBegun, IsTold, seen_after};
+
+use answer::Answer;
+use session::{CommitFault, Manager, Named, Session, Txn};
+use statement_syntax::{Event, Statement};
+use std::sync::Wait;
+use value::Refusal;
+
+/// What a step was answered, and the transaction that is open then, if one is.
+pub struct Told<N: Named> {
+    pub answer: Answer,
+    pub txn: Option<Txn<N>>,
+}
+
+fn refused<N: Named>(refusal: Refusal, txn: Option<Txn<N>>) -> Told<N>
+    ensures { (result.answer ≡ Refused refusal) × (result.txn ≡ txn) }
+{
+    Told {
+        answer: Answer::Refused(refusal),
+        txn,
+    }
+}
+
+/// Runs an event of a session, whose open transaction is handed on.
+pub fn run_event<N: Named, R: Wait>(
+    rt: &R,
+    manager: &Manager<N>,
+    session: &mut Session<N>,
+    txn: Option<Txn<N>>,
+    event: &Event,
+) -> Told<N>
+    ensures told { IsTold event.now session.old.seen txn result.answer result.txn }
+    ensures seen { session.new ≡ record session.old { seen = seen_after result.answer session.old.seen } }
+{
+    match event {
+        Event::Begin => begin(rt, manager, session, txn),
+        Event::Run(statement) => run(txn, statement),
+        Event::Commit => commit(rt, manager, session, txn),
+        Event::Rollback => roll_back(rt, manager, txn),
+    }
+}
+
+/// BEGIN.
+fn begin<N: Named, R: Wait>(
+    rt: &R,
+    manager: &Manager<N>,
+    session: &mut Session<N>,
+    txn: Option<Txn<N>>,
+) -> Told<N>
+    ensures told { IsTold Begin session.old.seen txn result.answer result.txn }
+    ensures seen { session.new ≡ record session.old { seen = seen_after result.answer session.old.seen } }
+{
+    match txn {
+        Some(txn) => refused(Refusal::TransactionOpen, Some(txn)),
+        None => begin_new(rt, manager, session),
+    }
+}
+
+fn begin_new<N: Named, R: Wait>(rt: &R, manager: &Manager<N>, session: &mut Session<N>) -> Told<N>
+    ensures told { IsBegun session.old.seen result.answer result.txn }
+    ensures seen { session.new ≡ record session.old { seen = seen_after result.answer session.old.seen } }
+{
+    match manager.begin(rt, session) {
+        Ok(txn) => Told {
+            answer: Answer::Begun(txn.snapshot()),
+            txn: Some(txn),
+        },
+        Err(refusal) => refused(refusal, None),
+    }
+}
+
+/// A statement, in the open transaction. It takes no lock.
+fn run<N: Named>(txn: Option<Txn<N>>, statement: &Statement) -> Told<N>
+    ensures told { (seen : ℕ) → IsTold (Run statement.now) seen txn result.answer result.txn }
+    ensures seen { (seen : ℕ) → seen_after result.answer seen ≡ seen }
+{
+    let Some(mut txn) = txn else {
+        return refused(Refusal::NoTransaction, None);
+    };
+    match txn.execute(statement) {
+        Ok(reply) => Told {
+            answer: Answer::Replied(reply),
+            txn: Some(txn),
+        },
+        // (an arm of its own, since the transaction is then as it was, and otherwise has noted the statement)
+        Err(Refusal::NoMemory) => refused(Refusal::NoMemory, Some(txn)),
+        Err(refusal) => refused(refusal, Some(txn)),
+    }
+}
+
+/// COMMIT.
+fn commit<N: Named, R: Wait>(
+    rt: &R,
+    manager: &Manager<N>,
+    session: &mut Session<N>,
+    txn: Option<Txn<N>>,
+) -> Told<N>
+    ensures told { IsTold Commit session.old.seen txn result.answer result.txn }
+    ensures seen { session.new ≡ record session.old { seen = seen_after result.answer session.old.seen } }
+{
+    let Some(txn) = txn else {
+        return refused(Refusal::NoTransaction, None);
+    };
+    match manager.commit(rt, session, txn) {
+        Ok(receipt) => Told {
+            answer: Answer::Committed(receipt.number()),
+            txn: None,
+        },
+        Err(fault) => uncommitted(fault),
+    }
+}
+
+/// The refusal of a COMMIT, with the transaction where it was given back.
+fn uncommitted<N: Named>(fault: CommitFault<N>) -> Told<N>
+    ensures { (result.answer ≡ Refused fault.refusal) × (result.txn ≡ fault.txn) }
+{
+    let CommitFault {
+        refusal,
+        txn,
+        shown: _,
+    } = fault;
+    refused(refusal, txn)
+}
+
+/// ROLLBACK.
+fn roll_back<N: Named, R: Wait>(rt: &R, manager: &Manager<N>, txn: Option<Txn<N>>) -> Told<N>
+    ensures told { (seen : ℕ) → IsTold Rollback seen txn result.answer result.txn }
+    ensures seen { (seen : ℕ) → seen_after result.answer seen ≡ seen }
+{
+    let Some(txn) = txn else {
+        return refused(Refusal::NoTransaction, None);
+    };
+    match manager.rollback(rt, txn) {
+        Ok(()) => Told {
+            answer: Answer::RolledBack,
+            txn: None,
+        },
+        Err((refusal, txn)) => refused(refusal, Some(txn)),
+    }
+}
+
+/// Rolls the open transaction back, if one is open, and says whether one was.
+pub fn end<N: Named, R: Wait>(rt: &R, manager: &Manager<N>, txn: Option<Txn<N>>) -> bool {
+    let Some(txn) = txn else {
+        return false;
+    };
+    if let Err((_, txn)) = manager.rollback(rt, txn) {
+        let_go(txn.abandon());
+    }
+    true
+}
+
+fn let_go<T: Drop>(_value: T) {}
