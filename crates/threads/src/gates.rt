@@ -62,15 +62,15 @@ impl InTurn {
 
 /// The place in the order of a step of a session.
 fn turn_of(order: &[u8], session: usize, step: usize) -> usize {
-    let mut before = 0;
+    let mut left = step;
     for (place, other) in order.iter().enumerate() {
         if usize::from(*other) != session {
             continue;
         }
-        if before == step {
+        if left == 0 {
             return place;
         }
-        before += 1;
+        left -= 1;
     }
     order.len()
 }

@@ -1,5 +1,7 @@
 //! Scripts on threads, by the bytes that they print.
 
+ghost use Rattle.std.specs.Prelude.{◌≡◌};
+
 use crate::gates::{Held, InTurn, Meeting};
 use crate::printing::print_report;
 use crate::threads_into;
