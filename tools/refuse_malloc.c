@@ -1,5 +1,9 @@
-// Refuses one allocation of a program, the one whose number (from 1) stands in REFUSE. That it was met is said on the
-// file descriptor 9, if it is open.
+// Refuses allocations of a program, as the environment says:
+//
+// - REFUSE: the number, from 1, of the one allocation that is refused;
+// - REFUSE_BEHIND: a size; all behind the first allocation of just so many bytes are refused. So a program can say
+//   where its memory ends, by asking for them;
+// - REFUSE_TOLD: the file descriptor that gets a byte for each allocation that is refused; none: 9.
 #define _GNU_SOURCE
 #include <dlfcn.h>
 #include <errno.h>
@@ -7,19 +11,32 @@
 #include <stdlib.h>
 #include <unistd.h>
 
-static atomic_long seen;
-static long refused = -1;
+static atomic_long seen, from;
+static long one, size_of_mark;
+static int told;
 
-static int refuses(void)
+static long number_of(const char *name, long otherwise)
 {
-    if (refused < 0) {
-        const char *number = getenv("REFUSE");
-        refused = number ? atol(number) : 0;
-    }
+    const char *number = getenv(name);
+    return number ? atol(number) : otherwise;
+}
+
+__attribute__((constructor)) static void read_environment(void)
+{
+    one = number_of("REFUSE", 0);
+    size_of_mark = number_of("REFUSE_BEHIND", 0);
+    told = (int)number_of("REFUSE_TOLD", 9);
+}
+
+static int refuses(size_t size)
+{
     long now = atomic_fetch_add(&seen, 1) + 1;
-    if (now != refused)
+    if (now != one && !(from && now >= from)) {
+        if (size_of_mark && !from && size == (size_t)size_of_mark)
+            from = now + 1;
         return 0;
-    (void)!write(9, "refused\n", 8);
+    }
+    (void)!write(told, "r", 1);
     errno = ENOMEM;
     return 1;
 }
@@ -32,23 +49,23 @@ static int refuses(void)
 void *malloc(size_t size)
 {
     NEXT("malloc", void *(*)(size_t));
-    return refuses() ? NULL : next(size);
+    return refuses(size) ? NULL : next(size);
 }
 
 void *realloc(void *old, size_t size)
 {
     NEXT("realloc", void *(*)(void *, size_t));
-    return refuses() ? NULL : next(old, size);
+    return refuses(size) ? NULL : next(old, size);
 }
 
 int posix_memalign(void **made, size_t alignment, size_t size)
 {
     NEXT("posix_memalign", int (*)(void **, size_t, size_t));
-    return refuses() ? ENOMEM : next(made, alignment, size);
+    return refuses(size) ? ENOMEM : next(made, alignment, size);
 }
 
 void *aligned_alloc(size_t alignment, size_t size)
 {
     NEXT("aligned_alloc", void *(*)(size_t, size_t));
-    return refuses() ? NULL : next(alignment, size);
+    return refuses(size) ? NULL : next(alignment, size);
 }

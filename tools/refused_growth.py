@@ -2,6 +2,11 @@
 """Refuses each allocation of the program in turn, and looks at what is answered.
 
     tools/refused_growth.py PROGRAM [NAME..]      all histories below, or those of these names
+    tools/refused_growth.py --tests PROGRAM       the row tests of crates/manager_rows, as `rt test` builds them there
+    tools/refused_growth.py --without PROGRAM     of the same, the test of the calls that take no memory
+
+A row test passes, or ends with the words that there is no memory: its driver makes each call that finds none once more.
+In the test of the calls that take no memory, every allocation behind its mark is refused: that is the one at its end.
 
 For each history and each number N, the program is run with its Nth allocation refused (tools/refuse_malloc.c, which
 this compiles), until a run meets no refusal. One of these must come of it:
@@ -17,6 +22,7 @@ And where an event was answered so and stands in the script once more right behi
 would have been the first.
 """
 import os
+import re
 import subprocess
 import sys
 import tempfile
@@ -24,6 +30,7 @@ import tempfile
 HERE = os.path.dirname(os.path.abspath(__file__))
 NO_MEMORY = "REFUSED 1 - NO MEMORY"
 TOLD = 9  # the file descriptor on which the shim says that it refused
+MARK = 7_654_321  # so many bytes are asked for by the test without memory, where memory ends
 
 TABLES = """CREATE TABLE SHIFTS (ID INTEGER PRIMARY KEY);
 CREATE TABLE DUTY (ID INTEGER PRIMARY KEY, SHIFT INTEGER, ONCALL INTEGER);
@@ -55,6 +62,11 @@ HISTORIES = {
         "A: BEGIN", "A: SELECT * FROM ACCT", "B: VERDICT COVER", "B: BEGIN", "B: VERDICT COVER"], []),
 }
 
+# Tests of crates/manager_rows.
+ROWS = ["shift_write_skew", "pivot_refused", "same_key_inserted_twice", "deferred_then_immediate", "epoch_full"]
+# What a test ends with; an assertion that fails says something else, even where it shows a line with these words.
+SAYS_NO_MEMORY = re.compile(r"^error: (NoMemory|AllocFailed.*|AllocError.*)$", re.MULTILINE)
+
 
 class Program:
     def __init__(self, path, folder):
@@ -69,12 +81,20 @@ class Program:
         for path, text in ((defs, TABLES + definitions), (script, "".join(f"{event};\n" for event in events))):
             with open(path, "w", encoding="utf-8") as it:
                 it.write(text)
-        environment = dict(os.environ, LD_PRELOAD=self.shim, REFUSE=str(refuse)) if refuse else dict(os.environ)
+        return self.call(["replay", *words, defs, script], refuse)
+
+    def call(self, words, refuse=None):
+        """The same of any words."""
+        return self.call_with(words, {"REFUSE": str(refuse)} if refuse else {})
+
+    def call_with(self, words, refusing):
+        """The same with what the shim is told; and how many allocations were refused, at most 99."""
+        environment = dict(os.environ, LD_PRELOAD=self.shim, **refusing) if refusing else dict(os.environ)
         reading, writing = os.pipe()
-        done = subprocess.run([self.path, "replay", *words, defs, script], env=environment, stdout=subprocess.PIPE,
+        done = subprocess.run([self.path, *words], env=environment, stdout=subprocess.PIPE,
             stderr=subprocess.PIPE, preexec_fn=lambda: os.dup2(writing, TOLD), pass_fds=(TOLD,), text=True, check=False)
         os.close(writing)
-        refused = os.read(reading, 1) != b""
+        refused = len(os.read(reading, 99))
         os.close(reading)
         return done.returncode, done.stdout, done.stderr, refused
 
@@ -147,6 +167,53 @@ def again(program, definitions, events, words, at, whole):
     return met, wrong
 
 
+def judge_test(got):
+    """What came of a refused allocation in a test, as a word; or None where it is none of what may come."""
+    status, out, err, _ = got
+    if status == 0:
+        return "passed"
+    return "no memory" if status > 0 and SAYS_NO_MEMORY.search(out + err) else None
+
+
+def refuse_in_test(program, name):
+    """How often each came of the test's refused allocations, and how many differ."""
+    count, number = {}, 1
+    while (got := program.call([name], number))[3]:
+        what = judge_test(got)
+        if what is None:
+            print(f"DIFFERS  {name}, allocation {number}: status {got[0]}\n{got[1]}{got[2]}")
+        count[what] = count.get(what, 0) + 1
+        number += 1
+    if number == 1 or got[0] != 0:
+        print(f"DIFFERS  {name}: no allocation was refused, or it fails with all of them: status {got[0]}")
+        count[None] = count.get(None, 0) + 1
+    return count, count.get(None, 0)
+
+
+def refuse_in_tests(path):
+    bad = 0
+    with tempfile.TemporaryDirectory() as folder:
+        program = Program(os.path.abspath(path), folder)
+        for name in ROWS:
+            count, differ = refuse_in_test(program, f"rows::{name}")
+            bad += differ
+            print(f"{name}: {sum(count.values())} allocations refused: {count}", flush=True)
+    print(f"{bad} differ")
+    return bad != 0
+
+
+def refuse_all(path):
+    """Whether the test without memory fails, or a call of it asks for memory."""
+    with tempfile.TemporaryDirectory() as folder:
+        program = Program(os.path.abspath(path), folder)
+        status, out, err, refused = program.call_with(["without_memory::without_memory"], {"REFUSE_BEHIND": str(MARK)})
+    bad = status != 0 or refused != 1
+    if bad:
+        print(f"DIFFERS  without_memory: status {status}, {refused} allocations refused, not 1\n{out}{err}")
+    print(f"without_memory: {refused} allocation refused, that of the test itself\n{int(bad)} differ")
+    return bad
+
+
 def main(path, names):
     bad = 0
     with tempfile.TemporaryDirectory() as folder:
@@ -171,4 +238,8 @@ def main(path, names):
 
 
 if __name__ == "__main__":
+    if sys.argv[1] == "--tests":
+        sys.exit(refuse_in_tests(sys.argv[2]))
+    if sys.argv[1] == "--without":
+        sys.exit(refuse_all(sys.argv[2]))
     sys.exit(main(sys.argv[1], sys.argv[2:]))

@@ -2,6 +2,7 @@
 
 ghost use Rattle.std.specs.Prelude.{◌<◌, length, IfOk, IfSome};
 
+use crate::again::shown;
 use answer::Answer;
 use report::Report;
 use session::{CommitFault, Manager, Named, Receipt, Session, Txn};
@@ -14,8 +15,8 @@ use value::{Refusal, Text};
 
 /// A session with its open transaction, if one is open. One that is let go is abandoned.
 pub struct Seat<N: Named> {
-    session: Session<N>,
-    txn: Option<Txn<N>>,
+    pub session: Session<N>,
+    pub txn: Option<Txn<N>>,
 }
 
 impl<N: Named> Drop for Seat<N> {
@@ -60,10 +61,16 @@ impl<N: Named> Sessions<N> {
         Ok(())
     }
 
-    /// Runs a step, and notes the answer. One that finds no memory is run for a second time, since nothing has changed.
+    /// Runs a step, and notes the answer. One that finds no memory has changed nothing, and is run for a second time.
     fn run_step<R: Wait>(&mut self, rt: &R, manager: &Manager<N>, step: &Step) -> Result<(), Fail> {
+        let alloc = *self.receipts.allocator();
+        let before = shown(alloc, self.seats.as_slice())?;
         let mut answer = self.answer(rt, manager, step)?;
         if matches!(&answer, Answer::Refused(Refusal::NoMemory)) {
+            let after = shown(alloc, self.seats.as_slice())?;
+            if after.as_slice() != before.as_slice() {
+                return Err(Fail::from("what found no memory has changed a transaction"));
+            }
             answer = self.answer(rt, manager, step)?;
         }
         let noted = self.lines.answer(step, &answer);
@@ -110,6 +117,8 @@ fn seat_for<N: Named, R: Wait>(
     if let Some(place) = place_of(seats.as_slice(), name) {
         return Ok(place);
     }
+    // A session that finds no seat would be handed out in vain, and counts.
+    seats.reserve(1)?;
     let session = manager.session(rt, name)?;
     let place = seats.len();
     seats.push(Seat { session, txn: None })?;

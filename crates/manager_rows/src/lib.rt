@@ -8,6 +8,8 @@
 #![tactic(auto)]
 
 #[cfg(test)]
+mod again;
+#[cfg(test)]
 mod driver;
 #[cfg(test)]
 mod printed;
@@ -17,3 +19,5 @@ mod rows;
 mod strangers;
 #[cfg(test)]
 mod transactions;
+#[cfg(test)]
+mod without_memory;

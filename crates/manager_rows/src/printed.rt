@@ -16,7 +16,7 @@ use std::process::Abort;
 use std::sync::Wait;
 use std::test::Fail;
 use threeval::Truth;
-use value::Text;
+use value::{Refusal, Text};
 
 /// Shifts, who is on duty in them, and accounts.
 const TABLES: &str = "CREATE TABLE SHIFTS (ID INTEGER PRIMARY KEY);
@@ -79,23 +79,47 @@ pub fn prints_within<R: Wait + Abort>(
     limits: Limits,
     case: &Case,
 ) -> Result<(), Fail> {
-    let shelf = Shelf::new(alloc)?;
+    let same = Limits::new(limits.commits(), limits.sessions()).ok_or("limits")?;
+    let one = Shelf::new(alloc)?;
+    let two = Shelf::new(alloc)?;
     let definitions = defined(alloc, more)?;
-    serve::<Brand, R>(rt, alloc, shelf, definitions, limits, case)
+    let anew = defined(alloc, more)?;
+    serve::<Brand, R>(rt, alloc, one, two, limits, same, definitions, anew, case)
 }
 
+/// An opening that finds no memory keeps what it was handed, so the second has a shelf and definitions of its own.
 fn serve<N: Named, R: Wait + Abort>(
     rt: &R,
     alloc: Global,
-    shelf: Shelf,
-    definitions: Definitions,
+    one: Shelf,
+    two: Shelf,
     limits: Limits,
+    same: Limits,
+    definitions: Definitions,
+    anew: Definitions,
     case: &Case,
 ) -> Result<(), Fail>
-    requires shelf { shelf ≡ N.shelf 1 }
+    requires one { one ≡ N.shelf 1 }
+    requires two { two ≡ N.shelf 2 }
     requires limits { limits ≡ N.limits 1 }
+    requires same { same ≡ N.limits 2 }
 {
-    let manager = Manager::<N>::open(rt, alloc, shelf, 1, definitions, limits)?;
+    match Manager::<N>::open(rt, alloc, one, 1, definitions, limits) {
+        Ok(manager) => prints_through(rt, alloc, manager, case),
+        Err(Refusal::NoMemory) => {
+            let manager = Manager::<N>::open(rt, alloc, two, 2, anew, same)?;
+            prints_through(rt, alloc, manager, case)
+        }
+        Err(refusal) => Err(Fail::from(refusal)),
+    }
+}
+
+fn prints_through<N: Named, R: Wait + Abort>(
+    rt: &R,
+    alloc: Global,
+    manager: Manager<N>,
+    case: &Case,
+) -> Result<(), Fail> {
     let_go(serves(rt, alloc, manager, case)?);
     Ok(())
 }

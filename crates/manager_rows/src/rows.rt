@@ -7,6 +7,11 @@ use std::process::Abort;
 use std::sync::Wait;
 use std::test::Fail;
 
+/// No owner's accounts sum below zero; a transaction may put its check off.
+const FUNDS_DEFERRABLE: &str =
+    "CREATE ASSERTION FUNDS CHECK (NOT EXISTS (SELECT OWNER FROM ACCT GROUP BY OWNER
+    HAVING SUM(BAL) < 0)) DEFERRABLE;";
+
 #[test]
 fn sum_of_nothing_is_unknown(rt: HostRuntime) -> Result<(), Fail> {
     let case = Case {
@@ -186,6 +191,21 @@ fn same_key_inserted_twice(rt: HostRuntime) -> Result<(), Fail> {
         locks: 0,
     };
     prints(&rt, rt.alloc(), "", &case)
+}
+
+/// An account below zero is let in while its assertion is deferred; neither its check nor COMMIT lets it stay.
+#[test]
+fn deferred_then_immediate(rt: HostRuntime) -> Result<(), Fail> {
+    let case = Case {
+        script: "A: BEGIN; A: SET CONSTRAINTS ALL DEFERRED; A: INSERT INTO ACCT VALUES (1, 'LEE', -4);
+            A: SET CONSTRAINTS FUNDS IMMEDIATE; A: COMMIT;",
+        want: "A: BEGIN 0\nA: SET CONSTRAINTS\nA: INSERT 1\nA: REFUSED 10 23000 FUNDS 'LEE'\n\
+            A: REFUSED 10 40002 FUNDS 'LEE'\n\
+            COMMITS 0\nSERIAL\nREFUSED 1\nA 10 40002 FUNDS 'LEE'\nASSERTIONS 1\nFUNDS TRUE\n",
+        receipts: &[],
+        locks: 0,
+    };
+    prints(&rt, rt.alloc(), FUNDS_DEFERRABLE, &case)
 }
 
 /// With room for one commit and one session, the second of each is refused.

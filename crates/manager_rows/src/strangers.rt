@@ -112,7 +112,7 @@ fn unrolled<N: Named>(outcome: Result<(), (Refusal, Txn<N>)>) -> Result<Txn<N>, 
     }
 }
 
-fn is_ended<N: Named>(outcome: Result<(), (Refusal, Txn<N>)>) -> bool {
+pub fn is_ended<N: Named>(outcome: Result<(), (Refusal, Txn<N>)>) -> bool {
     match outcome {
         Ok(()) => true,
         Err((_, txn)) => {
