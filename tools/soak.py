@@ -1,0 +1,161 @@
+#!/usr/bin/env python3
+"""Random loads through `replay` and `threads`, a part of the runs with little memory, each report judged.
+
+    tools/soak.py --reference FOLDER [--program PROGRAM] [--minutes 30] [--seed 1]
+
+FOLDER has the plain reference that lies beside the repository: `make_load.py` makes the loads, `oracle.py` answers a
+replay, and `check_threads.py` decides whether a report of threads is that of some order of the sessions' events.
+
+A replay with memory has to print what the reference prints. One with little memory may refuse a text, stop with a
+beginning of the report, or answer events that there is no memory: the rest is then the report of the script without
+those events. A run of threads with little memory may also leave a session without a thread.
+"""
+import argparse
+import collections
+import os
+import pathlib
+import random
+import re
+import resource
+import subprocess
+import sys
+import tempfile
+import time
+
+TOP = pathlib.Path(__file__).resolve().parent.parent
+NO_MEMORY = "REFUSED 1 - NO MEMORY"
+TEXT_REFUSED = [f"DEFS: {NO_MEMORY}\n", f"SCRIPT: {NO_MEMORY}\n", f"{NO_MEMORY}\n"]
+
+
+def run(words, kib=None):
+    """Status, standard output and standard error of a command, with at most so much address space."""
+    limit = (lambda: resource.setrlimit(resource.RLIMIT_AS, (kib << 10, kib << 10))) if kib else None
+    done = subprocess.run(list(map(str, words)), stdout=subprocess.PIPE, stderr=subprocess.PIPE, preexec_fn=limit,
+        timeout=600, text=True, check=False)
+    return done.returncode, done.stdout, done.stderr
+
+
+def replies(report):
+    """Its lines, each with the rows under it."""
+    groups = []
+    for line in report.splitlines():
+        if line.startswith("  ") and groups:
+            groups[-1].append(line)
+        else:
+            groups.append([line])
+    return groups
+
+
+class Soak:
+    def __init__(self, program, reference, folder):
+        self.program, self.reference, self.count = program, pathlib.Path(reference), collections.Counter()
+        self.defs, self.script, self.other = (f"{folder}/{name}" for name in ("defs", "script", "other"))
+        self.least = {command: self.least_memory(command) for command in ("replay", "threads")}
+
+    def least_memory(self, command):
+        """The least KiB with which an empty script is run."""
+        for path in (self.defs, self.script):
+            open(path, "w").close()
+        low, high = 0, 1 << 22
+        while high - low > 64:
+            middle = (low + high) // 2
+            if run([self.program, command, self.defs, self.script], middle)[0] == 0:
+                high = middle
+            else:
+                low = middle
+        return high
+
+    def answered(self, script):
+        """What the reference says of a script."""
+        return run([sys.executable, self.reference / "oracle.py", "replay", "--stage", "base", self.defs, script])
+
+    def tally(self, report, what):
+        for found in re.findall(r"^[A-Za-z0-9_]+: (COMMIT|ROLLBACK|REFUSED \d+)", report, re.M):
+            self.count[f"{what}: {found}"] += 1
+
+    def replay(self, whole, kib):
+        status, out, err = run([self.program, "replay", self.defs, self.script], kib)
+        if (status, out, err) == whole:
+            return True
+        if not kib:
+            return False
+        if (status == 1 and err in TEXT_REFUSED or status == 2 and "memory" in err) and out == "":
+            self.count["replay: a text or the command line found no memory"] += 1
+            return True
+        stopped = status == 1 and err == "SCRIPT: STOPPED 1 - NO MEMORY\n"
+        return (stopped or status == 0) and self.is_without_events(replies(out), stopped)
+
+    def is_without_events(self, groups, stopped):
+        """Whether a report is that of the script without the events that found no memory, or its beginning."""
+        events = open(self.script).read().splitlines()
+        length = min(len(groups), len(events)) if stopped else len(events)
+        refused = {at for at in range(length) if groups[at][0].endswith(NO_MEMORY)}
+        self.count["replay: events without memory"] += len(refused)
+        self.count["replay: stopped"] += stopped
+        left = [event for at, event in enumerate(events[:length]) if at not in refused]
+        with open(self.other, "w") as it:
+            it.write("\n".join(left) + "\n")
+        want = replies(self.answered(self.other)[1])
+        for at in sorted(refused):
+            want.insert(at, [f"{events[at].split(':')[0]}: {NO_MEMORY}"])
+        # (the last line of a beginning may be cut)
+        return groups[:length - 1] == want[:length - 1] if stopped else groups == want
+
+    def threads(self, kib):
+        status, out, err = run([self.program, "threads", self.defs, self.script], kib)
+        if kib and (status == 1 and "NO MEMORY" in err or status == 2 and "memory" in err):
+            self.count["threads: a text, the run or the command line found no memory"] += 1
+            return True
+        if kib and status == 1 and err == "":
+            self.count["threads: a session without a thread or a place"] += 1
+        elif status != 0:
+            return False
+        with open(self.other, "w") as it:
+            it.write(out)
+        self.tally(out, "threads")
+        words = ["--stage", "base", "--sample", 10, self.defs, self.script, self.other]
+        words += ["--allow-no-memory", "--allow-no-thread"] if kib else []
+        return run([sys.executable, self.reference / "check_threads.py", *words])[0] == 0
+
+    def load(self, drawn):
+        """One load, run nine times; gives how many differ."""
+        words = ["--kind", drawn.choice(["oncall", "ledger", "booking", "mixed"]), "--sessions",
+            drawn.choice([1, 2, 4, 8, 16]), "--transactions", drawn.choice([5, 10, 20]), "--keys",
+            drawn.choice([3, 10, 40]), "--contention", drawn.choice([0.1, 0.5, 0.9]), "--read-only", 0, "--seed",
+            drawn.randrange(1 << 30)]
+        run([sys.executable, self.reference / "make_load.py", *words, self.defs, self.script])
+        whole = self.answered(self.script)
+        self.tally(whole[1], "replay")
+        tries = [(self.replay, (whole, None))]
+        tries += [(self.replay, (whole, self.least["replay"] + drawn.randrange(6000))) for _ in range(3)]
+        tries += [(self.threads, (None,))] * 3
+        more = [2000, 20000, 100000, 200000]
+        tries += [(self.threads, (self.least["threads"] + int(drawn.choice(more) * drawn.random()),)) for _ in range(2)]
+        differ = [(judge.__name__, given[-1]) for judge, given in tries if not judge(*given)]
+        for judge, kib in differ:
+            print("DIFFERS", judge, "with", kib, "KiB:", *words, flush=True)
+        self.count["loads"] += 1
+        self.count["runs"] += len(tries)
+        return len(differ)
+
+
+def main():
+    parser = argparse.ArgumentParser(description=__doc__.splitlines()[0])
+    parser.add_argument("--reference", required=True, help="the folder of the plain reference")
+    parser.add_argument("--program", default=str(TOP / "crates" / "skewguard" / "out" / "skewguard"))
+    parser.add_argument("--minutes", type=float, default=30)
+    parser.add_argument("--seed", type=int, default=1)
+    words = parser.parse_args()
+    drawn, until, differ = random.Random(words.seed), time.time() + 60 * words.minutes, 0
+    with tempfile.TemporaryDirectory() as folder:
+        soak = Soak(os.path.abspath(words.program), words.reference, folder)
+        while time.time() < until:
+            differ += soak.load(drawn)
+    for what in sorted(soak.count):
+        print(f"{what}: {soak.count[what]}")
+    print(f"{differ} differ")
+    return differ != 0
+
+
+if __name__ == "__main__":
+    sys.exit(main())
