@@ -36,8 +36,3 @@ pub use deletes::{Delete, check_delete};
 pub use inserts::{NewRow, check_insert};
 pub use selects::{Select, check_select};
 pub use updates::{Setting, Update, check_update};
-
-#[cfg(test)]
-mod tests;
-#[cfg(test)]
-mod update_tests;

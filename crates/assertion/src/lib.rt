@@ -59,6 +59,3 @@ pub use laws::{
 };
 pub use linked_queries::Linked;
 pub use plain_queries::Plain;
-
-#[cfg(test)]
-mod tests;

@@ -44,6 +44,3 @@ pub use evals::{Given, evaluate};
 pub use exprs::Expr;
 pub use slots::{SlotKind, SlotValue, Slots};
 pub use truths::{eval, keeps};
-
-#[cfg(test)]
-mod tests;

@@ -26,6 +26,3 @@ mod tables;
 mod taken;
 
 pub use taken::Definitions;
-
-#[cfg(test)]
-mod tests;

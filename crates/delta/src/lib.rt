@@ -53,6 +53,3 @@ mod views;
 mod watches;
 
 pub use views::View;
-
-#[cfg(test)]
-mod tests;

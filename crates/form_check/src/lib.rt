@@ -43,6 +43,3 @@ mod queries;
 
 pub use forms::form;
 pub use queries::{Source, row_condition, row_expression, row_filter};
-
-#[cfg(test)]
-mod tests;

@@ -45,6 +45,3 @@ pub use entries::Totals;
 pub use laws::{column_makes_groups, members_follow_rows};
 pub use members::Member;
 pub use totals::Total;
-
-#[cfg(test)]
-mod tests;

@@ -28,6 +28,3 @@ mod trees;
 
 pub use scopes::{Scope, exposed_name};
 pub use trees::{known_condition, known_expression};
-
-#[cfg(test)]
-mod tests;

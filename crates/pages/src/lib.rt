@@ -39,6 +39,3 @@ mod search;
 
 pub use entries::Entries;
 pub use pages::Pages;
-
-#[cfg(test)]
-mod tests;

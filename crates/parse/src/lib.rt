@@ -24,8 +24,6 @@
 #![tactic(auto)]
 
 mod calls;
-#[cfg(test)]
-mod tests;
 mod wholes;
 
 pub use calls::{parse_schema, parse_script, parse_statement};

@@ -74,11 +74,7 @@
 #![tactic(auto)]
 
 mod closing;
-#[cfg(test)]
-mod closing_tests;
 mod lines;
 mod reports;
-#[cfg(test)]
-mod tests;
 
 pub use reports::Report;

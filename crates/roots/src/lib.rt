@@ -58,6 +58,3 @@ pub use columns::value_at;
 pub use kept::{totals_after, totals_of};
 pub use lists::BadRoots;
 pub use updates::{bad_after, bad_of, key_column};
-
-#[cfg(test)]
-mod tests;

@@ -29,6 +29,3 @@ pub use aggregates::Aggregate;
 pub use catalogs::Catalog;
 pub use rows::{Change, Row};
 pub use schemas::{Column, LARGEST, Schema};
-
-#[cfg(test)]
-mod tests;

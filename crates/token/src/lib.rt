@@ -34,8 +34,6 @@ mod marks;
 mod nexts;
 mod readings;
 mod spans;
-#[cfg(test)]
-mod tests;
 mod words;
 
 pub use kinds::Kind;

@@ -39,6 +39,3 @@ pub use bounded_forms::form_is_bounded;
 pub use data_types::{DataType, aggregate_type, are_comparable, column_type};
 pub use typed_forms::form_is_typed;
 pub use typed_trees::{expression_type, is_well_typed};
-
-#[cfg(test)]
-mod tests;

@@ -36,6 +36,3 @@ pub use comparisons::{Comparison, compare};
 pub use refusals::{Excess, Party, Refusal};
 pub use texts::Text;
 pub use values::{ColType, Root, Value, order, order_roots};
-
-#[cfg(test)]
-mod tests;

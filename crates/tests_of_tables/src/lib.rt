@@ -1,0 +1,25 @@
+//! The tests of the crates of values, tables and verdicts, by their public calls alone.
+//!
+//! They stand apart from the crates, since a crate that holds tests is proved once more for them.
+#![tactic(auto)]
+
+#[cfg(test)]
+mod assertion_tests;
+#[cfg(test)]
+mod cond_tests;
+#[cfg(test)]
+mod delta_tests;
+#[cfg(test)]
+mod groups_tests;
+#[cfg(test)]
+mod mvrows_tests;
+#[cfg(test)]
+mod pages_tests;
+#[cfg(test)]
+mod roots_tests;
+#[cfg(test)]
+mod table_tests;
+#[cfg(test)]
+mod threeval_tests;
+#[cfg(test)]
+mod value_tests;
