@@ -2,11 +2,11 @@
 """Refuses each allocation of the program in turn, and looks at what is answered.
 
     tools/refused_growth.py PROGRAM [NAME..]      all histories below, or those of these names
-    tools/refused_growth.py --tests PROGRAM       the row tests of crates/manager_rows, as `rt test` builds them there
-    tools/refused_growth.py --without PROGRAM     of the same, the test of the calls that take no memory
+    tools/refused_growth.py --tests PROGRAM       the tests of crates/manager_rows in TESTS, as `rt test` builds them there
+    tools/refused_growth.py --without PROGRAM     of the same, the tests of the calls that take no memory
 
-A row test passes, or ends with the words that there is no memory: its driver makes each call that finds none once more.
-In the test of the calls that take no memory, every allocation behind its mark is refused: that is the one at its end.
+A test of these passes, or ends with the words that there is no memory: each call that finds none is made once more.
+In a test of the calls that take no memory, every allocation behind its mark is refused: that is the one at its end.
 
 For each history and each number N, the program is run with its Nth allocation refused (tools/refuse_malloc.c, which
 this compiles), until a run meets no refusal. One of these must come of it:
@@ -62,8 +62,13 @@ HISTORIES = {
         "A: BEGIN", "A: SELECT * FROM ACCT", "B: VERDICT COVER", "B: BEGIN", "B: VERDICT COVER"], []),
 }
 
-# Tests of crates/manager_rows.
-ROWS = ["shift_write_skew", "pivot_refused", "same_key_inserted_twice", "deferred_then_immediate", "epoch_full"]
+# Tests of crates/manager_rows: those whose calls are made once more where they find no memory, and those whose calls
+# take none.
+TESTS = ["rows::shift_write_skew", "rows::pivot_refused", "rows::same_key_inserted_twice",
+    "rows::deferred_then_immediate", "rows::epoch_full", "given_back::by_a_manager", "given_back::by_an_engine",
+    "views::changed"]
+WITHOUT = ["without_memory::without_memory", *(f"lower_without_memory::{name}" for name in ("values", "tables", "pages",
+    "locks", "snapshots", "judgment", "a_commit_is_made", "a_commit_is_given_up", "a_transaction_ends"))]
 # What a test ends with; an assertion that fails says something else, even where it shows a line with these words.
 SAYS_NO_MEMORY = re.compile(r"^error: (NoMemory|AllocFailed.*|AllocError.*)$", re.MULTILINE)
 
@@ -190,28 +195,31 @@ def refuse_in_test(program, name):
     return count, count.get(None, 0)
 
 
-def refuse_in_tests(path):
+def refuse_behind(program, name):
+    """Whether a test without memory fails, or a call of it asks for memory."""
+    status, out, err, refused = program.call_with([name], {"REFUSE_BEHIND": str(MARK)})
+    bad = status != 0 or refused != 1
+    if bad:
+        print(f"DIFFERS  {name}: status {status}, {refused} allocations refused, not 1\n{out}{err}")
+    return {"in vain": refused}, int(bad)
+
+
+def try_tests(path, names, refuse):
+    """Whether a test is not in the program, or one differs."""
     bad = 0
     with tempfile.TemporaryDirectory() as folder:
         program = Program(os.path.abspath(path), folder)
-        for name in ROWS:
-            count, differ = refuse_in_test(program, f"rows::{name}")
+        listed = {line.split(": ")[0] for line in program.call(["--list"])[1].splitlines()}
+        for name in names:
+            if name not in listed:
+                print(f"DIFFERS  {name}: the program has no such test")
+                bad += 1
+                continue
+            count, differ = refuse(program, name)
             bad += differ
             print(f"{name}: {sum(count.values())} allocations refused: {count}", flush=True)
     print(f"{bad} differ")
     return bad != 0
-
-
-def refuse_all(path):
-    """Whether the test without memory fails, or a call of it asks for memory."""
-    with tempfile.TemporaryDirectory() as folder:
-        program = Program(os.path.abspath(path), folder)
-        status, out, err, refused = program.call_with(["without_memory::without_memory"], {"REFUSE_BEHIND": str(MARK)})
-    bad = status != 0 or refused != 1
-    if bad:
-        print(f"DIFFERS  without_memory: status {status}, {refused} allocations refused, not 1\n{out}{err}")
-    print(f"without_memory: {refused} allocation refused, that of the test itself\n{int(bad)} differ")
-    return bad
 
 
 def main(path, names):
@@ -239,7 +247,7 @@ def main(path, names):
 
 if __name__ == "__main__":
     if sys.argv[1] == "--tests":
-        sys.exit(refuse_in_tests(sys.argv[2]))
+        sys.exit(try_tests(sys.argv[2], TESTS, refuse_in_test))
     if sys.argv[1] == "--without":
-        sys.exit(refuse_all(sys.argv[2]))
+        sys.exit(try_tests(sys.argv[2], WITHOUT, refuse_behind))
     sys.exit(main(sys.argv[1], sys.argv[2:]))

@@ -1,38 +1,124 @@
-//! What shows that a call which found no memory has changed nothing.
+//! What shows that a call which found no memory has changed nothing: all that can be seen before it and after it.
 
-use crate::driver::Seat;
-use session::{Named, Txn};
+use crate::driver::{Seat, let_go};
+use alone::Resolved;
+use commit::Core;
+use delta::View;
+use mvrows::Rows;
+use session::{Manager, Named, Session, Txn};
+use siread::LockKey;
 use std::alloc::Global;
+use std::sync::Wait;
 use std::test::Fail;
-use threeval::Truth;
 
-/// What the open transactions show, in the order of their seats: their snapshots, how much stands in their traces and
-/// their reads, and how their assertions stand.
-pub fn shown<N: Named>(alloc: Global, seats: &[Seat<N>]) -> Result<Vec<u64>, Fail> {
-    let mut all = Vec::new(alloc);
-    for seat in seats {
-        if let Some(txn) = &seat.txn {
-            show(txn, &mut all)?;
-        }
-    }
-    Ok(all)
+/// So many bytes hold all that is shown in these tests: asked for at once, so that few allocations are their own.
+const ROOM: usize = 1 << 16;
+
+pub fn page(alloc: Global) -> Result<String, Fail> {
+    let page = String::with_capacity(alloc, ROOM)?;
+    Ok(page)
 }
 
-fn show<N: Named>(txn: &Txn<N>, all: &mut Vec<u64>) -> Result<(), Fail> {
-    all.push(txn.snapshot())?;
-    all.push(txn.trace().len() as u64)?;
-    all.push(txn.reads().len() as u64)?;
-    let own = txn.own();
-    for place in 0..own.assertions().len() {
-        all.push(number_of(own.verdict(place)))?;
+/// What a call that found no memory was to leave as it was, before it and after it.
+pub fn is_same(before: &String, after: &String) -> Result<(), Fail> {
+    if before.as_bytes() == after.as_bytes() {
+        Ok(())
+    } else {
+        Err(Fail::from("what found no memory has changed something"))
+    }
+}
+
+/// The open transaction of a seat, and what one finds that begins now.
+pub fn shown<N: Named, R: Wait>(
+    rt: &R,
+    alloc: Global,
+    manager: &Manager<N>,
+    seat: &mut Seat<N>,
+) -> Result<String, Fail> {
+    let mut text = page(alloc)?;
+    match &seat.txn {
+        Some(txn) => show_txn(txn, &mut text)?,
+        None => text.push_str("NONE\n")?,
+    }
+    show_newest(rt, manager, &mut seat.session, &mut text)?;
+    Ok(text)
+}
+
+/// The newest tables, as a transaction finds them that begins on them and is rolled back.
+fn show_newest<N: Named, R: Wait>(
+    rt: &R,
+    manager: &Manager<N>,
+    session: &mut Session<N>,
+    text: &mut String,
+) -> Result<(), Fail> {
+    let txn = manager.begin(rt, session)?;
+    if let Err(fail) = show_found(rt, manager, &txn, text) {
+        let_go(txn.abandon());
+        return Err(fail);
+    }
+    match manager.rollback(rt, txn) {
+        Ok(()) => Ok(()),
+        Err((refusal, txn)) => {
+            let_go(txn.abandon());
+            Err(Fail::from(refusal))
+        }
+    }
+}
+
+fn show_found<N: Named, R: Wait>(
+    rt: &R,
+    manager: &Manager<N>,
+    txn: &Txn<N>,
+    text: &mut String,
+) -> Result<(), Fail> {
+    show_txn(txn, text)?;
+    for assertion in txn.own().assertions() {
+        let verdict = manager.verdict(rt, &assertion.name);
+        write!(text, "{verdict:?}\n")?;
     }
     Ok(())
 }
 
-fn number_of(truth: Truth) -> u64 {
-    match truth {
-        Truth::False => 0,
-        Truth::True => 1,
-        Truth::Unknown => 2,
+pub fn show_txn<N: Named>(txn: &Txn<N>, text: &mut String) -> Result<(), Fail> {
+    show_run(txn.snapshot(), txn.trace(), txn.reads(), txn.own(), text)
+}
+
+/// A transaction by its parts.
+pub fn show_run(
+    snapshot: u64,
+    trace: &[Resolved],
+    reads: &[LockKey],
+    own: &View,
+    text: &mut String,
+) -> Result<(), Fail> {
+    write!(text, "{snapshot} {trace:?} {reads:?}\n")?;
+    show_view(own, text)
+}
+
+/// The rows of a view, and how its assertions stand.
+pub fn show_view(view: &View, text: &mut String) -> Result<(), Fail> {
+    for table in 0..view.catalog().len() {
+        show_rows(view.rows(table), text)?;
     }
+    for place in 0..view.assertions().len() {
+        let (verdict, root) = (view.verdict(place), view.least_bad(place));
+        write!(text, "{verdict:?} {root:?}\n")?;
+    }
+    Ok(())
+}
+
+fn show_rows(rows: &Rows, text: &mut String) -> Result<(), Fail> {
+    for row in rows.iter() {
+        write!(text, "{row:?}\n")?;
+    }
+    Ok(())
+}
+
+/// The commits, those that were refused, the serial order, the count of kept locks, and the tables.
+pub fn show_core(core: &Core, text: &mut String) -> Result<(), Fail> {
+    let (records, order, refused) = (core.records(), core.serial_order(), core.refused());
+    let (locks, is_prepared) = (core.locks(), core.prepared().is_some());
+    write!(text, "{records:?} {order:?} {refused:?} {locks} {is_prepared}\n")?;
+    show_view(core.loaded(), text)?;
+    show_view(core.newest(), text)
 }

@@ -2,7 +2,7 @@
 
 ghost use Rattle.std.specs.Prelude.{◌<◌, length, IfOk, IfSome};
 
-use crate::again::shown;
+use crate::again::{is_same, shown};
 use answer::Answer;
 use report::Report;
 use session::{CommitFault, Manager, Named, Receipt, Session, Txn};
@@ -61,37 +61,19 @@ impl<N: Named> Sessions<N> {
         Ok(())
     }
 
-    /// Runs a step, and notes the answer. One that finds no memory has changed nothing, and is run for a second time.
+    /// Runs a step, and notes the answer.
     fn run_step<R: Wait>(&mut self, rt: &R, manager: &Manager<N>, step: &Step) -> Result<(), Fail> {
-        let alloc = *self.receipts.allocator();
-        let before = shown(alloc, self.seats.as_slice())?;
-        let mut answer = self.answer(rt, manager, step)?;
-        if matches!(&answer, Answer::Refused(Refusal::NoMemory)) {
-            let after = shown(alloc, self.seats.as_slice())?;
-            if after.as_slice() != before.as_slice() {
-                return Err(Fail::from("what found no memory has changed a transaction"));
+        let answer = match seat_again(rt, manager, &mut self.seats, &step.session) {
+            Ok(place) => {
+                let seat = &mut self.seats[place];
+                answer_again(rt, manager, seat, &step.event, &mut self.receipts)?
             }
-            answer = self.answer(rt, manager, step)?;
-        }
+            Err(refusal) => Answer::Refused(refusal),
+        };
         let noted = self.lines.answer(step, &answer);
         let_go(answer);
         noted?;
         Ok(())
-    }
-
-    fn answer<R: Wait>(
-        &mut self,
-        rt: &R,
-        manager: &Manager<N>,
-        step: &Step,
-    ) -> Result<Answer, Fail> {
-        match seat_for(rt, manager, &mut self.seats, &step.session) {
-            Ok(place) => {
-                let seat = &mut self.seats[place];
-                answer(rt, manager, seat, &step.event, &mut self.receipts)
-            }
-            Err(refusal) => Ok(Answer::Refused(refusal)),
-        }
     }
 
     /// Notes the transactions that are open.
@@ -102,6 +84,21 @@ impl<N: Named> Sessions<N> {
             }
         }
         Ok(())
+    }
+}
+
+/// The place of a session's seat. A session that finds no memory is asked for once more.
+fn seat_again<N: Named, R: Wait>(
+    rt: &R,
+    manager: &Manager<N>,
+    seats: &mut Vec<Seat<N>>,
+    name: &Text,
+) -> Result<usize, Refusal>
+    ensures { IfOk result (λ place. place < length seats.new.items) }
+{
+    match seat_for(rt, manager, seats, name) {
+        Err(Refusal::NoMemory) => seat_for(rt, manager, seats, name),
+        found => found,
     }
 }
 
@@ -129,6 +126,24 @@ fn place_of<N: Named>(seats: &[Seat<N>], name: &Text) -> Option<usize>
     ensures { IfSome result (λ place. place < length seats.now) }
 {
     seats.iter().position(|seat| seat.session.name() == name)
+}
+
+/// Answers an event. One that finds no memory has changed nothing that can be seen, and is answered once more.
+fn answer_again<N: Named, R: Wait>(
+    rt: &R,
+    manager: &Manager<N>,
+    seat: &mut Seat<N>,
+    event: &Event,
+    receipts: &mut Vec<Receipt<N>>,
+) -> Result<Answer, Fail> {
+    let alloc = *receipts.allocator();
+    let before = shown(rt, alloc, manager, seat)?;
+    let first = answer(rt, manager, seat, event, receipts)?;
+    if !matches!(&first, Answer::Refused(Refusal::NoMemory)) {
+        return Ok(first);
+    }
+    is_same(&before, &shown(rt, alloc, manager, seat)?)?;
+    answer(rt, manager, seat, event, receipts)
 }
 
 fn answer<N: Named, R: Wait>(

@@ -12,6 +12,10 @@ mod again;
 #[cfg(test)]
 mod driver;
 #[cfg(test)]
+mod given_back;
+#[cfg(test)]
+mod lower_without_memory;
+#[cfg(test)]
 mod printed;
 #[cfg(test)]
 mod rows;
@@ -19,5 +23,7 @@ mod rows;
 mod strangers;
 #[cfg(test)]
 mod transactions;
+#[cfg(test)]
+mod views;
 #[cfg(test)]
 mod without_memory;

@@ -19,7 +19,7 @@ use threeval::Truth;
 use value::{Refusal, Text};
 
 /// Shifts, who is on duty in them, and accounts.
-const TABLES: &str = "CREATE TABLE SHIFTS (ID INTEGER PRIMARY KEY);
+pub const TABLES: &str = "CREATE TABLE SHIFTS (ID INTEGER PRIMARY KEY);
     CREATE TABLE DUTY (ID INTEGER PRIMARY KEY, SHIFT INTEGER, ONCALL INTEGER);
     CREATE TABLE ACCT (ID INTEGER PRIMARY KEY, OWNER VARCHAR(10), BAL INTEGER);";
 

@@ -49,7 +49,8 @@ fn answers<N: Named, R: Wait + Abort>(
     let steps = steps_of(alloc, STEPS)?;
     let mut sessions = Sessions::new(alloc);
     sessions.run(rt, &manager, steps.as_slice())?;
-    let (closed, mark) = end_memory(alloc, last_closed(&mut sessions.seats)?)?;
+    let closed = last_closed(&mut sessions.seats)?;
+    assert!(rt; end_memory(alloc));
     reopens(rt, closed);
     for seat in sessions.seats.iter_mut() {
         ends(rt, &manager, seat.txn.take(), &cover);
@@ -59,9 +60,7 @@ fn answers<N: Named, R: Wait + Abort>(
     for receipt in sessions.receipts.as_slice() {
         leaves(rt, &history, receipt, &cover);
     }
-    // Where memory has ended this is refused, and nothing before it asked for any.
-    let_go(Vec::<u8>::with_capacity(alloc, 1).is_ok());
-    let_go(mark);
+    ask_in_vain(alloc);
     Ok(())
 }
 
@@ -80,14 +79,14 @@ fn last_closed<N: Named>(seats: &mut Vec<Seat<N>>) -> Result<Closed<N>, Fail> {
     }
 }
 
-fn end_memory<N: Named>(alloc: Global, closed: Closed<N>) -> Result<(Closed<N>, Vec<u8>), Fail> {
-    match Vec::<u8>::with_capacity(alloc, MARK) {
-        Ok(mark) => Ok((closed, mark)),
-        Err(refusal) => {
-            let_go(closed.reopen().abandon());
-            Err(Fail::from(refusal))
-        }
-    }
+/// Asks for the bytes behind which memory ends.
+pub fn end_memory(alloc: Global) -> bool {
+    Vec::<u8>::with_capacity(alloc, MARK).is_ok()
+}
+
+/// Asks for a byte. Where memory has ended this is refused, and nothing before it is to have asked for any.
+pub fn ask_in_vain(alloc: Global) {
+    let_go(Vec::<u8>::with_capacity(alloc, 1).is_ok());
 }
 
 fn ends<N: Named, R: Wait + Abort>(

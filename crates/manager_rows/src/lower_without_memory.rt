@@ -1,0 +1,336 @@
+//! The calls below the manager that take no memory, where every allocation is refused.
+
+ghost use Rattle.std.specs.Prelude.{◌≡◌, [], IfOk, OnOk, None};
+ghost use Rattle.cond.specs.Bounds.{IsSmallRow};
+ghost use Rattle.siread.specs.Locks.{no_reads, readers_at};
+ghost use Rattle.commit.specs.Cores.{IsLive};
+
+use crate::driver::let_go;
+use crate::printed::{COVER, SEVEN, TABLES, defined, steps_of};
+use crate::without_memory::{ask_in_vain, end_memory};
+use commit::{Core, Uncommitted, admit, first_false};
+use cond::{Cond, Expr, Slots, bound, eval, is_bounded};
+use conflict::{Candidate, Verdict, judge, share_row, touch_any};
+use delta::View;
+use groups::{Member, Totals};
+use live::Live;
+use modes::Modes;
+use mvrows::Rows;
+use pages::Pages;
+use parse::parse_schema;
+use session::Limits;
+use siread::{LockKey, LockTable, Place, touches};
+use statement_syntax::{Event, Mode, Step};
+use std::alloc::Global;
+use std::cmp::Ordering;
+use std::process::Abort;
+use std::test::Fail;
+use table::{Change, Row};
+use threeval::Truth;
+use txn::{Closed, Txn, Unclosed};
+use value::{Comparison, Refusal, Root, Text, Value, compare, order};
+
+#[test]
+fn values(rt: HostRuntime) -> Result<(), Fail> {
+    let row = small_row(rt.alloc())?;
+    let name = Value::Text(Text::from_str(rt.alloc(), "KIM")?);
+    let slots = Slots::new(rt.alloc());
+    let condition = Cond::Compare(
+        Comparison::AtMost,
+        Expr::Column(0),
+        Expr::Literal(Value::Int(7)),
+    );
+    assert!(rt; end_memory(rt.alloc()));
+    compares(&rt, &name);
+    assert_eq!(rt; truth_of(&condition, &row, &slots), Some(Truth::True));
+    assert!(rt; bound(&Expr::Column(0), &[]).is_ok());
+    assert!(rt; Limits::new(1, 1).is_some());
+    ask_in_vain(rt.alloc());
+    Ok(())
+}
+
+fn small_row(alloc: Global) -> Result<Row, Refusal>
+    ensures { IfOk result (λ row. IsSmallRow row) }
+{
+    Ok(Row::new(vec![in alloc; Value::Int(7), Value::Null]?))
+}
+
+fn compares<R: Abort>(rt: &R, name: &Value) {
+    assert_eq!(rt; compare(&Value::Int(1), &Value::Int(2)), Some(Ordering::Less));
+    assert_eq!(rt; compare(name, &Value::Null), None);
+    assert_eq!(rt; order(name, name), Ordering::Equal);
+    assert_eq!(rt; Truth::Unknown.and(Truth::False), Truth::False);
+    assert_eq!(rt; Truth::Unknown.or(Truth::False).not(), Truth::Unknown);
+    assert!(rt; Truth::Unknown.is(Truth::Unknown));
+}
+
+fn truth_of(condition: &Cond, row: &Row, slots: &Slots) -> Option<Truth>
+    requires row { IsSmallRow row.now }
+    requires slots { slots.now ≡ [] }
+{
+    if is_bounded(condition, &[]) {
+        Some(eval(condition, row, slots))
+    } else {
+        None
+    }
+}
+
+/// No one covers shift 8.
+#[test]
+fn tables(rt: HostRuntime) -> Result<(), Fail> {
+    let more = format!(in rt.alloc(); "{COVER}{SEVEN}INSERT INTO SHIFTS VALUES (8);")?;
+    let definitions = defined(rt.alloc(), more.as_str())?;
+    let view = definitions.load(rt.alloc())?;
+    let modes = Modes::initial(rt.alloc(), view.assertions())?;
+    assert!(rt; end_memory(rt.alloc()));
+    stands(&rt, &view);
+    for place in 0..modes.as_slice().len() {
+        assert!(rt; matches!(modes.of(place), Mode::Immediate));
+    }
+    ask_in_vain(rt.alloc());
+    Ok(())
+}
+
+fn stands<R: Abort>(rt: &R, view: &View) {
+    let bad = Root::Of(Value::Int(8));
+    for table in 0..view.catalog().len() {
+        assert!(rt; finds_each(view.rows(table)));
+    }
+    for place in 0..view.assertions().len() {
+        assert_eq!(rt; view.verdict(place), Truth::False);
+        assert!(rt; view.least_bad(place) == Some(&bad));
+    }
+    assert!(rt; matches!(first_false(view), Some((_, root)) if *root == bad));
+}
+
+/// Whether each row is found by its key, which is its first value.
+fn finds_each(rows: &Rows) -> bool {
+    for row in rows.iter() {
+        match row.values().first() {
+            Some(key) if rows.get(0, key).is_some() => {}
+            _ => return false,
+        }
+    }
+    true
+}
+
+#[test]
+fn pages(rt: HostRuntime) -> Result<(), Fail> {
+    let key = Value::Int(7);
+    let member = Some(Member {
+        group: Value::Int(7),
+        value: Value::Int(1),
+    });
+    let totals = Totals::new(rt.alloc()).with(&member, &None)?;
+    let pages = Pages::new(rt.alloc()).with(&key, Some(5u64))?;
+    assert!(rt; end_memory(rt.alloc()));
+    assert!(rt; totals.get(&key).is_some());
+    assert_eq!(rt; pages.get(&key), Some(&5));
+    assert_eq!(rt; pages.page_from(0).len(), 1);
+    assert_eq!(rt; pages.len(), 1);
+    ask_in_vain(rt.alloc());
+    Ok(())
+}
+
+/// The row of a key is put into the first table.
+fn insertion(alloc: Global, key: i64) -> Result<Change, Refusal> {
+    Ok(Change {
+        table: 0,
+        key: Value::Int(key),
+        old: None,
+        new: Some(Row::new(vec![in alloc; Value::Int(key)]?)),
+    })
+}
+
+fn row_key(key: i64) -> LockKey {
+    LockKey::Row(Place {
+        table: 0,
+        key: Value::Int(key),
+    })
+}
+
+#[test]
+fn locks(rt: HostRuntime) -> Result<(), Fail> {
+    let change = insertion(rt.alloc(), 7)?;
+    let keys = [row_key(7), LockKey::Table(1)];
+    let mut locks = LockTable::new(rt.alloc());
+    locks.put(1, &keys)?;
+    locks.put(2, &keys)?;
+    assert!(rt; end_memory(rt.alloc()));
+    assert!(rt; locks.readers(&row_key(7)) == [1, 2].as_slice());
+    assert_eq!(rt; locks.greatest_reader(&[change]), 2);
+    locks.take_back(2, &keys);
+    assert_eq!(rt; locks.len(), 2);
+    locks.trim_below(1);
+    assert_eq!(rt; locks.len(), 0);
+    ask_in_vain(rt.alloc());
+    Ok(())
+}
+
+#[test]
+fn snapshots(rt: HostRuntime) -> Result<(), Fail> {
+    let mut live = Live::new(rt.alloc());
+    live.begin(1)?;
+    live.begin(3)?;
+    assert!(rt; end_memory(rt.alloc()));
+    assert_eq!(rt; live.next_ticket(), 2);
+    assert!(rt; live.holds(0, 1) && !live.holds(1, 1));
+    assert_eq!(rt; live.least(4), 1);
+    live.end(0);
+    assert_eq!(rt; live.least(4), 3);
+    ask_in_vain(rt.alloc());
+    Ok(())
+}
+
+/// Nothing was committed yet.
+#[test]
+fn judgment(rt: HostRuntime) -> Result<(), Fail> {
+    let (reads, changes) = ([row_key(7)], [insertion(rt.alloc(), 7)?]);
+    let locks = LockTable::new(rt.alloc());
+    assert!(rt; end_memory(rt.alloc()));
+    assert_eq!(rt; judged(&locks, &reads, &changes), Verdict::Fine { place: 1 });
+    assert!(rt; touch_any(&changes, &reads) && share_row(&changes, &changes));
+    assert!(rt; touches(&changes[0], &LockKey::Table(0)));
+    ask_in_vain(rt.alloc());
+    Ok(())
+}
+
+/// The verdict on the first that is to be committed.
+fn judged(locks: &LockTable, reads: &[LockKey], changes: &[Change]) -> Verdict
+    requires { readers_at locks.now ≡ no_reads }
+{
+    let candidate = Candidate {
+        number: 1,
+        snapshot: 0,
+        reads,
+        changes,
+    };
+    judge(&[], &[], locks, &candidate)
+}
+
+/// Takes one of two off call.
+const STEP: &str = "A: UPDATE DUTY SET ONCALL = 0 WHERE ID = 1;";
+
+fn core(alloc: Global) -> Result<Core, Fail>
+    ensures { IfOk result (λ core. core.prepared ≡ None) }
+{
+    let text = format!(in alloc; "{TABLES}{COVER}{SEVEN}")?;
+    let definitions = parse_schema(alloc, text.as_bytes())?;
+    let loaded = admit(alloc, definitions.as_slice())?;
+    let core = Core::new(alloc, 10, loaded)?;
+    Ok(core)
+}
+
+/// A transaction that has run this event.
+fn run(core: &mut Core, event: &Event) -> Result<Txn, Fail>
+    requires { core.old.prepared ≡ None }
+    ensures live { IfOk result (λ txn. IsLive core.new txn) }
+    ensures idle { OnOk result (core.new.prepared ≡ None) }
+{
+    let Event::Run(statement) = event else {
+        return Err(Fail::from("no statement"));
+    };
+    let mut txn = core.begin()?;
+    match txn.execute(statement) {
+        Ok(reply) => {
+            let_go(reply);
+            Ok(txn)
+        }
+        Err(refusal) => {
+            let_go(txn.abandon());
+            Err(Fail::from(refusal))
+        }
+    }
+}
+
+fn close(txn: Txn) -> Result<Closed, Fail>
+    ensures { IfOk result (λ closed. closed ≡ txn) }
+{
+    match txn.close_check() {
+        Ok(closed) => Ok(closed),
+        Err(Unclosed { refusal, txn }) => {
+            let_go(txn.abandon());
+            Err(Fail::from(refusal))
+        }
+    }
+}
+
+/// Prepares the commit of a transaction that runs these steps.
+fn prepare(core: &mut Core, steps: &[Step]) -> Result<(), Fail>
+    requires { core.old.prepared ≡ None }
+{
+    let step = steps.first().ok_or("no step")?;
+    let closed = close(run(core, &step.event)?)?;
+    match core.prepare(&step.session, closed) {
+        Ok(_number) => Ok(()),
+        Err(fault) => Err(unprepared(fault)),
+    }
+}
+
+fn unprepared(fault: Uncommitted) -> Fail {
+    let Uncommitted { refusal, txn } = fault;
+    if let Some(txn) = txn {
+        let_go(txn.abandon());
+    }
+    Fail::from(refusal)
+}
+
+#[test]
+fn a_commit_is_made(rt: HostRuntime) -> Result<(), Fail> {
+    let cover = Text::from_str(rt.alloc(), "COVER")?;
+    let steps = steps_of(rt.alloc(), STEP)?;
+    let mut core = core(rt.alloc())?;
+    prepare(&mut core, steps.as_slice())?;
+    assert!(rt; end_memory(rt.alloc()));
+    assert!(rt; core.prepared().is_some());
+    core.finish();
+    assert_eq!(rt; core.records().len(), 1);
+    assert!(rt; core.serial_order() == [1].as_slice());
+    assert_eq!(rt; core.verdict(&cover), Some(Truth::True));
+    assert_eq!(rt; core.locks(), 0);
+    ask_in_vain(rt.alloc());
+    Ok(())
+}
+
+#[test]
+fn a_commit_is_given_up(rt: HostRuntime) -> Result<(), Fail> {
+    let cover = Text::from_str(rt.alloc(), "COVER")?;
+    let steps = steps_of(rt.alloc(), STEP)?;
+    let mut core = core(rt.alloc())?;
+    prepare(&mut core, steps.as_slice())?;
+    assert!(rt; end_memory(rt.alloc()));
+    match core.cancel() {
+        Some(closed) => reopens(&rt, closed, &cover),
+        None => assert!(rt; false, "nothing was prepared"),
+    }
+    assert!(rt; core.records().is_empty() && core.refused().is_empty());
+    assert_eq!(rt; core.locks(), 0);
+    ask_in_vain(rt.alloc());
+    Ok(())
+}
+
+fn reopens<R: Abort>(rt: &R, closed: Closed, cover: &Text) {
+    assert_eq!(rt; closed.changes().len(), 1);
+    assert!(rt; closed.refused().is_none() && !closed.reads().is_empty());
+    let txn = closed.reopen();
+    assert_eq!(rt; txn.verdict(cover), Some(Truth::True));
+    assert_eq!(rt; (txn.ticket(), txn.snapshot()), (0, 0));
+    assert_eq!(rt; txn.trace().len(), 1);
+    assert!(rt; !txn.reads().is_empty());
+    let_go(txn.abandon());
+}
+
+/// Rolled back before it was closed.
+#[test]
+fn a_transaction_ends(rt: HostRuntime) -> Result<(), Fail> {
+    let steps = steps_of(rt.alloc(), STEP)?;
+    let step = steps.as_slice().first().ok_or("no step")?;
+    let mut core = core(rt.alloc())?;
+    let txn = run(&mut core, &step.event)?;
+    assert!(rt; end_memory(rt.alloc()));
+    assert!(rt; core.holds(txn.ticket(), txn.snapshot()));
+    core.end(txn);
+    assert!(rt; !core.holds(0, 0));
+    ask_in_vain(rt.alloc());
+    Ok(())
+}
