@@ -118,7 +118,10 @@ fn show_rows(rows: &Rows, text: &mut String) -> Result<(), Fail> {
 pub fn show_core(core: &Core, text: &mut String) -> Result<(), Fail> {
     let (records, order, refused) = (core.records(), core.serial_order(), core.refused());
     let (locks, is_prepared) = (core.locks(), core.prepared().is_some());
-    write!(text, "{records:?} {order:?} {refused:?} {locks} {is_prepared}\n")?;
+    write!(
+        text,
+        "{records:?} {order:?} {refused:?} {locks} {is_prepared}\n"
+    )?;
     show_view(core.loaded(), text)?;
     show_view(core.newest(), text)
 }

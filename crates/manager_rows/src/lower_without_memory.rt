@@ -56,7 +56,10 @@ fn small_row(alloc: Global) -> Result<Row, Refusal>
 }
 
 fn compares<R: Abort>(rt: &R, name: &Value) {
-    assert_eq!(rt; compare(&Value::Int(1), &Value::Int(2)), Some(Ordering::Less));
+    assert_eq!(rt;
+        compare(&Value::Int(1), &Value::Int(2)),
+        Some(Ordering::Less)
+    );
     assert_eq!(rt; compare(name, &Value::Null), None);
     assert_eq!(rt; order(name, name), Ordering::Equal);
     assert_eq!(rt; Truth::Unknown.and(Truth::False), Truth::False);
@@ -188,7 +191,10 @@ fn judgment(rt: HostRuntime) -> Result<(), Fail> {
     let (reads, changes) = ([row_key(7)], [insertion(rt.alloc(), 7)?]);
     let locks = LockTable::new(rt.alloc());
     assert!(rt; end_memory(rt.alloc()));
-    assert_eq!(rt; judged(&locks, &reads, &changes), Verdict::Fine { place: 1 });
+    assert_eq!(rt;
+        judged(&locks, &reads, &changes),
+        Verdict::Fine { place: 1 }
+    );
     assert!(rt; touch_any(&changes, &reads) && share_row(&changes, &changes));
     assert!(rt; touches(&changes[0], &LockKey::Table(0)));
     ask_in_vain(rt.alloc());
