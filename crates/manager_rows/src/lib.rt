@@ -5,6 +5,10 @@
 //! run here: what they print was taken from elsewhere, the manager's verdicts are those of the commits that it leaves,
 //! and each receipt that it gave or showed is found in its history. They stand in a crate of their own, since they need
 //! the parser and the report, and `session` is then proved once.
+//!
+//! So do the tests that `tools/refused_growth.py` runs with allocations refused: each call that finds no memory is made
+//! once more, and all that can be seen before it and after it is compared as text (`again`); and the calls that take no
+//! memory answer where every allocation is refused (`without_memory`, `lower_without_memory`).
 #![tactic(auto)]
 
 #[cfg(test)]
