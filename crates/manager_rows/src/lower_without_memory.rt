@@ -2,7 +2,9 @@
 
 ghost use Rattle.std.specs.Prelude.{◌≡◌, [], IfOk, OnOk, None};
 ghost use Rattle.cond.specs.Bounds.{IsSmallRow};
-ghost use Rattle.siread.specs.Locks.{no_reads, readers_at};
+ghost use Rattle.cond.specs.Slots.{kinds_of};
+ghost use Rattle.siread.specs.Locks.{above, readers_at};
+ghost use Rattle.conflict.specs.Readers.{reads_of};
 ghost use Rattle.commit.specs.Cores.{IsLive};
 
 use crate::driver::let_go;
@@ -34,7 +36,7 @@ use value::{Comparison, Refusal, Root, Text, Value, compare, order};
 fn values(rt: HostRuntime) -> Result<(), Fail> {
     let row = small_row(rt.alloc())?;
     let name = Value::Text(Text::from_str(rt.alloc(), "KIM")?);
-    let slots = Slots::new(rt.alloc());
+    let slots = no_slots(rt.alloc());
     let condition = Cond::Compare(
         Comparison::AtMost,
         Expr::Column(0),
@@ -55,6 +57,12 @@ fn small_row(alloc: Global) -> Result<Row, Refusal>
     Ok(Row::new(vec![in alloc; Value::Int(7), Value::Null]?))
 }
 
+fn no_slots(alloc: Global) -> Slots
+    ensures { kinds_of result ≡ [] }
+{
+    Slots::new(alloc)
+}
+
 fn compares<R: Abort>(rt: &R, name: &Value) {
     assert_eq!(rt;
         compare(&Value::Int(1), &Value::Int(2)),
@@ -69,7 +77,7 @@ fn compares<R: Abort>(rt: &R, name: &Value) {
 
 fn truth_of(condition: &Cond, row: &Row, slots: &Slots) -> Option<Truth>
     requires row { IsSmallRow row.now }
-    requires slots { slots.now ≡ [] }
+    requires slots { kinds_of slots.now ≡ [] }
 {
     if is_bounded(condition, &[]) {
         Some(eval(condition, row, slots))
@@ -189,7 +197,7 @@ fn snapshots(rt: HostRuntime) -> Result<(), Fail> {
 #[test]
 fn judgment(rt: HostRuntime) -> Result<(), Fail> {
     let (reads, changes) = ([row_key(7)], [insertion(rt.alloc(), 7)?]);
-    let locks = LockTable::new(rt.alloc());
+    let locks = no_locks(rt.alloc());
     assert!(rt; end_memory(rt.alloc()));
     assert_eq!(rt;
         judged(&locks, &reads, &changes),
@@ -201,9 +209,15 @@ fn judgment(rt: HostRuntime) -> Result<(), Fail> {
     Ok(())
 }
 
+fn no_locks(alloc: Global) -> LockTable
+    ensures { readers_at result ≡ above 0 (reads_of []) }
+{
+    LockTable::new(alloc)
+}
+
 /// The verdict on the first that is to be committed.
 fn judged(locks: &LockTable, reads: &[LockKey], changes: &[Change]) -> Verdict
-    requires { readers_at locks.now ≡ no_reads }
+    requires { readers_at locks.now ≡ above 0 (reads_of []) }
 {
     let candidate = Candidate {
         number: 1,
