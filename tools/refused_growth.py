@@ -2,7 +2,7 @@
 """Refuses each allocation of the program in turn, and looks at what is answered.
 
     tools/refused_growth.py PROGRAM [NAME..]      all histories below, or those of these names
-    tools/refused_growth.py --tests PROGRAM       the tests of crates/manager_rows in TESTS, as `rt test` builds them there
+    tools/refused_growth.py --tests PROGRAM       TESTS, of crates/manager_rows, as `rt test` builds them there
     tools/refused_growth.py --without PROGRAM     of the same, the tests of the calls that take no memory
 
 A test of these passes, or ends with the words that there is no memory: each call that finds none is made once more.
