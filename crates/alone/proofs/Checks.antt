@@ -5,7 +5,7 @@ use Rattle.std.specs.Cmp.{IsTotalOrder}
 use Rattle.std.specs.Ordering.{is_gt, ordering_reverse}
 use Rattle.std.specs.declared.cmp.Ordering.{Ordering}
 use Rattle.std.specs.declared.cmp.Ordering.TheVariants.{Less, Equal, Greater}
-use Rattle.std.proofs.lemmas.Bool.{cases_Bool, both_ways}
+use Rattle.std.proofs.lemmas.Bool.{cases_Bool, both_ways, or_parts}
 use Rattle.std.proofs.lemmas.Map.Lookups.{CmpEqualImpliesEq}
 use Rattle.value.specs.declared.values.Root.{Root}
 use Rattle.value.specs.declared.refusals.Refusal.{Refusal}
@@ -55,6 +55,10 @@ none_in : (xs : List Root) → least root_cmp xs ≡ None → (r : Root) → has
 none_in [] h r = refl
 none_in (x ∷ xs) h r = cc
 
+pub none_first : (name : List ℕ) (o : Option Root) (rest : Option Refusal) → refusal_at name o rest ≡ None → (o ≡ None) × (rest ≡ None)
+none_first name None rest h = (refl, h)
+none_first name (Some root) rest h = let no : ⊥ = cc in absurd no
+
 module _ (layouts : List Layout) where
   abbrev pub Under : List LockKey → State → State → Type 0
   Under keys one other = AlikeUnder (row_in layouts) keys one other
@@ -69,10 +73,6 @@ module _ (layouts : List Layout) where
   abbrev pub AreQuiet : State → List Assertion → Type 0
   AreQuiet state assertions = Each (λ a. least_bad_of layouts a.form state ≡ None) assertions
 
-  none_first : (name : List ℕ) (o : Option Root) (rest : Option Refusal) → refusal_at name o rest ≡ None → (o ≡ None) × (rest ≡ None)
-  none_first name None rest h = (refl, h)
-  none_first name (Some root) rest h = let no : ⊥ = cc in absurd no
-
   pub quiet_from : (assertions : List Assertion) (state : State) → violation layouts assertions state ≡ None → AreQuiet state assertions
   quiet_from [] state h = tt
   quiet_from (a ∷ rest) state h =
@@ -84,15 +84,7 @@ module _ (layouts : List Layout) where
 
   -- a place at which a change between two states doesn't touch a key
   untouched : (key : LockKey) (place : Place) (old new : Option RowValues) → holds key place old || holds key place new ≡ false → seen key place old ≡ seen key place new
-  untouched key place old new h = ap (λ b. cond b old None) (first_off (holds key place old) (holds key place new) h) ∙ sym (ap (λ b. cond b new None) (second_off (holds key place old) (holds key place new) h))
-    where
-      first_off : (a b : Bool) → a || b ≡ false → a ≡ false
-      first_off true b h = cc
-      first_off false b h = refl
-
-      second_off : (a b : Bool) → a || b ≡ false → b ≡ false
-      second_off true b h = cc
-      second_off false b h = h
+  untouched key place old new h = ap (λ b. cond b old None) (or_parts (holds key place old) (holds key place new) h).0 ∙ sym (ap (λ b. cond b new None) (or_parts (holds key place old) (holds key place new) h).1)
 
   -- a root that is no candidate of the net change stays as it was
   pub others_stay : (form : Form) (before after : State) → IsState layouts before → IsState layouts after → (r : Root) → has root_cmp r (candidates_of (net_change layouts before after) form) ≡ false

@@ -1,9 +1,9 @@
 -- What a statement does to the rows: its changes are exact, may be put in, and are the same on states with the same rows under its
 -- key.
-use Rattle.std.proofs.Common.{◌≡◌, ◌<◌, ◌≤◌, ℕ, Bool, true, false, List, [], ◌∷◌, Option, Some, None, Ok, length, map, refl, sym, ap, ◌∙◌, subst, inl, inr, eq-eqb}
-use Rattle.std.specs.Prelude.{◌==◌, ◌||◌, slice_set}
+use Rattle.std.proofs.Common.{◌≡◌, ◌<◌, ◌≤◌, ℕ, false, List, [], ◌∷◌, Option, Some, None, Ok, length, map, refl, sym, ap, ◌∙◌, subst, inl, inr, eq-eqb}
+use Rattle.std.specs.Prelude.{◌==◌, slice_set}
 use Rattle.std.specs.Ordering.{ordering_reverse}
-use Rattle.std.proofs.lemmas.Bool.{both_ways, cases_lt}
+use Rattle.std.proofs.lemmas.Bool.{both_ways, cases_lt, or_parts}
 use Rattle.std.proofs.lemmas.List.{get_or-set_other}
 use Rattle.std.proofs.Math.Seq.{set_out}
 use Rattle.std.proofs.lemmas.Cmp.{tied_itself}
@@ -47,15 +47,11 @@ each_map : {X Y : Type 0} (P : X → Type 0) (Q : Y → Type 0) (f : X → Y) �
 each_map P Q f h [] each = tt
 each_map P Q f h (x ∷ xs) each = (h x each.0, each_map P Q f h xs each.1)
 
-either_off : (a b : Bool) → a || b ≡ false → (a ≡ false) × (b ≡ false)
-either_off true b h = let no : ⊥ = cc in absurd no
-either_off false b h = (refl, h)
-
 -- the key stays where it is given no value
 updated_key : (key : ℕ) (sets : List Setting) (old row : RowValues) → sets_key key sets ≡ false → value_in key (updated sets old row) ≡ value_in key row
 updated_key key [] old row h = refl
 updated_key key (s ∷ rest) old row h =
-    let off = either_off (s.column == key) (sets_key key rest) h in
+    let off = or_parts (s.column == key) (sets_key key rest) h in
     updated_key key rest old (slice_set row s.column (given_value old s.value)) off.1
     ∙ get_or-set_other row s.column key (given_value old s.value) Null (λ e. both_ways (s.column == key) off.0 (eq-eqb s.column key (sym e)))
 
@@ -65,8 +61,8 @@ module _ (layouts : List Layout) where
   Stands state table row = (row_in layouts state (record { table = table; key = value_in (key_of table layouts) row }) ≡ Some row) × (table < length layouts)
 
   -- the rows that a condition keeps
-  pub found_stand : (state : State) → IsState layouts state → (table : ℕ) (kept : Cond) → Each (Stands state table) (found_rows state table kept)
-  found_stand state fit table kept = each_filter (Stands state table) (λ row. keeps row [] kept) (rows_of table state) (elim (cases_lt table (length layouts)) [
+  pub found_stand : (state : State) → IsState layouts state → (table : ℕ) (restriction : Cond) → Each (Stands state table) (found_rows state table restriction)
+  found_stand state fit table restriction = each_filter (Stands state table) (λ row. keeps row [] restriction) (rows_of table state) (elim (cases_lt table (length layouts)) [
     | inl there ↦ each_weaker (λ r. row_at (key_of table layouts) (value_in (key_of table layouts) r) (rows_of table state) ≡ Some r) (Stands state table) (λ r h. (h, there)) (rows_of table state)
         (rows_stand (key_of table layouts) (rows_of table state) (fit.ordered table))
     | inr out ↦ subst (Each (Stands state table)) (sym (empty state table (subst (λ n. n ≤ table) (sym fit.long) out))) tt
@@ -78,18 +74,18 @@ module _ (layouts : List Layout) where
     pub puts : Each (IsPut layouts) effect.changes
 
   -- DELETE
-  pub delete_doable : (state : State) → IsState layouts state → (table : ℕ) (kept : Cond) → IsDoable (delete_effect table (key_of table layouts) (found_rows state table kept)) state
-  delete_doable state fit table kept = record {
-    exact = each_map (Stands state table) (λ c. row_in layouts state (place_of c) ≡ c.old) (removal table (key_of table layouts)) (λ r h. h.0) (found_rows state table kept) (found_stand state fit table kept);
-    puts = each_map (Stands state table) (IsPut layouts) (removal table (key_of table layouts)) (λ r h. record { table_in = h.1; keyed = tt }) (found_rows state table kept) (found_stand state fit table kept);
+  pub delete_doable : (state : State) → IsState layouts state → (table : ℕ) (restriction : Cond) → IsDoable (delete_effect table (key_of table layouts) (found_rows state table restriction)) state
+  delete_doable state fit table restriction = record {
+    exact = each_map (Stands state table) (λ c. row_in layouts state (place_of c) ≡ c.old) (removal table (key_of table layouts)) (λ r h. h.0) (found_rows state table restriction) (found_stand state fit table restriction);
+    puts = each_map (Stands state table) (IsPut layouts) (removal table (key_of table layouts)) (λ r h. record { table_in = h.1; keyed = tt }) (found_rows state table restriction) (found_stand state fit table restriction);
   }
 
   -- UPDATE
-  pub update_doable : (state : State) → IsState layouts state → (table : ℕ) (sets : List Setting) (kept : Cond) → sets_key (key_of table layouts) sets ≡ false
-      → IsDoable (record { reply = Updated (length (found_rows state table kept)); changes = map (renewal table (key_of table layouts) sets) (found_rows state table kept) }) state
-  update_doable state fit table sets kept leaves = record {
-    exact = each_map (Stands state table) (λ c. row_in layouts state (place_of c) ≡ c.old) (renewal table (key_of table layouts) sets) (λ r h. h.0) (found_rows state table kept) (found_stand state fit table kept);
-    puts = each_map (Stands state table) (IsPut layouts) (renewal table (key_of table layouts) sets) (λ r h. record { table_in = h.1; keyed = updated_key (key_of table layouts) sets r r leaves }) (found_rows state table kept) (found_stand state fit table kept);
+  pub update_doable : (state : State) → IsState layouts state → (table : ℕ) (sets : List Setting) (restriction : Cond) → sets_key (key_of table layouts) sets ≡ false
+      → IsDoable (record { reply = Updated (length (found_rows state table restriction)); changes = map (renewal table (key_of table layouts) sets) (found_rows state table restriction) }) state
+  update_doable state fit table sets restriction leaves = record {
+    exact = each_map (Stands state table) (λ c. row_in layouts state (place_of c) ≡ c.old) (renewal table (key_of table layouts) sets) (λ r h. h.0) (found_rows state table restriction) (found_stand state fit table restriction);
+    puts = each_map (Stands state table) (IsPut layouts) (renewal table (key_of table layouts) sets) (λ r h. record { table_in = h.1; keyed = updated_key (key_of table layouts) sets r r leaves }) (found_rows state table restriction) (found_stand state fit table restriction);
   }
 
   -- INSERT into a table that there is

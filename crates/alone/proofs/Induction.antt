@@ -176,31 +176,31 @@ module _ (declared : Declared) (s o : State) (sound : IsSound declared s) (sound
     is_ok None e f h = cc
     is_ok (Some fault) e f h = cc
 
-    update_same : (table : ℕ) (sets : List Setting) (kept : Cond) → sets_key (key_of table lays) sets ≡ false
-        → Under lays (effected declared at_u (where_key table (key_of table lays) kept) (update_effect (columns_of table lays) table (key_of table lays) sets (found_rows u table kept))).reads s o
-        → AreSame (effected declared at_u (where_key table (key_of table lays) kept) (update_effect (columns_of table lays) table (key_of table lays) sets (found_rows u table kept)))
-        (effected declared at_v (where_key table (key_of table lays) kept) (update_effect (columns_of table lays) table (key_of table lays) sets (found_rows v table kept)))
-    update_same table sets kept leaves under =
-        let does : State → Effect = λ w. record { reply = Updated (length (found_rows w table kept)); changes = map (renewal table (key_of table lays) sets) (found_rows w table kept) } in
-        effects_same (where_key table (key_of table lays) kept)
-        (update_effect (columns_of table lays) table (key_of table lays) sets (found_rows u table kept)) (update_effect (columns_of table lays) table (key_of table lays) sets (found_rows v table kept))
-        (λ h. ap (update_effect (columns_of table lays) table (key_of table lays) sets) (found_same lays u v t.fit.ordered t.fit'.ordered table kept h))
+    update_same : (table : ℕ) (sets : List Setting) (restriction : Cond) → sets_key (key_of table lays) sets ≡ false
+        → Under lays (effected declared at_u (where_key table (key_of table lays) restriction) (update_effect (columns_of table lays) table (key_of table lays) sets (found_rows u table restriction))).reads s o
+        → AreSame (effected declared at_u (where_key table (key_of table lays) restriction) (update_effect (columns_of table lays) table (key_of table lays) sets (found_rows u table restriction)))
+        (effected declared at_v (where_key table (key_of table lays) restriction) (update_effect (columns_of table lays) table (key_of table lays) sets (found_rows v table restriction)))
+    update_same table sets restriction leaves under =
+        let does : State → Effect = λ w. record { reply = Updated (length (found_rows w table restriction)); changes = map (renewal table (key_of table lays) sets) (found_rows w table restriction) } in
+        effects_same (where_key table (key_of table lays) restriction)
+        (update_effect (columns_of table lays) table (key_of table lays) sets (found_rows u table restriction)) (update_effect (columns_of table lays) table (key_of table lays) sets (found_rows v table restriction))
+        (λ h. ap (update_effect (columns_of table lays) table (key_of table lays) sets) (found_same lays u v t.fit.ordered t.fit'.ordered table restriction h))
         (λ e h h'. doable_moves e
-        (subst (λ e. IsDoable lays e u) (is_ok (update_fault (columns_of table lays) sets (found_rows u table kept)) (does u) e h) (update_doable lays u t.fit table sets kept leaves))
-        (subst (λ e. IsDoable lays e v) (is_ok (update_fault (columns_of table lays) sets (found_rows v table kept)) (does v) e h') (update_doable lays v t.fit' table sets kept leaves)))
+        (subst (λ e. IsDoable lays e u) (is_ok (update_fault (columns_of table lays) sets (found_rows u table restriction)) (does u) e h) (update_doable lays u t.fit table sets restriction leaves))
+        (subst (λ e. IsDoable lays e v) (is_ok (update_fault (columns_of table lays) sets (found_rows v table restriction)) (does v) e h') (update_doable lays v t.fit' table sets restriction leaves)))
         under
 
-    delete_same : (table : ℕ) (kept : Cond)
-        → Under lays (effected declared at_u (where_key table (key_of table lays) kept) (Ok (delete_effect table (key_of table lays) (found_rows u table kept)))).reads s o
-        → AreSame (effected declared at_u (where_key table (key_of table lays) kept) (Ok (delete_effect table (key_of table lays) (found_rows u table kept))))
-        (effected declared at_v (where_key table (key_of table lays) kept) (Ok (delete_effect table (key_of table lays) (found_rows v table kept))))
-    delete_same table kept under =
-        let does : State → Effect = λ w. delete_effect table (key_of table lays) (found_rows w table kept) in
-        effects_same (where_key table (key_of table lays) kept) (Ok (does u)) (Ok (does v))
-        (λ h. ap (λ rows. Ok (delete_effect table (key_of table lays) rows)) (found_same lays u v t.fit.ordered t.fit'.ordered table kept h))
+    delete_same : (table : ℕ) (restriction : Cond)
+        → Under lays (effected declared at_u (where_key table (key_of table lays) restriction) (Ok (delete_effect table (key_of table lays) (found_rows u table restriction)))).reads s o
+        → AreSame (effected declared at_u (where_key table (key_of table lays) restriction) (Ok (delete_effect table (key_of table lays) (found_rows u table restriction))))
+        (effected declared at_v (where_key table (key_of table lays) restriction) (Ok (delete_effect table (key_of table lays) (found_rows v table restriction))))
+    delete_same table restriction under =
+        let does : State → Effect = λ w. delete_effect table (key_of table lays) (found_rows w table restriction) in
+        effects_same (where_key table (key_of table lays) restriction) (Ok (does u)) (Ok (does v))
+        (λ h. ap (λ rows. Ok (delete_effect table (key_of table lays) rows)) (found_same lays u v t.fit.ordered t.fit'.ordered table restriction h))
         (λ e h h'. doable_moves e
-        (subst (λ e. IsDoable lays e u) (is_ok None (does u) e h) (delete_doable lays u t.fit table kept))
-        (subst (λ e. IsDoable lays e v) (is_ok None (does v) e h') (delete_doable lays v t.fit' table kept)))
+        (subst (λ e. IsDoable lays e u) (is_ok None (does u) e h) (delete_doable lays u t.fit table restriction))
+        (subst (λ e. IsDoable lays e v) (is_ok None (does v) e h') (delete_doable lays v t.fit' table restriction)))
         under
 
     asked_same : (name : List ℕ) (a : Option Assertion) → Under lays (verdict_step declared a name at_u).reads s o → AreSame (verdict_step declared a name at_u) (verdict_step declared a name at_v)
@@ -255,19 +255,19 @@ module _ (declared : Declared) (s o : State) (sound : IsSound declared s) (sound
     statement_same (Update x) under = go (sets_key (key_of x.table lays) x.sets) refl under
       where
         step : Standing → Step
-        step now = effected declared now (where_key x.table (key_of x.table lays) x.kept) (update_effect (columns_of x.table lays) x.table (key_of x.table lays) x.sets (found_rows now.view x.table x.kept))
+        step now = effected declared now (where_key x.table (key_of x.table lays) x.filter) (update_effect (columns_of x.table lays) x.table (key_of x.table lays) x.sets (found_rows now.view x.table x.filter))
 
         fault : Refusal
         fault = KeyUpdate (key_name lays x.table)
 
         go : (b : Bool) → sets_key (key_of x.table lays) x.sets ≡ b → Under lays (unless_key b fault at_u (step at_u)).reads s o → AreSame (unless_key b fault at_u (step at_u)) (unless_key b fault at_v (step at_v))
         go true e under = same_refusal fault []
-        go false leaves under = update_same x.table x.sets x.kept leaves under
-    statement_same (Delete x) under = delete_same x.table x.kept under
+        go false leaves under = update_same x.table x.sets x.filter leaves under
+    statement_same (Delete x) under = delete_same x.table x.filter under
     statement_same (Select x) under =
-        let read : LockKey = where_key x.table (key_of x.table lays) x.kept in
+        let read : LockKey = where_key x.table (key_of x.table lays) x.filter in
         record {
-          reply = ap (λ rows. Ok (Rows (selected_rows x.columns rows))) (found_same lays u v t.fit.ordered t.fit'.ordered x.table x.kept (alike_under lays s o u v t.alike read (under read (in_head read []))));
+          reply = ap (λ rows. Ok (Rows (selected_rows x.columns rows))) (found_same lays u v t.fit.ordered t.fit'.ordered x.table x.filter (alike_under lays s o u v t.alike read (under read (in_head read []))));
           reads = refl;
           after = (refl, t);
         }

@@ -1,12 +1,12 @@
 -- Changes in the order of their places: two lists with the same members are one, so what has the differences of two states is
 -- their net change.
-use Rattle.std.proofs.Common.{◌≡◌, ◌<◌, ◌≤◌, ◌+◌, ℕ, zero, suc, Bool, true, false, cond, List, [], ◌∷◌, ◌++◌, ◌⊎◌, Option, Some, None, Ordering, Less, Equal, Greater, map, filter, length, refl, sym, ap, ◌∙◌, subst, inl, inr, not, nat_cmp, arith}
+use Rattle.std.proofs.Common.{◌≡◌, ◌<◌, ◌≤◌, ◌+◌, ℕ, zero, suc, true, false, cond, List, [], ◌∷◌, ◌++◌, ◌⊎◌, Option, Some, None, Ordering, Less, Equal, Greater, map, filter, length, refl, sym, ap, ◌∙◌, subst, inl, inr, not, nat_cmp, arith}
 use Rattle.std.specs.Prelude.{Contains, flat_map}
 use Rattle.std.specs.List.{range_with_len}
 use Rattle.std.specs.Ordering.{ordering_then, ordering_reverse}
 use Rattle.std.specs.Cmp.{IsTotalOrder, nat_cmp_is, nat_cmp_total, then_total, on_total}
 use Rattle.std.specs.FinMap.{nat_cmp-IsAntisymmetric}
-use Rattle.std.proofs.lemmas.Bool.{cases_Bool}
+use Rattle.std.proofs.lemmas.Bool.{cases_Bool, not-false}
 use Rattle.std.proofs.lemmas.Cmp.{tied_itself}
 use Rattle.std.proofs.lemmas.Map.Lookups.{CmpEqualImpliesEq}
 use Rattle.value.specs.declared.values.Value.{Value}
@@ -26,7 +26,7 @@ use Rattle.alone.specs.Statements.{Effect, found_rows}
 use Rattle.alone.proofs.Effects.{IsDoable}
 use Rattle.siread.proofs.Members.{in_head, in_tail, in_cases, not_in_nil}
 use Rattle.alone.proofs.Lists.{Each, each_at, each_from}
-use Rattle.alone.proofs.Members.{from_map, in_filter, from_filter, from_flat}
+use Rattle.alone.proofs.Members.{from_map, in_filter, from_filter, from_flat, filter_passes}
 use Rattle.alone.proofs.InOrder.{same_list, IsAscending-filter, at-key}
 use Rattle.siread.proofs.KeyOrder.{same_place-true}
 use Rattle.alone.proofs.Stores.{same_there-true, same_there-refl, changed, Found, change_at_cases, listed_at, row_in-after, row_in-put, after_fits, all_fit}
@@ -88,13 +88,6 @@ module _ {X K : Type 0} {R : K → K → Ordering} (o : IsTotalOrder R) (exact :
       above_both [] a = each_above (key x) ys (λ y n. h x y (in_head x xs) n)
       above_both (z ∷ zs) a = (a.0, above_both zs a.1)
 
-passing : {X : Type 0} (p : X → Bool) (xs : List X) (x : X) → Contains (filter p xs) x → p x ≡ true
-passing p [] x m = absurd (not_in_nil x m)
-passing p (y ∷ ys) x m = elim (cases_Bool (p y)) [
-  | inl on ↦ (elim (in_cases y (filter p ys) x (subst (λ b. Contains (cond b (y ∷ filter p ys) (filter p ys)) x) on m)) [ inl same ↦ ap p (sym same) ∙ on | inr there ↦ passing p ys x there ])
-  | inr off ↦ passing p ys x (subst (λ b. Contains (cond b (y ∷ filter p ys) (filter p ys)) x) off m)
-]
-
 same_nat : (n : ℕ) → nat_cmp n n ≡ Equal
 same_nat n = tied_itself nat_cmp_total n
 
@@ -121,12 +114,12 @@ map_ascend R f key (x ∷ xs) s = (map_above R f key (key (f x)) xs s.0, map_asc
 
 module _ (layouts : List Layout) where
   -- the changes of a DELETE or an UPDATE are in order
-  pub found_in_order : (state : State) → IsOrdered layouts state → (table : ℕ) (kept : Cond) (f : RowValues → Change) → ((row : RowValues) → place_of (f row) ≡ record { table = table; key = value_in (key_of table layouts) row })
-      → AreInOrder (map f (found_rows state table kept))
-  found_in_order state asc table kept f own =
-      map_ascend place_cmp f place_of (found_rows state table kept)
-      (by_place table (value_in (key_of table layouts)) (λ row. place_of (f row)) own (found_rows state table kept)
-      (IsAscending-filter value_cmp_total (value_in (key_of table layouts)) (λ row. keeps row [] kept) (rows_of table state) (asc table)))
+  pub found_in_order : (state : State) → IsOrdered layouts state → (table : ℕ) (restriction : Cond) (f : RowValues → Change) → ((row : RowValues) → place_of (f row) ≡ record { table = table; key = value_in (key_of table layouts) row })
+      → AreInOrder (map f (found_rows state table restriction))
+  found_in_order state asc table restriction f own =
+      map_ascend place_cmp f place_of (found_rows state table restriction)
+      (by_place table (value_in (key_of table layouts)) (λ row. place_of (f row)) own (found_rows state table restriction)
+      (IsAscending-filter value_cmp_total (value_in (key_of table layouts)) (λ row. keeps row [] restriction) (rows_of table state) (asc table)))
 
   module _ (s u : State) where
     of_table : (table : ℕ) (change : Change) → Contains (table_changes layouts s u table) change → change.table ≡ table
@@ -173,7 +166,7 @@ module _ (layouts : List Layout) where
     unfolding net_change
     net_real change m =
         let found = from_flat (table_changes layouts s u) (range_with_len 0 (length layouts)) change m in
-        passing is_real (map (λ k. change_between layouts s u (record { table = found.0; key = k })) (keys_of_both layouts s u found.0)) change found.1.1
+        filter_passes is_real (map (λ k. change_between layouts s u (record { table = found.0; key = k })) (keys_of_both layouts s u found.0)) change found.1.1
 
     -- what has the rows in which two states differ is their net change
     pub net_only : IsState layouts s → IsState layouts u → (changes : List Change) → AreDifferences layouts changes s u → changes ≡ net_change layouts s u
@@ -222,7 +215,7 @@ module _ (layouts : List Layout) where
     net_is_real = net_only state left fit (all_fit layouts changes state fit all_put) (filter is_real changes) (record {
       in_order = IsAscending-filter place_cmp_total place_of is_real changes due.in_order;
       exact = λ c m. due_exact c (from_filter is_real changes c m);
-      real = λ c m. passing is_real changes c m;
+      real = λ c m. filter_passes is_real changes c m;
       all = λ place. elim (change_at_cases changes place) [
         | inl none ↦ inl (sym (row_in-put layouts changes state place fit all_put ∙ ap (λ o. changed o (row_in layouts state place)) none))
         | inr found ↦ at_found place found.0 found.1 (cases_Bool (is_real found.0))
@@ -234,12 +227,8 @@ module _ (layouts : List Layout) where
         at_found place c found (inl real) =
             inr (subst (Contains (filter is_real changes)) (due_exact c found.listed ∙ ap (change_between layouts state left) found.there) (in_filter is_real changes c real found.listed))
         at_found place c found (inr still) =
-            let same : c.old ≡ c.new = same_there-true c.old c.new (unreal (same_there c.old c.new) still) in
+            let same : c.old ≡ c.new = same_there-true c.old c.new (not-false (same_there c.old c.new) still) in
             inl (ap (row_in layouts state) (sym found.there) ∙ due.exact c found.listed ∙ same ∙ sym (left_new c found.listed) ∙ ap (row_in layouts left) found.there)
-          where
-            unreal : (b : Bool) → not b ≡ false → b ≡ true
-            unreal true h = refl
-            unreal false h = cc
 
   -- one after the other, each is a change of the state that those before it leave
   pub due_changes : (state : State) → IsState layouts state → (changes : List Change) → AreDue layouts changes state → AreChangesOf layouts changes state

@@ -1,5 +1,5 @@
 -- Small transactions, computed by the definitions. A condition doesn't compute here, since its fold opens in its own crate alone.
-use Rattle.std.proofs.Common.{◌≡◌, ℕ, pos, true, false, [], ◌∷◌, Some, None, Ok, Err, refl}
+use Rattle.std.proofs.Common.{◌≡◌, ℕ, pos, true, [], ◌∷◌, Some, None, Ok, Err, refl}
 use Rattle.value.specs.declared.values.Value.TheVariants.{Int}
 use Rattle.value.specs.declared.values.ColType.TheVariants.{Integer}
 use Rattle.value.specs.declared.refusals.Refusal.TheVariants.{DuplicateKey, OutsideClass}
@@ -16,7 +16,7 @@ use Rattle.alone.specs.Alone.{transaction, transaction_keys}
 
 -- accounts: an id, an owner and a balance
 abbrev column_named : ℕ → Column
-column_named letter = record { name = letter ∷ []; kind = Integer; nullable = true; is_key = false }
+column_named letter = record { name = letter ∷ []; kind = Integer; nullable = true }
 
 abbrev accounts : Tables
 accounts = (65 ∷ [], record { columns = column_named 73 ∷ column_named 79 ∷ column_named 66 ∷ []; key = 0 }) ∷ []

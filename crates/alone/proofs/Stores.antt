@@ -4,6 +4,7 @@ use Rattle.std.proofs.Common.{◌≡◌, ◌≤◌, ◌<◌, ℕ, zero, suc, Boo
 use Rattle.std.specs.Prelude.{Contains, ◌==◌, ◌&&◌}
 use Rattle.std.proofs.lemmas.Bool.{cases_Bool, both_ways, and_parts, and_from}
 use Rattle.std.proofs.lemmas.List.{length-set}
+use Rattle.std.specs.Option.{option_or}
 use Rattle.value.specs.declared.values.Value.{Value}
 use Rattle.value.specs.ValueOrder.{value_cmp}
 use Rattle.value.specs.Ordered.{HasKey}
@@ -59,13 +60,9 @@ same_there-refl None = refl
 same_there-refl (Some row) = same_row-refl row
 
 -- the change that a list has for a place: the last one
-abbrev pub later : {X : Type 0} → Option X → Option X → Option X
-later None first = first
-later (Some x) first = Some x
-
 abbrev pub change_at : List Change → Place → Option Change
 change_at [] place = None
-change_at (change ∷ rest) place = later (change_at rest place) (cond (same_place (place_of change) place) (Some change) None)
+change_at (change ∷ rest) place = option_or (change_at rest place) (cond (same_place (place_of change) place) (Some change) None)
 
 -- what stands at a place after its change, if it has one
 abbrev pub changed : Option Change → Option RowValues → Option RowValues
@@ -81,9 +78,9 @@ pub record Found (changes : List Change) (place : Place) (change : Change) : Typ
 pub change_at_cases : (changes : List Change) (place : Place) → (change_at changes place ≡ None) ⊎ ((change : Change) × Found changes place change)
 change_at_cases [] place = inl refl
 change_at_cases (c ∷ rest) place = elim (change_at_cases rest place) [
-  | inr found ↦ inr (found.0, record { is = ap (λ o. later o (cond (same_place (place_of c) place) (Some c) None)) found.1.is; listed = in_tail c rest found.0 found.1.listed; there = found.1.there })
+  | inr found ↦ inr (found.0, record { is = ap (λ o. option_or o (cond (same_place (place_of c) place) (Some c) None)) found.1.is; listed = in_tail c rest found.0 found.1.listed; there = found.1.there })
   | inl none ↦
-      let step : change_at (c ∷ rest) place ≡ cond (same_place (place_of c) place) (Some c) None = ap (λ o. later o (cond (same_place (place_of c) place) (Some c) None)) none in
+      let step : change_at (c ∷ rest) place ≡ cond (same_place (place_of c) place) (Some c) None = ap (λ o. option_or o (cond (same_place (place_of c) place) (Some c) None)) none in
       elim (cases_Bool (same_place (place_of c) place)) [
         | inl same ↦ inr (c, record { is = step ∙ ap (λ b. cond b (Some c) None) same; listed = in_head c rest; there = same_place-true _ _ same })
         | inr other ↦ inl (step ∙ ap (λ b. cond b (Some c) None) other)
@@ -98,11 +95,11 @@ listed_at (c ∷ rest) place change m e h = elim (in_cases c rest change m) [
   | inr there ↦ listed_at rest place change there e (both_none (change_at rest place) (cond (same_place (place_of c) place) (Some c) None) h)
 ]
   where
-    mine : (o : Option Change) → same_place (place_of c) place ≡ true → later o (cond (same_place (place_of c) place) (Some c) None) ≡ None → ⊥
+    mine : (o : Option Change) → same_place (place_of c) place ≡ true → option_or o (cond (same_place (place_of c) place) (Some c) None) ≡ None → ⊥
     mine None same h = let e : Some c ≡ None = sym (ap (λ b. cond b (Some c) None) same) ∙ h in cc
     mine (Some d) same h = cc
 
-    both_none : (o p : Option Change) → later o p ≡ None → o ≡ None
+    both_none : (o p : Option Change) → option_or o p ≡ None → o ≡ None
     both_none None p h = refl
     both_none (Some d) p h = cc
 
@@ -173,7 +170,7 @@ module _ (layouts : List Layout) where
       ∙ ap (changed (change_at rest place)) (row_in-after state fit c puts.0 place)
       ∙ go (change_at rest place) (same_place (place_of c) place)
     where
-      go : (o : Option Change) (b : Bool) → changed o (cond b c.new (row_in layouts state place)) ≡ changed (later o (cond b (Some c) None)) (row_in layouts state place)
+      go : (o : Option Change) (b : Bool) → changed o (cond b c.new (row_in layouts state place)) ≡ changed (option_or o (cond b (Some c) None)) (row_in layouts state place)
       go None true = refl
       go None false = refl
       go (Some d) b = refl
@@ -192,10 +189,10 @@ module _ (layouts : List Layout) where
     one_same place h = sym (row_seen place (row_in layouts one place)) ∙ h place ∙ row_seen place (row_in layouts other place)
 
     -- what a filter keeps whose rows are all under the key
-    pub kept_same : (table : ℕ) (key : LockKey) (p : RowValues → Bool)
+    pub filtered_same : (table : ℕ) (key : LockKey) (p : RowValues → Bool)
         → ((row : RowValues) → p row ≡ true → is_under key (record { table = table; key = value_in (key_of table layouts) row }) row ≡ true)
         → SameUnder (row_in layouts) key one other → filter p (rows_of table one) ≡ filter p (rows_of table other)
-    kept_same table key p under h =
+    filtered_same table key p under h =
         filter_same value_cmp_total (value_in (key_of table layouts)) p (rows_of table one) (rows_of table other) (f table) (g table)
         (λ k. only_seen k (row_at (key_of table layouts) k (rows_of table one)) (λ row e. at_own table k (rows_of table one) row e)
         ∙ ap (only p) (h (record { table = table; key = k }))

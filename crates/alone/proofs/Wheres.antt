@@ -3,6 +3,7 @@ use Rattle.std.proofs.Common.{◌≡◌, ℕ, Bool, true, false, cond, List, [],
 use Rattle.std.specs.Prelude.{◌==◌}
 use Rattle.std.specs.Cmp.Lexicographic.{slice_cmp}
 use Rattle.std.proofs.lemmas.Bool.{cases_Bool, and_from}
+use Rattle.std.specs.Option.{option_or}
 use Rattle.value.specs.declared.values.Value.{Value}
 use Rattle.value.specs.declared.values.Value.TheVariants as value
 use Rattle.value.specs.declared.comparisons.Comparison.{Comparison}
@@ -27,19 +28,16 @@ use Rattle.assertion.specs.Meaning.{State, key_of}
 use Rattle.assertion.specs.Roots.{IsOrdered}
 use Rattle.siread.specs.Keys.{is_under, SameUnder, same_value}
 use Rattle.alone.specs.States.{row_in}
-use Rattle.alone.specs.Reads.{parts_in, top_parts, Equality, sides, equal_sides, equality_in, is_on, first_of, first_equality, first_on, key_from, where_key}
+use Rattle.alone.specs.Reads.{parts_in, top_parts, Equality, sides, equal_sides, equality_in, is_on, first_equality, first_on, key_from, where_key}
 use Rattle.alone.specs.Statements.{found_rows}
 use Rattle.alone.proofs.Lists.{Each}
 use Rattle.siread.proofs.KeyOrder.{same_value-refl}
-use Rattle.alone.proofs.Stores.{kept_same}
+use Rattle.alone.proofs.Stores.{filtered_same}
 
 is_of-True : (t : Truth) → is_of t True ≡ true → t ≡ True
 is_of-True True h = refl
 is_of-True False h = cc
 is_of-True Unknown h = cc
-
-answer-out : (row : RowValues) (e : Expr) → answer row [] e ≡ answer row [] (roll-Expr (out-Expr e))
-answer-out row e = ap (answer row []) (sym (roll-out-Expr e))
 
 known-True : (b : Bool) → known b ≡ True → b ≡ true
 known-True true h = refl
@@ -158,10 +156,10 @@ module _ (row : RowValues) where
   first_equality_cases (part ∷ rest) h = go (equality_in (out-Cond part)) refl (first_equality_cases rest h.1)
     where
       go : (o : Option Equality) → equality_in (out-Cond part) ≡ o → (first_equality rest ≡ None) ⊎ ((equality : Equality) × ((first_equality rest ≡ Some equality) × Meets equality))
-          → (first_of (equality_in (out-Cond part)) (first_equality rest) ≡ None) ⊎ ((equality : Equality) × ((first_of (equality_in (out-Cond part)) (first_equality rest) ≡ Some equality) × Meets equality))
-      go None e (inl none) = inl (ap (λ o. first_of o (first_equality rest)) e ∙ none)
-      go None e (inr found) = inr (found.0, (ap (λ o. first_of o (first_equality rest)) e ∙ found.1.0, found.1.1))
-      go (Some equality) e more = inr (equality, (ap (λ o. first_of o (first_equality rest)) e, part_meets part equality e h.0))
+          → (option_or (equality_in (out-Cond part)) (first_equality rest) ≡ None) ⊎ ((equality : Equality) × ((option_or (equality_in (out-Cond part)) (first_equality rest) ≡ Some equality) × Meets equality))
+      go None e (inl none) = inl (ap (λ o. option_or o (first_equality rest)) e ∙ none)
+      go None e (inr found) = inr (found.0, (ap (λ o. option_or o (first_equality rest)) e ∙ found.1.0, found.1.1))
+      go (Some equality) e more = inr (equality, (ap (λ o. option_or o (first_equality rest)) e, part_meets part equality e h.0))
 
 -- a row that the condition keeps is under the condition's key, at its place
 pub where_under : (table key : ℕ) (condition : Cond) (row : RowValues) → keeps row [] condition ≡ true → is_under (where_key table key condition) (record { table = table; key = value_in key row }) row ≡ true
@@ -191,4 +189,4 @@ where_under table key condition row keep = go (first_on_cases row key (top_parts
 pub found_same : (layouts : List Layout) (one other : State) → IsOrdered layouts one → IsOrdered layouts other → (table : ℕ) (condition : Cond)
     → SameUnder (row_in layouts) (where_key table (key_of table layouts) condition) one other → found_rows one table condition ≡ found_rows other table condition
 found_same layouts one other f g table condition h =
-    kept_same layouts one other f g table (where_key table (key_of table layouts) condition) (λ row. keeps row [] condition) (λ row on. where_under table (key_of table layouts) condition row on) h
+    filtered_same layouts one other f g table (where_key table (key_of table layouts) condition) (λ row. keeps row [] condition) (λ row on. where_under table (key_of table layouts) condition row on) h

@@ -85,16 +85,16 @@ stepped declared start now (Insert new) =
 stepped declared start now (Update u) =
     unless_key (sets_key (key_of u.table (layouts_in declared)) u.sets)
     (KeyUpdate (key_name (layouts_in declared) u.table)) now
-    (effected declared now (where_key u.table (key_of u.table (layouts_in declared)) u.kept)
+    (effected declared now (where_key u.table (key_of u.table (layouts_in declared)) u.filter)
     (update_effect (columns_of u.table (layouts_in declared)) u.table (key_of u.table (layouts_in declared)) u.sets
-    (found_rows now.view u.table u.kept)))
+    (found_rows now.view u.table u.filter)))
 stepped declared start now (Delete d) =
-    effected declared now (where_key d.table (key_of d.table (layouts_in declared)) d.kept)
-    (Ok (delete_effect d.table (key_of d.table (layouts_in declared)) (found_rows now.view d.table d.kept)))
+    effected declared now (where_key d.table (key_of d.table (layouts_in declared)) d.filter)
+    (Ok (delete_effect d.table (key_of d.table (layouts_in declared)) (found_rows now.view d.table d.filter)))
 stepped declared start now (Select s) = record {
-  reply = Ok (Rows (selected_rows s.columns (found_rows now.view s.table s.kept)));
+  reply = Ok (Rows (selected_rows s.columns (found_rows now.view s.table s.filter)));
   after = now;
-  reads = where_key s.table (key_of s.table (layouts_in declared)) s.kept ∷ [];
+  reads = where_key s.table (key_of s.table (layouts_in declared)) s.filter ∷ [];
 }
 stepped declared start now (SetModes names mode) = modes_step declared start names (is_immediate mode) now
 stepped declared start now (Verdict name) = verdict_step declared (assertion_of name declared.assertions) name now

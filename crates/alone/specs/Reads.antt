@@ -1,5 +1,6 @@
 -- The key under which a condition reads a table.
 use Rattle.std.specs.Prelude.{ℕ, Bool, false, ◌==◌, List, [], ◌∷◌, Option, Some, None, if◌then◌else◌}
+use Rattle.std.specs.Option.{option_or}
 use Rattle.value.specs.declared.values.Value.{Value}
 use Rattle.value.specs.declared.comparisons.Comparison.{Comparison}
 use Rattle.value.specs.declared.comparisons.Comparison.TheVariants.{Equal}
@@ -42,15 +43,10 @@ abbrev pub is_on : ℕ → Option Equality → Bool
 is_on column None = false
 is_on column (Some equality) = equality.column == column
 
--- the first of two, if there is one
-abbrev pub first_of : {X : Type 0} → Option X → Option X → Option X
-first_of None other = other
-first_of (Some x) other = Some x
-
 -- the first equality of the parts, and the first on a column
 abbrev pub first_equality : List Cond → Option Equality
 first_equality [] = None
-first_equality (part ∷ rest) = first_of (equality_in (out-Cond part)) (first_equality rest)
+first_equality (part ∷ rest) = option_or (equality_in (out-Cond part)) (first_equality rest)
 
 abbrev pub first_on : ℕ → List Cond → Option Equality
 first_on column [] = None

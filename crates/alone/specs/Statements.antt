@@ -1,6 +1,7 @@
 -- Statements with their names found, and what each does alone to the rows of a state.
-use Rattle.std.specs.Prelude.{ℕ, Bool, true, false, ◌==◌, List, [], ◌∷◌, length, map, Option, Some, None, Result, Ok, Err, slice_get, slice_index_or, slice_set, if◌then◌else◌}
+use Rattle.std.specs.Prelude.{ℕ, Bool, true, ◌==◌, List, [], ◌∷◌, length, map, Option, Some, None, Result, Ok, Err, slice_get, slice_index_or, slice_set, if◌then◌else◌}
 use Rattle.std.specs.List.{list_any}
+use Rattle.std.specs.Option.{option_or}
 use Rattle.value.specs.declared.values.Value.{Value}
 use Rattle.value.specs.declared.values.Value.TheVariants.{Null}
 use Rattle.value.specs.declared.values.ColType.TheVariants.{Integer}
@@ -9,11 +10,11 @@ use Rattle.value.specs.declared.refusals.Refusal.TheVariants.{DuplicateKey, Type
 use Rattle.table.specs.declared.schemas.Column.{Column}
 use Rattle.table.specs.declared.rows.Change.{Change}
 use Rattle.table.specs.Rows.{RowValues, Layout, Tables, value_in, layouts_of, names_of}
-use Rattle.table.specs.Faults.{fault_in, first_of, is_typed, row_refusal}
+use Rattle.table.specs.Faults.{fault_in, is_typed, row_refusal}
 use Rattle.cond.specs.declared.exprs.Expr.{Expr}
 use Rattle.cond.specs.declared.conds.Cond.{Cond}
 use Rattle.cond.specs.Eval.{answer}
-use Rattle.assertion.specs.Meaning.{State, rows_of, key_of, kept_rows}
+use Rattle.assertion.specs.Meaning.{State, rows_of, key_of, filtered_rows}
 use Rattle.assertcheck.specs.declared.inserts.NewRow.{NewRow}
 use Rattle.assertcheck.specs.declared.updates.Setting.{Setting}
 use Rattle.answer.specs.declared.answers.Reply.{Reply}
@@ -57,7 +58,7 @@ abbrev pub delete_effect : (table key : ℕ) → List RowValues → Effect
 delete_effect table key rows = record { reply = Deleted (length rows); changes = map (removal table key) rows }
 
 abbrev pub no_column : Column
-no_column = record { name = []; kind = Integer; nullable = true; is_key = false }
+no_column = record { name = []; kind = Integer; nullable = true }
 
 -- what a column gets: NULL, or an expression over the row as it was
 abbrev pub given_value : RowValues → Option Expr → Value
@@ -74,13 +75,13 @@ given_fault (Some column) v = if is_typed column.kind v then fault_in column v e
 abbrev pub settings_fault : List Column → List Setting → RowValues → Option Refusal
 settings_fault columns [] old = None
 settings_fault columns (setting ∷ rest) old =
-    first_of (given_fault (slice_get columns setting.column) (given_value old setting.value))
+    option_or (given_fault (slice_get columns setting.column) (given_value old setting.value))
     (settings_fault columns rest old)
 
 -- and of some rows, row by row
 abbrev pub update_fault : List Column → List Setting → List RowValues → Option Refusal
 update_fault columns sets [] = None
-update_fault columns sets (row ∷ rest) = first_of (settings_fault columns sets row) (update_fault columns sets rest)
+update_fault columns sets (row ∷ rest) = option_or (settings_fault columns sets row) (update_fault columns sets rest)
 
 -- the row with what it is given, each value evaluated on the row as it was
 abbrev pub updated : List Setting → RowValues → RowValues → RowValues
@@ -110,4 +111,4 @@ selected_rows columns rows = map (selected_values columns) rows
 
 -- the rows of a table that a condition keeps, in key order
 abbrev pub found_rows : State → ℕ → Cond → List RowValues
-found_rows state table kept = kept_rows kept (rows_of table state)
+found_rows state table restriction = filtered_rows restriction (rows_of table state)

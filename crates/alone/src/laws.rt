@@ -27,7 +27,7 @@ ghost use Rattle.alone.specs.Alone.{Standing, ran, followed, transaction, transa
 /// The net change between two states has each row in which they differ, with what stands there before and after, and
 /// put into the one it gives the other. A list in order that has these rows is the net change, and of changes that
 /// are put in one after the other it is those that don't set a row to what it held.
-pub fn net()
+pub fn net_change_is_what_differs()
     ensures all { (layouts : List Layout) (before after : State) → IsState layouts before → IsState layouts after
         → (place : Place) → (row_in layouts before place ≡ row_in layouts after place)
         ⊎ Contains (net_change layouts before after) (change_between layouts before after place) }
@@ -46,18 +46,19 @@ pub fn net()
 
 /// The changes of a DELETE and of an UPDATE that leaves the key stand in order, with the old rows that stand in the
 /// state, and changes of which that holds may be put in one after the other.
-pub fn changes()
-    ensures removals { (layouts : List Layout) (state : State) → IsState layouts state → (table : ℕ) (kept : Cond)
-        → AreDue layouts (delete_effect table (key_of table layouts) (found_rows state table kept)).changes state }
+pub fn changes_are_due()
+    ensures removals { (layouts : List Layout) (state : State) → IsState layouts state
+        → (table : ℕ) (restriction : Cond) → AreDue layouts
+        (delete_effect table (key_of table layouts) (found_rows state table restriction)).changes state }
     ensures renewals { (layouts : List Layout) (state : State) → IsState layouts state
-        → (table : ℕ) (sets : List Setting) (kept : Cond) → sets_key (key_of table layouts) sets ≡ false
-        → AreDue layouts (map (renewal table (key_of table layouts) sets) (found_rows state table kept)) state }
+        → (table : ℕ) (sets : List Setting) (restriction : Cond) → sets_key (key_of table layouts) sets ≡ false
+        → AreDue layouts (map (renewal table (key_of table layouts) sets) (found_rows state table restriction)) state }
     ensures one_by_one { (layouts : List Layout) (state : State) → IsState layouts state → (changes : List Change)
         → AreDue layouts changes state → AreChangesOf layouts changes state }
 {}
 
 /// A checked UPDATE gives the key no value.
-pub fn updates()
+pub fn updates_leave_the_key()
     ensures { (tables : Tables) (name : List ℕ) (sets : List Assignment) (condition : Option Condition)
         (update : Update) → update_of tables name sets condition ≡ Ok update
         → sets_key (key_of update.table (layouts_of tables)) update.sets ≡ false }
@@ -65,7 +66,7 @@ pub fn updates()
 
 /// Whether a root is bad depends on the rows under its keys alone, and one that is no candidate of the net change
 /// between two states is bad on the one exactly where it is on the other.
-pub fn roots()
+pub fn roots_depend_on_their_keys()
     ensures by_keys { (layouts : List Layout) (one other : State) → IsOrdered layouts one → IsOrdered layouts other
         → (form : Form) (root : Root) → AlikeUnder (row_in layouts) (keys_for form root) one other
         → is_bad_root layouts form one root ≡ is_bad_root layouts form other root }
@@ -75,14 +76,14 @@ pub fn roots()
 {}
 
 /// Statements one after the other may be run in two parts.
-pub fn runs()
+pub fn runs_are_joined()
     ensures { (declared : Declared) (start : State) (now : Standing) (first rest : List Resolved)
         → ran declared start now (first ++ rest)
         ≡ followed (ran declared start now first) (ran declared start (ran declared start now first).final rest) }
 {}
 
 /// A transaction whose COMMIT is accepted leaves a state on which no assertion is false.
-pub fn soundness()
+pub fn commits_are_sound()
     ensures { (declared : Declared) (trace : List Resolved) (state : State) → IsSound declared state
         → (transaction declared trace state).refused ≡ None
         → IsSound declared (state_after_all (layouts_in declared) (transaction declared trace state).changes state) }
@@ -91,7 +92,7 @@ pub fn soundness()
 /// The agreement law: on two states that make no assertion false and hold the same rows under each key that it reads
 /// on the one, a transaction answers the same, its refused statements and a refused COMMIT included, and it reads the
 /// same keys.
-pub fn agreement()
+pub fn transactions_agree()
     ensures same { (declared : Declared) (one other : State) → IsSound declared one → IsSound declared other
         → (trace : List Resolved)
         → AlikeUnder (row_in (layouts_in declared)) (transaction_keys declared trace one) one other

@@ -16,13 +16,16 @@
 //! - `specs/Resolve`: statements as they were written, with their names found.
 //!
 //! The laws are contracts of functions without parameters. The one that all of serializability rests on is
-//! [`agreement`]: on two states that make no assertion false and hold the same rows under each key that a transaction
-//! reads on the one, it answers the same and changes the same (in the theory of Cahill, Röhm and Fekete 2008, that a
-//! transaction is a function of what it read).
+//! [`transactions_agree`]: on two states that make no assertion false and hold the same rows under each key that a
+//! transaction reads on the one, it answers the same and changes the same (in the theory of Cahill, Röhm and Fekete
+//! 2008, that a transaction is a function of what it read).
 #![tactic(auto)]
 
 mod laws;
 mod statements;
 
-pub use laws::{agreement, changes, net, roots, runs, soundness, updates};
+pub use laws::{
+    changes_are_due, commits_are_sound, net_change_is_what_differs, roots_depend_on_their_keys,
+    runs_are_joined, transactions_agree, updates_leave_the_key,
+};
 pub use statements::Resolved;

@@ -1,3 +1,2 @@
-mod SoFar
 mod Widths
 mod Refused

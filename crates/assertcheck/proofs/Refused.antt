@@ -13,14 +13,14 @@ use Rattle.assertcheck.specs.declared.updates.Setting.{Setting}
 use Rattle.assertcheck.specs.declared.updates.Update.{Update}
 use Rattle.assertcheck.specs.Updates.{settings_of, sound_update, update_over}
 
-pub by_last : (target : Source) (places : List ℕ) (sets : List Assignment) (condition : Option Condition) (settings items : List Setting) (kept : Cond) (columns : List Column) (result : Result Update Refusal)
-    → settings_of target.scope places sets ≡ Ok settings → row_filter target.scope condition ≡ Ok kept
-    → result ≡ sound_update columns (record { table = target.table; sets = items; kept = kept })
+pub by_last : (target : Source) (places : List ℕ) (sets : List Assignment) (condition : Option Condition) (settings items : List Setting) (restriction : Cond) (columns : List Column) (result : Result Update Refusal)
+    → settings_of target.scope places sets ≡ Ok settings → row_filter target.scope condition ≡ Ok restriction
+    → result ≡ sound_update columns (record { table = target.table; sets = items; filter = restriction })
     → columns ≡ target.scope.layout.columns → items ≡ settings
     → IfErr result (λ refusal. refusal ≢ NoMemory → update_over target places sets condition ≡ Err refusal)
-by_last target places sets condition settings items kept columns (Ok update) a b e f g = _
-by_last target places sets condition settings items kept columns (Err refusal) a b e f g = λ _.
-    ap (λ s. and_then s (λ settings. and_then (row_filter target.scope condition) (λ kept. sound_update target.scope.layout.columns (record { table = target.table; sets = settings; kept = kept })))) a
-    ∙ ap (λ k. and_then k (λ kept. sound_update target.scope.layout.columns (record { table = target.table; sets = settings; kept = kept }))) b
-    ∙ sym (e ∙ ap (λ columns. sound_update columns (record { table = target.table; sets = items; kept = kept })) f
-    ∙ ap (λ items. sound_update target.scope.layout.columns (record { table = target.table; sets = items; kept = kept })) g)
+by_last target places sets condition settings items restriction columns (Ok update) a b e f g = _
+by_last target places sets condition settings items restriction columns (Err refusal) a b e f g = λ _.
+    ap (λ s. and_then s (λ settings. and_then (row_filter target.scope condition) (λ restriction. sound_update target.scope.layout.columns (record { table = target.table; sets = settings; filter = restriction })))) a
+    ∙ ap (λ k. and_then k (λ restriction. sound_update target.scope.layout.columns (record { table = target.table; sets = settings; filter = restriction }))) b
+    ∙ sym (e ∙ ap (λ columns. sound_update columns (record { table = target.table; sets = items; filter = restriction })) f
+    ∙ ap (λ items. sound_update target.scope.layout.columns (record { table = target.table; sets = items; filter = restriction })) g)

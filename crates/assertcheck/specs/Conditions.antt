@@ -5,12 +5,11 @@ use Rattle.value.specs.declared.refusals.Refusal.TheVariants.{TypeMismatch, TooW
 use Rattle.table.specs.Rows.{Tables}
 use Rattle.syntax.specs.declared.trees.Condition.{Condition}
 use Rattle.cond.specs.declared.conds.Cond.{Cond}
-use Rattle.cond.specs.declared.conds.Cond.TheViews as cond_of
 use Rattle.cond.specs.Bounds.{is_bounded}
 use Rattle.name_check.specs.Scopes.{Scope}
 use Rattle.name_check.specs.Names.{condition_fault}
 use Rattle.value.specs.Results.{and_then, found, provided, unless}
-use Rattle.form_check.specs.Queries.{Source, source_of, row_condition}
+use Rattle.form_check.specs.Queries.{Source, source_of, row_filter}
 use Rattle.type_check.specs.Types.{is_typed_condition}
 
 -- the table of a statement; no correlation_name is written there
@@ -23,9 +22,12 @@ sound_condition scope made =
     provided (is_typed_condition scope.layout.columns [] made) TypeMismatch
     (provided (is_bounded [] made) TooWide (Ok made))
 
+-- what is wrong with the names in a WHERE
+abbrev pub where_fault : Tables → Scope → Option Condition → Option Refusal
+where_fault tables scope None = None
+where_fault tables scope (Some condition) = condition_fault tables condition (scope ∷ [])
+
 -- WHERE of a statement: names, the shape, types and widths; a missing one keeps every row
 abbrev pub where_of : Tables → Scope → Option Condition → Result Cond Refusal
-where_of tables scope None = Ok (cond_of.And [])
-where_of tables scope (Some condition) =
-    unless (condition_fault tables condition (scope ∷ []))
-    (and_then (row_condition scope condition) (sound_condition scope))
+where_of tables scope condition =
+    unless (where_fault tables scope condition) (and_then (row_filter scope condition) (sound_condition scope))

@@ -23,7 +23,8 @@ use Rattle.assertcheck.specs.Conditions.{target_of, where_of}
 abbrev pub delete_of : Tables → List ℕ → Option Condition → Result Delete Refusal
 delete_of tables name condition =
     and_then (target_of tables name) (λ target.
-    and_then (where_of tables target.scope condition) (λ kept. Ok (record { table = target.table; kept = kept })))
+    and_then (where_of tables target.scope condition) (λ restriction.
+    Ok (record { table = target.table; filter = restriction })))
 
 -- the column of a name
 abbrev pub named_column : List Column → List ℕ → Result ℕ Refusal
@@ -93,5 +94,5 @@ abbrev pub select_of : Tables → Which → List ℕ → Option Condition → Re
 select_of tables columns name condition =
     and_then (target_of tables name) (λ target.
     and_then (selected target.scope.layout.columns columns) (λ places.
-    and_then (where_of tables target.scope condition) (λ kept.
-    Ok (record { table = target.table; columns = places; kept = kept }))))
+    and_then (where_of tables target.scope condition) (λ restriction.
+    Ok (record { table = target.table; columns = places; filter = restriction }))))

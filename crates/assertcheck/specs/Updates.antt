@@ -1,11 +1,11 @@
 -- UPDATE with its names found, or its first fault.
 use Rattle.std.specs.Prelude.{ℕ, ◌==◌, Bool, true, ◌&&◌, List, [], ◌∷◌, ◌++◌, Option, Some, None, Result, Ok, Err, IfSome, IsSome, is_some, if◌then◌else◌}
 use Rattle.std.specs.List.{list_all}
+use Rattle.std.specs.Option.{option_or}
 use Rattle.value.specs.declared.refusals.Refusal.{Refusal}
 use Rattle.value.specs.declared.refusals.Refusal.TheVariants.{KeyUpdate, TypeMismatch, TooWide}
 use Rattle.table.specs.declared.schemas.Column.{Column}
 use Rattle.table.specs.Rows.{Layout, Tables}
-use Rattle.table.specs.Faults.{first_of}
 use Rattle.syntax.specs.declared.trees.Condition.{Condition}
 use Rattle.statement_syntax.specs.declared.statements.Assigned.{Assigned}
 use Rattle.statement_syntax.specs.declared.statements.Assigned.TheVariants.{Null, To}
@@ -13,14 +13,14 @@ use Rattle.statement_syntax.specs.declared.statements.Assignment.{Assignment}
 use Rattle.cond.specs.declared.exprs.Expr.{Expr}
 use Rattle.cond.specs.Bounds.{bound_of, is_bounded}
 use Rattle.name_check.specs.Scopes.{Scope}
-use Rattle.name_check.specs.Names.{condition_fault, expression_fault}
+use Rattle.name_check.specs.Names.{expression_fault}
 use Rattle.value.specs.Results.{and_then, provided, unless}
 use Rattle.form_check.specs.Queries.{Source, row_expression, row_filter}
 use Rattle.type_check.specs.declared.data_types.DataType.{DataType}
 use Rattle.type_check.specs.Types.{are_comparable, column_type, expression_type, is_typed_condition}
 use Rattle.assertcheck.specs.declared.updates.Setting.{Setting}
 use Rattle.assertcheck.specs.declared.updates.Update.{Update}
-use Rattle.assertcheck.specs.Conditions.{target_of}
+use Rattle.assertcheck.specs.Conditions.{target_of, where_fault}
 use Rattle.assertcheck.specs.Statements.{new_place}
 
 -- a column, if it is not the key
@@ -45,15 +45,12 @@ value_fault tables scope (To expression) = expression_fault tables expression (s
 abbrev pub values_fault : Tables → Scope → List Assignment → Option Refusal
 values_fault tables scope [] = None
 values_fault tables scope (assignment ∷ rest) =
-    first_of (value_fault tables scope assignment.value) (values_fault tables scope rest)
-
-abbrev pub where_fault : Tables → Scope → Option Condition → Option Refusal
-where_fault tables scope None = None
-where_fault tables scope (Some condition) = condition_fault tables condition (scope ∷ [])
+    option_or (value_fault tables scope assignment.value) (values_fault tables scope rest)
 
 -- what is wrong with the names in the assigned expressions from the left, and then in the condition
 abbrev pub names_fault : Tables → Scope → List Assignment → Option Condition → Option Refusal
-names_fault tables scope sets condition = first_of (values_fault tables scope sets) (where_fault tables scope condition)
+names_fault tables scope sets condition =
+    option_or (values_fault tables scope sets) (where_fault tables scope condition)
 
 -- an expression over the rows of the table, or NULL
 abbrev pub value_of : Scope → Assigned → Result (Option Expr) Refusal
@@ -91,8 +88,8 @@ IsBoundedSetting setting = IfSome setting.value (λ value. IsSome (bound_of [] v
 -- the UPDATE, if all its expressions and its condition are typed, and then if all are bounded
 abbrev pub sound_update : List Column → Update → Result Update Refusal
 sound_update columns update =
-    provided (list_all (fits columns) update.sets && is_typed_condition columns [] update.kept) TypeMismatch (
-    provided (list_all is_bounded_setting update.sets && is_bounded [] update.kept) TooWide (
+    provided (list_all (fits columns) update.sets && is_typed_condition columns [] update.filter) TypeMismatch (
+    provided (list_all is_bounded_setting update.sets && is_bounded [] update.filter) TooWide (
     Ok update))
 
 -- the UPDATE that gives these columns their values, where each expression and the condition are over the rows of the
@@ -100,8 +97,8 @@ sound_update columns update =
 abbrev pub update_over : Source → List ℕ → List Assignment → Option Condition → Result Update Refusal
 update_over target columns sets condition =
     and_then (settings_of target.scope columns sets) (λ settings.
-    and_then (row_filter target.scope condition) (λ kept.
-    sound_update target.scope.layout.columns (record { table = target.table; sets = settings; kept = kept })))
+    and_then (row_filter target.scope condition) (λ restriction.
+    sound_update target.scope.layout.columns (record { table = target.table; sets = settings; filter = restriction })))
 
 -- UPDATE: the table, the assigned columns, the names in expressions and in the condition; then shapes, types and widths
 abbrev pub update_of : Tables → List ℕ → List Assignment → Option Condition → Result Update Refusal

@@ -7,7 +7,7 @@ ghost use Rattle.assertcheck.specs.Assertions.{are_at_odds, attributes_of, check
 
 use assertion::{Assertion, ConstraintAttributes, Form};
 use form_check::form;
-use name_check::known_condition;
+use name_check::look_up_condition;
 use statement_syntax::{Attributes, Mode};
 use std::alloc::Global;
 use syntax::Condition;
@@ -40,7 +40,7 @@ pub fn check(
             assertion: name.copy()?,
         });
     }
-    known_condition(alloc, catalog, &[], condition)?;
+    look_up_condition(alloc, catalog, &[], condition)?;
     let form = form(alloc, catalog, condition)?;
     of_form(
         alloc,

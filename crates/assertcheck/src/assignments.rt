@@ -4,13 +4,14 @@ ghost use Rattle.std.specs.Prelude.{◌≡◌, ◌≢◌, [], All, length, IsTru
 ghost use Rattle.std.specs.List.{list_all};
 ghost use Rattle.value.specs.declared.refusals.Refusal.TheVariants.{NoMemory};
 ghost use Rattle.name_check.specs.Shown.{shown};
-ghost use Rattle.assertcheck.specs.Updates.{IsBoundedSetting, assignable, assigned_places, fits, is_bounded_setting, names_fault, settings_of, value_fault, value_of, values_fault, where_fault};
+ghost use Rattle.assertcheck.specs.Updates.{IsBoundedSetting, assignable, assigned_places, fits, is_bounded_setting, names_fault, settings_of, value_fault, value_of, values_fault};
 
 use crate::columns::new_place;
+use crate::conditions::look_up_where;
 use crate::updates::Setting;
 use cond::{Expr, bound};
 use form_check::row_expression;
-use name_check::{Scope, known_condition, known_expression};
+use name_check::{Scope, look_up_expression};
 use sqlite_items::Boxed;
 use statement_syntax::{Assigned, Assignment};
 use std::alloc::Global;
@@ -66,10 +67,7 @@ pub fn known_names(
         refusal ≢ NoMemory → names_fault catalog.now (shown scope.entry) sets.now condition.now ≡ Some refusal) }
 {
     known_values(alloc, catalog, scope, sets)?;
-    match condition {
-        Some(condition) => known_condition(alloc, catalog, &[scope], condition.get()),
-        None => Ok(()),
-    }
+    look_up_where(alloc, catalog, scope, condition)
 }
 
 fn known_values(
@@ -100,12 +98,12 @@ fn known_value(
 {
     match value {
         Assigned::Null => Ok(()),
-        Assigned::To(expression) => known_expression(alloc, catalog, &[scope], expression),
+        Assigned::To(expression) => look_up_expression(alloc, catalog, &[scope], expression),
     }
 }
 
 /// What is given to the columns at these places, over the columns of the row alone.
-#[tactic(auto, using(crate::proofs::SoFar::behind_next, crate::proofs::SoFar::behind_none))]
+#[tactic(auto, using(value::proofs::Results::behind_next, value::proofs::Results::behind_none))]
 pub fn settings(
     alloc: Global,
     scope: Scope,

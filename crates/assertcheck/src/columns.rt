@@ -24,7 +24,7 @@ pub fn all_places(alloc: Global, columns: &[Column]) -> Result<Vec<usize>, Refus
 }
 
 /// The places of the columns of these names, each as often as it is named.
-#[tactic(auto, using(crate::proofs::SoFar::behind_next, crate::proofs::SoFar::behind_none))]
+#[tactic(auto, using(value::proofs::Results::behind_next, value::proofs::Results::behind_none))]
 pub fn named_columns(alloc: Global, schema: &Schema, names: &[Text]) -> Result<Vec<usize>, Refusal>
     ensures made { IfOk result (λ places. each (named_column schema.now.columns) names.now ≡ Ok places.items) }
     ensures refused { IfErr result (λ refusal.

@@ -1,16 +1,16 @@
 //! The table and the condition of a statement.
 
-ghost use Rattle.std.specs.Prelude.{◌≡◌, ◌≢◌, ◌<◌, ◌∷◌, [], length, IsTrue, IfOk, IfErr, Ok, Err};
+ghost use Rattle.std.specs.Prelude.{◌≡◌, ◌≢◌, ◌<◌, [], length, IsTrue, IfOk, IfErr, Ok, Err, Some, None};
 ghost use Rattle.cond.specs.Bounds.{is_bounded};
 ghost use Rattle.value.specs.declared.refusals.Refusal.TheVariants.{NoMemory};
 ghost use Rattle.name_check.specs.Shown.{shown};
 ghost use Rattle.form_check.specs.Queries.{row_filter};
 ghost use Rattle.form_check.specs.Shown.{shown_source};
-ghost use Rattle.assertcheck.specs.Conditions.{sound_condition, target_of, where_of};
+ghost use Rattle.assertcheck.specs.Conditions.{sound_condition, target_of, where_fault, where_of};
 
 use cond::{Cond, is_bounded};
 use form_check::{Source, row_condition};
-use name_check::{Scope, known_condition};
+use name_check::{Scope, look_up_condition};
 use sqlite_items::{Boxed, Items};
 use std::alloc::Global;
 use syntax::Condition;
@@ -47,12 +47,26 @@ pub fn where_condition(
         refusal ≢ NoMemory → where_of catalog.now (shown scope.entry) condition.now ≡ Err refusal) }
     ensures bounded { IfOk result (λ made. IsTrue (is_bounded [] made)) }
 {
-    let Some(condition) = condition else {
-        return Ok(Cond::And(Items::new(alloc)));
-    };
-    known_condition(alloc, catalog, &[scope], condition.get())?;
-    let made = row_condition(alloc, scope, condition.get())?;
-    sound(scope, made)
+    look_up_where(alloc, catalog, scope, condition)?;
+    let made = row_filter(alloc, scope, condition)?;
+    require_sound(scope, made)
+}
+
+/// Looks up the names in the condition of WHERE.
+pub fn look_up_where(
+    alloc: Global,
+    catalog: &Catalog,
+    scope: Scope,
+    condition: &Option<Boxed<Condition>>,
+) -> Result<(), Refusal>
+    ensures known { IfOk result (λ _. where_fault catalog.now (shown scope.entry) condition.now ≡ None) }
+    ensures refused { IfErr result (λ refusal.
+        refusal ≢ NoMemory → where_fault catalog.now (shown scope.entry) condition.now ≡ Some refusal) }
+{
+    match condition {
+        Some(condition) => look_up_condition(alloc, catalog, &[scope], condition.get()),
+        None => Ok(()),
+    }
 }
 
 /// The condition of WHERE over the rows of a table, its names known and its types not judged; a missing one keeps every
@@ -73,7 +87,7 @@ pub fn row_filter(
 }
 
 /// The condition, if it is typed and its expressions are bounded.
-fn sound(scope: Scope, made: Cond) -> Result<Cond, Refusal>
+fn require_sound(scope: Scope, made: Cond) -> Result<Cond, Refusal>
     ensures sound { result ≡ sound_condition (shown scope.entry) made }
     ensures bounded { IfOk result (λ made. IsTrue (is_bounded [] made)) }
 {

@@ -18,7 +18,7 @@ use value::{Refusal, Text};
 pub struct Delete {
     /// The table's place in the catalog.
     pub table: usize,
-    pub kept: Cond,
+    pub filter: Cond,
 }
 
 /// `DELETE FROM table WHERE condition`.
@@ -38,12 +38,12 @@ pub fn check_delete(
     ensures refused { IfErr result (λ refusal.
         refusal ≢ NoMemory → delete_of catalog.now table.now condition.now ≡ Err refusal) }
     ensures within { IfOk result (λ delete. delete.table < length catalog.now) }
-    ensures bounded { IfOk result (λ delete. IsTrue (is_bounded [] delete.kept)) }
+    ensures bounded { IfOk result (λ delete. IsTrue (is_bounded [] delete.filter)) }
 {
     let target = target(catalog, table)?;
-    let kept = where_condition(alloc, catalog, target.scope, condition)?;
+    let filter = where_condition(alloc, catalog, target.scope, condition)?;
     Ok(Delete {
         table: target.table,
-        kept,
+        filter,
     })
 }

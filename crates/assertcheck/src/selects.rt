@@ -22,7 +22,7 @@ pub struct Select {
     pub table: usize,
     /// The places of the listed columns, in their order; one may stand there twice. `*` lists all.
     pub columns: Items<usize>,
-    pub kept: Cond,
+    pub filter: Cond,
 }
 
 /// `SELECT columns FROM table WHERE condition`.
@@ -43,15 +43,15 @@ pub fn check_select(
     ensures refused { IfErr result (λ refusal.
         refusal ≢ NoMemory → select_of catalog.now columns.now table.now condition.now ≡ Err refusal) }
     ensures within { IfOk result (λ select. select.table < length catalog.now) }
-    ensures bounded { IfOk result (λ select. IsTrue (is_bounded [] select.kept)) }
+    ensures bounded { IfOk result (λ select. IsTrue (is_bounded [] select.filter)) }
 {
     let target = target(catalog, table)?;
     let places = selected(alloc, target.scope.schema, columns)?;
-    let kept = where_condition(alloc, catalog, target.scope, condition)?;
+    let filter = where_condition(alloc, catalog, target.scope, condition)?;
     Ok(Select {
         table: target.table,
         columns: Items::from_vec(places),
-        kept,
+        filter,
     })
 }
 

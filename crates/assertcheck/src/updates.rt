@@ -34,7 +34,7 @@ pub struct Update {
     /// The table's place in the catalog.
     pub table: usize,
     pub sets: Items<Setting>,
-    pub kept: Cond,
+    pub filter: Cond,
 }
 
 /// `UPDATE table SET sets WHERE condition`.
@@ -58,7 +58,7 @@ pub fn check_update(
         refusal ≢ NoMemory → update_of catalog.now table.now sets.now condition.now ≡ Err refusal) }
     ensures within { IfOk result (λ update. update.table < length catalog.now) }
     ensures bounded { IfOk result (λ update. All IsBoundedSetting update.sets) }
-    ensures bounded_condition { IfOk result (λ update. IsTrue (is_bounded_of [] update.kept)) }
+    ensures bounded_condition { IfOk result (λ update. IsTrue (is_bounded_of [] update.filter)) }
 {
     let target = target(catalog, table)?;
     let places = assigned_places(alloc, target.scope.schema, sets)?;
@@ -82,30 +82,30 @@ fn update_over(
         → update_over (shown_source target.entry) places.now sets.now condition.now ≡ Err refusal) }
     ensures place { IfOk result (λ update. update.table ≡ target.entry.table) }
     ensures bounded { IfOk result (λ update. All IsBoundedSetting update.sets) }
-    ensures bounded_condition { IfOk result (λ update. IsTrue (is_bounded_of [] update.kept)) }
+    ensures bounded_condition { IfOk result (λ update. IsTrue (is_bounded_of [] update.filter)) }
 {
     let settings = settings(alloc, target.scope, places, sets)?;
-    let kept = row_filter(alloc, target.scope, condition)?;
+    let filter = row_filter(alloc, target.scope, condition)?;
     let update = Update {
         table: target.table,
         sets: Items::from_vec(settings),
-        kept,
+        filter,
     };
-    sound(target.scope.schema.columns(), update)
+    require_sound(target.scope.schema.columns(), update)
 }
 
 /// The UPDATE, if what it gives and its condition are typed, and bounded.
-fn sound(columns: &[Column], update: Update) -> Result<Update, Refusal>
+fn require_sound(columns: &[Column], update: Update) -> Result<Update, Refusal>
     ensures sound { result ≡ sound_update columns.now update }
     ensures same { IfOk result (λ made. made ≡ update) }
     ensures bounded { IfOk result (λ made. All IsBoundedSetting made.sets) }
-    ensures bounded_condition { IfOk result (λ made. IsTrue (is_bounded_of [] made.kept)) }
+    ensures bounded_condition { IfOk result (λ made. IsTrue (is_bounded_of [] made.filter)) }
 {
     let sets = update.sets.as_slice();
-    if !all_fit(columns, sets) || !is_well_typed(&update.kept, columns, &[]) {
+    if !all_fit(columns, sets) || !is_well_typed(&update.filter, columns, &[]) {
         return Err(Refusal::TypeMismatch);
     }
-    if !are_bounded(sets) || !is_bounded(&update.kept, &[]) {
+    if !are_bounded(sets) || !is_bounded(&update.filter, &[]) {
         return Err(Refusal::TooWide);
     }
     Ok(update)

@@ -5,6 +5,7 @@ use Rattle.std.specs.Ordering.{eq_by_cmp}
 use Rattle.std.proofs.lemmas.Bool.Decides.{nat_tests}
 use Rattle.std.specs.declared.cmp.Ordering.{Ordering}
 use Rattle.std.specs.declared.cmp.Ordering.TheVariants.{Less, Equal, Greater}
+use Rattle.std.proofs.Math.Bool.{and-false}
 use Rattle.value.specs.declared.values.Value.{Value}
 use Rattle.value.specs.declared.values.Root.{Root}
 use Rattle.value.specs.declared.values.Root.TheVariants.{All, Of}
@@ -18,9 +19,8 @@ use Rattle.table.specs.Rows.{RowValues, Layout, value_in, row_at}
 use Rattle.table.specs.Aggregates.{rows_of_group}
 use Rattle.assertion.specs.declared.forms.Form.{Form}
 use Rattle.assertion.specs.declared.forms.Form.TheVariants.{ByRow, ByGroup, Single}
-use Rattle.assertion.specs.Meaning.{State, rows_of, key_of, kept_rows, lists_row, lists_group, single_truth, bad_roots}
+use Rattle.assertion.specs.Meaning.{State, rows_of, key_of, filtered_rows, lists_row, lists_group, single_truth, bad_roots}
 use Rattle.assertion.specs.Roots.{is_bad_row, is_bad_root, IsOrdered}
-use Rattle.assertion.proofs.ListLemmas.{and_false}
 
 -- whether a row, if there is one, passes
 abbrev passes : (RowValues → Bool) → Option RowValues → Bool
@@ -77,7 +77,7 @@ member : (p : Value → Bool) (v w : Value) (row : RowValues) (vs : List Value) 
 member p v w row vs ms more true e true d = rw (d, e, some_long row ms, ap p (value_exact v w (equal_from (value_cmp v w) e)) ∙ d) refl
 member p v w row vs ms more true e false d =
     let f : p v ≡ false = ap p (value_exact v w (equal_from (value_cmp v w) e)) ∙ d in
-    rw (d, e, f) ((rw f at more) ∙ and_false (nat_lt 0 (length ms)) ∙ sym (and_false (nat_lt 0 (length (row ∷ ms)))))
+    rw (d, e, f) ((rw f at more) ∙ and-false (nat_lt 0 (length ms)) ∙ sym (and-false (nat_lt 0 (length (row ∷ ms)))))
 member p v w row vs ms more false e true d = rw (d, e) more
 member p v w row vs ms more false e false d = rw (d, e) more
 
@@ -92,7 +92,7 @@ has-bad layouts (ByRow table c queries) state asc All = none_all (value_in (key_
 has-bad layouts (ByRow table c queries) state asc (Of v) =
     has-row (key_of table layouts) (lists_row state c queries) v (rows_of table state) (asc table)
     ∙ elim (row_at (key_of table layouts) v (rows_of table state)) as (λ o. passes (lists_row state c queries v) o ≡ is_bad_row state c queries v o) [ None ↦ refl | Some row ↦ refl ]
-has-bad layouts (ByGroup table kept group having aggregates) state asc All = none_all_of (filter (lists_group (kept_rows kept (rows_of table state)) group having aggregates) (map (value_in group) (kept_rows kept (rows_of table state))))
-has-bad layouts (ByGroup table kept group having aggregates) state asc (Of v) = has-group (lists_group (kept_rows kept (rows_of table state)) group having aggregates) group v (kept_rows kept (rows_of table state))
+has-bad layouts (ByGroup table restriction group having aggregates) state asc All = none_all_of (filter (lists_group (filtered_rows restriction (rows_of table state)) group having aggregates) (map (value_in group) (filtered_rows restriction (rows_of table state))))
+has-bad layouts (ByGroup table restriction group having aggregates) state asc (Of v) = has-group (lists_group (filtered_rows restriction (rows_of table state)) group having aggregates) group v (filtered_rows restriction (rows_of table state))
 has-bad layouts (Single c queries) state asc All = elim (is_of (single_truth state c queries) False) as (λ b. has root_cmp All (if b then All ∷ [] else []) ≡ b) [ true ↦ refl | false ↦ refl ]
 has-bad layouts (Single c queries) state asc (Of v) = elim (is_of (single_truth state c queries) False) as (λ b. has root_cmp (Of v) (if b then All ∷ [] else []) ≡ false) [ true ↦ refl | false ↦ refl ]

@@ -10,7 +10,8 @@ use Rattle.threeval.specs.declared.Truth.TheVariants.{True, False, Unknown}
 use Rattle.threeval.specs.Truths.{is_of}
 use Rattle.table.specs.Rows.{Layout}
 use Rattle.cond.specs.declared.conds.Cond.{Cond}
-use Rattle.assertion.specs.declared.plain_queries.Plain.{Plain}
+use Rattle.assertion.specs.declared.queries.Query.{Query}
+use Rattle.assertion.specs.declared.queries.Whole.{Whole}
 use Rattle.assertion.specs.declared.forms.Form.{Form}
 use Rattle.assertion.specs.declared.forms.Form.TheVariants.{ByRow, ByGroup, Single}
 use Rattle.assertion.specs.Meaning.{State, bad_roots, single_truth, truth_of_roots, verdict_of, least_bad_of}
@@ -40,13 +41,13 @@ is_of-false False h = refl
 is_of-false Unknown h = cc
 
 -- a single condition that has a bad root is false
-single_false : (layouts : List Layout) (c : Cond) (queries : List Plain) (state : State) (r : Root) → is_bad_root layouts (Single c queries) state r ≡ true → single_truth state c queries ≡ False
+single_false : (layouts : List Layout) (c : Cond) (queries : List (Query Whole)) (state : State) (r : Root) → is_bad_root layouts (Single c queries) state r ≡ true → single_truth state c queries ≡ False
 single_false layouts c queries state All h = is_of-false (single_truth state c queries) h
 single_false layouts c queries state (Of v) h = cc
 
 pub verdict-bad : (layouts : List Layout) (form : Form) (state : State) → IsOrdered layouts state → (r : Root) → is_bad_root layouts form state r ≡ true → verdict_of layouts form state ≡ False
 verdict-bad layouts (ByRow table c queries) state asc r h = truth-has (bad_roots layouts (ByRow table c queries) state) r (has-bad layouts (ByRow table c queries) state asc r ∙ h)
-verdict-bad layouts (ByGroup table kept group having aggregates) state asc r h = truth-has (bad_roots layouts (ByGroup table kept group having aggregates) state) r (has-bad layouts (ByGroup table kept group having aggregates) state asc r ∙ h)
+verdict-bad layouts (ByGroup table restriction group having aggregates) state asc r h = truth-has (bad_roots layouts (ByGroup table restriction group having aggregates) state) r (has-bad layouts (ByGroup table restriction group having aggregates) state asc r ∙ h)
 verdict-bad layouts (Single c queries) state asc r h = single_false layouts c queries state r h
 
 -- where the list of bad roots makes it false, there is a bad root
@@ -57,7 +58,7 @@ bad_listed layouts form state asc e =
 
 pub bad-verdict : (layouts : List Layout) (form : Form) (state : State) → IsOrdered layouts state → verdict_of layouts form state ≡ False → (r : Root) × (is_bad_root layouts form state r ≡ true)
 bad-verdict layouts (ByRow table c queries) state asc e = bad_listed layouts (ByRow table c queries) state asc e
-bad-verdict layouts (ByGroup table kept group having aggregates) state asc e = bad_listed layouts (ByGroup table kept group having aggregates) state asc e
+bad-verdict layouts (ByGroup table restriction group having aggregates) state asc e = bad_listed layouts (ByGroup table restriction group having aggregates) state asc e
 bad-verdict layouts (Single c queries) state asc e = (All, ap (λ t. is_of t False) e)
 
 pub IsFalseAtBadRoots-law : law.IsFalseAtBadRoots
@@ -65,7 +66,7 @@ IsFalseAtBadRoots-law layouts form state asc = (bad-verdict layouts form state a
 
 pub IsKnownUnlessSingle-law : law.IsKnownUnlessSingle
 IsKnownUnlessSingle-law layouts (ByRow table c queries) state by = truth-known (bad_roots layouts (ByRow table c queries) state)
-IsKnownUnlessSingle-law layouts (ByGroup table kept group having aggregates) state by = truth-known (bad_roots layouts (ByGroup table kept group having aggregates) state)
+IsKnownUnlessSingle-law layouts (ByGroup table restriction group having aggregates) state by = truth-known (bad_roots layouts (ByGroup table restriction group having aggregates) state)
 IsKnownUnlessSingle-law layouts (Single c queries) state by = absurd by
 
 pub NamesLeastBad-law : law.NamesLeastBad
@@ -84,5 +85,5 @@ AnswersLeastBad-law layouts form state bad asc are = least-kept layouts form sta
 
 pub AnswersVerdict-law : law.AnswersVerdict
 AnswersVerdict-law layouts (ByRow table c queries) state bad asc are by = truth-first (bad_roots layouts (ByRow table c queries) state) bad (least-kept layouts (ByRow table c queries) state asc bad are)
-AnswersVerdict-law layouts (ByGroup table kept group having aggregates) state bad asc are by = truth-first (bad_roots layouts (ByGroup table kept group having aggregates) state) bad (least-kept layouts (ByGroup table kept group having aggregates) state asc bad are)
+AnswersVerdict-law layouts (ByGroup table restriction group having aggregates) state bad asc are by = truth-first (bad_roots layouts (ByGroup table restriction group having aggregates) state) bad (least-kept layouts (ByGroup table restriction group having aggregates) state asc bad are)
 AnswersVerdict-law layouts (Single c queries) state bad asc are by = absurd by

@@ -8,21 +8,9 @@ use Rattle.std.specs.Cmp.{IsTotalOrder}
 use Rattle.std.specs.Ordering.{eq_by_cmp}
 use Rattle.std.specs.declared.cmp.Ordering.{Ordering}
 use Rattle.std.specs.declared.cmp.Ordering.TheVariants.{Less, Equal, Greater}
+use Rattle.std.proofs.lemmas.Bool.{or_cases, or_parts, or_right}
 use Rattle.value.specs.Ordered.{by_order, at, put, HoldsOf}
-use Rattle.value.proofs.OrderedLists.{has, equal_from, or_cases}
-
--- neither is true
-pub or_false : (a b : Bool) → a || b ≡ false → (a ≡ false) × (b ≡ false)
-or_false true b h = cc
-or_false false b h = (refl, h)
-
-or_right : (a b : Bool) → b ≡ true → a || b ≡ true
-or_right true b h = refl
-or_right false b h = h
-
-pub and_false : (b : Bool) → b && false ≡ false
-and_false true = refl
-and_false false = refl
+use Rattle.value.proofs.OrderedLists.{has, equal_from}
 
 -- membership in two lists joined
 pub has-append : {K : Type 0} (R : K → K → Ordering) (k : K) (xs ys : List K) → has R k (xs ++ ys) ≡ has R k xs || has R k ys
@@ -31,7 +19,7 @@ has-append R k (x ∷ xs) ys = elim (eq_by_cmp R k x) as (λ b. b || has R k (xs
 
 -- in neither of two lists joined
 pub has-neither : {K : Type 0} (R : K → K → Ordering) (k : K) (xs ys : List K) → has R k (xs ++ ys) ≡ false → (has R k xs ≡ false) × (has R k ys ≡ false)
-has-neither R k xs ys h = or_false (has R k xs) (has R k ys) (sym (has-append R k xs ys) ∙ h)
+has-neither R k xs ys h = or_parts (has R k xs) (has R k ys) (sym (has-append R k xs ys) ∙ h)
 
 module _ {K : Type 0} {R : K → K → Ordering} where
   at_place : IsTotalOrder R → (xs : List K) (x : K) (i : ℕ) → i < length xs → slice_index_or xs i x ≡ x → has R x xs ≡ true

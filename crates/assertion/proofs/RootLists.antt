@@ -1,5 +1,5 @@
 -- What the truth and the least of a list of roots say of its members.
-use Rattle.std.proofs.Common.{◌≡◌, ◌≢◌, true, false, List, [], ◌∷◌, Some, None, refl, sym, ◌∙◌, ap, subst}
+use Rattle.std.proofs.Common.{◌≡◌, ◌≢◌, true, false, List, [], ◌∷◌, Some, refl, sym, ◌∙◌, ap, subst}
 use Rattle.std.specs.Prelude.{slice_get}
 use Rattle.std.specs.Ordering.{is_gt, ordering_reverse}
 use Rattle.std.specs.declared.cmp.Ordering.{Ordering}
@@ -9,7 +9,7 @@ use Rattle.value.specs.ValueOrder.{root_cmp}
 use Rattle.value.specs.Ordered.{least, lesser}
 use Rattle.value.proofs.OrderedLists.{has, first, has-itself, has-least, least-below}
 use Rattle.value.proofs.ValueOrders.{root_cmp_total, root_exact}
-use Rattle.threeval.specs.declared.Truth.TheVariants.{True, False, Unknown}
+use Rattle.threeval.specs.declared.Truth.TheVariants.{False, Unknown}
 use Rattle.assertion.specs.Meaning.{truth_of_roots}
 
 -- false where there is a root
@@ -24,15 +24,6 @@ has-truth (r ∷ rs) e = (r, has-itself root_cmp_total r rs)
 pub truth-known : (rs : List Root) → truth_of_roots rs ≢ Unknown
 truth-known [] e = cc
 truth-known (r ∷ rs) e = cc
-
--- true where there is no least root, false where there is one
-pub truth-none : (rs : List Root) → None ≡ least root_cmp rs → True ≡ truth_of_roots rs
-truth-none [] e = refl
-truth-none (r ∷ rs) e = cc
-
-pub truth-some : (rs : List Root) (r : Root) → Some r ≡ least root_cmp rs → False ≡ truth_of_roots rs
-truth-some [] r e = cc
-truth-some (q ∷ rs) r e = refl
 
 -- the truth by a list whose first is the least
 pub truth-first : (rs bad : List Root) → least root_cmp rs ≡ first bad → truth_of_roots rs ≡ truth_of_roots bad

@@ -4,8 +4,7 @@ use Rattle.cond.specs.declared.slots.SlotKind.{SlotKind}
 use Rattle.cond.specs.declared.conds.Cond.{Cond}
 use Rattle.cond.specs.Bounds.{is_bounded}
 use Rattle.cond.specs.Kinds.{kind_of_aggregate}
-use Rattle.assertion.specs.declared.linked_queries.Linked.{Linked}
-use Rattle.assertion.specs.declared.plain_queries.Plain.{Plain}
+use Rattle.assertion.specs.declared.queries.Query.{Query}
 use Rattle.assertion.specs.declared.forms.Form.{Form}
 use Rattle.assertion.specs.declared.forms.Form.TheVariants.{ByRow, ByGroup, Single}
 
@@ -13,17 +12,14 @@ use Rattle.assertion.specs.declared.forms.Form.TheVariants.{ByRow, ByGroup, Sing
 abbrev pub IsBoundedOver : List SlotKind → Cond → Type 0
 IsBoundedOver kinds condition = IsTrue (is_bounded kinds condition)
 
-abbrev pub linked_kinds : List Linked → List SlotKind
-linked_kinds queries = map (λ q. kind_of_aggregate q.aggregate) queries
-
-abbrev pub plain_kinds : List Plain → List SlotKind
-plain_kinds queries = map (λ q. kind_of_aggregate q.aggregate) queries
+abbrev pub query_kinds : {G : Type 0} → List (Query G) → List SlotKind
+query_kinds queries = map (λ q. kind_of_aggregate q.aggregate) queries
 
 -- each condition of a form has only bounded expressions; a WHERE has no slots
 abbrev pub IsBounded : Form → Type 0
 IsBounded (ByRow table condition queries) =
-    IsBoundedOver (linked_kinds queries) condition × All (λ q. IsBoundedOver [] q.kept) queries
-IsBounded (ByGroup table kept group having aggregates) =
-    IsBoundedOver [] kept × IsBoundedOver (map kind_of_aggregate aggregates) having
+    IsBoundedOver (query_kinds queries) condition × All (λ q. IsBoundedOver [] q.filter) queries
+IsBounded (ByGroup table restriction group having aggregates) =
+    IsBoundedOver [] restriction × IsBoundedOver (map kind_of_aggregate aggregates) having
 IsBounded (Single condition queries) =
-    IsBoundedOver (plain_kinds queries) condition × All (λ q. IsBoundedOver [] q.kept) queries
+    IsBoundedOver (query_kinds queries) condition × All (λ q. IsBoundedOver [] q.filter) queries

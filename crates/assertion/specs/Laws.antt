@@ -41,7 +41,7 @@ IsFalseAtBadRoots =
 -- a form whose truth is whether there is a bad root
 abbrev pub IsByRoots : Form → Type 0
 IsByRoots (ByRow table condition queries) = Unit {0}
-IsByRoots (ByGroup table kept group having aggregates) = Unit {0}
+IsByRoots (ByGroup table restriction group having aggregates) = Unit {0}
 IsByRoots (Single condition queries) = ⊥
 
 -- by rows and by groups the verdict is never unknown

@@ -15,8 +15,10 @@ use Rattle.table.specs.Aggregates.{aggregate, rows_of_group}
 use Rattle.cond.specs.declared.conds.Cond.{Cond}
 use Rattle.cond.specs.Eval.{truth, keeps}
 use Rattle.cond.specs.Values.{compared}
-use Rattle.assertion.specs.declared.linked_queries.Linked.{Linked}
-use Rattle.assertion.specs.declared.plain_queries.Plain.{Plain}
+use Rattle.assertion.specs.declared.queries.Query.{Query}
+use Rattle.assertion.specs.declared.queries.Link.{Link}
+use Rattle.assertion.specs.declared.queries.Link.TheVariants.{Column}
+use Rattle.assertion.specs.declared.queries.Whole.{Whole}
 use Rattle.assertion.specs.declared.forms.Form.{Form}
 use Rattle.assertion.specs.declared.forms.Form.TheVariants.{ByRow, ByGroup, Single}
 
@@ -31,32 +33,36 @@ rows_of table state = slice_index_or state table []
 abbrev pub key_of : ℕ → List Layout → ℕ
 key_of table layouts = (slice_index_or layouts table (record { columns = []; key = 0 })).key
 
+-- the column that holds the key
+abbrev pub link_column : Link → ℕ
+link_column (Column column) = column
+
 -- the link of a subquery, key = link: whether it is true of a row
-abbrev pub links : ℕ → Value → RowValues → Bool
-links link key row = is_of (compared Equal key (value_in link row)) True
+abbrev pub links : Link → Value → RowValues → Bool
+links link key row = is_of (compared Equal key (value_in (link_column link) row)) True
 
--- what a subquery gives for the row of a key: SELECT aggregate FROM d WHERE key = link AND kept
-abbrev pub linked_answer : State → Value → Linked → Value
+-- what a subquery gives for the row of a key: SELECT aggregate FROM d WHERE key = link AND filter
+abbrev pub linked_answer : State → Value → Query Link → Value
 linked_answer state key q =
-    aggregate q.aggregate (filter (λ row. links q.link key row && keeps row [] q.kept) (rows_of q.table state))
+    aggregate q.aggregate (filter (λ row. links q.grouping key row && keeps row [] q.filter) (rows_of q.table state))
 
--- what a subquery of its own gives: SELECT aggregate FROM t WHERE kept
-abbrev pub plain_answer : State → Plain → Value
-plain_answer state q = aggregate q.aggregate (filter (λ row. keeps row [] q.kept) (rows_of q.table state))
+-- what a subquery of its own gives: SELECT aggregate FROM t WHERE filter
+abbrev pub plain_answer : State → Query Whole → Value
+plain_answer state q = aggregate q.aggregate (filter (λ row. keeps row [] q.filter) (rows_of q.table state))
 
 -- whether the row of a key is listed: its condition is true, with its subqueries in the slots
-abbrev pub lists_row : State → Cond → List Linked → Value → RowValues → Bool
+abbrev pub lists_row : State → Cond → List (Query Link) → Value → RowValues → Bool
 lists_row state condition queries key row = keeps row (map (linked_answer state key) queries) condition
 
 -- the keys of the listed rows of a table
-abbrev pub row_roots : State → ℕ → ℕ → Cond → List Linked → List Root
+abbrev pub row_roots : State → ℕ → ℕ → Cond → List (Query Link) → List Root
 row_roots state table key condition queries =
     map (λ row. Of (value_in key row))
     (filter (λ row. lists_row state condition queries (value_in key row) row) (rows_of table state))
 
 -- the rows that a WHERE keeps
-abbrev pub kept_rows : Cond → List RowValues → List RowValues
-kept_rows kept rows = filter (λ row. keeps row [] kept) rows
+abbrev pub filtered_rows : Cond → List RowValues → List RowValues
+filtered_rows restriction rows = filter (λ row. keeps row [] restriction) rows
 
 -- whether a group of rows is listed: HAVING is true of its value, with the aggregates of its rows in the slots
 abbrev pub lists_group : List RowValues → ℕ → Cond → List Aggregate → Value → Bool
@@ -69,14 +75,14 @@ group_roots rows group having aggregates =
     map Of (filter (lists_group rows group having aggregates) (map (value_in group) rows))
 
 -- the truth of a condition that sees no row, with its subqueries in the slots
-abbrev pub single_truth : State → Cond → List Plain → Truth
+abbrev pub single_truth : State → Cond → List (Query Whole) → Truth
 single_truth state condition queries = truth [] (map (plain_answer state) queries) condition
 
 -- the roots at which an assertion is false
 abbrev pub bad_roots : List Layout → Form → State → List Root
 bad_roots layouts (ByRow table condition queries) state = row_roots state table (key_of table layouts) condition queries
-bad_roots layouts (ByGroup table kept group having aggregates) state =
-    group_roots (kept_rows kept (rows_of table state)) group having aggregates
+bad_roots layouts (ByGroup table restriction group having aggregates) state =
+    group_roots (filtered_rows restriction (rows_of table state)) group having aggregates
 bad_roots layouts (Single condition queries) state =
     if is_of (single_truth state condition queries) False then All ∷ [] else []
 
@@ -89,8 +95,8 @@ truth_of_roots (r ∷ rs) = False
 abbrev pub verdict_of : List Layout → Form → State → Truth
 verdict_of layouts (ByRow table condition queries) state =
     truth_of_roots (bad_roots layouts (ByRow table condition queries) state)
-verdict_of layouts (ByGroup table kept group having aggregates) state =
-    truth_of_roots (bad_roots layouts (ByGroup table kept group having aggregates) state)
+verdict_of layouts (ByGroup table restriction group having aggregates) state =
+    truth_of_roots (bad_roots layouts (ByGroup table restriction group having aggregates) state)
 verdict_of layouts (Single condition queries) state = single_truth state condition queries
 
 -- the least root at which an assertion is false

@@ -12,13 +12,14 @@ use Rattle.table.specs.declared.rows.Change.{Change}
 use Rattle.table.specs.Rows.{RowValues, Layout, value_in, row_at, put_row}
 use Rattle.table.specs.Aggregates.{rows_of_group}
 use Rattle.cond.specs.declared.conds.Cond.{Cond}
-use Rattle.assertion.specs.declared.linked_queries.Linked.{Linked}
+use Rattle.assertion.specs.declared.queries.Query.{Query}
+use Rattle.assertion.specs.declared.queries.Link.{Link}
 use Rattle.assertion.specs.declared.forms.Form.{Form}
 use Rattle.assertion.specs.declared.forms.Form.TheVariants.{ByRow, ByGroup, Single}
-use Rattle.assertion.specs.Meaning.{State, rows_of, key_of, kept_rows, lists_row, lists_group, single_truth}
+use Rattle.assertion.specs.Meaning.{State, rows_of, key_of, filtered_rows, lists_row, lists_group, single_truth}
 
 -- whether there is a row under a key and it is listed
-abbrev pub is_bad_row : State → Cond → List Linked → Value → Option RowValues → Bool
+abbrev pub is_bad_row : State → Cond → List (Query Link) → Value → Option RowValues → Bool
 is_bad_row state condition queries key None = false
 is_bad_row state condition queries key (Some row) = lists_row state condition queries key row
 
@@ -32,9 +33,9 @@ abbrev pub is_bad_root : List Layout → Form → State → Root → Bool
 is_bad_root layouts (ByRow table condition queries) state All = false
 is_bad_root layouts (ByRow table condition queries) state (Of v) =
     is_bad_row state condition queries v (row_at (key_of table layouts) v (rows_of table state))
-is_bad_root layouts (ByGroup table kept group having aggregates) state All = false
-is_bad_root layouts (ByGroup table kept group having aggregates) state (Of v) =
-    is_bad_group (kept_rows kept (rows_of table state)) group having aggregates v
+is_bad_root layouts (ByGroup table restriction group having aggregates) state All = false
+is_bad_root layouts (ByGroup table restriction group having aggregates) state (Of v) =
+    is_bad_group (filtered_rows restriction (rows_of table state)) group having aggregates v
 is_bad_root layouts (Single condition queries) state All = is_of (single_truth state condition queries) False
 is_bad_root layouts (Single condition queries) state (Of v) = false
 

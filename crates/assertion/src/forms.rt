@@ -3,8 +3,7 @@
 ghost use Rattle.std.specs.Prelude.{◌≡◌, IfOk, IsOkUnless};
 ghost use Rattle.value.specs.declared.refusals.Refusal.TheVariants.{NoMemory};
 
-use crate::linked_queries::{Linked, copy_linked};
-use crate::plain_queries::{Plain, copy_plain};
+use crate::queries::{Link, Query, Whole, copy_queries};
 use cond::Cond;
 use sqlite_items::Items;
 use std::alloc::Global;
@@ -18,13 +17,13 @@ pub enum Form {
     ByRow {
         table: usize,
         condition: Cond,
-        queries: Items<Linked>,
+        queries: Items<Query<Link>>,
     },
-    /// `NOT EXISTS (SELECT group FROM table WHERE kept GROUP BY group HAVING having)`: no group for which the condition
-    /// is true. The row that `having` sees is the group's value alone.
+    /// `NOT EXISTS (SELECT group FROM table WHERE filter GROUP BY group HAVING having)`: no group for which the
+    /// condition is true. The row that `having` sees is the group's value alone.
     ByGroup {
         table: usize,
-        kept: Cond,
+        filter: Cond,
         group: usize,
         having: Cond,
         aggregates: Items<Aggregate>,
@@ -32,7 +31,7 @@ pub enum Form {
     /// A condition that is not to be false. It sees no row.
     Single {
         condition: Cond,
-        queries: Items<Plain>,
+        queries: Items<Query<Whole>>,
     },
 }
 
@@ -50,24 +49,24 @@ impl Form {
             } => Ok(Form::ByRow {
                 table: *table,
                 condition: condition.copy(alloc)?,
-                queries: copy_linked(alloc, queries.as_slice())?,
+                queries: copy_queries(alloc, queries.as_slice())?,
             }),
             Form::ByGroup {
                 table,
-                kept,
+                filter,
                 group,
                 having,
                 aggregates,
             } => Ok(Form::ByGroup {
                 table: *table,
-                kept: kept.copy(alloc)?,
+                filter: filter.copy(alloc)?,
                 group: *group,
                 having: having.copy(alloc)?,
                 aggregates: Items::from_slice(alloc, aggregates.as_slice())?,
             }),
             Form::Single { condition, queries } => Ok(Form::Single {
                 condition: condition.copy(alloc)?,
-                queries: copy_plain(alloc, queries.as_slice())?,
+                queries: copy_queries(alloc, queries.as_slice())?,
             }),
         }
     }

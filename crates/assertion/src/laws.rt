@@ -20,7 +20,7 @@ pub fn bad_roots_are_those_that_are_bad()
 
 /// A list in order that has exactly the bad roots answers for the assertion: its first is the least bad root, and by
 /// rows or by groups the verdict is whether it is empty.
-pub fn kept_roots_answer()
+pub fn bad_roots_answer()
     ensures least { AnswersLeastBad }
     ensures verdict { AnswersVerdict }
 {}

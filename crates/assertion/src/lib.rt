@@ -36,7 +36,7 @@
 //! What the layer above may rest on: a copy is equal to its original, or memory ran out; `kind` is the kind of slot
 //! that a set function fills, by which `cond` bounds its number; and three laws, each the contract of a function that
 //! does nothing: [`untouched_roots_keep_their_truth`], [`bad_roots_are_those_that_are_bad`] and
-//! [`kept_roots_answer`].
+//! [`bad_roots_answer`].
 //!
 //! The definitions are in `specs/`: `Meaning` (bad roots, verdict and least bad root from scratch, on whole lists of
 //! rows), `Roots` (whether one root is bad, changes of a state), `Candidates`, `Bounded` (which forms are evaluated
@@ -48,14 +48,12 @@ mod assertions;
 mod forms;
 mod kinds;
 mod laws;
-mod linked_queries;
-mod plain_queries;
+mod queries;
 
 pub use assertions::{Assertion, ConstraintAttributes};
 pub use forms::Form;
 pub use kinds::kind;
 pub use laws::{
-    bad_roots_are_those_that_are_bad, kept_roots_answer, untouched_roots_keep_their_truth,
+    bad_roots_answer, bad_roots_are_those_that_are_bad, untouched_roots_keep_their_truth,
 };
-pub use linked_queries::Linked;
-pub use plain_queries::Plain;
+pub use queries::{Link, Query, Whole};

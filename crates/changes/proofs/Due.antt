@@ -6,7 +6,7 @@ use Rattle.value.specs.Ordered.{HoldsOf}
 use Rattle.table.specs.declared.rows.Change.{Change}
 use Rattle.table.specs.Rows.{RowValues, Layout, FitsColumns}
 use Rattle.cond.specs.declared.conds.Cond.{Cond}
-use Rattle.assertion.specs.Meaning.{State, rows_of, key_of, kept_rows}
+use Rattle.assertion.specs.Meaning.{State, rows_of, key_of, filtered_rows}
 use Rattle.assertcheck.specs.declared.updates.Setting.{Setting}
 use Rattle.alone.specs.States.{IsState, AreDue}
 use Rattle.alone.specs.Statements.{removal, renewal, updated, sets_key, delete_effect}
@@ -15,22 +15,22 @@ use Rattle.alone.proofs.Orders.{found_in_order, due_from}
 use Rattle.delta.specs.Views.{IsFitting, layout_at}
 use Rattle.changes.proofs.Walks.{all_made}
 
-module _ (layouts : List Layout) (state : State) (fit : IsState layouts state) (table key : ℕ) (kept : Cond) (rows : List RowValues) (made : List Change) (k : key_of table layouts ≡ key) (r : rows_of table state ≡ rows) where
-  same_made : (make : ℕ → RowValues → Change) → made ≡ map (make key) (kept_rows kept rows) → map (make (key_of table layouts)) (kept_rows kept (rows_of table state)) ≡ made
+module _ (layouts : List Layout) (state : State) (fit : IsState layouts state) (table key : ℕ) (restriction : Cond) (rows : List RowValues) (made : List Change) (k : key_of table layouts ≡ key) (r : rows_of table state ≡ rows) where
+  same_made : (make : ℕ → RowValues → Change) → made ≡ map (make key) (filtered_rows restriction rows) → map (make (key_of table layouts)) (filtered_rows restriction (rows_of table state)) ≡ made
   same_made make m =
-      ap (λ (n : ℕ). map (make n) (kept_rows kept (rows_of table state))) k
-      ∙ ap (λ (rs : List RowValues). map (make key) (kept_rows kept rs)) r
+      ap (λ (n : ℕ). map (make n) (filtered_rows restriction (rows_of table state))) k
+      ∙ ap (λ (rs : List RowValues). map (make key) (filtered_rows restriction rs)) r
       ∙ sym m
 
-  pub removals_due : made ≡ map (removal table key) (kept_rows kept rows) → AreDue layouts made state
+  pub removals_due : made ≡ map (removal table key) (filtered_rows restriction rows) → AreDue layouts made state
   removals_due m =
       subst (λ (cs : List Change). AreDue layouts cs state) (same_made (removal table) m)
-      (due_from layouts state (delete_effect table (key_of table layouts) (kept_rows kept (rows_of table state))) (found_in_order layouts state fit.ordered table kept (removal table (key_of table layouts)) (λ row. refl)) (delete_doable layouts state fit table kept))
+      (due_from layouts state (delete_effect table (key_of table layouts) (filtered_rows restriction (rows_of table state))) (found_in_order layouts state fit.ordered table restriction (removal table (key_of table layouts)) (λ row. refl)) (delete_doable layouts state fit table restriction))
 
-  pub renewals_due : (sets : List Setting) → sets_key key sets ≡ false → made ≡ map (renewal table key sets) (kept_rows kept rows) → AreDue layouts made state
+  pub renewals_due : (sets : List Setting) → sets_key key sets ≡ false → made ≡ map (renewal table key sets) (filtered_rows restriction rows) → AreDue layouts made state
   renewals_due sets leaves m =
       subst (λ (cs : List Change). AreDue layouts cs state) (same_made (λ n. renewal table n sets) m)
-      (due_from layouts state _ (found_in_order layouts state fit.ordered table kept (renewal table (key_of table layouts) sets) (λ row. refl)) (update_doable layouts state fit table sets kept (ap (λ (n : ℕ). sets_key n sets) k ∙ leaves)))
+      (due_from layouts state _ (found_in_order layouts state fit.ordered table restriction (renewal table (key_of table layouts) sets) (λ row. refl)) (update_doable layouts state fit table sets restriction (ap (λ (n : ℕ). sets_key n sets) k ∙ leaves)))
 
 -- what is taken out leaves no row to fit
 pub removals_fit : (table key : ℕ) (rows : List RowValues) (made : List Change) → made ≡ map (removal table key) rows → (layouts : List Layout) → All (IsFitting layouts) made

@@ -1,11 +1,12 @@
 -- Values that are given to the columns of a row that fits.
-use Rattle.std.proofs.Common.{◌≡◌, ℕ, ◌<◌, ◌≤◌, zero, suc, Bool, true, false, cond, List, [], ◌∷◌, Some, None, length, get_or, refl, sym, ap, subst, arith}
+use Rattle.std.proofs.Common.{◌≡◌, ℕ, ◌<◌, zero, suc, Bool, true, false, cond, List, [], ◌∷◌, Some, None, length, get_or, refl, sym, ap, subst, arith}
 use Rattle.std.specs.Prelude.{◌&&◌, slice_get, slice_set}
+use Rattle.std.specs.Option.{option_or}
 use Rattle.value.specs.declared.values.Value.{Value}
 use Rattle.value.specs.declared.refusals.Refusal.TheVariants.{TypeMismatch}
 use Rattle.table.specs.declared.schemas.Column.{Column}
 use Rattle.table.specs.Rows.{RowValues, FitsColumn, FitsColumns}
-use Rattle.table.specs.Faults.{fault_in, first_of, is_typed}
+use Rattle.table.specs.Faults.{fault_in, is_typed}
 use Rattle.table.proofs.RowLemmas.{FitsColumns-of}
 use Rattle.alone.specs.Statements.{given_fault}
 
@@ -15,17 +16,12 @@ there [] i x h e = absurd (omega arith)
 there (y ∷ ys) zero x h e = ap (λ z. Some z) (sym (e y))
 there (y ∷ ys) (suc i) x h e = there ys i x (omega arith) e
 
-pub not_there : {X : Type 0} (xs : List X) (i : ℕ) → length xs ≤ i → slice_get xs i ≡ None
-not_there [] i h = refl
-not_there (y ∷ ys) zero h = absurd (omega arith)
-not_there (y ∷ ys) (suc i) h = not_there ys i (omega arith)
-
 -- a value without fault fits its column
 pub faultless_fits : (column : Column) (v : Value) → given_fault (Some column) v ≡ None → FitsColumn column v
 faultless_fits column v h = go (is_typed column.kind v) refl h
   where
     go : (b : Bool) → is_typed column.kind v ≡ b → cond b (fault_in column v) (Some TypeMismatch) ≡ None → FitsColumn column v
-    go true e f = (FitsColumns-of (column ∷ []) (v ∷ []) (ap (λ b. b && true) e) (ap (λ o. first_of o None) f)).0
+    go true e f = (FitsColumns-of (column ∷ []) (v ∷ []) (ap (λ b. b && true) e) (ap (λ o. option_or o None) f)).0
     go false e f = cc
 
 -- a column of the table is one of the row's

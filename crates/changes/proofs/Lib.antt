@@ -1,4 +1,4 @@
 pub mod Due
 pub mod Fitting
-pub mod KeptUnder
+pub mod FilteredUnder
 pub mod Walks

@@ -2,19 +2,19 @@
 use Rattle.std.proofs.Common.{◌≡◌, false, cond, List, [], ◌∷◌, ◌++◌, Option, map, sym, ◌∙◌, ap, subst, append_assoc, append-nil}
 use Rattle.std.specs.Prelude.{All}
 use Rattle.std.proofs.lemmas.List.Elements.{All-nil, All-cons, All-head, All-tail, All-append}
+use Rattle.std.specs.Option.{option_or}
 use Rattle.value.specs.declared.refusals.Refusal.{Refusal}
 use Rattle.table.specs.declared.schemas.Column.{Column}
 use Rattle.table.specs.Rows.{RowValues}
-use Rattle.table.specs.Faults.{first_of}
 use Rattle.cond.specs.declared.conds.Cond.{Cond}
 use Rattle.cond.specs.Eval.{keeps}
-use Rattle.assertion.specs.Meaning.{kept_rows}
+use Rattle.assertion.specs.Meaning.{filtered_rows}
 use Rattle.assertcheck.specs.declared.updates.Setting.{Setting}
 use Rattle.alone.specs.Statements.{settings_fault, update_fault}
 
--- a row that isn't kept is none of those that are left
-pub not_kept : (kept : Cond) (row : RowValues) (rest : List RowValues) → keeps row [] kept ≡ false → kept_rows kept (row ∷ rest) ≡ kept_rows kept rest
-not_kept kept row rest h = ap (λ b. cond b (row ∷ kept_rows kept rest) (kept_rows kept rest)) h
+-- a row that isn't restriction is none of those that are left
+pub not_filtered : (restriction : Cond) (row : RowValues) (rest : List RowValues) → keeps row [] restriction ≡ false → filtered_rows restriction (row ∷ rest) ≡ filtered_rows restriction rest
+not_filtered restriction row rest h = ap (λ b. cond b (row ∷ filtered_rows restriction rest) (filtered_rows restriction rest)) h
 
 -- what was made so far of rows, and what is still to be made of those that are left, is what is to be made of all
 abbrev pub IsMade : {X : Type 0} → (RowValues → X) → List RowValues → List X → List RowValues → Type 0
@@ -50,7 +50,7 @@ all_made P make h (row ∷ rows) = All-cons P (make row) (map make rows) (h row)
 
 -- the first fault of an UPDATE, by what is left
 pub fault_left : (columns : List Column) (sets : List Setting) (left : List RowValues) (row : RowValues) (rest : List RowValues) → left ≡ row ∷ rest
-    → (o : Option Refusal) → settings_fault columns sets row ≡ o → update_fault columns sets left ≡ first_of o (update_fault columns sets rest)
+    → (o : Option Refusal) → settings_fault columns sets row ≡ o → update_fault columns sets left ≡ option_or o (update_fault columns sets rest)
 fault_left columns sets left row rest step o e =
     ap (λ (rows : List RowValues). update_fault columns sets rows) step
-    ∙ ap (λ f. first_of f (update_fault columns sets rest)) e
+    ∙ ap (λ f. option_or f (update_fault columns sets rest)) e

@@ -6,13 +6,13 @@ ghost use Rattle.value.specs.Ordered.{IsAscending};
 ghost use Rattle.value.specs.ValueOrder.{value_cmp};
 ghost use Rattle.table.specs.Rows.{Layout, value_in};
 ghost use Rattle.cond.specs.Bounds.{IsSmallRow, is_bounded};
-ghost use Rattle.assertion.specs.Meaning.{State, key_of, kept_rows, rows_of};
+ghost use Rattle.assertion.specs.Meaning.{State, key_of, filtered_rows, rows_of};
 ghost use Rattle.answer.specs.declared.answers.Reply.TheVariants.{Deleted};
 ghost use Rattle.alone.specs.States.{AreDue, IsState};
 ghost use Rattle.alone.specs.Statements.{delete_effect, removal};
 ghost use Rattle.delta.specs.Views.{IsFitting};
 
-use crate::kept::kept_rows;
+use crate::filtered::filtered_rows;
 use cond::Cond;
 use mvrows::Rows;
 use roots::value_at;
@@ -31,20 +31,20 @@ pub fn removals(
     table: usize,
     key: usize,
     rows: &Rows,
-    kept: &Cond,
+    filter: &Cond,
 ) -> Result<Vec<Change>, Refusal>
-    requires bounded { IsTrue (is_bounded [] kept.now) }
+    requires bounded { IsTrue (is_bounded [] filter.now) }
     requires small { All IsSmallRow rows.now }
     requires ordered { IsAscending value_cmp (value_in key) rows.now }
     ensures only_memory { IsOkUnless result NoMemory }
     ensures made { IfOk result (λ made. record { reply = Deleted (length made.items); changes = made.items }
-        ≡ delete_effect table key (kept_rows kept.now rows.now)) }
+        ≡ delete_effect table key (filtered_rows filter.now rows.now)) }
     ensures due { IfOk result (λ made. (layouts : List Layout) (state : State) → IsState layouts state
         → key_of table layouts ≡ key → rows_of table state ≡ rows.now → AreDue layouts made.items state) }
     ensures fit { IfOk result (λ made. (layouts : List Layout) → All (IsFitting layouts) made.items) }
 {
     let mut made = Vec::new(alloc);
-    for row in kept_rows(alloc, rows, key, kept) {
+    for row in filtered_rows(alloc, rows, key, filter) {
         made.push(removal(table, key, row)?)?;
     }
     Ok(made)

@@ -27,8 +27,8 @@
 #![tactic(auto)]
 
 mod deletions;
+mod filtered;
 mod insertions;
-mod kept;
 mod lookups;
 mod schemas;
 mod selections;
@@ -40,6 +40,3 @@ pub use insertions::insertion;
 pub use schemas::{name_at, schema_at};
 pub use selections::selected_rows;
 pub use updates::renewals;
-
-#[cfg(test)]
-mod tests;

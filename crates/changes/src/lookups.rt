@@ -7,7 +7,7 @@ ghost use Rattle.value.specs.ValueOrder.{value_cmp};
 ghost use Rattle.table.specs.declared.schemas.Column.{Column};
 ghost use Rattle.table.specs.Rows.{FitsColumns, value_in};
 ghost use Rattle.cond.specs.Bounds.{IsSmallRow};
-ghost use Rattle.assertion.specs.Meaning.{kept_rows};
+ghost use Rattle.assertion.specs.Meaning.{filtered_rows};
 
 use cond::Cond;
 use mvrows::{RowIter, Rows};
@@ -36,13 +36,13 @@ impl<'a> Model for Looked<'a> {
 
 /// Of the rows of a table those that a condition has to be tested on: it is true of no other. The keys are in the
 /// column at `key`. It takes no memory.
-pub fn look_through<'a>(rows: &'a Rows, key: usize, kept: &Cond) -> Looked<'a>
+pub fn look_through<'a>(rows: &'a Rows, key: usize, filter: &Cond) -> Looked<'a>
     requires { IsAscending value_cmp (value_in key) rows.now }
-    ensures kept { kept_rows kept.now result ≡ kept_rows kept.now rows.now }
+    ensures filtered { filtered_rows filter.now result ≡ filtered_rows filter.now rows.now }
     ensures small { All IsSmallRow rows.now → All IsSmallRow result }
     ensures fit { (columns : List Column) → All (FitsColumns columns) rows.now → All (FitsColumns columns) result }
 {
-    match equality_on(kept, key) {
+    match equality_on(filter, key) {
         Some(equality) => Looked {
             one: rows.get(key, equality.value),
             rows: None,

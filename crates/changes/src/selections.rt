@@ -3,10 +3,10 @@
 ghost use Rattle.std.specs.Prelude.{◌≡◌, ◌<◌, [], length, IfOk, IsOkUnless, IsTrue};
 ghost use Rattle.value.specs.declared.refusals.Refusal.TheVariants.{NoMemory};
 ghost use Rattle.cond.specs.Bounds.{is_bounded};
-ghost use Rattle.assertion.specs.Meaning.{kept_rows, rows_of};
+ghost use Rattle.assertion.specs.Meaning.{filtered_rows, rows_of};
 ghost use Rattle.alone.specs.Statements.{selected_rows, selected_values};
 
-use crate::kept::kept_rows;
+use crate::filtered::filtered_rows;
 use cond::Cond;
 use delta::View;
 use roots::value_at;
@@ -26,16 +26,16 @@ pub fn selected_rows(
     view: &View,
     table: usize,
     columns: &[usize],
-    kept: &Cond,
+    filter: &Cond,
 ) -> Result<Vec<Row>, Refusal>
-    requires bounded { IsTrue (is_bounded [] kept.now) }
+    requires bounded { IsTrue (is_bounded [] filter.now) }
     requires table_in { table < length view.now.state }
     ensures only_memory { IsOkUnless result NoMemory }
     ensures listed { IfOk result (λ made. made.items
-        ≡ selected_rows columns.now (kept_rows kept.now (rows_of table view.now.state))) }
+        ≡ selected_rows columns.now (filtered_rows filter.now (rows_of table view.now.state))) }
 {
     let mut made = Vec::new(alloc);
-    for row in kept_rows(alloc, view.rows(table), view.schema(table).key(), kept) {
+    for row in filtered_rows(alloc, view.rows(table), view.schema(table).key(), filter) {
         made.push(selected_values(alloc, columns, row)?)?;
     }
     Ok(made)

@@ -5,14 +5,14 @@ ghost use Rattle.value.specs.declared.refusals.Refusal.TheVariants.{NoMemory};
 ghost use Rattle.value.specs.Ordered.{HoldsOf};
 ghost use Rattle.table.specs.Rows.{FitsColumns, IsTable, Layout};
 ghost use Rattle.cond.specs.Bounds.{IsSmallRow, is_bounded};
-ghost use Rattle.assertion.specs.Meaning.{State, key_of, kept_rows, rows_of};
+ghost use Rattle.assertion.specs.Meaning.{State, key_of, filtered_rows, rows_of};
 ghost use Rattle.assertcheck.specs.Updates.{IsBoundedSetting};
 ghost use Rattle.answer.specs.declared.answers.Reply.TheVariants.{Updated};
 ghost use Rattle.alone.specs.States.{AreDue, IsState};
 ghost use Rattle.alone.specs.Statements.{given_fault, given_value, renewal, sets_key, settings_fault, update_effect, updated};
 ghost use Rattle.delta.specs.Views.{IsFitting, layout_at};
 
-use crate::kept::kept_rows;
+use crate::filtered::filtered_rows;
 use crate::settings::given_value;
 use assertcheck::Setting;
 use cond::Cond;
@@ -36,16 +36,17 @@ pub fn renewals(
     schema: &Schema,
     rows: &Rows,
     sets: &[Setting],
-    kept: &Cond,
+    filter: &Cond,
 ) -> Result<Vec<Change>, Refusal>
     requires bounded { All IsBoundedSetting sets.now }
-    requires bounded_condition { IsTrue (is_bounded [] kept.now) }
+    requires bounded_condition { IsTrue (is_bounded [] filter.now) }
     requires table { IsTable schema.now rows.now }
     ensures made { IfOk result (λ made.
-        update_effect schema.now.columns table schema.now.key sets.now (kept_rows kept.now rows.now)
+        update_effect schema.now.columns table schema.now.key sets.now (filtered_rows filter.now rows.now)
         ≡ Ok (record { reply = Updated (length made.items); changes = made.items })) }
     ensures refused { IfErr result (λ refusal. refusal ≢ NoMemory
-        → update_effect schema.now.columns table schema.now.key sets.now (kept_rows kept.now rows.now) ≡ Err refusal) }
+        → update_effect schema.now.columns table schema.now.key sets.now (filtered_rows filter.now rows.now)
+        ≡ Err refusal) }
     ensures due { IfOk result (λ made. (layouts : List Layout) (state : State) → IsState layouts state
         → key_of table layouts ≡ schema.now.key → rows_of table state ≡ rows.now
         → sets_key schema.now.key sets.now ≡ false → AreDue layouts made.items state) }
@@ -55,7 +56,7 @@ pub fn renewals(
         → All (IsFitting layouts) made.items) }
 {
     let mut made = Vec::new(alloc);
-    for row in kept_rows(alloc, rows, schema.key(), kept) {
+    for row in filtered_rows(alloc, rows, schema.key(), filter) {
         made.push(renewal(alloc, table, schema, sets, row)?)?;
     }
     Ok(made)

@@ -6,7 +6,7 @@ use Rattle.std.proofs.lemmas.List.{length-append, length-map, length-reverse, re
 use Rattle.std.proofs.lemmas.List.Elements.{All-from_recursion}
 use Rattle.std.proofs.lemmas.Bool.{eqb-false}
 use Rattle.table.specs.declared.rows.Change.{Change}
-use Rattle.table.specs.Rows.{Layout, names_of}
+use Rattle.table.specs.Rows.{names_of}
 use Rattle.assertion.specs.Declarations.{Declared, layouts_in}
 use Rattle.assertion.specs.Meaning.{State}
 use Rattle.assertion.specs.Roots.{AreChangesOf, state_after_all}
@@ -18,7 +18,7 @@ use Rattle.alone.proofs.KeyLists.{among_from}
 use Rattle.alone.proofs.Lists.{Each, each_at, each_from, each_weaker}
 use Rattle.alone.proofs.Nets.{net_exact, net_puts, put_net}
 use Rattle.alone.proofs.Orders.{due_changes, net_in_order}
-use Rattle.delta.specs.Views.{AreTables, Shown}
+use Rattle.delta.specs.Views.{Shown}
 use Rattle.serial.specs.declared.records.Record.{Record}
 use Rattle.serial.specs.Answer.{IsAnswer, Number}
 use Rattle.serial.specs.Commits.{HasNoWriteConflict, IsLog}
@@ -40,10 +40,6 @@ use Rattle.commit.specs.Kept.{IsCore}
 
 pub log_with : (records : List Record) (commit : Record) → reverse (records ++ commit ∷ []) ≡ commit ∷ reverse records
 log_with records commit = reverse-append records (commit ∷ [])
-
--- tables are a state in key order
-pub tables_state : (layouts : List Layout) (state : State) → AreTables layouts state → IsState layouts state
-tables_state layouts state t = record { long = t.long; ordered = λ table. (t.each table).ascending }
 
 -- what holds of the number of each commit holds of each number in the serial order
 each_before : (P : ℕ → Type 0) (place number : ℕ) (order : List ℕ) → P number → Each P order → Each P (put_number_before place number order)

@@ -18,7 +18,7 @@ use Rattle.txn.specs.Transactions.{OpenTransaction}
 use Rattle.commit.specs.declared.seats.Seat.{Seat}
 use Rattle.commit.specs.Cores.{CoreState, IsLive, committed, ended, log_of, record_of, refused_to, with_begun}
 use Rattle.commit.specs.Runs.{all_seated, free_seat, seated, unless_seated}
-use Rattle.commit.specs.Events.{AreLive, EngineState, IsAnswered, IsAnsweredAt, IsReply, after, after_at, core_after, decided_core, found_no_memory, seat_of, seats_set, told, txn_after, txn_of}
+use Rattle.commit.specs.Events.{AreLive, EngineState, IsAnswered, IsAnsweredAt, IsReply, after, after_at, core_after, decided_core, found_no_memory, seat_of, seats_set, as_answer, txn_after, txn_of}
 use Rattle.commit.proofs.Tickets.{fewer, held_more, held_other, one_more, ticket_below}
 
 live_begun : (c : CoreState) (other : OpenTransaction) → IsLive c other → IsLive (with_begun c) other
@@ -207,7 +207,7 @@ module _ (now : EngineState) (step : Step) (place : ℕ) (seat : Seat) (core : C
         subst (λ c. AreLive c (slice_set now.seats place left)) (sym g.0) (subst (AreLive now.core) (sym (ap (slice_set now.seats place) g.1 ∙ unchanged)) live)
 
   module _ (seated : seat_of now.seats step.session ≡ Some place) (there : slice_get now.seats place ≡ Some seat) where
-    pub is_answered : (answered : Result Answer Refusal) → IsOkUnless answered NoMemory → IfOk answered (IsReply now.core step.session step.event seat.txn) → IsAnswered now step (told answered)
+    pub is_answered : (answered : Result Answer Refusal) → IsOkUnless answered NoMemory → IfOk answered (IsReply now.core step.session step.event seat.txn) → IsAnswered now step (as_answer answered)
     is_answered (Ok answer) only reply =
         inr (subst (λ p. IsAnsweredAt now step.session step.event p answer) (sym seated) (subst (λ s. IsReply now.core step.session step.event (txn_of s) answer) (sym there) reply))
     is_answered (Err refusal) only reply = inl (ap Refused only)
@@ -217,7 +217,7 @@ module _ (now : EngineState) (step : Step) (place : ℕ) (seat : Seat) (core : C
         → OnOk answered (left ≡ record seat { txn = txn_after now.core step.event seat.txn })
         → OnErr answered ((core ≡ now.core) × (left ≡ seat))
         → slice_set now.seats place seat ≡ now.seats
-        → record { core = core; seats = slice_set now.seats place left } ≡ after now step (told answered)
+        → record { core = core; seats = slice_set now.seats place left } ≡ after now step (as_answer answered)
     is_after (Ok answer) only known commits seats same unchanged =
         (λ i. record { core = commits i; seats = slice_set now.seats place (seats i) })
         ∙ ap (λ s. record { core = core_after now.core step.session step.event (txn_of s) answer; seats = seats_set now.seats place (txn_after now.core step.event (txn_of s)) s }) (sym there)

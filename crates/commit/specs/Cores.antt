@@ -41,10 +41,7 @@ pub record CoreState : Type 0 where
 abbrev pub log_of : CoreState → List Record
 log_of c = reverse c.records
 
--- the tables after so many commits, and after all
-abbrev pub tables_at : CoreState → ℕ → Shown
-tables_at c number = record { declared = c.declared; state = state_of c.declared c.start (log_of c) number }
-
+-- the tables after all commits
 abbrev pub newest_tables : CoreState → Shown
 newest_tables c = record { declared = c.declared; state = newest c.declared c.start (log_of c) }
 

@@ -128,9 +128,9 @@ after_at now session event (Some place) answer = record {
 }
 
 -- an answer, or the refusal for which there is none
-abbrev pub told : Result Answer Refusal → Answer
-told (Ok answer) = answer
-told (Err refusal) = Refused refusal
+abbrev pub as_answer : Result Answer Refusal → Answer
+as_answer (Ok answer) = answer
+as_answer (Err refusal) = Refused refusal
 
 -- whether no memory was found
 abbrev pub is_no_memory : Refusal → Bool

@@ -29,7 +29,7 @@ pub fn admit(alloc: Global, definitions: &[Definition]) -> Result<View, Refusal>
 {
     let taken = Definitions::take(alloc, definitions)?;
     let loaded = taken.load(alloc)?;
-    let view = satisfied(loaded)?;
+    let view = require_satisfied(loaded)?;
     Ok(view)
 }
 
@@ -39,7 +39,7 @@ pub fn admit(alloc: Global, definitions: &[Definition]) -> Result<View, Refusal>
 ///
 /// [`Refusal::FalseAtCreation`] with the first assertion that is false, and the least root at which it is. Or
 /// [`Refusal::NoMemory`].
-pub fn satisfied(view: View) -> Result<View, Refusal>
+pub fn require_satisfied(view: View) -> Result<View, Refusal>
     ensures satisfied { IfOk result (λ same. satisfied view ≡ Ok same) }
     ensures same { IfOk result (λ same. same ≡ view) }
     ensures sound { IfOk result (λ same. IsSound same.declared same.state) }

@@ -1,7 +1,6 @@
 //! The committed transactions.
 
-ghost use Rattle.std.specs.Prelude.{◌≡◌, ◌≢◌, ◌≤◌, ◌<◌, ◌+◌, ◌++◌, ◌∷◌, [], ℕ, List, length, nat_eq, true, vec_capacity, vec_len, All, Contains, IfOk, IfErr, IfSome, IfNone, IsOkUnless, OnErr, OnOk, Ok, Err, None, Some};
-ghost use Rattle.std.specs.List.{IsDistinct};
+ghost use Rattle.std.specs.Prelude.{◌≡◌, ◌≢◌, ◌≤◌, ◌<◌, ◌+◌, ◌++◌, ◌∷◌, [], ℕ, List, length, true, vec_capacity, vec_len, Contains, IfOk, IfErr, IfSome, IfNone, IsOkUnless, OnErr, OnOk, Ok, Err, None, Some};
 ghost use Rattle.value.specs.declared.refusals.Refusal.TheVariants.{NoMemory};
 ghost use Rattle.modes.specs.Modes.{assertion_of};
 ghost use Rattle.siread.specs.Locks.{IsCount, above, readers_at};
@@ -10,26 +9,25 @@ ghost use Rattle.live.specs.Live.{least_held, without};
 ghost use Rattle.alone.specs.Alone.{IsSound};
 ghost use Rattle.serial.specs.Commits.{HasNoWriteConflict, IsLog};
 ghost use Rattle.serial.specs.Order.{least_out};
-ghost use Rattle.conflict.specs.Ordered.{put_number_before};
 ghost use Rattle.txn.specs.Transactions.{begun, truth_of};
 ghost use Rattle.commit.specs.Cores.{IsCommitAnswer, IsLive, IsSerializable, IsUncommitted, committed, ended, finished, locks_of, log_of, newest_tables, order_of, pending_txn, record_of, unprepared, with_begun, with_commit, with_prepared};
 ghost use Rattle.commit.specs.Decisions.{IsDecision, IsJudgment};
 ghost use Rattle.commit.specs.Runs.{empty_core};
 
-use crate::decisions::{Decision, dangerous, write_conflict};
-use crate::prepared::{Prepared, given_up};
+use crate::decisions::{Decision, refuse_for_triple, refuse_for_writer};
+use crate::prepared::{Prepared, give_up};
 use answer::RefusedCommit;
 use conflict::{Candidate, Verdict, judge, put_in_order};
 use delta::View;
 use live::Live;
-use serial::{Record, order, replay};
+use serial::{Record, commits_have_an_order, replay_answers_again};
 use siread::LockTable;
 use sqlite_items::Items;
 use std::alloc::Global;
 use std::marker::Model;
 use std::mem;
 use threeval::Truth;
-use txn::{Closed, Parts, Txn, Unclosed, truth_on};
+use txn::{Closed, Parts, Txn, Unclosed, verdict_on};
 use value::{Refusal, Text};
 
 /// The committed transactions: the tables before the first and after the last, a record of each, their serial
@@ -90,7 +88,7 @@ impl Drop for Core {
             prepared,
         } = self;
         if let Some(prepared) = prepared {
-            let_go(given_up(prepared).into_parts());
+            let_go(give_up(prepared).into_parts());
         }
     }
 }
@@ -193,7 +191,7 @@ impl Core {
         match self.decide(&closed) {
             Ok(Decision::Accepted(place)) => self.make_ready(session, closed, place),
             Ok(Decision::Refused(refusal)) => Err(self.refuse(session, closed, refusal)),
-            Err(refusal) => Err(given_back(refusal, closed)),
+            Err(refusal) => Err(give_back(refusal, closed)),
         }
     }
 
@@ -230,7 +228,7 @@ impl Core {
         let Some(prepared) = self.prepared.take() else {
             return None;
         };
-        let closed = given_up(prepared);
+        let closed = give_up(prepared);
         self.locks
             .take_back(self.records.len() as u64 + 1, closed.reads());
         Some(closed)
@@ -252,7 +250,7 @@ impl Core {
     pub fn verdict(&self, name: &Text) -> Option<Truth>
         ensures { result ≡ truth_of (newest_tables self.now) (assertion_of name.now self.now.declared.assertions) }
     {
-        truth_on(&self.newest, name)
+        verdict_on(&self.newest, name)
     }
 
     /// How many pairs there are of a key and a commit that read it, of the commits that some open transaction's
@@ -322,6 +320,7 @@ impl Core {
     pub fn is_log(&self)
         ensures { IsLog (log_of self.now) }
     {
+        // (what holds of every core is known where a field of it is read)
         let _ = &self.loaded;
     }
 
@@ -329,8 +328,8 @@ impl Core {
     pub fn is_serializable(&self)
         ensures { IsSerializable self.now }
     {
-        order();
-        replay();
+        commits_have_an_order();
+        replay_answers_again();
         let _ = &self.loaded;
     }
 }
@@ -374,16 +373,16 @@ impl Core {
         match judge(records, self.places.as_slice(), &self.locks, &candidate) {
             Verdict::Fine { place } => Ok(Decision::Accepted(place)),
             Verdict::WriteConflict { row, by } => {
-                let refusal = write_conflict(self.loaded.catalog(), changes, row, by)?;
+                let refusal = refuse_for_writer(self.loaded.catalog(), changes, row, by)?;
                 Ok(Decision::Refused(refusal))
             }
-            Verdict::Dangerous(danger) => Ok(Decision::Refused(dangerous(danger))),
+            Verdict::Dangerous(danger) => Ok(Decision::Refused(refuse_for_triple(danger))),
         }
     }
 
     /// The tables after the commit of a transaction that is accepted. Where its snapshot is of the newest tables,
     /// that is its own view.
-    fn tables_with(&self, closed: &Closed) -> Result<View, Refusal>
+    fn make_tables(&self, closed: &Closed) -> Result<View, Refusal>
         requires live { IsLive self.now closed.now }
         requires idle { self.now.prepared ≡ None }
         requires free { (session : List ℕ)
@@ -393,6 +392,7 @@ impl Core {
             → view ≡ newest_tables (with_commit self.now (record_of self.now session closed.now))) }
     {
         let own = closed.own();
+        // (that a view's tables are as its declarations say is a clause of its catalog)
         let _ = own.catalog();
         if closed.snapshot() == self.records.len() as u64 {
             let view = own.copy()?;
@@ -404,7 +404,7 @@ impl Core {
     }
 
     /// The tables after the commit of a transaction that is accepted, and its session's name.
-    fn made_for(&self, session: &Text, closed: &Closed) -> Result<(View, Text), Refusal>
+    fn make_for(&self, session: &Text, closed: &Closed) -> Result<(View, Text), Refusal>
         requires live { IsLive self.now closed.now }
         requires idle { self.now.prepared ≡ None }
         requires answered { IsCommitAnswer self.now session.now closed.now (Ok (length self.now.records + 1)) }
@@ -413,7 +413,7 @@ impl Core {
             made.0 ≡ newest_tables (with_commit self.now (record_of self.now session.now closed.now))) }
         ensures session { IfOk result (λ made. made.1 ≡ session.now) }
     {
-        let tables = self.tables_with(closed)?;
+        let tables = self.make_tables(closed)?;
         let session = session.copy()?;
         Ok((tables, session))
     }
@@ -431,15 +431,15 @@ impl Core {
         ensures same { IfErr result (λ _. self.new ≡ self.old) }
     {
         let number = self.records.len() as u64 + 1;
-        let (tables, session) = match self.made_for(session, &closed) {
+        let (tables, session) = match self.make_for(session, &closed) {
             Ok(made) => made,
-            Err(refusal) => return Err(given_back(refusal, closed)),
+            Err(refusal) => return Err(give_back(refusal, closed)),
         };
         if let Err(refusal) = make_room(&mut self.records, &mut self.places, &mut self.order) {
-            return Err(given_back(refusal, closed));
+            return Err(give_back(refusal, closed));
         }
         if let Err(refusal) = self.locks.put(number, closed.reads()) {
-            return Err(given_back(refusal, closed));
+            return Err(give_back(refusal, closed));
         }
         let prepared = Prepared {
             closed,
@@ -447,6 +447,7 @@ impl Core {
             tables,
             place,
         };
+        // (an assignment would let go of what stood there, and a prepared commit must be spent)
         match mem::replace(&mut self.prepared, Some(prepared)) {
             None => Ok(number),
             Some(_) => unreachable!(),
@@ -461,8 +462,8 @@ impl Core {
         requires answered { IsCommitAnswer self.old session.now closed (Err refusal) }
         ensures { IsUncommitted self.old session.now closed result.refusal result.txn self.new }
     {
-        if let Err(fault) = note(&mut self.refused, session, &refusal) {
-            return given_back(fault, closed);
+        if let Err(fault) = note_refused(&mut self.refused, session, &refusal) {
+            return give_back(fault, closed);
         }
         let newest = self.records.len() as u64;
         forget(&mut self.live, &mut self.locks, closed.ticket(), newest);
@@ -527,7 +528,11 @@ fn make_room(
 }
 
 /// Notes a refused commit behind the others.
-fn note(refused: &mut Vec<RefusedCommit>, session: &Text, refusal: &Refusal) -> Result<(), Refusal>
+fn note_refused(
+    refused: &mut Vec<RefusedCommit>,
+    session: &Text,
+    refusal: &Refusal,
+) -> Result<(), Refusal>
     ensures only_memory { IsOkUnless result NoMemory }
     ensures noted { OnOk result (refused.new.items
         ≡ refused.old.items ++ record { session = session.now; refusal = refusal.now } ∷ []) }
@@ -542,7 +547,7 @@ fn note(refused: &mut Vec<RefusedCommit>, session: &Text, refusal: &Refusal) -> 
 }
 
 /// The transaction is given back, as it was before its COMMIT.
-fn given_back(refusal: Refusal, closed: Closed) -> Uncommitted
+fn give_back(refusal: Refusal, closed: Closed) -> Uncommitted
     ensures refusal { result.refusal ≡ refusal }
     ensures txn { result.txn ≡ Some closed }
 {
@@ -552,4 +557,5 @@ fn given_back(refusal: Refusal, closed: Closed) -> Uncommitted
     }
 }
 
+/// Lets a value go. Its type is a parameter here, so that the caller's proof does not go over its fields.
 fn let_go<T: Drop>(_value: T) {}

@@ -19,7 +19,7 @@ pub enum Decision {
 }
 
 /// The refusal by a commit that changed the row of one of some changes.
-pub fn write_conflict(
+pub fn refuse_for_writer(
     catalog: &Catalog,
     changes: &[Change],
     row: usize,
@@ -43,7 +43,7 @@ pub fn write_conflict(
 }
 
 /// The refusal by a dangerous triple.
-pub fn dangerous(danger: Danger) -> Refusal
+pub fn refuse_for_triple(danger: Danger) -> Refusal
     ensures { result ≡ danger_refusal danger }
 {
     match danger {

@@ -4,11 +4,11 @@ ghost use Rattle.std.specs.Prelude.{◌≡◌, ◌≤◌, [], true, false, lengt
 ghost use Rattle.value.specs.declared.refusals.Refusal.TheVariants.{NoMemory};
 ghost use Rattle.alone.specs.Alone.{IsSound};
 ghost use Rattle.commit.specs.Cores.{IsSerializable};
-ghost use Rattle.commit.specs.Events.{IsAnswered, after, told};
+ghost use Rattle.commit.specs.Events.{IsAnswered, after, as_answer};
 ghost use Rattle.commit.specs.Runs.{AreAnswers, IsNext, beginning, led_to};
 
 use crate::cores::Core;
-use crate::seats::{Seat, answer_event, place_of, seats_for};
+use crate::seats::{Seat, answer_event, find_seat, make_seats};
 use answer::Answer;
 use delta::View;
 use statement_syntax::Step;
@@ -54,7 +54,7 @@ impl Engine {
         ensures only_memory { IsOkUnless result NoMemory }
         ensures beginning { IfOk result (λ engine. engine ≡ beginning limit loaded steps.now) }
     {
-        let seats = seats_for(alloc, steps)?;
+        let seats = make_seats(alloc, steps)?;
         let core = Core::new(alloc, limit, loaded)?;
         Ok(Engine { core, seats })
     }
@@ -64,11 +64,11 @@ impl Engine {
         ensures answered { IsAnswered self.old step.now result }
         ensures after { self.new ≡ after self.old step.now result }
     {
-        let Some(place) = place_of(self.seats.as_slice(), &step.session) else {
+        let Some(place) = find_seat(self.seats.as_slice(), &step.session) else {
             return Answer::Refused(Refusal::TooManySessions);
         };
         let answered = answer_event(&mut self.core, &mut self.seats[place], step);
-        told(answered)
+        as_answer(answered)
     }
 
     /// The committed transactions.
@@ -142,8 +142,8 @@ fn answer_next(engine: &mut Engine, step: &Step, answers: &mut Vec<Answer>) -> b
 }
 
 /// An answer, or that no memory was found.
-fn told(answered: Result<Answer, Refusal>) -> Answer
-    ensures { result ≡ told answered }
+fn as_answer(answered: Result<Answer, Refusal>) -> Answer
+    ensures { result ≡ as_answer answered }
 {
     match answered {
         Ok(answer) => answer,

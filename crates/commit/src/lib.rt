@@ -30,9 +30,9 @@
 //! is judged by the commits after its snapshot (`conflict::judge`), and all that takes memory is made before the
 //! first field changes.
 //!
-//! What the layer above may rest on: the contracts of [`Engine::answer`], [`Core::commit`] and [`run`]; [`replies`]
-//! says that what a record's trace answers on its snapshot is what its session was told. What it owes: tables that
-//! are admitted, and a limit of at most 4,294,967,295 commits.
+//! What the layer above may rest on: the contracts of [`Engine::answer`], [`Core::commit`] and [`run`];
+//! [`replies_are_those_alone`] says that what a record's trace answers on its snapshot is what its session was told.
+//! What it owes: tables that are admitted, and a limit of at most 4,294,967,295 commits.
 #![tactic(auto)]
 
 mod admission;
@@ -43,12 +43,9 @@ mod laws;
 mod prepared;
 mod seats;
 
-pub use admission::{admit, first_false, satisfied};
+pub use admission::{admit, first_false, require_satisfied};
 pub use cores::{Core, Uncommitted};
 pub use engine::{Engine, Outcome, run};
-pub use laws::replies;
+pub use laws::replies_are_those_alone;
 pub use prepared::Prepared;
 pub use seats::{Seat, has_few_sessions};
-
-#[cfg(test)]
-mod tests;

@@ -16,7 +16,7 @@ pub struct Prepared {
 }
 
 /// The transaction of a commit that is given up.
-pub fn given_up(prepared: Prepared) -> Closed
+pub fn give_up(prepared: Prepared) -> Closed
     ensures { result ≡ prepared.closed }
 {
     let Prepared {

@@ -32,6 +32,7 @@ impl Drop for Seat {
     }
 }
 
+/// Lets a value go. Its type is a parameter here, so that the caller's proof does not go over its fields.
 fn let_go<T: Drop>(_value: T) {}
 
 /// Seats a transaction, or none. One that was open is rolled back.
@@ -45,7 +46,7 @@ fn set_txn(seat: &mut Seat, txn: Option<Txn>)
 }
 
 /// A seat for each session of some events, in the order of their first events. NoMemory is the only error.
-pub fn seats_for(alloc: Global, steps: &[Step]) -> Result<Vec<Seat>, Refusal>
+pub fn make_seats(alloc: Global, steps: &[Step]) -> Result<Vec<Seat>, Refusal>
     ensures only_memory { IsOkUnless result NoMemory }
     ensures seats { IfOk result (λ seats. seats.items ≡ all_seated [] steps.now) }
 {
@@ -86,7 +87,7 @@ fn seat_session(seats: &mut Vec<Seat>, session: &Text) -> Result<(), Refusal>
     ensures only_memory { IsOkUnless result NoMemory }
     ensures seated { OnOk result (seats.new.items ≡ seated seats.old.items session.now) }
 {
-    if place_of(seats, session).is_none() {
+    if find_seat(seats, session).is_none() {
         seats.push(Seat {
             session: session.copy()?,
             txn: None,
@@ -96,7 +97,7 @@ fn seat_session(seats: &mut Vec<Seat>, session: &Text) -> Result<(), Refusal>
 }
 
 /// The place of a session's seat. It takes no memory.
-pub fn place_of(seats: &[Seat], session: &Text) -> Option<usize>
+pub fn find_seat(seats: &[Seat], session: &Text) -> Option<usize>
     ensures found { result ≡ seat_of seats.now session.now }
     ensures within { IfSome result (λ place. place < length seats.now) }
 {

@@ -1,18 +1,20 @@
 -- The equations of a condition's truth, a variant at a time.
-use Rattle.std.proofs.Common.{◌≡◌, ℕ, suc, ◌+◌, ◌<◌, Bool, true, false, List, ◌∷◌, map, drop, drop-cons, add-one, get_or, length, ◌≤◌, refl, sym, ◌∙◌, ap}
+use Rattle.std.proofs.Common.{◌≡◌, ℕ, ◌+◌, ◌<◌, List, map, drop, get_or, length, ◌≤◌, refl, sym, ◌∙◌, ap}
 use Rattle.std.proofs.lemmas.List.{drop_all}
 use Rattle.threeval.specs.declared.Truth.{Truth}
 use Rattle.threeval.specs.declared.Truth.TheVariants.{True, False, Unknown}
 use Rattle.threeval.specs.Truths.{and_of, or_of}
 use Rattle.table.specs.Rows.{RowValues}
 use Rattle.value.specs.declared.values.Value.{Value}
+use Rattle.value.proofs.Lists.{drop_item}
 use Rattle.cond.specs.declared.slots.SlotKind.{SlotKind}
 use Rattle.cond.specs.declared.conds.Cond.{Cond}
 use Rattle.cond.specs.declared.conds.Cond.TheOpen.{Cond-F}
 use Rattle.cond.specs.declared.conds.Cond.TheFolds.{fold-roll-Cond}
 use Rattle.cond.specs.declared.conds.Cond.TheViews.{And, Or}
 use Rattle.cond.specs.declared.conds.Cond.TheVariants.{rolls-And, rolls-Or}
-use Rattle.std.specs.Prelude.{IsTrue, ◌&&◌}
+use Rattle.std.specs.Prelude.{IsTrue}
+use Rattle.std.proofs.lemmas.Bool.{and_parts}
 use Rattle.cond.specs.Bounds.{is_bounded, all_true}
 use Rattle.cond.specs.Eval.{cond_step, truth}
 use Rattle.cond.specs.Values.{all_of, any_of}
@@ -23,10 +25,6 @@ module _ (row : RowValues) (slots : List Value) where
 
   pub truth-Or : (parts : List Cond) → truth row slots (Or parts) ≡ any_of (map (truth row slots) parts)
   truth-Or parts = ap (truth row slots) (sym (rolls-Or parts)) ∙ fold-roll-Cond Truth (cond_step row slots) (Cond-F.Or parts)
-
--- what is left, its first part apart
-pub drop_item : {X : Type 0} (xs : List X) (i : ℕ) (x : X) → i < length xs → x ≡ get_or xs i x → drop i xs ≡ x ∷ drop (i + 1) xs
-drop_item xs i x h is = rw (add-one, drop-cons xs i x) (ap (λ y. y ∷ drop (suc i) xs) (sym is))
 
 and_true : (t : Truth) → and_of t True ≡ t
 and_true True = refl
@@ -70,9 +68,5 @@ all_more f parts i part t h is e = and_assoc t (f part) (all_of (map f (drop (i 
 pub any_more : (f : Cond → Truth) (parts : List Cond) (i : ℕ) (part : Cond) (t : Truth) → i < length parts → part ≡ get_or parts i part → or_of t (any_of (map f (drop i parts))) ≡ any_of (map f parts) → or_of (or_of t (f part)) (any_of (map f (drop (i + 1) parts))) ≡ any_of (map f parts)
 any_more f parts i part t h is e = or_assoc t (f part) (any_of (map f (drop (i + 1) parts))) ∙ ap (λ (ps : List Cond). or_of t (any_of (map f ps))) (sym (drop_item parts i part h is)) ∙ e
 
-second_true : (a b : Bool) → IsTrue (a && b) → IsTrue b
-second_true true b h = h
-second_true false b h = cc
-
 pub bounded_more : (kinds : List SlotKind) (parts : List Cond) (i : ℕ) (part : Cond) → i < length parts → part ≡ get_or parts i part → IsTrue (all_true (map (is_bounded kinds) (drop i parts))) → IsTrue (all_true (map (is_bounded kinds) (drop (i + 1) parts)))
-bounded_more kinds parts i part h is b = second_true (is_bounded kinds part) (all_true (map (is_bounded kinds) (drop (i + 1) parts))) (rw (drop_item parts i part h is) at b)
+bounded_more kinds parts i part h is b = (and_parts (is_bounded kinds part) (all_true (map (is_bounded kinds) (drop (i + 1) parts))) (rw (drop_item parts i part h is) at b)).1

@@ -6,6 +6,7 @@ use Rattle.std.proofs.lemmas.Bool.Decides.{nat_tests}
 use Rattle.table.specs.Rows.{RowValues}
 use Rattle.value.specs.declared.values.Value.{Value}
 use Rattle.value.specs.declared.values.Value.TheVariants.{Int}
+use Rattle.value.proofs.Lists.{drop_item}
 use Rattle.cond.specs.declared.slots.SlotKind.{SlotKind}
 use Rattle.cond.specs.declared.exprs.Expr.{Expr}
 use Rattle.cond.specs.declared.exprs.Expr.TheOpen.{Expr-F}
@@ -16,7 +17,6 @@ use Rattle.cond.specs.Bounds.{joined_bound, bound_step, bound_of, limit_at}
 use Rattle.cond.specs.Slots.{magnitude}
 use Rattle.cond.specs.Eval.{answer, expr_step}
 use Rattle.cond.specs.Values.{total, joined}
-use Rattle.cond.proofs.EvalLemmas.{drop_item}
 use Rattle.cond.proofs.SlotLemmas.{limit_at_small}
 
 module _ (row : RowValues) (slots : List Value) where

@@ -44,15 +44,6 @@ impl Cond {
         Ok(Cond::And(Items::from_vec(parts)))
     }
 
-    /// `subject NOT BETWEEN low AND high`: the negation of BETWEEN.
-    pub fn not_between(alloc: Global, subject: Expr, low: Expr, high: Expr) -> Result<Cond, Refusal>
-        ensures only_memory { IsOkUnless result NoMemory }
-        ensures made { IfOk result (λ made. made ≡ Cond.Not (between_of subject low high)) }
-    {
-        let between = Cond::between(alloc, subject, low, high)?;
-        Cond::negation(alloc, between)
-    }
-
     /// `subject IN (values)`: an Or of one equality for each value, also where there is one value alone.
     pub fn is_in(alloc: Global, subject: &Expr, values: Vec<Expr>) -> Result<Cond, Refusal>
         ensures only_memory { IsOkUnless result NoMemory }
@@ -63,15 +54,6 @@ impl Cond {
             parts.push(Cond::Compare(Comparison::Equal, subject.copy(alloc)?, value))?;
         }
         Ok(Cond::Or(Items::from_vec(parts)))
-    }
-
-    /// `subject NOT IN (values)`: the negation of IN.
-    pub fn not_in(alloc: Global, subject: &Expr, values: Vec<Expr>) -> Result<Cond, Refusal>
-        ensures only_memory { IsOkUnless result NoMemory }
-        ensures made { IfOk result (λ made. made ≡ Cond.Not (in_of subject.now values.items)) }
-    {
-        let among = Cond::is_in(alloc, subject, values)?;
-        Cond::negation(alloc, among)
     }
 
     /// A condition equal to this one.

@@ -14,7 +14,8 @@
 //!   own: `Cond::between` and `Cond::is_in` make the conditions that they abbreviate. An IN of one value is an Or of
 //!   one part, so that it is never taken for an equality that was written as one. NOT BETWEEN and NOT IN are the
 //!   negations.
-//! - `keeps` is the test of WHERE and HAVING, which keep a row or a group only where the condition is true.
+//! - `keeps` is the test of WHERE and HAVING, which keep a row or a group only where the condition is true; `passes`
+//!   is that of a WHERE, which has no slots.
 //!
 //! **Width.** That arithmetic is exact needs a bound, and a bound that depends on no table (this project's choice):
 //! an expression's `bound` is a literal's magnitude, 2^50 for a column, MIN or MAX, 2^64 for COUNT and 2^114 for SUM;
@@ -43,4 +44,4 @@ pub use conds::Cond;
 pub use evals::{Given, evaluate};
 pub use exprs::Expr;
 pub use slots::{SlotKind, SlotValue, Slots};
-pub use truths::{eval, keeps};
+pub use truths::{eval, keeps, passes};

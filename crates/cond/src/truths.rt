@@ -1,6 +1,6 @@
 //! The truth of conditions.
 
-ghost use Rattle.std.specs.Prelude.{◌≡◌, ◌↔◌, IsTrue};
+ghost use Rattle.std.specs.Prelude.{◌≡◌, ◌↔◌, [], IsTrue};
 ghost use Rattle.cond.specs.Bounds.{is_bounded, IsSmallRow};
 ghost use Rattle.cond.specs.Eval.{truth, keeps as keeps_of};
 ghost use Rattle.cond.specs.Values.{compared as compared_of};
@@ -10,6 +10,7 @@ ghost use Rattle.cond.specs.Slots.{kinds_of, values_of};
 use crate::conds::Cond;
 use crate::evals::{Given, evaluate};
 use crate::slots::Slots;
+use std::alloc::Global;
 use std::cmp::Ordering;
 use table::Row;
 use threeval::Truth;
@@ -24,6 +25,15 @@ pub fn keeps(cond: &Cond, row: &Row, slots: &Slots) -> bool
     ensures exact { IsTrue result ↔ (truth row.now (values_of slots.now) cond.now ≡ Truth.True) }
 {
     eval(cond, row, slots).is(Truth::True)
+}
+
+/// Whether WHERE keeps the row: its condition has no slots. It takes no memory.
+pub fn passes(alloc: Global, cond: &Cond, row: &Row) -> bool
+    requires bounded { IsTrue (is_bounded [] cond.now) }
+    requires small { IsSmallRow row.now }
+    ensures { result ≡ keeps_of row.now [] cond.now }
+{
+    keeps(cond, row, &Slots::new(alloc))
 }
 
 /// The truth of a bounded condition on a row. It takes no memory.

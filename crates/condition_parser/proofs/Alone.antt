@@ -1,5 +1,6 @@
 -- An expression of one factor.
-use Rattle.std.proofs.Common.{◌≡◌, ℕ, Bool, true, false, ◌||◌, [], ◌∷◌, length, refl, ap, ◌∙◌}
+use Rattle.std.proofs.Common.{◌≡◌, ℕ, false, ◌||◌, [], ◌∷◌, length, ap, ◌∙◌}
+use Rattle.std.proofs.lemmas.Bool.{or_parts}
 use Rattle.syntax.specs.declared.trees.Expression.{Expression}
 use Rattle.syntax.specs.declared.wants.Want.{Want}
 use Rattle.syntax.specs.declared.wants.Found.{Found}
@@ -8,10 +9,6 @@ use Rattle.reading.specs.Reading.{Reader, Done, and_then, pure}
 use Rattle.syntax.specs.Grammar.{product_of, sum_of}
 use Rattle.syntax.specs.Readers.{is_star, is_sign, product_item, product_after, sum_item, sum_after, expr_after}
 use Rattle.leaf_parser.proofs.Turns.{many_stops}
-
-neither : (a b : Bool) → (a || b) ≡ false → (a ≡ false) × (b ≡ false)
-neither true b e = cc
-neither false b e = (refl, e)
 
 no_product : (n : ℕ) (inner : Want → Reader Found) (x : Expression) (ts : Lexemes) → is_star (kind_at ts) ≡ false → product_after n inner x ts ≡ (Done x, ts)
 unfolding product_after product_of
@@ -26,5 +23,5 @@ pub alone : (n : ℕ) (inner : Want → Reader Found) (x : Expression) (ts : Lex
     → expr_after n inner x ts ≡ (Done x, ts)
 unfolding expr_after
 alone n inner x ts e =
-    let (star, sign) = neither (is_star (kind_at ts)) (is_sign (kind_at ts)) e in
+    let (star, sign) = or_parts (is_star (kind_at ts)) (is_sign (kind_at ts)) e in
     ap (λ o. and_then o.0 o.1 (sum_after n inner)) (no_product n inner x ts star) ∙ no_sum n inner x ts sign

@@ -9,7 +9,10 @@ ghost use Rattle.condition_parser.specs.Nests.{Nests};
 ghost use Rattle.leaf_parser.specs.Reads.{Reads, IsAt};
 
 use crate::levels::{InnerExpression, InnerQuery, Level};
-use leaf_parser::{Cursor, Stop, comparison_sign, parens, parens_list, stopped, truth};
+use leaf_parser::{
+    Cursor, Stop, drop_and_stop, parse_comparison_sign, parse_parens, parse_parens_list,
+    parse_truth,
+};
 use sqlite_items::Boxed;
 use std::alloc::{AllocError, Global};
 use syntax::{Condition, Expression, Found, Want};
@@ -35,13 +38,16 @@ pub fn begins_comparison(kind: Kind) -> bool
     }
 }
 
-pub fn negation(alloc: Global, inner: Boxed<Condition>) -> Result<Boxed<Condition>, AllocError>
+pub fn negate_condition(
+    alloc: Global,
+    inner: Boxed<Condition>,
+) -> Result<Boxed<Condition>, AllocError>
     ensures { IfOk result (λ x. x ≡ Condition.Not inner) }
 {
     Boxed::new(alloc, Condition::Not(inner))
 }
 
-fn is_truth(
+fn make_is(
     alloc: Global,
     left: Boxed<Condition>,
     value: Truth,
@@ -51,87 +57,95 @@ fn is_truth(
     Boxed::new(alloc, Condition::Is(left, value))
 }
 
-fn is_not_truth(
+fn make_is_not(
     alloc: Global,
     left: Boxed<Condition>,
     value: Truth,
 ) -> Result<Boxed<Condition>, AllocError>
     ensures { IfOk result (λ x. x ≡ Condition.Not (Condition.Is left value)) }
 {
-    negation(alloc, is_truth(alloc, left, value)?)
+    negate_condition(alloc, make_is(alloc, left, value)?)
 }
 
-fn is_not_null(alloc: Global, left: Expression) -> Result<Boxed<Condition>, AllocError>
+fn make_is_not_null(alloc: Global, left: Expression) -> Result<Boxed<Condition>, AllocError>
     ensures { IfOk result (λ x. x ≡ Condition.Not (Condition.IsNull left)) }
 {
-    negation(alloc, Boxed::new(alloc, Condition::IsNull(left))?)
+    negate_condition(alloc, Boxed::new(alloc, Condition::IsNull(left))?)
 }
 
-fn plain_truth(
+fn parse_is_truth(
     alloc: Global,
     cursor: &mut Cursor<'_>,
     left: Boxed<Condition>,
 ) -> Result<Boxed<Condition>, Stop>
     ensures { Reads (rd.◌<$>◌ (Condition.Is left) reader.truth cursor.old) result cursor.new }
 {
-    match truth(cursor) {
-        Ok(value) => Ok(is_truth(alloc, left, value)?),
-        Err(stop) => Err(stopped(stop, left)),
+    match parse_truth(cursor) {
+        Ok(value) => Ok(make_is(alloc, left, value)?),
+        Err(stop) => Err(drop_and_stop(stop, left)),
     }
 }
 
-fn not_truth(
+fn parse_is_not_truth(
     alloc: Global,
     cursor: &mut Cursor<'_>,
     left: Boxed<Condition>,
 ) -> Result<Boxed<Condition>, Stop>
     ensures { Reads (rd.◌<$>◌ (λ y. Condition.Not (Condition.Is left y)) reader.truth cursor.old) result cursor.new }
 {
-    match truth(cursor) {
-        Ok(value) => Ok(is_not_truth(alloc, left, value)?),
-        Err(stop) => Err(stopped(stop, left)),
+    match parse_truth(cursor) {
+        Ok(value) => Ok(make_is_not(alloc, left, value)?),
+        Err(stop) => Err(drop_and_stop(stop, left)),
     }
 }
 
 impl<F: Fn(Global, &mut Cursor<'_>, usize, Want) -> Result<Found, Stop>> Level<F> {
     /// `BETWEEN expr AND expr`. The AND is its own.
     #[tactic(auto, unfolding(syntax::specs::Readers::between))]
-    fn between(&self, cursor: &mut Cursor<'_>, left: Expression) -> Result<Boxed<Condition>, Stop>
+    fn parse_between(
+        &self,
+        cursor: &mut Cursor<'_>,
+        left: Expression,
+    ) -> Result<Boxed<Condition>, Stop>
         requires nests { Nests self.now.depth (F.pre self.now.inner) (F.post self.now.inner) }
         requires at { IsAt kinds.Between cursor.old }
         ensures { Reads (reader.between self.now.depth (inside self.now.depth) left cursor.old) result cursor.new }
     {
         cursor.take(Kind::Between);
-        let low = match self.expr(cursor) {
+        let low = match self.parse_expression(cursor) {
             Ok(low) => low,
-            Err(stop) => return Err(stopped(stop, left)),
+            Err(stop) => return Err(drop_and_stop(stop, left)),
         };
         if let Err(stop) = cursor.expect(Kind::And) {
-            return Err(stopped(stop, (left, low)));
+            return Err(drop_and_stop(stop, (left, low)));
         }
-        match self.expr(cursor) {
+        match self.parse_expression(cursor) {
             Ok(high) => Ok(Boxed::new(self.alloc, Condition::Between(left, low, high))?),
-            Err(stop) => Err(stopped(stop, (left, low))),
+            Err(stop) => Err(drop_and_stop(stop, (left, low))),
         }
     }
 
     /// `IN "(" expr { "," expr } ")"`
     #[tactic(auto, unfolding(syntax::specs::Readers::in_list))]
-    fn in_list(&self, cursor: &mut Cursor<'_>, left: Expression) -> Result<Boxed<Condition>, Stop>
+    fn parse_in_list(
+        &self,
+        cursor: &mut Cursor<'_>,
+        left: Expression,
+    ) -> Result<Boxed<Condition>, Stop>
         requires nests { Nests self.now.depth (F.pre self.now.inner) (F.post self.now.inner) }
         requires at { IsAt kinds.In cursor.old }
         ensures { Reads (reader.in_list self.now.depth (inside self.now.depth) left cursor.old) result cursor.new }
     {
         cursor.take(Kind::In);
-        match parens_list(self.alloc, &InnerExpression(self), cursor, self.depth) {
+        match parse_parens_list(self.alloc, &InnerExpression(self), cursor, self.depth) {
             Ok(items) => Ok(Boxed::new(self.alloc, Condition::In(left, items))?),
-            Err(stop) => Err(stopped(stop, left)),
+            Err(stop) => Err(drop_and_stop(stop, left)),
         }
     }
 
     /// `BETWEEN .. | IN ..`
     #[tactic(auto, unfolding(syntax::specs::Readers::range_or_list))]
-    fn range_or_list(
+    fn parse_range_or_list(
         &self,
         cursor: &mut Cursor<'_>,
         left: Expression,
@@ -141,15 +155,19 @@ impl<F: Fn(Global, &mut Cursor<'_>, usize, Want) -> Result<Found, Stop>> Level<F
             cursor.new }
     {
         match cursor.peek() {
-            Kind::Between => self.between(cursor, left),
-            Kind::In => self.in_list(cursor, left),
-            _ => Err(stopped(Stop::Syntax, left)),
+            Kind::Between => self.parse_between(cursor, left),
+            Kind::In => self.parse_in_list(cursor, left),
+            _ => Err(drop_and_stop(Stop::Syntax, left)),
         }
     }
 
     /// `[NOT] NULL`, behind IS.
     #[tactic(auto, unfolding(syntax::specs::Readers::null))]
-    fn null(&self, cursor: &mut Cursor<'_>, left: Expression) -> Result<Boxed<Condition>, Stop>
+    fn parse_null(
+        &self,
+        cursor: &mut Cursor<'_>,
+        left: Expression,
+    ) -> Result<Boxed<Condition>, Stop>
         requires { Nests self.now.depth (F.pre self.now.inner) (F.post self.now.inner) }
         ensures { Reads (reader.null self.now.depth (inside self.now.depth) left cursor.old) result cursor.new }
     {
@@ -161,33 +179,37 @@ impl<F: Fn(Global, &mut Cursor<'_>, usize, Want) -> Result<Found, Stop>> Level<F
             Kind::Not => {
                 cursor.take(Kind::Not);
                 match cursor.expect(Kind::Null) {
-                    Ok(_) => Ok(is_not_null(self.alloc, left)?),
-                    Err(stop) => Err(stopped(stop, left)),
+                    Ok(_) => Ok(make_is_not_null(self.alloc, left)?),
+                    Err(stop) => Err(drop_and_stop(stop, left)),
                 }
             }
-            _ => Err(stopped(Stop::Syntax, left)),
+            _ => Err(drop_and_stop(Stop::Syntax, left)),
         }
     }
 
     /// `cmp expr`
     #[tactic(auto, unfolding(syntax::specs::Readers::compared))]
-    fn compared(&self, cursor: &mut Cursor<'_>, left: Expression) -> Result<Boxed<Condition>, Stop>
+    fn parse_compared(
+        &self,
+        cursor: &mut Cursor<'_>,
+        left: Expression,
+    ) -> Result<Boxed<Condition>, Stop>
         requires { Nests self.now.depth (F.pre self.now.inner) (F.post self.now.inner) }
         ensures { Reads (reader.compared self.now.depth (inside self.now.depth) left cursor.old) result cursor.new }
     {
-        let sign = match comparison_sign(cursor) {
+        let sign = match parse_comparison_sign(cursor) {
             Ok(sign) => sign,
-            Err(stop) => return Err(stopped(stop, left)),
+            Err(stop) => return Err(drop_and_stop(stop, left)),
         };
-        match self.expr(cursor) {
+        match self.parse_expression(cursor) {
             Ok(right) => Ok(Boxed::new(self.alloc, Condition::Compare(left, sign, right))?),
-            Err(stop) => Err(stopped(stop, left)),
+            Err(stop) => Err(drop_and_stop(stop, left)),
         }
     }
 
     /// What makes a condition of an expression.
     #[tactic(auto, unfolding(syntax::specs::Readers::comparison))]
-    pub fn comparison(
+    pub fn parse_comparison(
         &self,
         cursor: &mut Cursor<'_>,
         left: Expression,
@@ -198,20 +220,20 @@ impl<F: Fn(Global, &mut Cursor<'_>, usize, Want) -> Result<Found, Stop>> Level<F
         match cursor.peek() {
             Kind::Is => {
                 cursor.take(Kind::Is);
-                self.null(cursor, left)
+                self.parse_null(cursor, left)
             }
             Kind::Not => {
                 cursor.take(Kind::Not);
-                Ok(negation(self.alloc, self.range_or_list(cursor, left)?)?)
+                Ok(negate_condition(self.alloc, self.parse_range_or_list(cursor, left)?)?)
             }
-            Kind::Between | Kind::In => self.range_or_list(cursor, left),
-            _ => self.compared(cursor, left),
+            Kind::Between | Kind::In => self.parse_range_or_list(cursor, left),
+            _ => self.parse_compared(cursor, left),
         }
     }
 
     /// `[NOT] (TRUE | FALSE | UNKNOWN)`, behind IS.
     #[tactic(auto, unfolding(syntax::specs::Readers::truth_after))]
-    fn truth_after(
+    fn parse_truth_after(
         &self,
         cursor: &mut Cursor<'_>,
         left: Boxed<Condition>,
@@ -222,15 +244,15 @@ impl<F: Fn(Global, &mut Cursor<'_>, usize, Want) -> Result<Found, Stop>> Level<F
         match cursor.peek() {
             Kind::Not => {
                 cursor.take(Kind::Not);
-                not_truth(self.alloc, cursor, left)
+                parse_is_not_truth(self.alloc, cursor, left)
             }
-            _ => plain_truth(self.alloc, cursor, left),
+            _ => parse_is_truth(self.alloc, cursor, left),
         }
     }
 
     /// `[ IS [NOT] (TRUE | FALSE | UNKNOWN) ]`
     #[tactic(auto, unfolding(syntax::specs::Readers::is_after))]
-    pub fn is_after(
+    pub fn parse_is_after(
         &self,
         cursor: &mut Cursor<'_>,
         left: Boxed<Condition>,
@@ -241,7 +263,7 @@ impl<F: Fn(Global, &mut Cursor<'_>, usize, Want) -> Result<Found, Stop>> Level<F
         match cursor.peek() {
             Kind::Is => {
                 cursor.take(Kind::Is);
-                self.truth_after(cursor, left)
+                self.parse_truth_after(cursor, left)
             }
             _ => Ok(left),
         }
@@ -249,13 +271,13 @@ impl<F: Fn(Global, &mut Cursor<'_>, usize, Want) -> Result<Found, Stop>> Level<F
 
     /// `EXISTS "(" query ")"`
     #[tactic(auto, unfolding(syntax::specs::Readers::exists))]
-    pub fn exists(&self, cursor: &mut Cursor<'_>) -> Result<Boxed<Condition>, Stop>
+    pub fn parse_exists(&self, cursor: &mut Cursor<'_>) -> Result<Boxed<Condition>, Stop>
         requires nests { Nests self.now.depth (F.pre self.now.inner) (F.post self.now.inner) }
         requires at { IsAt kinds.Exists cursor.old }
         ensures { Reads (reader.exists self.now.depth (inside self.now.depth) cursor.old) result cursor.new }
     {
         cursor.take(Kind::Exists);
-        let query = parens(&InnerQuery(self), cursor, self.depth)?;
+        let query = parse_parens(&InnerQuery(self), cursor, self.depth)?;
         Ok(Boxed::new(self.alloc, Condition::Exists(query))?)
     }
 }

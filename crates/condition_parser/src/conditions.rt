@@ -1,15 +1,16 @@
 //! Conditions: ORs of ANDs of tests.
 
-ghost use Rattle.std.specs.Prelude.{◌≡◌};
 ghost use Rattle.reading.specs.Reading as rd;
 ghost use Rattle.syntax.specs.Readers as reader;
 ghost use Rattle.condition_parser.specs.Inside.{inside};
 ghost use Rattle.condition_parser.specs.Nests.{Nests};
 ghost use Rattle.leaf_parser.specs.Reads.{Reads};
 
-use crate::comparisons::{begins_comparison, negation};
+use crate::comparisons::{begins_comparison, negate_condition};
 use crate::levels::{InnerTest, Level};
-use leaf_parser::{Ands, Cursor, Ors, Part, Repeated, Stop, joined_boxed, parens, stopped};
+use leaf_parser::{
+    Ands, Cursor, Ors, Part, Repeated, Stop, drop_and_stop, parse_joined_boxed, parse_parens,
+};
 use sqlite_items::Boxed;
 use std::alloc::Global;
 use syntax::{Condition, Expression, Found, Want};
@@ -34,7 +35,7 @@ impl<'a, F: Fn(Global, &mut Cursor<'_>, usize, Want) -> Result<Found, Stop>> Par
     #[tactic(auto, unfolding(syntax::specs::Readers::and_item))]
     fn parse(&self, cursor: &mut Cursor<'_>) -> Result<Condition, Stop> {
         cursor.expect(Kind::And)?;
-        Ok(self.0.bfact(cursor)?.into_inner())
+        Ok(self.0.parse_bfact(cursor)?.into_inner())
     }
 }
 
@@ -68,7 +69,7 @@ impl<'a, F: Fn(Global, &mut Cursor<'_>, usize, Want) -> Result<Found, Stop>> Par
     #[tactic(auto, unfolding(syntax::specs::Readers::or_item))]
     fn parse(&self, cursor: &mut Cursor<'_>) -> Result<Condition, Stop> {
         cursor.expect(Kind::Or)?;
-        Ok(self.0.bterm(cursor)?.into_inner())
+        Ok(self.0.parse_bterm(cursor)?.into_inner())
     }
 }
 
@@ -86,52 +87,52 @@ impl<'a, F: Fn(Global, &mut Cursor<'_>, usize, Want) -> Result<Found, Stop>> Rep
 impl<F: Fn(Global, &mut Cursor<'_>, usize, Want) -> Result<Found, Stop>> Level<F> {
     /// A condition in parentheses, EXISTS, or the first factor of an expression.
     #[tactic(auto, unfolding(syntax::specs::Readers::first))]
-    pub fn first(&self, cursor: &mut Cursor<'_>) -> Result<Found, Stop>
+    pub fn parse_first(&self, cursor: &mut Cursor<'_>) -> Result<Found, Stop>
         requires { Nests self.now.depth (F.pre self.now.inner) (F.post self.now.inner) }
         ensures { Reads (reader.first self.now.depth (inside self.now.depth) cursor.old) result cursor.new }
     {
         match cursor.peek() {
-            Kind::Open => parens(&InnerTest(self), cursor, self.depth),
-            Kind::Exists => Ok(Found::Condition(self.exists(cursor)?)),
-            _ => Ok(Found::Expression(self.factor(cursor)?)),
+            Kind::Open => parse_parens(&InnerTest(self), cursor, self.depth),
+            Kind::Exists => Ok(Found::Condition(self.parse_exists(cursor)?)),
+            _ => Ok(Found::Expression(self.parse_factor(cursor)?)),
         }
     }
 
     /// `bprim [ IS [NOT] (TRUE | FALSE | UNKNOWN) ]`
     #[tactic(auto, unfolding(syntax::specs::Readers::btest))]
-    fn btest(&self, cursor: &mut Cursor<'_>) -> Result<Boxed<Condition>, Stop>
+    fn parse_btest(&self, cursor: &mut Cursor<'_>) -> Result<Boxed<Condition>, Stop>
         requires { Nests self.now.depth (F.pre self.now.inner) (F.post self.now.inner) }
         ensures { Reads (reader.btest self.now.depth (inside self.now.depth) cursor.old) result cursor.new }
     {
-        match self.first(cursor)? {
-            Found::Condition(x) => self.is_after(cursor, x),
+        match self.parse_first(cursor)? {
+            Found::Condition(x) => self.parse_is_after(cursor, x),
             Found::Expression(x) => {
-                let left = self.expr_after(cursor, x)?;
-                let test = self.comparison(cursor, left)?;
-                self.is_after(cursor, test)
+                let left = self.parse_expression_after(cursor, x)?;
+                let test = self.parse_comparison(cursor, left)?;
+                self.parse_is_after(cursor, test)
             }
-            Found::Query(x) => Err(stopped(Stop::Syntax, x)),
+            Found::Query(x) => Err(drop_and_stop(Stop::Syntax, x)),
         }
     }
 
     /// `[NOT] btest`
     #[tactic(auto, unfolding(syntax::specs::Readers::bfact))]
-    fn bfact(&self, cursor: &mut Cursor<'_>) -> Result<Boxed<Condition>, Stop>
+    fn parse_bfact(&self, cursor: &mut Cursor<'_>) -> Result<Boxed<Condition>, Stop>
         requires { Nests self.now.depth (F.pre self.now.inner) (F.post self.now.inner) }
         ensures { Reads (reader.bfact self.now.depth (inside self.now.depth) cursor.old) result cursor.new }
     {
         match cursor.peek() {
             Kind::Not => {
                 cursor.take(Kind::Not);
-                Ok(negation(self.alloc, self.btest(cursor)?)?)
+                Ok(negate_condition(self.alloc, self.parse_btest(cursor)?)?)
             }
-            _ => self.btest(cursor),
+            _ => self.parse_btest(cursor),
         }
     }
 
     /// The bterm that begins with this bfact.
     #[tactic(auto, unfolding(syntax::specs::Readers::and_after, syntax::specs::Grammar::and_of))]
-    fn and_after(
+    fn parse_and_after(
         &self,
         cursor: &mut Cursor<'_>,
         first: Boxed<Condition>,
@@ -139,22 +140,22 @@ impl<F: Fn(Global, &mut Cursor<'_>, usize, Want) -> Result<Found, Stop>> Level<F
         requires { Nests self.now.depth (F.pre self.now.inner) (F.post self.now.inner) }
         ensures { Reads (reader.and_after self.now.depth (inside self.now.depth) first cursor.old) result cursor.new }
     {
-        joined_boxed::<NextTest<'_, F>, Ands>(self.alloc, &NextTest(self), cursor, first)
+        parse_joined_boxed::<NextTest<'_, F>, Ands>(self.alloc, &NextTest(self), cursor, first)
     }
 
     /// `bfact { AND bfact }`
     #[tactic(auto, unfolding(syntax::specs::Readers::bterm))]
-    fn bterm(&self, cursor: &mut Cursor<'_>) -> Result<Boxed<Condition>, Stop>
+    fn parse_bterm(&self, cursor: &mut Cursor<'_>) -> Result<Boxed<Condition>, Stop>
         requires { Nests self.now.depth (F.pre self.now.inner) (F.post self.now.inner) }
         ensures { Reads (reader.bterm self.now.depth (inside self.now.depth) cursor.old) result cursor.new }
     {
-        let first = self.bfact(cursor)?;
-        self.and_after(cursor, first)
+        let first = self.parse_bfact(cursor)?;
+        self.parse_and_after(cursor, first)
     }
 
     /// The condition that begins with this bterm.
     #[tactic(auto, unfolding(syntax::specs::Readers::or_after, syntax::specs::Grammar::or_of))]
-    fn or_after(
+    fn parse_or_after(
         &self,
         cursor: &mut Cursor<'_>,
         first: Boxed<Condition>,
@@ -162,12 +163,12 @@ impl<F: Fn(Global, &mut Cursor<'_>, usize, Want) -> Result<Found, Stop>> Level<F
         requires { Nests self.now.depth (F.pre self.now.inner) (F.post self.now.inner) }
         ensures { Reads (reader.or_after self.now.depth (inside self.now.depth) first cursor.old) result cursor.new }
     {
-        joined_boxed::<NextTerm<'_, F>, Ors>(self.alloc, &NextTerm(self), cursor, first)
+        parse_joined_boxed::<NextTerm<'_, F>, Ors>(self.alloc, &NextTerm(self), cursor, first)
     }
 
     /// The condition that begins with this bfact.
     #[tactic(auto, unfolding(syntax::specs::Readers::cond_after))]
-    fn cond_after(
+    fn parse_condition_after(
         &self,
         cursor: &mut Cursor<'_>,
         first: Boxed<Condition>,
@@ -175,22 +176,22 @@ impl<F: Fn(Global, &mut Cursor<'_>, usize, Want) -> Result<Found, Stop>> Level<F
         requires { Nests self.now.depth (F.pre self.now.inner) (F.post self.now.inner) }
         ensures { Reads (reader.cond_after self.now.depth (inside self.now.depth) first cursor.old) result cursor.new }
     {
-        let first = self.and_after(cursor, first)?;
-        self.or_after(cursor, first)
+        let first = self.parse_and_after(cursor, first)?;
+        self.parse_or_after(cursor, first)
     }
 
     /// `bterm { OR bterm }`
     #[tactic(auto, unfolding(syntax::specs::Readers::condition))]
-    pub fn condition(&self, cursor: &mut Cursor<'_>) -> Result<Boxed<Condition>, Stop>
+    pub fn parse_condition(&self, cursor: &mut Cursor<'_>) -> Result<Boxed<Condition>, Stop>
         requires { Nests self.now.depth (F.pre self.now.inner) (F.post self.now.inner) }
         ensures { Reads (reader.condition self.now.depth (inside self.now.depth) cursor.old) result cursor.new }
     {
-        let first = self.bfact(cursor)?;
-        self.cond_after(cursor, first)
+        let first = self.parse_bfact(cursor)?;
+        self.parse_condition_after(cursor, first)
     }
 
     /// The condition that begins with this bprim.
-    pub fn rest_of_condition(
+    pub fn parse_rest_of_condition(
         &self,
         cursor: &mut Cursor<'_>,
         first: Boxed<Condition>,
@@ -201,21 +202,21 @@ impl<F: Fn(Global, &mut Cursor<'_>, usize, Want) -> Result<Found, Stop>> Level<F
             (rd.◌>>=◌ (reader.is_after self.now.depth (inside self.now.depth) first)
             (reader.cond_after self.now.depth (inside self.now.depth))) cursor.old) result cursor.new }
     {
-        let test = self.is_after(cursor, first)?;
-        let whole = self.cond_after(cursor, test)?;
+        let test = self.parse_is_after(cursor, first)?;
+        let whole = self.parse_condition_after(cursor, test)?;
         Ok(Found::Condition(whole))
     }
 
     /// This expression, or the condition that begins with it.
     #[tactic(auto, unfolding(syntax::specs::Readers::any_after))]
-    pub fn any_after(&self, cursor: &mut Cursor<'_>, left: Expression) -> Result<Found, Stop>
+    pub fn parse_any_after(&self, cursor: &mut Cursor<'_>, left: Expression) -> Result<Found, Stop>
         requires { Nests self.now.depth (F.pre self.now.inner) (F.post self.now.inner) }
         ensures { Reads (reader.any_after self.now.depth (inside self.now.depth) left cursor.old) result cursor.new }
     {
         if !begins_comparison(cursor.peek()) {
             return Ok(Found::Expression(left));
         }
-        let test = self.comparison(cursor, left)?;
-        self.rest_of_condition(cursor, test)
+        let test = self.parse_comparison(cursor, left)?;
+        self.parse_rest_of_condition(cursor, test)
     }
 }

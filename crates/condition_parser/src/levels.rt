@@ -1,12 +1,11 @@
 //! One level of parentheses. The reader of what stands in them is a parameter, so that each method is proved by itself.
 
-ghost use Rattle.std.specs.Prelude.{◌≡◌};
 ghost use Rattle.syntax.specs.Readers as reader;
 ghost use Rattle.condition_parser.specs.Inside.{inside};
 ghost use Rattle.condition_parser.specs.Nests.{Nests};
 ghost use Rattle.leaf_parser.specs.Reads.{Reads};
 
-use leaf_parser::{Cursor, Part, Stop, stopped};
+use leaf_parser::{Cursor, Part, Stop, drop_and_stop};
 use sqlite_items::Boxed;
 use std::alloc::Global;
 use syntax::{Expression, Found, Query, Want};
@@ -22,7 +21,7 @@ pub struct Level<F> {
 impl<F: Fn(Global, &mut Cursor<'_>, usize, Want) -> Result<Found, Stop>> Level<F> {
     /// What stands in parentheses that are open.
     #[tactic(auto, unfolding(crate::specs::Inside::inside))]
-    pub fn inside(&self, cursor: &mut Cursor<'_>, wanted: Want) -> Result<Found, Stop>
+    pub fn parse_inside(&self, cursor: &mut Cursor<'_>, wanted: Want) -> Result<Found, Stop>
         requires { Nests self.now.depth (F.pre self.now.inner) (F.post self.now.inner) }
         ensures { Reads (inside self.now.depth wanted cursor.old) result cursor.new }
     {
@@ -51,10 +50,10 @@ impl<'a, F: Fn(Global, &mut Cursor<'_>, usize, Want) -> Result<Found, Stop>> Par
 
     #[tactic(auto, unfolding(syntax::specs::Readers::inner_expr))]
     fn parse(&self, cursor: &mut Cursor<'_>) -> Result<Expression, Stop> {
-        match self.0.inside(cursor, Want::Expression)? {
+        match self.0.parse_inside(cursor, Want::Expression)? {
             Found::Expression(x) => Ok(x),
-            Found::Condition(x) => Err(stopped(Stop::Syntax, x)),
-            Found::Query(x) => Err(stopped(Stop::Syntax, x)),
+            Found::Condition(x) => Err(drop_and_stop(Stop::Syntax, x)),
+            Found::Query(x) => Err(drop_and_stop(Stop::Syntax, x)),
         }
     }
 }
@@ -77,10 +76,10 @@ impl<'a, F: Fn(Global, &mut Cursor<'_>, usize, Want) -> Result<Found, Stop>> Par
 
     #[tactic(auto, unfolding(syntax::specs::Readers::inner_query))]
     fn parse(&self, cursor: &mut Cursor<'_>) -> Result<Boxed<Query>, Stop> {
-        match self.0.inside(cursor, Want::Query)? {
+        match self.0.parse_inside(cursor, Want::Query)? {
             Found::Query(x) => Ok(x),
-            Found::Condition(x) => Err(stopped(Stop::Syntax, x)),
-            Found::Expression(x) => Err(stopped(Stop::Syntax, x)),
+            Found::Condition(x) => Err(drop_and_stop(Stop::Syntax, x)),
+            Found::Expression(x) => Err(drop_and_stop(Stop::Syntax, x)),
         }
     }
 }
@@ -103,10 +102,10 @@ impl<'a, F: Fn(Global, &mut Cursor<'_>, usize, Want) -> Result<Found, Stop>> Par
 
     #[tactic(auto, unfolding(syntax::specs::Readers::inner_operand))]
     fn parse(&self, cursor: &mut Cursor<'_>) -> Result<Expression, Stop> {
-        match self.0.inside(cursor, Want::Operand)? {
+        match self.0.parse_inside(cursor, Want::Operand)? {
             Found::Expression(x) => Ok(x),
             Found::Query(x) => Ok(Expression::Subquery(x)),
-            Found::Condition(x) => Err(stopped(Stop::Syntax, x)),
+            Found::Condition(x) => Err(drop_and_stop(Stop::Syntax, x)),
         }
     }
 }
@@ -129,7 +128,7 @@ impl<'a, F: Fn(Global, &mut Cursor<'_>, usize, Want) -> Result<Found, Stop>> Par
 
     #[tactic(auto, unfolding(syntax::specs::Readers::inner_test))]
     fn parse(&self, cursor: &mut Cursor<'_>) -> Result<Found, Stop> {
-        match self.0.inside(cursor, Want::Any)? {
+        match self.0.parse_inside(cursor, Want::Any)? {
             Found::Query(x) => Ok(Found::Expression(Expression::Subquery(x))),
             Found::Condition(x) => Ok(Found::Condition(x)),
             Found::Expression(x) => Ok(Found::Expression(x)),

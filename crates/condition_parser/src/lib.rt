@@ -18,7 +18,7 @@
 //!
 //! Conditions and queries go from rule to rule in a box, since they are large and the rules are many.
 //!
-//! [`cond_at`] and [`expr_at`] read a condition and an expression, where so many parentheses may be
+//! [`parse_condition`] and [`parse_expression`] read a condition and an expression, where so many parentheses may be
 //! opened.
 #![tactic(auto)]
 
@@ -29,4 +29,4 @@ mod levels;
 mod queries;
 mod readers;
 
-pub use readers::{cond_at, expr_at};
+pub use readers::{parse_condition, parse_expression};

@@ -4,7 +4,7 @@ ghost use Rattle.syntax.specs.Readers as reader;
 ghost use Rattle.leaf_parser.specs.Reads.{Reads};
 
 use crate::levels::Level;
-use leaf_parser::{Cursor, Stop, stopped};
+use leaf_parser::{Cursor, Stop, drop_and_stop};
 use sqlite_items::Boxed;
 use std::alloc::Global;
 use syntax::{Condition, Expression, Found, Want};
@@ -23,12 +23,12 @@ pub fn read(
         depth,
         inner: read,
     }
-    .level(cursor, wanted)
+    .parse_wanted(cursor, wanted)
 }
 
 /// A condition, where so many parentheses may be opened.
 #[tactic(auto, unfolding(syntax::specs::Readers::cond_at))]
-pub fn cond_at(
+pub fn parse_condition(
     alloc: Global,
     cursor: &mut Cursor<'_>,
     depth: usize,
@@ -37,19 +37,23 @@ pub fn cond_at(
 {
     match read(alloc, cursor, depth, Want::Condition)? {
         Found::Condition(x) => Ok(x),
-        Found::Expression(x) => Err(stopped(Stop::Syntax, x)),
-        Found::Query(x) => Err(stopped(Stop::Syntax, x)),
+        Found::Expression(x) => Err(drop_and_stop(Stop::Syntax, x)),
+        Found::Query(x) => Err(drop_and_stop(Stop::Syntax, x)),
     }
 }
 
 /// An expression, where so many parentheses may be opened.
 #[tactic(auto, unfolding(syntax::specs::Readers::expr_at))]
-pub fn expr_at(alloc: Global, cursor: &mut Cursor<'_>, depth: usize) -> Result<Expression, Stop>
+pub fn parse_expression(
+    alloc: Global,
+    cursor: &mut Cursor<'_>,
+    depth: usize,
+) -> Result<Expression, Stop>
     ensures { Reads (reader.expr_at depth cursor.old) result cursor.new }
 {
     match read(alloc, cursor, depth, Want::Expression)? {
         Found::Expression(x) => Ok(x),
-        Found::Condition(x) => Err(stopped(Stop::Syntax, x)),
-        Found::Query(x) => Err(stopped(Stop::Syntax, x)),
+        Found::Condition(x) => Err(drop_and_stop(Stop::Syntax, x)),
+        Found::Query(x) => Err(drop_and_stop(Stop::Syntax, x)),
     }
 }

@@ -1,34 +1,23 @@
 -- The greatest reader of what a candidate changes is the greatest commit that conflicts to it, where it is after the
 -- snapshot.
-use Rattle.std.proofs.Common.{◌≡◌, ℕ, suc, ◌+◌, ◌<◌, ◌≤◌, Bool, true, false, cond, List, [], ◌∷◌, filter, map, length, nat_lt, inl, inr, refl, sym, ap, ◌∙◌, subst, arith, lt-ltb}
-use Rattle.std.specs.Prelude.{Contains, ◌&&◌}
-use Rattle.std.specs.List.{list_any}
+use Rattle.std.proofs.Common.{◌≡◌, ℕ, suc, ◌<◌, ◌≤◌, true, List, filter, length, nat_lt, inl, inr, sym, subst, arith, lt-ltb}
+use Rattle.std.specs.Prelude.{Contains}
 use mathlib.Core.List.{reverse}
 use Rattle.std.proofs.lemmas.Bool.{and_parts}
-use Rattle.std.proofs.lemmas.List.{length-reverse}
 use Rattle.siread.specs.declared.keys.LockKey.{LockKey}
 use Rattle.siread.specs.Keys.{same_key}
 use Rattle.siread.specs.Locks.{Reads, IsGreatestReader, touch}
 use Rattle.siread.proofs.KeyOrder.{same_key-true, same_key-refl}
-use Rattle.siread.proofs.Members.{in_cases, not_in_nil}
 use Rattle.alone.proofs.Lists.{each_at}
-use Rattle.alone.proofs.Members.{any_from, from_filter, from_map, in_filter, in_map}
+use Rattle.alone.proofs.Members.{any_from, from_filter, from_map, in_filter, in_map, filter_passes}
 use Rattle.serial.specs.declared.records.Record.{Record}
-use Rattle.serial.specs.Commits.{IsLog, IsNext, conflicts_to, touch_any}
+use Rattle.serial.specs.Commits.{IsNext, conflicts_to, touch_any}
 use Rattle.serial.specs.Numbers.{greatest_in}
 use Rattle.serial.proofs.Arranged.{conflict_from, conflict_overlaps}
 use Rattle.serial.proofs.Judging.{any_met, greatest_in_met, greatest_in_up_to}
 use Rattle.serial.proofs.Ranks.{clean, numbers_below}
 use Rattle.serial.proofs.Turned.{from_turned, in_turned}
 use Rattle.conflict.specs.Readers.{HasReaders, has_read, reads_of}
-
-filter_passes : {X : Type 0} (p : X → Bool) (xs : List X) (x : X) → Contains (filter p xs) x → p x ≡ true
-filter_passes p [] x m = absurd (not_in_nil x m)
-filter_passes p (y ∷ xs) x m = past (p y) refl (filter_passes p xs x) m
-  where
-    past : (b : Bool) → p y ≡ b → (Contains (filter p xs) x → p x ≡ true) → Contains (cond b (y ∷ filter p xs) (filter p xs)) x → p x ≡ true
-    past true e more n = elim (in_cases y (filter p xs) x n) [ inl same ↦ sym (ap p same) ∙ e | inr there ↦ more there ]
-    past false e more n = more n
 
 -- what one commit read
 touched_by : (c w : Record) → conflicts_to w c ≡ true → (key : LockKey) × Contains w.reads key × (touch c.changes key ≡ true)

@@ -32,6 +32,3 @@ pub use dangers::Danger;
 pub use orders::put_in_order;
 pub use pairs::{share_row, touch_any};
 pub use verdicts::{Verdict, judge};
-
-#[cfg(test)]
-mod tests;

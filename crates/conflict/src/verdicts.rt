@@ -13,7 +13,7 @@ use crate::candidates::Candidate;
 use crate::dangers::{Danger, find_pivot};
 use crate::numbers::{greatest_in, least_out};
 use crate::overwrites::find_write_conflict;
-use serial::{Record, numbers};
+use serial::{Record, two_numbers_decide};
 use siread::LockTable;
 
 /// What a candidate is answered by the commits before it.
@@ -44,7 +44,7 @@ pub fn judge(
     requires readers { HasReaders (readers_at locks.now) committed.now candidate.now.snapshot }
     ensures { (commit : Commit) → IsOf candidate.now commit → IsVerdict (reverse committed.now) commit result }
 {
-    numbers();
+    two_numbers_decide();
     let recent = &committed[candidate.snapshot as usize..];
     if let Some((row, by)) = find_write_conflict(recent, candidate.changes) {
         return Verdict::WriteConflict { row, by };

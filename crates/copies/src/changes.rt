@@ -27,7 +27,7 @@ pub fn copy_reads(alloc: Global, reads: &[LockKey]) -> Result<Items<LockKey>, Re
 }
 
 impl Part for Change {
-    fn copied(&self, alloc: Global) -> Result<Change, Refusal>
+    fn copy_in(&self, alloc: Global) -> Result<Change, Refusal>
         ensures only_memory { IsOkUnless result NoMemory }
         ensures equal { IfOk result (λ copy. copy ≡ self.now) }
     {

@@ -16,7 +16,7 @@ pub trait Part {
     ghost use Rattle.value.specs.declared.refusals.Refusal.TheVariants.{NoMemory};
 
     /// NoMemory is the only error.
-    fn copied(&self, alloc: Global) -> Result<Self, Refusal>
+    fn copy_in(&self, alloc: Global) -> Result<Self, Refusal>
         ensures only_memory { IsOkUnless result NoMemory }
         ensures equal { IfOk result (λ copy. copy ≡ self.now) };
 }
@@ -28,7 +28,7 @@ pub fn copy_all<T: Part + Drop>(alloc: Global, parts: &[T]) -> Result<Items<T>, 
 {
     let mut made = Vec::with_capacity(alloc, parts.len())?;
     for part in parts {
-        made.push(part.copied(alloc)?)?;
+        made.push(part.copy_in(alloc)?)?;
     }
     Ok(Items::from_vec(made))
 }
@@ -41,14 +41,14 @@ pub fn copy_if<T: Part + Drop>(alloc: Global, part: &Option<T>) -> Result<Option
     match part {
         None => Ok(None),
         Some(part) => {
-            let copy = part.copied(alloc)?;
+            let copy = part.copy_in(alloc)?;
             Ok(Some(copy))
         }
     }
 }
 
 impl Part for usize {
-    fn copied(&self, _alloc: Global) -> Result<usize, Refusal>
+    fn copy_in(&self, _alloc: Global) -> Result<usize, Refusal>
         ensures only_memory { IsOkUnless result NoMemory }
         ensures equal { IfOk result (λ copy. copy ≡ self.now) }
     {
@@ -57,7 +57,7 @@ impl Part for usize {
 }
 
 impl Part for Text {
-    fn copied(&self, _alloc: Global) -> Result<Text, Refusal>
+    fn copy_in(&self, _alloc: Global) -> Result<Text, Refusal>
         ensures only_memory { IsOkUnless result NoMemory }
         ensures equal { IfOk result (λ copy. copy ≡ self.now) }
     {
@@ -66,7 +66,7 @@ impl Part for Text {
 }
 
 impl Part for Row {
-    fn copied(&self, _alloc: Global) -> Result<Row, Refusal>
+    fn copy_in(&self, _alloc: Global) -> Result<Row, Refusal>
         ensures only_memory { IsOkUnless result NoMemory }
         ensures equal { IfOk result (λ copy. copy ≡ self.now) }
     {
@@ -75,7 +75,7 @@ impl Part for Row {
 }
 
 impl Part for LockKey {
-    fn copied(&self, _alloc: Global) -> Result<LockKey, Refusal>
+    fn copy_in(&self, _alloc: Global) -> Result<LockKey, Refusal>
         ensures only_memory { IsOkUnless result NoMemory }
         ensures equal { IfOk result (λ copy. copy ≡ self.now) }
     {
@@ -84,7 +84,7 @@ impl Part for LockKey {
 }
 
 impl Part for Expr {
-    fn copied(&self, alloc: Global) -> Result<Expr, Refusal>
+    fn copy_in(&self, alloc: Global) -> Result<Expr, Refusal>
         ensures only_memory { IsOkUnless result NoMemory }
         ensures equal { IfOk result (λ copy. copy ≡ self.now) }
     {

@@ -19,7 +19,7 @@ pub fn copy_trace(alloc: Global, trace: &[Resolved]) -> Result<Items<Resolved>, 
 }
 
 impl Part for Resolved {
-    fn copied(&self, alloc: Global) -> Result<Resolved, Refusal>
+    fn copy_in(&self, alloc: Global) -> Result<Resolved, Refusal>
         ensures only_memory { IsOkUnless result NoMemory }
         ensures equal { IfOk result (λ copy. copy ≡ self.now) }
     {
@@ -54,7 +54,7 @@ fn copy_delete(alloc: Global, delete: &Delete) -> Result<Delete, Refusal>
 {
     Ok(Delete {
         table: delete.table,
-        kept: delete.kept.copy(alloc)?,
+        filter: delete.filter.copy(alloc)?,
     })
 }
 
@@ -66,7 +66,7 @@ fn copy_select(alloc: Global, select: &Select) -> Result<Select, Refusal>
     Ok(Select {
         table: select.table,
         columns,
-        kept: select.kept.copy(alloc)?,
+        filter: select.filter.copy(alloc)?,
     })
 }
 
@@ -78,12 +78,12 @@ fn copy_update(alloc: Global, update: &Update) -> Result<Update, Refusal>
     Ok(Update {
         table: update.table,
         sets,
-        kept: update.kept.copy(alloc)?,
+        filter: update.filter.copy(alloc)?,
     })
 }
 
 impl Part for Setting {
-    fn copied(&self, alloc: Global) -> Result<Setting, Refusal>
+    fn copy_in(&self, alloc: Global) -> Result<Setting, Refusal>
         ensures only_memory { IsOkUnless result NoMemory }
         ensures equal { IfOk result (λ copy. copy ≡ self.now) }
     {

@@ -8,10 +8,10 @@ use Rattle.assertion.specs.declared.assertions.Assertion.{Assertion}
 use Rattle.assertion.specs.Bounded.{IsBounded}
 use Rattle.assertion.specs.Meaning.{State, rows_of}
 use Rattle.delta.specs.Views.{AreBounded, layout_at}
-use Rattle.delta.specs.Kept.{IsGood}
+use Rattle.delta.specs.Maintained.{IsGood}
 
-no_rows : (layout : Layout) → IsTable layout []
-no_rows layout = record { fitting = All-nil (FitsColumns layout.columns); ascending = tt }
+empty_is_table : (layout : Layout) → IsTable layout []
+empty_is_table layout = record { fitting = All-nil (FitsColumns layout.columns); ascending = tt }
 
 -- what holds of each table's rows holds with one more table, where it holds without rows
 each_more : (P : Layout → List RowValues → Type 0) → ((l : Layout) → P l []) → (layouts : List Layout) (state : State) (layout : Layout) → length state ≡ length layouts
@@ -25,7 +25,7 @@ each_more P nil (l ∷ layouts) (rows ∷ state) layout long all (suc t) = each_
 
 pub IsGood-more : (layouts : List Layout) (state : State) (layout : Layout) → IsGood layouts state → IsGood (layouts ++ layout ∷ []) (state ++ [] ∷ [])
 IsGood-more layouts state layout g = record {
-  tables = record { long = length-append state ([] ∷ []) ∙ ap (λ n. n + 1) g.tables.long ∙ sym (length-append layouts (layout ∷ [])); each = each_more IsTable no_rows layouts state layout g.tables.long g.tables.each };
+  tables = record { long = length-append state ([] ∷ []) ∙ ap (λ n. n + 1) g.tables.long ∙ sym (length-append layouts (layout ∷ [])); each = each_more IsTable empty_is_table layouts state layout g.tables.long g.tables.each };
   short = each_more (λ l rows. length rows < 2 ^ 63) (λ l. omega arith) layouts state layout g.tables.long g.short;
 }
 

@@ -1,9 +1,10 @@
 -- The assertions that are taken in are those that are written.
-use Rattle.std.proofs.Common.{◌≡◌, ◌≤◌, ℕ, zero, suc, arith, Bool, true, false, List, [], ◌∷◌, ◌++◌, Result, Ok, length, drop, filter, append-nil, append_assoc, refl, sym, ◌∙◌, ap, subst}
+use Rattle.std.proofs.Common.{◌≡◌, ◌≤◌, ℕ, zero, suc, arith, List, [], ◌∷◌, ◌++◌, Result, Ok, length, drop, filter, append-nil, append_assoc, refl, sym, ◌∙◌, ap, subst}
 use Rattle.std.specs.Prelude.{not, is_none}
 use Rattle.value.specs.declared.refusals.Refusal.{Refusal}
 use Rattle.value.specs.declared.refusals.Refusal.TheVariants.{NameTaken}
-use Rattle.value.specs.Results.{and_then, provided}
+use Rattle.value.specs.Results.{and_then}
+use Rattle.value.proofs.Results.{and_then_ok, ok_same, provided_ok}
 use Rattle.table.specs.Rows.{Layout, Tables, layout_of}
 use Rattle.syntax.specs.declared.trees.Condition.{Condition}
 use Rattle.statement_syntax.specs.declared.statements.Insert.{Insert}
@@ -19,16 +20,11 @@ use Rattle.assertcheck.specs.Statements.{insert_of}
 use Rattle.alone.specs.Statements.{insert_effect}
 use Rattle.meaning.specs.Laws.{IsWritten, Pairs}
 use Rattle.meaning.proofs.Checked.{StaysWritten-law}
-use Rattle.meaning.proofs.Steps.{and_then_ok, ok_same}
 use Rattle.delta.specs.Views.{Shown}
 use Rattle.changes.specs.Insertions.{inserted}
 use Rattle.definitions.specs.Tables.{layout_from}
 use Rattle.definitions.specs.Taken.{empty_database, is_asserted, taken, with_all, with_assertion, with_definition, with_table}
 use Rattle.definitions.specs.Written.{AreWritten, IsDefined, is_assertion}
-
-provided_ok : {A : Type 0} (c : Bool) (refusal : Refusal) (r : Result A Refusal) (a : A) → provided c refusal r ≡ Ok a → r ≡ Ok a
-provided_ok true refusal r a e = e
-provided_ok false refusal r a e = cc
 
 -- what definitions add: tables behind those that there were, and behind the assertions those that are written
 record Adds (definitions : List Definition) (before after : Declared) : Type 0 where

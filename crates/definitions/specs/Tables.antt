@@ -12,7 +12,7 @@ use Rattle.value.specs.Results.{unless}
 -- a column as it was defined: a key takes no NULL
 abbrev pub defined_column : ColumnDefinition → Column
 defined_column d =
-    record { name = d.name; kind = d.kind; nullable = not (d.marks.not_null || d.marks.key); is_key = d.marks.key }
+    record { name = d.name; kind = d.kind; nullable = not (d.marks.not_null || d.marks.key) }
 
 -- whether one of the columns has the name
 abbrev pub is_named : List ℕ → List ColumnDefinition → Bool

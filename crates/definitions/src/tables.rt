@@ -91,6 +91,5 @@ fn schema_column(column: &ColumnDefinition) -> Result<Column, Refusal>
         name: column.name.copy()?,
         kind: column.kind,
         nullable: !(column.marks.not_null || column.marks.key),
-        is_key: column.marks.key,
     })
 }

@@ -37,7 +37,7 @@ impl Model for Definitions {
     ghost use Rattle.cond.specs.contracts.exprs.Expr as expr_type;
     ghost use Rattle.std.specs.Coded.{codes};
     ghost use Rattle.table.specs.Rows.{layouts_of};
-    ghost use Rattle.delta.specs.Kept.{IsGood};
+    ghost use Rattle.delta.specs.Maintained.{IsGood};
     ghost use Rattle.delta.specs.Views.{AreBounded, Shown};
 
     ghost Value = { Shown };

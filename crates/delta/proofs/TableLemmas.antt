@@ -14,19 +14,19 @@ use Rattle.cond.proofs.SmallRows.{IsSmallRow-fits}
 use Rattle.assertion.specs.Meaning.{State, rows_of, key_of}
 use Rattle.assertion.specs.Roots.{IsOrdered, IsChangeOf, state_after}
 use Rattle.assertion.proofs.KeptTruth.{rows-changed, rows-same, equal_of}
-use Rattle.roots.specs.Kept.{IsSmallState}
+use Rattle.roots.specs.Maintained.{IsSmallState}
 use Rattle.delta.specs.Views.{IsFitting, layout_at}
-use Rattle.delta.specs.Kept.{IsGood, IsStep}
+use Rattle.delta.specs.Maintained.{IsGood, IsStep}
 
 -- tables are in key order, with numbers within the bounds of a column
 pub good_order : (layouts : List Layout) (state : State) → IsGood layouts state → IsOrdered layouts state
 good_order layouts state g t = (g.tables.each t).ascending
 
-all_small : (layout : Layout) (rows : List RowValues) → IsTable layout rows → All IsSmallRow rows
-all_small layout rows k = All-weaker (FitsColumns layout.columns) IsSmallRow (IsSmallRow-fits layout.columns) rows k.fitting
+rows_are_small : (layout : Layout) (rows : List RowValues) → IsTable layout rows → All IsSmallRow rows
+rows_are_small layout rows k = All-weaker (FitsColumns layout.columns) IsSmallRow (IsSmallRow-fits layout.columns) rows k.fitting
 
 pub good_small : (layouts : List Layout) (state : State) → IsGood layouts state → IsSmallState state
-good_small layouts state g = record { small = λ t. all_small (layout_at t layouts) (rows_of t state) (g.tables.each t); short = g.short }
+good_small layouts state g = record { small = λ t. rows_are_small (layout_at t layouts) (rows_of t state) (g.tables.each t); short = g.short }
 
 -- so are the rows of a change
 pub new_small : (layouts : List Layout) (change : Change) → IsFitting layouts change → HoldsOf IsSmallRow change.new
@@ -39,7 +39,7 @@ new_small layouts change fits = small_of (layout_at change.table layouts) change
 pub old_small : (layouts : List Layout) (change : Change) (state : State) → IsChangeOf layouts change state → IsGood layouts state → HoldsOf IsSmallRow change.old
 old_small layouts change state is g =
     subst (HoldsOf IsSmallRow) is.stands
-    (All-at value_cmp (value_in (key_of change.table layouts)) IsSmallRow change.key (rows_of change.table state) (all_small (layout_at change.table layouts) (rows_of change.table state) (g.tables.each change.table)))
+    (All-at value_cmp (value_in (key_of change.table layouts)) IsSmallRow change.key (rows_of change.table state) (rows_are_small (layout_at change.table layouts) (rows_of change.table state) (g.tables.each change.table)))
 
 module _ (layouts : List Layout) (change : Change) (state : State) (is : IsChangeOf layouts change state) where
   -- what each table's rows have is kept where the changed rows have it

@@ -1,4 +1,4 @@
-//! The tables of a database with the verdicts of its assertions kept through changes.
+//! The tables of a database with the verdicts of its assertions, maintained through changes.
 //!
 //! A database has several tables and several assertions on them (ISO/IEC 9075:1992, assertion definition). After a
 //! statement, or when a transaction commits, it is asked whether each assertion is satisfied, and if one isn't, at
@@ -20,8 +20,8 @@
 //! one, and are shared.
 //!
 //! **Why each verdict is that from scratch.** Of a view, contracts show two things: what is declared (the tables and
-//! the assertions, which no change touches) and the state (the plain rows). They name no total, no bad root that is
-//! kept, and no kept truth. [`View::verdict`] and [`View::least_bad`] answer what `assertion`'s definitions say of
+//! the assertions, which no change touches) and the state (the plain rows). They name no total, no bad root and no
+//! truth that is maintained. [`View::verdict`] and [`View::least_bad`] answer what `assertion`'s definitions say of
 //! those rows, evaluated from scratch. For that the view keeps as its invariant that every watch is right: its totals
 //! are those of the groups of these very rows, its list has the roots at which the assertion is false and no other,
 //! and its truth is the assertion's. It holds of tables without rows, and a change keeps it: the totals follow the
@@ -42,9 +42,9 @@
 //! owes: the assertions are evaluated without overflow; given rows are tables of the catalog; a change is of one of
 //! the tables, names the row that stands under its key, and its new row fits and has that key.
 //!
-//! The definitions are in `specs/`: `Views` (what contracts see of a view, and what may be put into it) and `Kept`
-//! (how what is kept agrees with the tables; no public contract cites it). Truth, bad roots and candidates are those
-//! of `assertion`.
+//! The definitions are in `specs/`: `Views` (what contracts see of a view, and what may be put into it) and
+//! `Maintained` (how what is maintained agrees with the tables; no public contract cites it). Truth, bad roots and
+//! candidates are those of `assertion`.
 #![tactic(auto)]
 
 mod declarations;

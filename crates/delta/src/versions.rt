@@ -1,10 +1,10 @@
-//! The tables and what is kept for the assertions, at the start and after a change.
+//! The tables and what is maintained for the assertions, at the start and after a change.
 
 ghost use Rattle.std.specs.Prelude.{◌≡◌, map, length, IfOk, IsOkUnless};
 ghost use Rattle.std.specs.Arc.{arc_value};
 ghost use Rattle.value.specs.declared.refusals.Refusal.TheVariants.{NoMemory};
 ghost use Rattle.assertion.specs.Roots.{IsChangeOf, state_after};
-ghost use Rattle.delta.specs.Kept.{AreShort, AreWatched, IsGood, IsStep};
+ghost use Rattle.delta.specs.Maintained.{AreShort, AreWatched, IsGood, IsStep};
 ghost use Rattle.delta.specs.Views.{AreBounded, IsFitting};
 
 use crate::watches::{Watch, watch_after};
@@ -16,7 +16,7 @@ use std::sync::Arc;
 use table::{Change, Schema};
 use value::Refusal;
 
-/// What is kept for the assertions on these tables.
+/// What is maintained for the assertions on these tables.
 pub fn watches_of(
     alloc: Global,
     schemas: &[Schema],
@@ -58,7 +58,7 @@ pub fn tables_after(
     Ok(made)
 }
 
-/// What is kept for the assertions after a change of the tables.
+/// What is maintained for the assertions after a change of the tables.
 pub fn watches_after(
     alloc: Global,
     schemas: &[Schema],

@@ -1,4 +1,4 @@
-//! Versions of the tables, with the verdicts of the assertions kept.
+//! Versions of the tables, with the maintained verdicts of the assertions.
 
 ghost use Rattle.std.specs.Prelude.{◌≡◌, ◌<◌, length, slice_index_or, All, IfOk, IsOkUnless};
 ghost use Rattle.std.specs.Option.{option_copied};
@@ -25,7 +25,7 @@ use table::{Catalog, Change, Schema};
 use threeval::Truth;
 use value::{Refusal, Root};
 
-/// The rows of each table, with the verdicts of the assertions on them kept. It never changes.
+/// The rows of each table, with the maintained verdicts of the assertions on them. It never changes.
 #[derive(Drop)]
 pub struct View {
     declarations: Arc<Declarations, Global>,
@@ -40,7 +40,7 @@ impl Model for View {
     ghost use Rattle.std.specs.Coded.{codes};
     ghost use Rattle.cond.specs.contracts.conds.Cond as cond_type;
     ghost use Rattle.cond.specs.contracts.exprs.Expr as expr_type;
-    ghost use Rattle.delta.specs.Kept.{IsKept};
+    ghost use Rattle.delta.specs.Maintained.{IsMaintained};
     ghost use Rattle.delta.specs.Views.{Shown};
 
     ghost Value = { Shown };
@@ -55,7 +55,7 @@ impl Model for View {
       state = v.tables.items;
     } };
 
-    ghost invariant = { λ v. IsKept (arc_value v.declarations).catalog (arc_value v.declarations).schemas.items
+    ghost invariant = { λ v. IsMaintained (arc_value v.declarations).catalog (arc_value v.declarations).schemas.items
         (arc_value v.declarations).assertions.items v.tables.items (map arc_value v.watches.items) };
 }
 

@@ -1,10 +1,10 @@
-//! What is kept for an assertion.
+//! What is maintained for an assertion.
 
 ghost use Rattle.std.specs.Prelude.{IfOk, IsOkUnless};
 ghost use Rattle.std.specs.Arc.{arc_value};
 ghost use Rattle.value.specs.declared.refusals.Refusal.TheVariants.{NoMemory};
 ghost use Rattle.assertion.specs.Bounded.{IsBounded};
-ghost use Rattle.delta.specs.Kept.{IsGood, IsWatched, IsWatchedBefore};
+ghost use Rattle.delta.specs.Maintained.{IsGood, IsWatched, IsWatchedBefore};
 
 use assertion::Form;
 use groups::Totals;
@@ -16,8 +16,8 @@ use table::{Change, Schema};
 use threeval::Truth;
 use value::Refusal;
 
-/// What is kept for an assertion: the totals that its set functions are answered from, its bad roots in order, and its
-/// truth.
+/// What is maintained for an assertion: the totals that its set functions are answered from, its bad roots in order,
+/// and its truth.
 #[derive(Debug, Drop)]
 pub struct Watch {
     pub totals: Vec<Totals>,
@@ -26,7 +26,7 @@ pub struct Watch {
 }
 
 impl Watch {
-    /// What is kept for an assertion on these tables, made in one pass over them.
+    /// What is maintained for an assertion on these tables, made in one pass over them.
     pub fn of(
         alloc: Global,
         schemas: &[Schema],
@@ -44,7 +44,7 @@ impl Watch {
         Ok(Watch { truth, totals, bad })
     }
 
-    /// What is kept for the assertion after a change. `tables` are those after it.
+    /// What is maintained for the assertion after a change. `tables` are those after it.
     pub fn after(
         &self,
         alloc: Global,
@@ -65,7 +65,8 @@ impl Watch {
     }
 }
 
-/// What is kept for an assertion after a change, which is shared where the assertion is not over the changed table.
+/// What is maintained for an assertion after a change, which is shared where the assertion is not over the changed
+/// table.
 pub fn watch_after(
     watch: &Arc<Watch>,
     alloc: Global,

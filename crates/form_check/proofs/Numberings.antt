@@ -3,7 +3,8 @@ use Rattle.std.proofs.Common.{◌≡◌, List, [], ◌∷◌, ◌++◌, Result, 
 use Rattle.std.proofs.lemmas.List.{append_assoc}
 use Rattle.value.specs.declared.refusals.Refusal.{Refusal}
 use Rattle.form_check.specs.Leaves.{Leaves, then_made}
-use Rattle.value.specs.Results.{and_then, behind}
+-- the same where nothing is numbered
+pub use Rattle.value.proofs.Results.{behind_next, behind_none}
 
 -- a part behind those made so far, and then the others
 pub so_far_next : {A : Type 0} (made : List A) (part : A) (rest : Result (List A × Leaves) Refusal)
@@ -15,13 +16,3 @@ so_far_next made part (Err refusal) = refl
 pub so_far_none : {A : Type 0} (rest : Result (List A × Leaves) Refusal) → then_made (λ others. [] ++ others) rest ≡ rest
 so_far_none (Ok rest) = refl
 so_far_none (Err refusal) = refl
-
--- the same where nothing is numbered
-pub behind_next : {A : Type 0} (made : List A) (part : A) (rest : Result (List A) Refusal)
-    → behind made (and_then rest (λ others. Ok (part ∷ others))) ≡ behind (made ++ part ∷ []) rest
-behind_next made part (Ok rest) = ap (λ items. Ok items) (sym (append_assoc made (part ∷ []) rest))
-behind_next made part (Err refusal) = refl
-
-pub behind_none : {A : Type 0} (rest : Result (List A) Refusal) → behind [] rest ≡ rest
-behind_none (Ok rest) = refl
-behind_none (Err refusal) = refl

@@ -13,8 +13,10 @@ use Rattle.syntax.specs.declared.trees.Condition.TheOpen.{Condition-F, Query-F}
 use Rattle.syntax.specs.declared.trees.Expression.{Expression}
 use Rattle.syntax.specs.declared.trees.SelectList.{SelectList}
 use Rattle.syntax.specs.declared.trees.Query.{Query, out-Query}
-use Rattle.assertion.specs.declared.linked_queries.Linked.{Linked}
-use Rattle.assertion.specs.declared.plain_queries.Plain.{Plain}
+use Rattle.assertion.specs.declared.queries.Query.{Query as Subquery}
+use Rattle.assertion.specs.declared.queries.Link.{Link}
+use Rattle.assertion.specs.declared.queries.Link.TheVariants.{Column}
+use Rattle.assertion.specs.declared.queries.Whole.{Whole}
 use Rattle.assertion.specs.declared.forms.Form.{Form}
 use Rattle.assertion.specs.declared.forms.Form.TheVariants.{ByRow, ByGroup, Single}
 use Rattle.name_check.specs.Scopes.{Scope, own_column}
@@ -23,7 +25,7 @@ use Rattle.form_check.specs.Results.{in_class, only_if}
 use Rattle.form_check.specs.Columns.{no_column, grouping_column}
 use Rattle.form_check.specs.Leaves.{Leaf, Leaves, Rows, Of, Exists, Value, numbered}
 use Rattle.form_check.specs.Queries.{Source, source_of, row_filter, of_column, selected_aggregate, may_be_selected}
-use Rattle.form_check.specs.Links.{top_parts, links_in, only_one, kept_parts}
+use Rattle.form_check.specs.Links.{top_parts, links_in, only_one, filter_parts}
 
 -- a query's clauses, with its conditions and its list as trees
 abbrev pub Clauses : Type 0
@@ -31,34 +33,34 @@ Clauses = Query-F Condition Expression SelectList Query
 
 -- ---- queries of a row
 
-abbrev pub linked_by : Source → Scope → Aggregate → Condition → Result Linked Refusal
+abbrev pub linked_by : Source → Scope → Aggregate → Condition → Result (Subquery Link) Refusal
 linked_by child root aggregate condition =
     in_class (only_one (links_in child.scope root (top_parts condition))) (λ link.
-    and_then (kept_parts child.scope root (top_parts condition)) (λ kept.
-    Ok (record { table = child.table; kept = cond_of.And kept; link = link; aggregate = aggregate })))
+    and_then (filter_parts child.scope root (top_parts condition)) (λ filters.
+    Ok (record { table = child.table; filter = cond_of.And filters; grouping = Column link; aggregate = aggregate })))
 
 -- a query of a row has WHERE, and neither GROUP BY nor HAVING
 abbrev pub linked_where : Source → Scope → Aggregate → Option Condition → Option ColumnName → Option Condition
-    → Result Linked Refusal
+    → Result (Subquery Link) Refusal
 linked_where child root aggregate (Some condition) None None = linked_by child root aggregate condition
 linked_where child root aggregate None group having = Err OutsideClass
 linked_where child root aggregate (Some condition) (Some group) having = Err OutsideClass
 linked_where child root aggregate (Some condition) None (Some having) = Err OutsideClass
 
-abbrev pub linked_exists : Tables → Scope → Clauses → Result Linked Refusal
+abbrev pub linked_exists : Tables → Scope → Clauses → Result (Subquery Link) Refusal
 linked_exists tables root query =
     in_class (source_of tables query.table query.correlation_name) (λ child.
     only_if (may_be_selected (own_column child.scope) query.select_list)
     (linked_where child root CountRows query.keeps query.group query.having))
 
-abbrev pub linked_value : Tables → Scope → Clauses → Result Linked Refusal
+abbrev pub linked_value : Tables → Scope → Clauses → Result (Subquery Link) Refusal
 linked_value tables root query =
     in_class (source_of tables query.table query.correlation_name) (λ child.
     in_class (selected_aggregate child.scope query.select_list) (λ aggregate.
     linked_where child root aggregate query.keeps query.group query.having))
 
 -- what stands in a slot of a condition over a row
-abbrev pub linked : Tables → Scope → Leaf → Result Linked Refusal
+abbrev pub linked : Tables → Scope → Leaf → Result (Subquery Link) Refusal
 linked tables root Rows = Err OutsideClass
 linked tables root (Of function column) = Err OutsideClass
 linked tables root (Exists query) = linked_exists tables root (out-Query query)
@@ -67,21 +69,21 @@ linked tables root (Value query) = linked_value tables root (out-Query query)
 -- ---- queries of their own
 
 abbrev pub plain_by : Source → Option Aggregate → Option Condition → Option ColumnName → Option Condition
-    → Result Plain Refusal
+    → Result (Subquery Whole) Refusal
 plain_by source aggregate keeps None None =
     in_class aggregate (λ a.
-    and_then (row_filter source.scope keeps) (λ kept.
-    Ok (record { table = source.table; kept = kept; aggregate = a })))
+    and_then (row_filter source.scope keeps) (λ filter.
+    Ok (record { table = source.table; filter = filter; grouping = record {}; aggregate = a })))
 plain_by source aggregate keeps (Some group) having = Err OutsideClass
 plain_by source aggregate keeps None (Some having) = Err OutsideClass
 
-abbrev pub plain_value : Tables → Clauses → Result Plain Refusal
+abbrev pub plain_value : Tables → Clauses → Result (Subquery Whole) Refusal
 plain_value tables query =
     in_class (source_of tables query.table query.correlation_name) (λ source.
     plain_by source (selected_aggregate source.scope query.select_list) query.keeps query.group query.having)
 
 -- what stands in a slot of a single condition
-abbrev pub plain : Tables → Leaf → Result Plain Refusal
+abbrev pub plain : Tables → Leaf → Result (Subquery Whole) Refusal
 plain tables Rows = Err OutsideClass
 plain tables (Of function column) = Err OutsideClass
 plain tables (Exists query) = Err OutsideClass
@@ -108,16 +110,16 @@ by_row tables source query =
     and_then (each (linked tables source.scope) made.1) (λ queries. Ok (ByRow source.table made.0 queries))))
 
 abbrev pub having_over : Source → ℕ → Cond → Condition → Result Form Refusal
-having_over source group kept having =
+having_over source group restriction having =
     and_then (numbered (grouping_column source.scope group) having []) (λ made.
     and_then (each (aggregate_of source.scope) made.1) (λ aggregates.
-    Ok (ByGroup source.table kept group made.0 aggregates)))
+    Ok (ByGroup source.table restriction group made.0 aggregates)))
 
 abbrev pub by_group : Source → Clauses → ColumnName → Condition → Result Form Refusal
 by_group source query column having =
     in_class (own_column source.scope column) (λ group.
     only_if (may_be_selected (grouping_column source.scope group) query.select_list) (
-    and_then (row_filter source.scope query.keeps) (λ kept. having_over source group kept having)))
+    and_then (row_filter source.scope query.keeps) (λ restriction. having_over source group restriction having)))
 
 -- without GROUP BY and HAVING by rows, with both by groups
 abbrev pub by_clauses : Tables → Source → Clauses → Option ColumnName → Option Condition → Result Form Refusal

@@ -77,5 +77,5 @@ abbrev pub own_parts : Scope → Scope → List Condition → List Condition
 own_parts child root parts = filter (λ part. is_none (link_of child root part)) parts
 
 -- the parts that are no links, as conditions over the child's rows
-abbrev pub kept_parts : Scope → Scope → List Condition → Result (List Cond) Refusal
-kept_parts child root parts = each (row_condition child) (own_parts child root parts)
+abbrev pub filter_parts : Scope → Scope → List Condition → Result (List Cond) Refusal
+filter_parts child root parts = each (row_condition child) (own_parts child root parts)

@@ -4,14 +4,14 @@ ghost use Rattle.std.specs.Prelude.{◌≡◌, ◌≢◌, IfOk, IfErr, Ok, Err};
 ghost use Rattle.syntax.specs.declared.trees.Query.{out-Query};
 ghost use Rattle.value.specs.declared.refusals.Refusal.TheVariants.{NoMemory};
 ghost use Rattle.name_check.specs.Shown.{shown};
-ghost use Rattle.value.specs.Results.{each};
 ghost use Rattle.form_check.specs.Forms.{aggregate_of, by_clauses, by_group, by_row, form_of, having_over, not_exists, row_where, single};
-ghost use Rattle.form_check.specs.Shown.{shown_leaf, shown_leaves, shown_source};
+ghost use Rattle.form_check.specs.Shown.{shown_leaves, shown_source};
 
 use crate::leaves::{Columns, Leaf, numbered};
-use crate::linked_queries::all_linked;
-use crate::plain_queries::all_plain;
+use crate::linked_queries::RowQueries;
+use crate::plain_queries::WholeQueries;
 use crate::queries::{Source, may_be_selected, of_column, row_filter};
+use crate::slots::{Slots, all_slots};
 use assertion::Form;
 use cond::Cond;
 use name_check::Scope;
@@ -66,11 +66,11 @@ fn by_row(alloc: Global, catalog: &Catalog, source: Source, query: &Query) -> Re
         return Err(Refusal::OutsideClass);
     }
     let (condition, leaves) = row_where(alloc, source.scope, &query.keeps)?;
-    let queries = all_linked(alloc, catalog, source.scope, leaves.as_slice())?;
+    let root = source.scope;
     Ok(Form::ByRow {
         table: source.table,
         condition,
-        queries: Items::from_vec(queries),
+        queries: all_slots(alloc, &RowQueries { catalog, root }, &leaves)?,
     })
 }
 
@@ -112,21 +112,21 @@ fn by_group(
     if !may_be_selected(&Columns::Grouping(source.scope, group), &query.select_list) {
         return Err(Refusal::OutsideClass);
     }
-    let kept = row_filter(alloc, source.scope, &query.keeps)?;
-    having_over(alloc, source, group, kept, having)
+    let filter = row_filter(alloc, source.scope, &query.keeps)?;
+    having_over(alloc, source, group, filter, having)
 }
 
-/// The form by groups of rows that are kept, with the condition of HAVING.
+/// The form by groups of the rows of a filter, with the condition of HAVING.
 fn having_over(
     alloc: Global,
     source: Source,
     group: usize,
-    kept: Cond,
+    filter: Cond,
     having: &Condition,
 ) -> Result<Form, Refusal>
-    ensures made { IfOk result (λ made. having_over (shown_source source.entry) group kept having.now ≡ Ok made) }
+    ensures made { IfOk result (λ made. having_over (shown_source source.entry) group filter having.now ≡ Ok made) }
     ensures refused { IfErr result (λ refusal.
-        refusal ≢ NoMemory → having_over (shown_source source.entry) group kept having.now ≡ Err refusal) }
+        refusal ≢ NoMemory → having_over (shown_source source.entry) group filter having.now ≡ Err refusal) }
 {
     let mut leaves = Vec::new(alloc);
     let having = numbered(
@@ -135,42 +135,36 @@ fn having_over(
         having,
         &mut leaves,
     )?;
-    let aggregates = all_aggregates(alloc, source.scope, leaves.as_slice())?;
+    let scope = source.scope;
     Ok(Form::ByGroup {
         table: source.table,
-        kept,
+        filter,
         group,
         having,
-        aggregates: Items::from_vec(aggregates),
+        aggregates: all_slots(alloc, &Aggregates { scope }, &leaves)?,
     })
 }
 
-/// The set functions of a condition over groups.
-#[tactic(auto, using(crate::proofs::Numberings::behind_next, crate::proofs::Numberings::behind_none))]
-fn all_aggregates(alloc: Global, scope: Scope, leaves: &[Leaf]) -> Result<Vec<Aggregate>, Refusal>
-    ensures made { IfOk result (λ made.
-        each (aggregate_of (shown scope.entry)) (shown_leaves leaves.now) ≡ Ok made.items) }
-    ensures refused { IfErr result (λ refusal.
-        refusal ≢ NoMemory → each (aggregate_of (shown scope.entry)) (shown_leaves leaves.now) ≡ Err refusal) }
-{
-    let mut made = Vec::new(alloc);
-    for leaf in leaves {
-        made.push(aggregate(scope, leaf)?)?;
-    }
-    Ok(made)
+/// The set functions of the groups of a table.
+#[derive(Clone, Copy)]
+struct Aggregates<'a> {
+    scope: Scope<'a>,
 }
 
-/// The set function in a slot of a condition over groups.
-fn aggregate(scope: Scope, leaf: &Leaf) -> Result<Aggregate, Refusal>
-    ensures { result ≡ aggregate_of (shown scope.entry) (shown_leaf leaf.now) }
-{
-    match leaf {
-        Leaf::Rows => Ok(Aggregate::CountRows),
-        Leaf::Of(function, column) => match scope.own(column) {
-            Some(column) => Ok(of_column(*function, column)),
-            None => Err(Refusal::OutsideClass),
-        },
-        Leaf::Exists(_) | Leaf::Value(_) => Err(Refusal::OutsideClass),
+impl<'a> Slots for Aggregates<'a> {
+    type Slot = Aggregate;
+
+    ghost slot = { λ s. aggregate_of (shown s.scope) };
+
+    fn slot(&self, _alloc: Global, leaf: &Leaf) -> Result<Aggregate, Refusal> {
+        match leaf {
+            Leaf::Rows => Ok(Aggregate::CountRows),
+            Leaf::Of(function, column) => match self.scope.own(column) {
+                Some(column) => Ok(of_column(*function, column)),
+                None => Err(Refusal::OutsideClass),
+            },
+            Leaf::Exists(_) | Leaf::Value(_) => Err(Refusal::OutsideClass),
+        }
     }
 }
 
@@ -181,9 +175,8 @@ fn single(alloc: Global, catalog: &Catalog, condition: &Condition) -> Result<For
 {
     let mut leaves = Vec::new(alloc);
     let condition = numbered(alloc, &Columns::None, condition, &mut leaves)?;
-    let queries = all_plain(alloc, catalog, leaves.as_slice())?;
     Ok(Form::Single {
         condition,
-        queries: Items::from_vec(queries),
+        queries: all_slots(alloc, &WholeQueries { catalog }, &leaves)?,
     })
 }

@@ -40,6 +40,7 @@ mod linked_queries;
 mod links;
 mod plain_queries;
 mod queries;
+mod slots;
 
 pub use forms::form;
 pub use queries::{Source, row_condition, row_expression, row_filter};

@@ -4,54 +4,42 @@ ghost use Rattle.std.specs.Prelude.{◌≡◌, ◌≢◌, IfOk, IfErr, Ok, Err};
 ghost use Rattle.syntax.specs.declared.trees.Query.{out-Query};
 ghost use Rattle.value.specs.declared.refusals.Refusal.TheVariants.{NoMemory};
 ghost use Rattle.name_check.specs.Shown.{shown};
-ghost use Rattle.value.specs.Results.{each};
 ghost use Rattle.form_check.specs.Links.{top_parts};
 ghost use Rattle.form_check.specs.Forms.{linked, linked_by, linked_exists, linked_value, linked_where};
-ghost use Rattle.form_check.specs.Shown.{shown_leaf, shown_leaves, shown_source};
+ghost use Rattle.form_check.specs.Shown.{shown_source};
 
 use crate::leaves::{Columns, Leaf};
-use crate::links::Link;
+use crate::links::LinkedTables;
 use crate::queries::{Source, may_be_selected, selected_aggregate};
-use assertion::Linked;
+use crate::slots::Slots;
+use assertion::{Link, Query};
 use cond::Cond;
 use name_check::Scope;
 use sqlite_items::Items;
 use std::alloc::Global;
 use std::slice;
-use syntax::{ColumnName, Condition, Query};
+use syntax::{ColumnName, Condition, Query as WrittenQuery};
 use table::{Aggregate, Catalog};
 use value::Refusal;
 
-/// What stands in the slots of a condition over the rows of a table.
-#[tactic(auto, using(crate::proofs::Numberings::behind_next, crate::proofs::Numberings::behind_none))]
-pub fn all_linked(
-    alloc: Global,
-    catalog: &Catalog,
-    root: Scope,
-    leaves: &[Leaf],
-) -> Result<Vec<Linked>, Refusal>
-    ensures made { IfOk result (λ made.
-        each (linked catalog.now (shown root.entry)) (shown_leaves leaves.now) ≡ Ok made.items) }
-    ensures refused { IfErr result (λ refusal. refusal ≢ NoMemory
-        → each (linked catalog.now (shown root.entry)) (shown_leaves leaves.now) ≡ Err refusal) }
-{
-    let mut made = Vec::new(alloc);
-    for leaf in leaves {
-        made.push(linked(alloc, catalog, root, leaf)?)?;
-    }
-    Ok(made)
+/// The queries of the rows of a table.
+#[derive(Clone, Copy)]
+pub struct RowQueries<'a> {
+    pub catalog: &'a Catalog,
+    pub root: Scope<'a>,
 }
 
-/// What stands in one slot: a query of the row.
-fn linked(alloc: Global, catalog: &Catalog, root: Scope, leaf: &Leaf) -> Result<Linked, Refusal>
-    ensures made { IfOk result (λ made. linked catalog.now (shown root.entry) (shown_leaf leaf.now) ≡ Ok made) }
-    ensures refused { IfErr result (λ refusal.
-        refusal ≢ NoMemory → linked catalog.now (shown root.entry) (shown_leaf leaf.now) ≡ Err refusal) }
-{
-    match leaf {
-        Leaf::Rows | Leaf::Of(_, _) => Err(Refusal::OutsideClass),
-        Leaf::Exists(query) => linked_exists(alloc, catalog, root, query),
-        Leaf::Value(query) => linked_value(alloc, catalog, root, query),
+impl<'a> Slots for RowQueries<'a> {
+    type Slot = Query<Link>;
+
+    ghost slot = { λ s. linked s.catalog.now (shown s.root) };
+
+    fn slot(&self, alloc: Global, leaf: &Leaf) -> Result<Query<Link>, Refusal> {
+        match leaf {
+            Leaf::Rows | Leaf::Of(_, _) => Err(Refusal::OutsideClass),
+            Leaf::Exists(query) => linked_exists(alloc, self.catalog, self.root, query),
+            Leaf::Value(query) => linked_value(alloc, self.catalog, self.root, query),
+        }
     }
 }
 
@@ -60,8 +48,8 @@ fn linked_exists(
     alloc: Global,
     catalog: &Catalog,
     root: Scope,
-    query: &Query,
-) -> Result<Linked, Refusal>
+    query: &WrittenQuery,
+) -> Result<Query<Link>, Refusal>
     ensures made { IfOk result (λ made. linked_exists catalog.now (shown root.entry) (out-Query query.now) ≡ Ok made) }
     ensures refused { IfErr result (λ refusal.
         refusal ≢ NoMemory → linked_exists catalog.now (shown root.entry) (out-Query query.now) ≡ Err refusal) }
@@ -88,8 +76,8 @@ fn linked_value(
     alloc: Global,
     catalog: &Catalog,
     root: Scope,
-    query: &Query,
-) -> Result<Linked, Refusal>
+    query: &WrittenQuery,
+) -> Result<Query<Link>, Refusal>
     ensures made { IfOk result (λ made. linked_value catalog.now (shown root.entry) (out-Query query.now) ≡ Ok made) }
     ensures refused { IfErr result (λ refusal.
         refusal ≢ NoMemory → linked_value catalog.now (shown root.entry) (out-Query query.now) ≡ Err refusal) }
@@ -120,7 +108,7 @@ fn linked_where(
     keeps: &Option<Condition>,
     group: &Option<ColumnName>,
     having: &Option<Condition>,
-) -> Result<Linked, Refusal>
+) -> Result<Query<Link>, Refusal>
     ensures made { IfOk result (λ made.
         linked_where (shown_source child.entry) (shown root.entry) aggregate keeps.now group.now having.now ≡ Ok made) }
     ensures refused { IfErr result (λ refusal. refusal ≢ NoMemory
@@ -142,25 +130,25 @@ fn linked_by(
     root: Scope,
     aggregate: Aggregate,
     condition: &Condition,
-) -> Result<Linked, Refusal>
+) -> Result<Query<Link>, Refusal>
     ensures made { IfOk result (λ made.
         linked_by (shown_source child.entry) (shown root.entry) aggregate condition.now ≡ Ok made) }
     ensures refused { IfErr result (λ refusal. refusal ≢ NoMemory
         → linked_by (shown_source child.entry) (shown root.entry) aggregate condition.now ≡ Err refusal) }
 {
-    let tables = Link {
+    let tables = LinkedTables {
         child: child.scope,
         root,
     };
     let parts = top_parts(condition);
-    let Some(link) = tables.only_column(parts) else {
+    let Some(column) = tables.only_column(parts) else {
         return Err(Refusal::OutsideClass);
     };
-    let kept = tables.kept_parts(alloc, parts)?;
-    Ok(Linked {
+    let filters = tables.filter_parts(alloc, parts)?;
+    Ok(Query {
         table: child.table,
-        kept: Cond::And(Items::from_vec(kept)),
-        link,
+        filter: Cond::And(Items::from_vec(filters)),
+        grouping: Link::Column(column),
         aggregate,
     })
 }

@@ -3,7 +3,7 @@
 ghost use Rattle.std.specs.Prelude.{◌≡◌, ◌≢◌, ◌++◌, IfOk, IfErr, Ok, Err, List};
 ghost use Rattle.value.specs.declared.refusals.Refusal.TheVariants.{NoMemory};
 ghost use Rattle.name_check.specs.Shown.{shown};
-ghost use Rattle.form_check.specs.Links.{linked_column, outer_column, link_of, links_in, only_one, kept_parts};
+ghost use Rattle.form_check.specs.Links.{linked_column, outer_column, link_of, links_in, only_one, filter_parts};
 
 use crate::queries::row_condition;
 use cond::Cond;
@@ -14,12 +14,12 @@ use value::{Comparison, Refusal};
 
 /// The two tables of a linked query: its own, and that of the row around it.
 #[derive(Clone, Copy)]
-pub struct Link<'a> {
+pub struct LinkedTables<'a> {
     pub child: Scope<'a>,
     pub root: Scope<'a>,
 }
 
-impl<'a> Link<'a> {
+impl<'a> LinkedTables<'a> {
     /// The child's column that one of these parts links to the root's key, if exactly one is a link.
     pub fn only_column(&self, parts: &[Condition]) -> Option<usize>
         ensures { result ≡ only_one (links_in (shown self.now.child) (shown self.now.root) parts.now) }
@@ -38,11 +38,11 @@ impl<'a> Link<'a> {
 
     /// The parts that are no links, as conditions over the child's rows.
     #[tactic(auto, using(crate::proofs::Numberings::behind_next, crate::proofs::Numberings::behind_none))]
-    pub fn kept_parts(&self, alloc: Global, parts: &[Condition]) -> Result<Vec<Cond>, Refusal>
+    pub fn filter_parts(&self, alloc: Global, parts: &[Condition]) -> Result<Vec<Cond>, Refusal>
         ensures made { IfOk result (λ made.
-            kept_parts (shown self.now.child) (shown self.now.root) parts.now ≡ Ok made.items) }
+            filter_parts (shown self.now.child) (shown self.now.root) parts.now ≡ Ok made.items) }
         ensures refused { IfErr result (λ refusal.
-            refusal ≢ NoMemory → kept_parts (shown self.now.child) (shown self.now.root) parts.now ≡ Err refusal) }
+            refusal ≢ NoMemory → filter_parts (shown self.now.child) (shown self.now.root) parts.now ≡ Err refusal) }
     {
         let mut made = Vec::new(alloc);
         for part in parts {

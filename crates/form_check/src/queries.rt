@@ -75,7 +75,7 @@ pub fn row_condition(alloc: Global, scope: Scope, condition: &Condition) -> Resu
 {
     let mut leaves = Vec::new(alloc);
     let made = numbered(alloc, &Columns::Own(scope), condition, &mut leaves)?;
-    alone(made, &leaves)
+    require_own_columns(made, &leaves)
 }
 
 /// An expression over the rows of one table.
@@ -91,11 +91,11 @@ pub fn row_expression(alloc: Global, scope: Scope, expression: &Expression) -> R
 {
     let mut leaves = Vec::new(alloc);
     let made = numbered_expression(alloc, &Columns::Own(scope), expression, &mut leaves)?;
-    alone(made, &leaves)
+    require_own_columns(made, &leaves)
 }
 
 /// What was made, if nothing but the row's own columns stood there.
-fn alone<T: Drop>(made: T, leaves: &[Leaf]) -> Result<T, Refusal>
+fn require_own_columns<T: Drop>(made: T, leaves: &[Leaf]) -> Result<T, Refusal>
     ensures { result ≡ alone made (shown_leaves leaves.now) }
 {
     if leaves.is_empty() {

@@ -1,7 +1,6 @@
 -- A set function gives by the total of some rows what it gives of the rows.
-use Rattle.std.proofs.Common.{◌≡◌, ℕ, ◌≤◌, ◌^◌, suc, Bool, true, false, List, [], ◌∷◌, Option, Some, None, map, length, refl, sym, ◌∙◌, ap, arith}
+use Rattle.std.proofs.Common.{◌≡◌, ℕ, ◌≤◌, ◌^◌, Bool, true, false, List, [], ◌∷◌, Option, Some, None, map, length, refl, sym, ◌∙◌, ap, arith}
 use Rattle.std.specs.Prelude.{◌==◌, ℤ, pos, ◌+ℤ◌, filter, unwrap_or, if◌then◌else◌}
-use Rattle.std.proofs.lemmas.Bool.Decides.{nat_tests}
 use Rattle.std.proofs.lemmas.Int.{ints}
 use Rattle.std.proofs.lemmas.List.{length-map}
 use Rattle.std.proofs.lemmas.List.Elements.{All-head, All-tail, All-filter}
@@ -24,6 +23,7 @@ use Rattle.groups.specs.Figures.{Figures}
 use Rattle.groups.specs.Totals.{IsTotalOf, AreSmall, IsWithin}
 use Rattle.groups.proofs.MemberLemmas.{sum_within}
 use Rattle.groups.proofs.ExtremeLemmas.{least-right, greatest-right}
+use Rattle.groups.proofs.EntryLemmas.{not_zero}
 
 -- NULL adds nothing to a sum
 sum-there : (vs : List Value) → sum_of (filter is_there vs) ≡ sum_of vs
@@ -41,13 +41,10 @@ sum-slot [] n e = rw e refl
 sum-slot (v ∷ vs) n e =
     let z : ℤ = sum_of (v ∷ vs) in
     let case : (b : Bool) → (n == 0) ≡ b → value_in_slot (slot.Sum (if b then None else Some z)) ≡ Int z = λ b. elim b as (λ b. (n == 0) ≡ b → value_in_slot (slot.Sum (if b then None else Some z)) ≡ Int z) [
-      | true ↦ λ none. absurd (longer n (length vs) e none)
+      | true ↦ λ none. absurd (not_zero n (length vs) e none)
       | false ↦ λ some. refl
     ]
     in case (n == 0) refl
-  where
-    longer : (n k : ℕ) → n ≡ suc k → (n == 0) ≡ true → ⊥
-    longer n k e z = grind (arith, nat_tests)
 
 -- what a set function gives by the total of the rows' values
 pub answer-right : (a : Aggregate) (rows : List RowValues) (t : Figures) → IsTotalOf (map (value_for a) rows) t → value_in_slot (answer_from a t) ≡ aggregate a rows

@@ -14,10 +14,10 @@ use Rattle.value.proofs.OrderedLists.{at-put, IsAscending-put, All-put, equal_fr
 use Rattle.table.specs.Aggregates.{is_there}
 use Rattle.pages.specs.Reach.{key_of, value_of as number_of, entry_of}
 use Rattle.groups.proofs.Carried.{at-made, put-made}
-use Rattle.groups.specs.Counts.{Count, count_from, value_of, count_in, count_at, kept_count, put_count, one_up, counts_more, counts_less}
+use Rattle.groups.specs.Counts.{Count, count_from, value_of, count_in, count_at, count_entry, put_count, one_up, counts_more, counts_less}
 
-kept-key : (v : Value) (n : ℕ) → HasKey value_cmp value_of v (kept_count v n)
-kept-key v n = elim (n == 0) as (λ b. HasKey value_cmp value_of v (if b then None else Some (record { value = v; count = n }))) [ true ↦ tt | false ↦ refl ]
+entry-key : (v : Value) (n : ℕ) → HasKey value_cmp value_of v (count_entry v n)
+entry-key v n = elim (n == 0) as (λ b. HasKey value_cmp value_of v (if b then None else Some (record { value = v; count = n }))) [ true ↦ tt | false ↦ refl ]
 
 zero_from : (n : ℕ) → (n == 0) ≡ true → 0 ≡ n
 zero_from n e = grind (arith, nat_tests)
@@ -25,28 +25,28 @@ zero_from n e = grind (arith, nat_tests)
 some_from : (n : ℕ) → (n == 0) ≡ false → 0 < n
 some_from n e = grind (arith, nat_tests)
 
-kept-count : (v : Value) (n : ℕ) → count_in (kept_count v n) ≡ n
-kept-count v n =
+entry-count : (v : Value) (n : ℕ) → count_in (count_entry v n) ≡ n
+entry-count v n =
     let none : Option Count = None in
     let case : (b : Bool) → (n == 0) ≡ b → count_in (if b then none else Some (record { value = v; count = n })) ≡ n = λ b. elim b as (λ b. (n == 0) ≡ b → count_in (if b then none else Some (record { value = v; count = n })) ≡ n) [ true ↦ λ e. zero_from n e | false ↦ λ e. refl ]
     in case (n == 0) refl
 
-kept-positive : (v : Value) (n : ℕ) → HoldsOf (λ (c : Count). 0 < c.count) (kept_count v n)
-kept-positive v n =
+entry-positive : (v : Value) (n : ℕ) → HoldsOf (λ (c : Count). 0 < c.count) (count_entry v n)
+entry-positive v n =
     let case : (b : Bool) → (n == 0) ≡ b → HoldsOf (λ (c : Count). 0 < c.count) (if b then None else Some (record { value = v; count = n })) = λ b. elim b as (λ b. (n == 0) ≡ b → HoldsOf (λ (c : Count). 0 < c.count) (if b then None else Some (record { value = v; count = n }))) [ true ↦ λ e. tt | false ↦ λ e. some_from n e ]
     in case (n == 0) refl
 
 -- the counts after one is set
 pub count_at-put : (v : Value) (n : ℕ) (cs : List Count) → IsAscending value_cmp value_of cs → (w : Value) → count_at w (put_count v n cs) ≡ cond (eq_by_cmp value_cmp w v) n (count_at w cs)
 count_at-put v n cs s w =
-    ap count_in (at-put value_cmp_total value_of v (kept_count v n) cs (kept-key v n) s w)
-    ∙ elim (eq_by_cmp value_cmp w v) as (λ b. count_in (cond b (kept_count v n) (at value_cmp value_of w cs)) ≡ cond b n (count_at w cs)) [ true ↦ kept-count v n | false ↦ refl ]
+    ap count_in (at-put value_cmp_total value_of v (count_entry v n) cs (entry-key v n) s w)
+    ∙ elim (eq_by_cmp value_cmp w v) as (λ b. count_in (cond b (count_entry v n) (at value_cmp value_of w cs)) ≡ cond b n (count_at w cs)) [ true ↦ entry-count v n | false ↦ refl ]
 
 put_count-ordered : (v : Value) (n : ℕ) (cs : List Count) → IsAscending value_cmp value_of cs → IsAscending value_cmp value_of (put_count v n cs)
-put_count-ordered v n cs s = IsAscending-put value_cmp_total value_of v (kept_count v n) cs (kept-key v n) s
+put_count-ordered v n cs s = IsAscending-put value_cmp_total value_of v (count_entry v n) cs (entry-key v n) s
 
 put_count-positive : (v : Value) (n : ℕ) (cs : List Count) → All (λ (c : Count). 0 < c.count) cs → All (λ (c : Count). 0 < c.count) (put_count v n cs)
-put_count-positive v n cs h = All-put value_cmp value_of (λ (c : Count). 0 < c.count) v (kept_count v n) cs (kept-positive v n) h
+put_count-positive v n cs h = All-put value_cmp value_of (λ (c : Count). 0 < c.count) v (count_entry v n) cs (entry-positive v n) h
 
 -- the count at a value after it is set from what it was
 set_count : (f : ℕ → ℕ) (v : Value) (cs : List Count) → IsAscending value_cmp value_of cs → (w : Value) → count_at w (put_count v (f (count_at v cs)) cs) ≡ cond (eq_by_cmp value_cmp w v) (f (count_at w cs)) (count_at w cs)
@@ -91,17 +91,17 @@ counts_less-positive Null cs h = h
 counts_less-positive (Int n) cs h = put_count-positive (Int n) (count_at (Int n) cs - 1) cs h
 counts_less-positive (Text t) cs h = put_count-positive (Text t) (count_at (Text t) cs - 1) cs h
 
--- the number that is kept for a value, and the counts after one is kept
-pub count_at-kept : (v : Value) (es : List (Value × ℕ)) → unwrap_or (option_map number_of (at value_cmp key_of v es)) 0 ≡ count_at v (map count_from es)
-count_at-kept v es = kept (at value_cmp key_of v es) ∙ ap count_in (at-made count_from value_of (λ e. refl) v es)
+-- the number of a value, and the counts after one is put
+pub count_at-entry : (v : Value) (es : List (Value × ℕ)) → unwrap_or (option_map number_of (at value_cmp key_of v es)) 0 ≡ count_at v (map count_from es)
+count_at-entry v es = alike (at value_cmp key_of v es) ∙ ap count_in (at-made count_from value_of (λ e. refl) v es)
   where
-    kept : (o : Option (Value × ℕ)) → unwrap_or (option_map number_of o) 0 ≡ count_in (option_map count_from o)
-    kept None = refl
-    kept (Some e) = refl
+    alike : (o : Option (Value × ℕ)) → unwrap_or (option_map number_of o) 0 ≡ count_in (option_map count_from o)
+    alike None = refl
+    alike (Some e) = refl
 
-pub put_count-kept : (v : Value) (n : ℕ) (es : List (Value × ℕ)) → map count_from (put value_cmp key_of v (entry_of v (if n == 0 then None else Some n)) es) ≡ put_count v n (map count_from es)
-put_count-kept v n es = put-made count_from value_of (λ e. refl) v (if n == 0 then None else Some n) es ∙ ap (λ o. put value_cmp value_of v o (map count_from es)) (kept (n == 0))
+pub put_count-entry : (v : Value) (n : ℕ) (es : List (Value × ℕ)) → map count_from (put value_cmp key_of v (entry_of v (if n == 0 then None else Some n)) es) ≡ put_count v n (map count_from es)
+put_count-entry v n es = put-made count_from value_of (λ e. refl) v (if n == 0 then None else Some n) es ∙ ap (λ o. put value_cmp value_of v o (map count_from es)) (alike (n == 0))
   where
-    kept : (b : Bool) → option_map (λ m. count_from (v, m)) (if b then None else Some n) ≡ (if b then None else Some (record { value = v; count = n }))
-    kept true = refl
-    kept false = refl
+    alike : (b : Bool) → option_map (λ m. count_from (v, m)) (if b then None else Some n) ≡ (if b then None else Some (record { value = v; count = n }))
+    alike true = refl
+    alike false = refl

@@ -9,10 +9,10 @@ use Rattle.value.specs.ValueOrder.{value_cmp}
 use Rattle.value.specs.Ordered.{HasKey, at, put}
 use Rattle.value.proofs.ValueOrders.{value_cmp_total, value_exact}
 use Rattle.value.proofs.OrderedLists.{at-put, IsAscending-put, equal_from}
-use Rattle.pages.specs.Reach.{key_of, value_of as kept_value, entry_of}
+use Rattle.pages.specs.Reach.{key_of, value_of as entry_value, entry_of}
 use Rattle.groups.specs.declared.members.Member.{Member}
 use Rattle.groups.specs.Figures.{Figures}
-use Rattle.groups.specs.Steps.{no_figures, one_more, one_less, put_entry, kept_total, figures_at, entries_more, entries_less}
+use Rattle.groups.specs.Steps.{no_figures, one_more, one_less, put_entry, total_entry, figures_at, entries_more, entries_less}
 use Rattle.groups.specs.Totals.{Entry, Entries, Members, entry_from, group_in, entry_at, total_at, IsTotalOf, IsEntryOf, AreTotalsOf, HaveOneMore, AreWithin, IsChange}
 use Rattle.groups.proofs.Carried.{at-made, put-made}
 use Rattle.groups.proofs.MemberLemmas.{within_fewer}
@@ -21,26 +21,27 @@ use Rattle.groups.proofs.TotalLemmas.{IsTotalOf-more, IsTotalOf-less, IsTotalOf-
 abbrev total_in : Option Entry → Option Figures
 total_in o = option_map (λ (entry : Entry). entry.total) o
 
+-- a successor is not 0
+pub not_zero : (n k : ℕ) → n ≡ suc k → (n == 0) ≡ true → ⊥
+not_zero n k e z = grind (arith, nat_tests)
+
 nothing_of : (vs : List Value) (n : ℕ) → n ≡ length vs → (n == 0) ≡ true → vs ≡ []
 nothing_of [] n e z = refl
-nothing_of (v ∷ vs) n e z = absurd (longer n (length vs) e z)
-  where
-    longer : (n k : ℕ) → n ≡ suc k → (n == 0) ≡ true → ⊥
-    longer n k e z = grind (arith, nat_tests)
+nothing_of (v ∷ vs) n e z = absurd (not_zero n (length vs) e z)
 
 something_of : (n k : ℕ) → n ≡ k → (n == 0) ≡ false → 0 < k
 something_of n k e z = grind (arith, nat_tests)
 
-kept-right : (vs : List Value) (g : Value) (t : Figures) → IsTotalOf vs t → IsEntryOf vs (total_in (kept_total g t))
-kept-right vs g t k =
+entry-right : (vs : List Value) (g : Value) (t : Figures) → IsTotalOf vs t → IsEntryOf vs (total_in (total_entry g t))
+entry-right vs g t k =
     let case : (b : Bool) → (t.rows == 0) ≡ b → IsEntryOf vs (total_in (if b then None else Some (record { group = g; total = t }))) = λ b. elim b as (λ b. (t.rows == 0) ≡ b → IsEntryOf vs (total_in (if b then None else Some (record { group = g; total = t })))) [
       | true ↦ λ e. nothing_of vs t.rows k.rows e
       | false ↦ λ e. (k, something_of t.rows (length vs) k.rows e)
     ]
     in case (t.rows == 0) refl
 
-kept-key : (g : Value) (t : Figures) → HasKey value_cmp group_in g (kept_total g t)
-kept-key g t = elim (t.rows == 0) as (λ b. HasKey value_cmp group_in g (if b then None else Some (record { group = g; total = t }))) [ true ↦ tt | false ↦ refl ]
+entry-key : (g : Value) (t : Figures) → HasKey value_cmp group_in g (total_entry g t)
+entry-key g t = elim (t.rows == 0) as (λ b. HasKey value_cmp group_in g (if b then None else Some (record { group = g; total = t }))) [ true ↦ tt | false ↦ refl ]
 
 -- what stands for a group, or where nothing stands the total of no rows, is the total of its rows
 pub figures-right : (vs : List Value) (o : Option Figures) → IsEntryOf vs o → IsTotalOf vs (unwrap_or o no_figures)
@@ -48,15 +49,15 @@ figures-right vs None e = subst (λ us. IsTotalOf us no_figures) (sym e) IsTotal
 figures-right vs (Some t) k = k.0
 
 -- the totals after one is set
-AreTotalsOf-put : (g : Value) (t : Figures) (old new : Members) (es : Entries) → IsTotalOf (new g) t → ((v : Value) → eq_by_cmp value_cmp v g ≡ false → new v ≡ old v) → AreTotalsOf old es → AreTotalsOf new (put_entry g (kept_total g t) es)
+AreTotalsOf-put : (g : Value) (t : Figures) (old new : Members) (es : Entries) → IsTotalOf (new g) t → ((v : Value) → eq_by_cmp value_cmp v g ≡ false → new v ≡ old v) → AreTotalsOf old es → AreTotalsOf new (put_entry g (total_entry g t) es)
 AreTotalsOf-put g t old new es here elsewhere k = record {
-  in_order = IsAscending-put value_cmp_total group_in g (kept_total g t) es (kept-key g t) k.in_order;
+  in_order = IsAscending-put value_cmp_total group_in g (total_entry g t) es (entry-key g t) k.in_order;
   right = λ v.
-      let case : (b : Bool) → eq_by_cmp value_cmp v g ≡ b → IsEntryOf (new v) (total_in (cond b (kept_total g t) (entry_at v es))) = λ b. elim b as (λ b. eq_by_cmp value_cmp v g ≡ b → IsEntryOf (new v) (total_in (cond b (kept_total g t) (entry_at v es)))) [
-        | true ↦ λ e. subst (λ u. IsEntryOf (new u) (total_in (kept_total g t))) (sym (value_exact v g (equal_from (value_cmp v g) e))) (kept-right (new g) g t here)
+      let case : (b : Bool) → eq_by_cmp value_cmp v g ≡ b → IsEntryOf (new v) (total_in (cond b (total_entry g t) (entry_at v es))) = λ b. elim b as (λ b. eq_by_cmp value_cmp v g ≡ b → IsEntryOf (new v) (total_in (cond b (total_entry g t) (entry_at v es)))) [
+        | true ↦ λ e. subst (λ u. IsEntryOf (new u) (total_in (total_entry g t))) (sym (value_exact v g (equal_from (value_cmp v g) e))) (entry-right (new g) g t here)
         | false ↦ λ e. subst (λ us. IsEntryOf us (total_at v es)) (sym (elsewhere v e)) (k.right v)
       ]
-      in subst (λ o. IsEntryOf (new v) (total_in o)) (sym (at-put value_cmp_total group_in g (kept_total g t) es (kept-key g t) k.in_order v)) (case (eq_by_cmp value_cmp v g) refl);
+      in subst (λ o. IsEntryOf (new v) (total_in o)) (sym (at-put value_cmp_total group_in g (total_entry g t) es (entry-key g t) k.in_order v)) (case (eq_by_cmp value_cmp v g) refl);
 }
 
 -- the totals of the same lists
@@ -99,17 +100,17 @@ pub AreTotalsOf-change : (add remove : Option Member) (before after : Members) (
 AreTotalsOf-change add remove before after es c k w =
     come-right add c.between after (entries_without remove es) c.come (gone-right remove c.between before es c.gone k (within_fewer add c.between after c.come w)) w
 
--- the total that is kept for a group, and the entries after one is kept
-pub total_at-kept : (g : Value) (es : List (Value × Figures)) → option_map kept_value (at value_cmp key_of g es) ≡ total_at g (map entry_from es)
-total_at-kept g es = kept (at value_cmp key_of g es) ∙ ap total_in (at-made entry_from group_in (λ e. refl) g es)
+-- the total of a group, and the entries after one is put
+pub total_at-entry : (g : Value) (es : List (Value × Figures)) → option_map entry_value (at value_cmp key_of g es) ≡ total_at g (map entry_from es)
+total_at-entry g es = alike (at value_cmp key_of g es) ∙ ap total_in (at-made entry_from group_in (λ e. refl) g es)
   where
-    kept : (o : Option (Value × Figures)) → option_map kept_value o ≡ total_in (option_map entry_from o)
-    kept None = refl
-    kept (Some e) = refl
+    alike : (o : Option (Value × Figures)) → option_map entry_value o ≡ total_in (option_map entry_from o)
+    alike None = refl
+    alike (Some e) = refl
 
-pub put_entry-kept : (g : Value) (t : Figures) (es : List (Value × Figures)) → map entry_from (put value_cmp key_of g (entry_of g (if t.rows == 0 then None else Some t)) es) ≡ put_entry g (kept_total g t) (map entry_from es)
-put_entry-kept g t es = put-made entry_from group_in (λ e. refl) g (if t.rows == 0 then None else Some t) es ∙ ap (λ o. put_entry g o (map entry_from es)) (kept (t.rows == 0))
+pub put_entry-entry : (g : Value) (t : Figures) (es : List (Value × Figures)) → map entry_from (put value_cmp key_of g (entry_of g (if t.rows == 0 then None else Some t)) es) ≡ put_entry g (total_entry g t) (map entry_from es)
+put_entry-entry g t es = put-made entry_from group_in (λ e. refl) g (if t.rows == 0 then None else Some t) es ∙ ap (λ o. put_entry g o (map entry_from es)) (alike (t.rows == 0))
   where
-    kept : (b : Bool) → option_map (λ u. entry_from (g, u)) (if b then None else Some t) ≡ (if b then None else Some (record { group = g; total = t }))
-    kept true = refl
-    kept false = refl
+    alike : (b : Bool) → option_map (λ u. entry_from (g, u)) (if b then None else Some t) ≡ (if b then None else Some (record { group = g; total = t }))
+    alike true = refl
+    alike false = refl

@@ -83,7 +83,7 @@ least-right vs t k = sym (least-first value_cmp_total value_exact (map value_of 
 pub greatest-right : (vs : List Value) (t : Figures) → IsTotalOf vs t → last_value t.values ≡ least (λ v w. value_cmp w v) (filter is_there vs)
 greatest-right vs t k = sym (least-last value_cmp_total value_exact (map value_of t.values) (filter is_there vs) (ascending-keys t.values k.in_order) (same_members vs t k) ∙ last-keys t.values)
 
--- the first and the last of what is kept
+-- the first and the last of the counts
 abbrev no_entry : Option (Value × ℕ)
 no_entry = None
 

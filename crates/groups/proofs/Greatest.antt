@@ -25,6 +25,12 @@ last-final : {A : Type 0} (x : A) (xs : List A) → last (x ∷ xs) ≡ Some (fi
 last-final x [] = refl
 last-final x (y ∷ ys) = last-final y ys
 
+-- what is not above is not below, turned round
+not_lt : (c d : Ordering) → d ≡ ordering_reverse c → is_gt c ≡ false → is_lt d ≡ false
+not_lt Less d e h = rw e refl
+not_lt Equal d e h = rw e refl
+not_lt Greater d e h = cc
+
 module _ {K : Type 0} {R : K → K → Ordering} (o : IsTotalOrder R) where
   -- the first is at most the last
   final-above : (x : K) (xs : List K) → IsAscending R (λ k. k) (x ∷ xs) → is_gt (R x (final x xs)) ≡ false
@@ -44,11 +50,6 @@ module _ {K : Type 0} {R : K → K → Ordering} (o : IsTotalOrder R) where
       let low : is_lt (R l x) ≡ false = not_lt (R x l) (R l x) (o.antisymm l x) (final-above x (y ∷ ys) s) in
       found (R l x) (Some x) (at R (λ k. k) l (y ∷ ys)) low refl more
     where
-      not_lt : (c d : Ordering) → d ≡ ordering_reverse c → is_gt c ≡ false → is_lt d ≡ false
-      not_lt Less d e h = rw e refl
-      not_lt Equal d e h = rw e refl
-      not_lt Greater d e h = cc
-
       found : {X : Type 0} (c : Ordering) (a b : Option X) → is_lt c ≡ false → is_some a ≡ true → is_some b ≡ true → is_some (by_order c None a b) ≡ true
       found Less a b l h k = cc
       found Equal a b l h k = h
@@ -96,9 +97,4 @@ module _ {K : Type 0} {R : K → K → Ordering} (o : IsTotalOrder R) where
       let high : is_gt (R l m) ≡ false = least-below (back_total o) y ys l mine in
       let among : is_some (at R (λ k. k) m (x ∷ xs)) ≡ true = h m ∙ sym (has-back m (y ∷ ys)) ∙ has-least (back_total o) y ys in
       let low : is_gt (R m l) ≡ false = at-below m x xs s among in
-      ap Some (exact m l (equal_between (R m l) (not_less (R l m) (R m l) (o.antisymm m l) high) low)) ∙ sym (last-final x xs)
-    where
-      not_less : (c d : Ordering) → d ≡ ordering_reverse c → is_gt c ≡ false → is_lt d ≡ false
-      not_less Less d e h = rw e refl
-      not_less Equal d e h = rw e refl
-      not_less Greater d e h = cc
+      ap Some (exact m l (equal_between (R m l) (not_lt (R l m) (R m l) (o.antisymm m l) high) low)) ∙ sym (last-final x xs)

@@ -10,9 +10,9 @@ pub record Count : Type 0 where
   pub value : Value
   pub count : ℕ
 
--- a value that a number is kept under
+-- a value and how often it stands
 abbrev pub count_from : Value × ℕ → Count
-count_from kept = record { value = kept.0; count = kept.1 }
+count_from entry = record { value = entry.0; count = entry.1 }
 
 abbrev pub value_of : Count → Value
 value_of count = count.value
@@ -26,12 +26,12 @@ abbrev pub count_at : Value → List Count → ℕ
 count_at v counts = count_in (ordered.at value_cmp value_of v counts)
 
 -- a value with how often it stands; none where it doesn't
-abbrev pub kept_count : Value → ℕ → Option Count
-kept_count v count = if count == 0 then None else Some (record { value = v; count = count })
+abbrev pub count_entry : Value → ℕ → Option Count
+count_entry v count = if count == 0 then None else Some (record { value = v; count = count })
 
 -- the counts with this one for a value
 abbrev pub put_count : Value → ℕ → List Count → List Count
-put_count v count = ordered.put value_cmp value_of v (kept_count v count)
+put_count v count = ordered.put value_cmp value_of v (count_entry v count)
 
 -- one more, up to the largest number of 64 bits
 abbrev pub one_up : ℕ → ℕ

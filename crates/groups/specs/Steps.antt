@@ -42,8 +42,8 @@ abbrev pub put_entry : Value → Option Entry → Entries → Entries
 put_entry = ordered.put value_cmp group_in
 
 -- a group's entry; none where it has no row
-abbrev pub kept_total : Value → Figures → Option Entry
-kept_total group t = if t.rows == 0 then None else Some (record { group = group; total = t })
+abbrev pub total_entry : Value → Figures → Option Entry
+total_entry group t = if t.rows == 0 then None else Some (record { group = group; total = t })
 
 -- the total of a group, where none stands for it that of no rows
 abbrev pub figures_at : Value → Entries → Figures
@@ -51,7 +51,7 @@ figures_at group entries = unwrap_or (total_at group entries) no_figures
 
 -- the entries with one row more, or one less
 abbrev pub entries_more : Member → Entries → Entries
-entries_more m entries = put_entry m.group (kept_total m.group (one_more m.value (figures_at m.group entries))) entries
+entries_more m entries = put_entry m.group (total_entry m.group (one_more m.value (figures_at m.group entries))) entries
 
 abbrev pub entries_less : Member → Entries → Entries
-entries_less m entries = put_entry m.group (kept_total m.group (one_less m.value (figures_at m.group entries))) entries
+entries_less m entries = put_entry m.group (total_entry m.group (one_less m.value (figures_at m.group entries))) entries

@@ -26,9 +26,9 @@ pub record Entry : Type 0 where
   pub group : Value
   pub total : Figures
 
--- a group that a total is kept under
+-- a group and its total
 abbrev pub entry_from : Value × Figures → Entry
-entry_from kept = record { group = kept.0; total = kept.1 }
+entry_from entry = record { group = entry.0; total = entry.1 }
 
 -- the totals of groups, in the order of the groups
 abbrev pub Entries : Type 0

@@ -74,7 +74,7 @@ impl Counts {
         ensures changed { IfOk result (λ counts. counts ≡ put_count value.now number self.now) }
     {
         Ok(Counts {
-            pages: self.pages.with(value, kept(number))?,
+            pages: self.pages.with(value, unless_zero(number))?,
         })
     }
 
@@ -109,8 +109,8 @@ impl Counts {
     }
 }
 
-/// What is kept for a value that stands so often: nothing where it doesn't.
-fn kept(number: u64) -> Option<u64>
+/// The number of a value that stands so often; nothing where it does not.
+fn unless_zero(number: u64) -> Option<u64>
     ensures { result ≡ (if number == 0 then None else Some number) }
 {
     if number == 0 { None } else { Some(number) }

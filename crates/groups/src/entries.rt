@@ -9,7 +9,7 @@ ghost use Rattle.table.specs.Rows.{RowValues};
 ghost use Rattle.cond.specs.Kinds.{kind_of_aggregate};
 ghost use Rattle.cond.specs.Slots.{IsWithinKind, kind_of, value_of};
 ghost use Rattle.groups.specs.Answers.{value_for};
-ghost use Rattle.groups.specs.Steps.{put_entry, kept_total, entries_more, entries_less};
+ghost use Rattle.groups.specs.Steps.{put_entry, total_entry, entries_more, entries_less};
 ghost use Rattle.groups.specs.Totals.{Members, total_at, IsEntryOf, AreTotalsOf, AreWithin, IsWithin, IsChange};
 
 use crate::members::Member;
@@ -118,10 +118,10 @@ impl Totals {
     /// The totals with this one for a group, or none where it is of no rows.
     fn put(&self, group: &Value, total: Total) -> Result<Totals, Refusal>
         ensures only_memory { IsOkUnless result NoMemory }
-        ensures put { IfOk result (λ totals. totals ≡ put_entry group.now (kept_total group.now total) self.now) }
+        ensures put { IfOk result (λ totals. totals ≡ put_entry group.now (total_entry group.now total) self.now) }
     {
         Ok(Totals {
-            pages: self.pages.with(group, kept(total))?,
+            pages: self.pages.with(group, unless_empty(total))?,
         })
     }
 
@@ -136,8 +136,8 @@ impl Totals {
     }
 }
 
-/// What is kept for a group: its total, and nothing where that is of no rows.
-fn kept(total: Total) -> Option<Total>
+/// The total of a group; nothing where that is of no rows.
+fn unless_empty(total: Total) -> Option<Total>
     ensures { result ≡ (if total.rows == 0 then None else Some total) }
 {
     if total.is_empty() {

@@ -1,4 +1,4 @@
-//! What set functions need of the rows of groups, kept as rows come and go.
+//! What set functions need of the rows of groups, maintained as rows come and go.
 //!
 //! A *set function* (ISO/IEC 9075:1992, set function specification) gives one value of the rows of a group: COUNT(*)
 //! how many rows there are; COUNT, SUM, MIN and MAX of a column look only at its values that are not NULL, and of

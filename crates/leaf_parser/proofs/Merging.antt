@@ -3,10 +3,6 @@ use Rattle.std.proofs.Common.{◌≡◌, List, [], ◌∷◌, ◌++◌, reverse,
 use Rattle.std.specs.List.{flat_map}
 use Rattle.std.proofs.lemmas.List.{reverse-append, reverse-reverse}
 
--- what is left, and the last item
-pub turn_step : {A : Type 0} (turned rest items : List A) (item : A) → items ≡ rest ++ item ∷ [] → (turned ++ item ∷ []) ++ reverse rest ≡ turned ++ reverse items
-turn_step turned rest items item e = append_assoc turned (item ∷ []) (reverse rest) ∙ ap (λ t. turned ++ t) (sym (reverse-append rest (item ∷ [])) ∙ ap reverse (sym e))
-
 pub merge_step : {A B : Type 0} (parts : A → List B) (all : List B) (rest items : List A) (item : A) → items ≡ rest ++ item ∷ [] → (all ++ parts item) ++ flat_map parts (reverse rest) ≡ all ++ flat_map parts (reverse items)
 merge_step parts all rest items item e = append_assoc all (parts item) (flat_map parts (reverse rest)) ∙ ap (λ t. all ++ t) (ap (flat_map parts) (sym (reverse-append rest (item ∷ [])) ∙ ap reverse (sym e)))
 

@@ -5,7 +5,7 @@ ghost use Rattle.leaf_parser.specs.Reads.{Reads};
 
 use crate::cursors::{Cursor, Piece};
 use crate::loops::Part;
-use crate::names::{name, name_of};
+use crate::names::{name_of, parse_name};
 use crate::stops::Stop;
 use std::alloc::Global;
 use syntax::{Aggregate, ColumnName, Expression};
@@ -13,7 +13,7 @@ use token::Kind;
 use value::Text;
 
 #[tactic(auto, unfolding(syntax::specs::Readers::column_after))]
-fn column_after(
+fn parse_column_after(
     alloc: Global,
     cursor: &mut Cursor<'_>,
     first: &Piece<'_>,
@@ -38,29 +38,29 @@ fn column_after(
 }
 
 #[tactic(auto, unfolding(syntax::specs::Readers::column))]
-pub fn column(alloc: Global, cursor: &mut Cursor<'_>) -> Result<ColumnName, Stop>
+pub fn parse_column(alloc: Global, cursor: &mut Cursor<'_>) -> Result<ColumnName, Stop>
     ensures { Reads (reader.column cursor.old) result cursor.new }
 {
     let first = cursor.expect(Kind::Name)?;
-    column_after(alloc, cursor, &first)
+    parse_column_after(alloc, cursor, &first)
 }
 
 #[tactic(auto, unfolding(syntax::specs::Readers::correlation_name))]
-pub fn correlation_name(alloc: Global, cursor: &mut Cursor<'_>) -> Result<Option<Text>, Stop>
+pub fn parse_correlation_name(alloc: Global, cursor: &mut Cursor<'_>) -> Result<Option<Text>, Stop>
     ensures { Reads (reader.correlation_name cursor.old) result cursor.new }
 {
     match cursor.peek() {
         Kind::As => {
             cursor.take(Kind::As);
-            Ok(Some(name(alloc, cursor)?))
+            Ok(Some(parse_name(alloc, cursor)?))
         }
-        Kind::Name => Ok(Some(name(alloc, cursor)?)),
+        Kind::Name => Ok(Some(parse_name(alloc, cursor)?)),
         _ => Ok(None),
     }
 }
 
 #[tactic(auto, unfolding(syntax::specs::Readers::group_by))]
-pub fn group_by(alloc: Global, cursor: &mut Cursor<'_>) -> Result<Option<ColumnName>, Stop>
+pub fn parse_group_by(alloc: Global, cursor: &mut Cursor<'_>) -> Result<Option<ColumnName>, Stop>
     ensures { Reads (reader.group_by cursor.old) result cursor.new }
 {
     if !cursor.is(Kind::Group) {
@@ -68,7 +68,7 @@ pub fn group_by(alloc: Global, cursor: &mut Cursor<'_>) -> Result<Option<ColumnN
     }
     cursor.expect(Kind::Group)?;
     cursor.expect(Kind::By)?;
-    Ok(Some(column(alloc, cursor)?))
+    Ok(Some(parse_column(alloc, cursor)?))
 }
 
 /// The name of a column, as what may stand in parentheses.
@@ -85,7 +85,7 @@ impl Part for NamedColumn {
     ghost reader = { λ _. reader.column };
 
     fn parse(&self, cursor: &mut Cursor<'_>) -> Result<ColumnName, Stop> {
-        column(self.0, cursor)
+        parse_column(self.0, cursor)
     }
 }
 
@@ -109,7 +109,7 @@ impl Part for Counted {
                 cursor.take(Kind::Star);
                 Ok(Expression::CountRows)
             }
-            _ => Ok(Expression::Aggregate(Aggregate::Count, column(self.0, cursor)?)),
+            _ => Ok(Expression::Aggregate(Aggregate::Count, parse_column(self.0, cursor)?)),
         }
     }
 }

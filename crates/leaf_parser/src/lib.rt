@@ -16,13 +16,13 @@
 //!
 //! What stands here has no parentheses: names and columns, numbers with their signs, texts, the
 //! signs of comparisons. And what every layer above needs stands here once, over the trait [`Part`] of
-//! what parses a part: [`many`] parts one behind the other, a [`list`] with commas, [`parens`] around
-//! a part, and [`joined`], the tree of a list of parts, in which a part of the same kind is merged into
+//! what parses a part: [`parse_many`] parts one behind the other, a [`parse_list`] with commas, [`parse_parens`] around
+//! a part, and [`parse_joined`], the tree of a list of parts, in which a part of the same kind is merged into
 //! the list around it ([`Joint`]). `proofs/Turns.antt` has the laws by which loops and parentheses meet
 //! their readers.
 //!
 //! A token whose kind was looked at is taken by [`Cursor::take`], which cannot fail. Where the parser
-//! stops, what it had read is let go by [`stopped`]: a type parameter hides how large it is, and a `?`
+//! stops, what it had read is let go by [`drop_and_stop`]: a type parameter hides how large it is, and a `?`
 //! in its place would be proved field by field.
 #![tactic(auto)]
 
@@ -34,10 +34,12 @@ mod parts;
 mod signs;
 mod stops;
 
-pub use columns::{Counted, NamedColumn, column, correlation_name, group_by};
+pub use columns::{Counted, NamedColumn, parse_column, parse_correlation_name, parse_group_by};
 pub use cursors::{Cursor, Piece};
-pub use loops::{Part, Repeated, followed, list, many, parens, parens_list};
-pub use names::{NamePart, name, number, signed_number, text, value_of};
-pub use parts::{Ands, Joint, Ors, Products, Sums, joined, joined_boxed};
-pub use signs::{comparison_sign, truth};
-pub use stops::{Stop, full, stopped};
+pub use loops::{
+    Part, Repeated, expect_after, parse_list, parse_many, parse_parens, parse_parens_list,
+};
+pub use names::{NamePart, parse_name, parse_number, parse_signed_number, parse_text, value_of};
+pub use parts::{Ands, Joint, Ors, Products, Sums, parse_joined, parse_joined_boxed};
+pub use signs::{parse_comparison_sign, parse_truth};
+pub use stops::{Stop, drop_and_stop, stop_for_depth};

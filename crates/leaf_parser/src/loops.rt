@@ -5,8 +5,8 @@ ghost use Rattle.reading.specs.Reading as rd;
 ghost use Rattle.leaf_parser.specs.Reads.{Reads};
 
 use crate::cursors::Cursor;
-use crate::names::one;
-use crate::stops::{Stop, full};
+use crate::names::start_list;
+use crate::stops::{Stop, stop_for_depth};
 use sqlite_items::Items;
 use std::alloc::Global;
 use token::Kind;
@@ -42,7 +42,7 @@ pub trait Repeated: Part {
 
 /// The parts that stand there, behind those found before.
 #[tactic(auto, using(crate::proofs::Turns::many_stops, crate::proofs::Turns::many_goes, crate::proofs::Turns::many_over))]
-pub fn many<P: Repeated>(
+pub fn parse_many<P: Repeated>(
     part: &P,
     cursor: &mut Cursor<'_>,
     mut found: Items<P::Tree>,
@@ -94,7 +94,7 @@ impl<'a, P: Part> Repeated for Behind<'a, P> {
 
 /// `part { "," part }`
 #[tactic(auto, unfolding(reading::specs::Reading::list))]
-pub fn list<P: Part>(
+pub fn parse_list<P: Part>(
     alloc: Global,
     part: &P,
     cursor: &mut Cursor<'_>,
@@ -103,11 +103,11 @@ pub fn list<P: Part>(
     ensures { Reads (rd.list (P.reader part.now) cursor.old) result cursor.new }
 {
     let first = part.parse(cursor)?;
-    many(&Behind(part), cursor, one(alloc, first, 4)?)
+    parse_many(&Behind(part), cursor, start_list(alloc, first, 4)?)
 }
 
 /// What was found, once a token of this kind stands behind it.
-pub fn followed<T: Drop>(cursor: &mut Cursor<'_>, kind: Kind, found: T) -> Result<T, Stop>
+pub fn expect_after<T: Drop>(cursor: &mut Cursor<'_>, kind: Kind, found: T) -> Result<T, Stop>
     ensures { Reads (rd.◌>>◌ (rd.expect kind) (rd.pure found) cursor.old) result cursor.new }
 {
     cursor.expect(kind)?;
@@ -116,16 +116,20 @@ pub fn followed<T: Drop>(cursor: &mut Cursor<'_>, kind: Kind, found: T) -> Resul
 
 /// `"(" part ")"`, where so many parentheses may be opened.
 #[tactic(auto, using(crate::proofs::Turns::parens_none, crate::proofs::Turns::parens_some))]
-pub fn parens<P: Part>(part: &P, cursor: &mut Cursor<'_>, depth: usize) -> Result<P::Tree, Stop>
+pub fn parse_parens<P: Part>(
+    part: &P,
+    cursor: &mut Cursor<'_>,
+    depth: usize,
+) -> Result<P::Tree, Stop>
     requires { P.ready part.now }
     ensures { Reads (rd.parens depth (P.reader part.now) cursor.old) result cursor.new }
 {
     if depth == 0 {
-        return Err(full(cursor));
+        return Err(stop_for_depth(cursor));
     }
     cursor.expect(Kind::Open)?;
     let found = part.parse(cursor)?;
-    followed(cursor, Kind::Close, found)
+    expect_after(cursor, Kind::Close, found)
 }
 
 /// A list of parts.
@@ -145,12 +149,12 @@ impl<'a, P: Part> Part for Listed<'a, P> {
     ghost reader = { λ l. rd.list (P.reader l.part.now) };
 
     fn parse(&self, cursor: &mut Cursor<'_>) -> Result<Items<P::Tree>, Stop> {
-        list(self.alloc, self.part, cursor)
+        parse_list(self.alloc, self.part, cursor)
     }
 }
 
 /// `"(" part { "," part } ")"`, where so many parentheses may be opened.
-pub fn parens_list<P: Part>(
+pub fn parse_parens_list<P: Part>(
     alloc: Global,
     part: &P,
     cursor: &mut Cursor<'_>,
@@ -159,5 +163,5 @@ pub fn parens_list<P: Part>(
     requires { P.ready part.now }
     ensures { Reads (rd.parens depth (rd.list (P.reader part.now)) cursor.old) result cursor.new }
 {
-    parens(&Listed { alloc, part }, cursor, depth)
+    parse_parens(&Listed { alloc, part }, cursor, depth)
 }

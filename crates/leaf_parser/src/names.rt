@@ -19,7 +19,7 @@ use token::{Kind, name_bytes, number_value, text_bytes};
 use value::Text;
 
 /// A list of one item, with room for so many.
-pub fn one<T: Drop>(alloc: Global, item: T, room: usize) -> Result<Items<T>, AllocError>
+pub fn start_list<T: Drop>(alloc: Global, item: T, room: usize) -> Result<Items<T>, AllocError>
     ensures { IfOk result (λ all. all ≡ item ∷ []) }
 {
     let mut all = Vec::with_capacity(alloc, room)?;
@@ -36,7 +36,7 @@ pub fn value_of(piece: &Piece<'_>) -> u64
     number_value(piece.spelling()).unwrap_or(0)
 }
 
-fn signed(is_negative: bool, magnitude: u64) -> i64
+fn with_sign(is_negative: bool, magnitude: u64) -> i64
     requires { magnitude ≤ largest_number }
     ensures { result ≡ spec.signed is_negative magnitude }
 {
@@ -45,21 +45,21 @@ fn signed(is_negative: bool, magnitude: u64) -> i64
 }
 
 /// A number, whose sign is read.
-pub fn signed_number(cursor: &mut Cursor<'_>, is_negative: bool) -> Result<i64, Stop>
+pub fn parse_signed_number(cursor: &mut Cursor<'_>, is_negative: bool) -> Result<i64, Stop>
     ensures { Reads (rd.◌<$>◌ (λ x. spec.signed is_negative (spec.digits_value x)) (rd.expect k.Number) cursor.old)
         result cursor.new }
 {
     let piece = cursor.expect(Kind::Number)?;
-    Ok(signed(is_negative, value_of(&piece)))
+    Ok(with_sign(is_negative, value_of(&piece)))
 }
 
 /// A number as an expression, whose sign is read.
 #[tactic(auto, unfolding(syntax::specs::Readers::number))]
-pub fn number(cursor: &mut Cursor<'_>, is_negative: bool) -> Result<Expression, Stop>
+pub fn parse_number(cursor: &mut Cursor<'_>, is_negative: bool) -> Result<Expression, Stop>
     ensures { Reads (reader.number is_negative cursor.old) result cursor.new }
 {
     let piece = cursor.expect(Kind::Number)?;
-    Ok(Expression::Number(signed(is_negative, value_of(&piece))))
+    Ok(Expression::Number(with_sign(is_negative, value_of(&piece))))
 }
 
 /// The name that a word spells.
@@ -76,7 +76,7 @@ pub fn name_of(alloc: Global, piece: &Piece<'_>) -> Result<Text, Stop>
 
 /// A name.
 #[tactic(auto, unfolding(syntax::specs::Readers::name))]
-pub fn name(alloc: Global, cursor: &mut Cursor<'_>) -> Result<Text, Stop>
+pub fn parse_name(alloc: Global, cursor: &mut Cursor<'_>) -> Result<Text, Stop>
     ensures { Reads (reader.name cursor.old) result cursor.new }
 {
     let piece = cursor.expect(Kind::Name)?;
@@ -97,12 +97,12 @@ impl Part for NamePart {
     ghost reader = { λ _. reader.name };
 
     fn parse(&self, cursor: &mut Cursor<'_>) -> Result<Text, Stop> {
-        name(self.0, cursor)
+        parse_name(self.0, cursor)
     }
 }
 
 #[tactic(auto, unfolding(syntax::specs::Grammar::quoted))]
-fn quoted(alloc: Global, piece: &Piece<'_>) -> Result<Text, Stop>
+fn text_of(alloc: Global, piece: &Piece<'_>) -> Result<Text, Stop>
     ensures only_memory { IsOkUnless result Memory }
     ensures inside { IfOk result (λ text. text ≡ spec.quoted piece.now) }
 {
@@ -113,9 +113,9 @@ fn quoted(alloc: Global, piece: &Piece<'_>) -> Result<Text, Stop>
 }
 
 /// A text in quotes.
-pub fn text(alloc: Global, cursor: &mut Cursor<'_>) -> Result<Text, Stop>
+pub fn parse_text(alloc: Global, cursor: &mut Cursor<'_>) -> Result<Text, Stop>
     ensures { Reads (rd.◌<$>◌ spec.quoted (rd.expect k.Text) cursor.old) result cursor.new }
 {
     let piece = cursor.expect(Kind::Text)?;
-    quoted(alloc, &piece)
+    text_of(alloc, &piece)
 }

@@ -7,8 +7,8 @@ ghost use Rattle.leaf_parser.specs.Reads.{Reads};
 ghost use Rattle.syntax.specs.Grammar as spec;
 
 use crate::cursors::Cursor;
-use crate::loops::{Repeated, many};
-use crate::names::one;
+use crate::loops::{Repeated, parse_many};
+use crate::names::start_list;
 use crate::stops::Stop;
 use sqlite_items::{Boxed, Items};
 use std::alloc::{AllocError, Global};
@@ -161,8 +161,8 @@ impl Joint<Condition> for Ors {
 }
 
 /// The items, the last first, so that they can be taken from their front.
-#[tactic(auto, using(crate::proofs::Merging::turn_step))]
-fn reversed<T: Drop>(alloc: Global, mut items: Items<T>) -> Result<Items<T>, AllocError>
+#[tactic(auto, using(value::proofs::Lists::turn_step))]
+fn reverse<T: Drop>(alloc: Global, mut items: Items<T>) -> Result<Items<T>, AllocError>
     ensures { IfOk result (λ turned. turned ≡ reverse items) }
 {
     let mut turned = Items::new(alloc);
@@ -173,10 +173,10 @@ fn reversed<T: Drop>(alloc: Global, mut items: Items<T>) -> Result<Items<T>, All
 }
 
 #[tactic(auto, using(crate::proofs::Merging::merge_step, crate::proofs::Merging::merge_start))]
-fn merged<T: Drop, J: Joint<T>>(alloc: Global, parts: Items<T>) -> Result<Items<T>, AllocError>
+fn merge<T: Drop, J: Joint<T>>(alloc: Global, parts: Items<T>) -> Result<Items<T>, AllocError>
     ensures { IfOk result (λ all. all ≡ flat_map J.parts parts) }
 {
-    let mut rest = reversed(alloc, parts)?;
+    let mut rest = reverse(alloc, parts)?;
     let mut all = Items::new(alloc);
     'merge: while let Some(part) = rest.pop() {
         J::push(&mut all, part)?;
@@ -196,7 +196,7 @@ fn holds_joined<T, J: Joint<T>>(parts: &[T]) -> bool
     false
 }
 
-fn whole_of<T: Drop, J: Joint<T>>(alloc: Global, mut parts: Items<T>) -> Result<T, AllocError>
+fn join_parts<T: Drop, J: Joint<T>>(alloc: Global, mut parts: Items<T>) -> Result<T, AllocError>
     ensures { IfOk result (λ whole. whole ≡ spec.alone_or J.parts J.whole parts) }
 {
     if parts.len() == 1 {
@@ -205,12 +205,12 @@ fn whole_of<T: Drop, J: Joint<T>>(alloc: Global, mut parts: Items<T>) -> Result<
     if !holds_joined::<T, J>(parts.as_slice()) {
         return Ok(J::join(parts));
     }
-    Ok(J::join(merged::<T, J>(alloc, parts)?))
+    Ok(J::join(merge::<T, J>(alloc, parts)?))
 }
 
 /// The tree of a part and of those that follow it. A part that none follows stands for itself.
 #[tactic(auto, using(crate::proofs::Turns::many_stops))]
-pub fn joined<P: Repeated, J: Joint<P::Tree>>(
+pub fn parse_joined<P: Repeated, J: Joint<P::Tree>>(
     alloc: Global,
     part: &P,
     cursor: &mut Cursor<'_>,
@@ -224,13 +224,13 @@ pub fn joined<P: Repeated, J: Joint<P::Tree>>(
     if !part.begins(cursor.peek()) {
         return Ok(first);
     }
-    let parts = many(part, cursor, one(alloc, first, 2)?)?;
-    Ok(whole_of::<P::Tree, J>(alloc, parts)?)
+    let parts = parse_many(part, cursor, start_list(alloc, first, 2)?)?;
+    Ok(join_parts::<P::Tree, J>(alloc, parts)?)
 }
 
 /// The same of a first part in a box.
 #[tactic(auto, using(crate::proofs::Turns::many_stops))]
-pub fn joined_boxed<P: Repeated, J: Joint<P::Tree>>(
+pub fn parse_joined_boxed<P: Repeated, J: Joint<P::Tree>>(
     alloc: Global,
     part: &P,
     cursor: &mut Cursor<'_>,
@@ -244,6 +244,6 @@ pub fn joined_boxed<P: Repeated, J: Joint<P::Tree>>(
     if !part.begins(cursor.peek()) {
         return Ok(first);
     }
-    let whole = joined::<P, J>(alloc, part, cursor, first.into_inner())?;
+    let whole = parse_joined::<P, J>(alloc, part, cursor, first.into_inner())?;
     Ok(Boxed::new(alloc, whole)?)
 }

@@ -11,7 +11,7 @@ use value::Comparison;
 
 /// `=`, `<>`, `<`, `<=`, `>` or `>=`.
 #[tactic(auto, unfolding(syntax::specs::Readers::comparison_sign))]
-pub fn comparison_sign(cursor: &mut Cursor<'_>) -> Result<Comparison, Stop>
+pub fn parse_comparison_sign(cursor: &mut Cursor<'_>) -> Result<Comparison, Stop>
     ensures { Reads (reader.comparison_sign cursor.old) result cursor.new }
 {
     match cursor.peek() {
@@ -45,7 +45,7 @@ pub fn comparison_sign(cursor: &mut Cursor<'_>) -> Result<Comparison, Stop>
 
 /// TRUE, FALSE or UNKNOWN.
 #[tactic(auto, unfolding(syntax::specs::Readers::truth))]
-pub fn truth(cursor: &mut Cursor<'_>) -> Result<Truth, Stop>
+pub fn parse_truth(cursor: &mut Cursor<'_>) -> Result<Truth, Stop>
     ensures { Reads (reader.truth cursor.old) result cursor.new }
 {
     match cursor.peek() {

@@ -43,7 +43,7 @@ impl<T: Drop> From<AllocFailed<T>> for Stop {
 
 /// Why the parser stops where no parenthesis may be opened.
 #[tactic(auto, unfolding(reading::specs::Reading::same_kind))]
-pub fn full(cursor: &Cursor<'_>) -> Stop
+pub fn stop_for_depth(cursor: &Cursor<'_>) -> Stop
     ensures { result ≡ full_stop (kind_at cursor.now) }
 {
     if cursor.peek() == Kind::Open {
@@ -54,7 +54,7 @@ pub fn full(cursor: &Cursor<'_>) -> Stop
 }
 
 /// Why the parser stopped, once what it had read is let go.
-pub fn stopped<T: Drop>(stop: Stop, _read: T) -> Stop
+pub fn drop_and_stop<T: Drop>(stop: Stop, _read: T) -> Stop
     ensures { result ≡ stop }
 {
     stop

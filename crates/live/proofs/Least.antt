@@ -20,11 +20,6 @@ least_next newest all index d within =
     looked_at newest (get_or all index d) (drop (index + 1) all)
     ∙ ap (least_held newest) (sym (drop_more all index d within))
 
--- the least is at most the newest
-pub least_most : (newest : ℕ) (all : List LiveSnapshot) → least_held newest all ≤ newest
-least_most newest [] = omega arith
-least_most newest (one ∷ rest) = let h = least_most newest rest in omega arith
-
 -- it stays where a transaction begins on the newest tables
 pub least_begun : (newest ticket : ℕ) (all : List LiveSnapshot) → least_held newest (all ++ record { ticket = ticket; snapshot = newest } ∷ []) ≡ least_held newest all
 least_begun newest ticket [] = omega arith

@@ -8,6 +8,3 @@
 mod snapshots;
 
 pub use snapshots::{Live, LiveSnapshot};
-
-#[cfg(test)]
-mod tests;

@@ -3,6 +3,7 @@ use Rattle.std.proofs.Common.{◌≡◌, ℕ, Bool, true, false, Option, Some, N
 use Rattle.std.specs.Prelude.{◌&&◌, not, is_some, option_map, ◌==◌, if◌then◌else◌}
 use Rattle.std.specs.List.{list_all, list_any}
 use Rattle.std.proofs.lemmas.List.Elements.{filter_agree}
+use Rattle.std.proofs.lemmas.Bool.{not-true}
 use Rattle.value.specs.declared.refusals.Refusal.{Refusal}
 use Rattle.value.specs.declared.refusals.Refusal.TheVariants.{AttributeClash, KeyUpdate, NameTaken, TypeMismatch, TooWide}
 use Rattle.table.specs.Rows.{RowValues, Tables, layouts_of, column_of}
@@ -12,7 +13,7 @@ use Rattle.cond.specs.Bounds.{is_bounded}
 use Rattle.cond.specs.Eval as resolved
 use Rattle.assertion.specs.declared.assertions.Assertion.{Assertion}
 use Rattle.assertion.specs.declared.forms.Form.{Form}
-use Rattle.assertion.specs.Meaning.{State, rows_of, kept_rows}
+use Rattle.assertion.specs.Meaning.{State, rows_of, filtered_rows}
 use Rattle.syntax.specs.declared.trees.Condition.{Condition}
 use Rattle.statement_syntax.specs.declared.definitions.Attributes.{Attributes}
 use Rattle.statement_syntax.specs.declared.statements.Assigned.{Assigned}
@@ -23,8 +24,9 @@ use Rattle.statement_syntax.specs.declared.statements.Which.TheVariants.{All, Na
 use Rattle.name_check.specs.Scopes.{Scope}
 use Rattle.name_check.specs.Names.{condition_fault}
 use Rattle.value.specs.Results.{and_then, each, found, provided, unless}
+use Rattle.value.proofs.Results.{found_ok, provided_is, provided_ok, unless_is, unless_ok}
 use Rattle.form_check.specs.Forms.{form_of}
-use Rattle.form_check.specs.Queries.{Source, source_of, row_condition, row_expression, row_filter}
+use Rattle.form_check.specs.Queries.{Source, source_of, row_expression, row_filter}
 use Rattle.type_check.specs.Forms.{is_typed_form}
 use Rattle.type_check.specs.Types.{is_typed_condition}
 use Rattle.type_check.specs.Widths.{is_bounded_form}
@@ -33,7 +35,7 @@ use Rattle.assertcheck.specs.declared.selects.Select.{Select}
 use Rattle.assertcheck.specs.declared.updates.Setting.{Setting}
 use Rattle.assertcheck.specs.declared.updates.Update.{Update}
 use Rattle.assertcheck.specs.Assertions.{are_at_odds, attributes_of, of_form, checked}
-use Rattle.assertcheck.specs.Conditions.{target_of, sound_condition, where_of}
+use Rattle.assertcheck.specs.Conditions.{target_of, sound_condition, where_fault, where_of}
 use Rattle.assertcheck.specs.Statements.{named_column, new_place, places_from, selected, select_of, unlisted}
 use Rattle.assertcheck.specs.Updates.{assignable, not_key, update_of, value_of, names_fault, assigned_places, settings_of, fits, is_bounded_setting, sound_update, update_over}
 use Rattle.meaning.specs.Meaning.{Reference, table_of, truth, passes, with_rows}
@@ -45,24 +47,6 @@ use Rattle.meaning.proofs.Queries.{source_seen}
 use Rattle.meaning.proofs.Whole.{HasWrittenRoots-law, HasWrittenTruth-law, HasWrittenLeast-law}
 use Rattle.meaning.proofs.Grown.{KeepsForm-law}
 use Rattle.meaning.proofs.Classes.{none_is, form_class, class_form}
-
-provided_is : {A : Type 0} (c : Bool) (refusal : Refusal) (r : Result A Refusal) (a : A) → provided c refusal r ≡ Ok a → (c ≡ true) × (r ≡ Ok a)
-provided_is true refusal r a e = (refl, e)
-provided_is false refusal r a e = cc
-
-unless_is : {A : Type 0} (fault : Option Refusal) (r : Result A Refusal) (a : A) → unless fault r ≡ Ok a → (fault ≡ None) × (r ≡ Ok a)
-unless_is None r a e = (refl, e)
-unless_is (Some fault) r a e = cc
-
-provided_ok : {A : Type 0} (c : Bool) (refusal : Refusal) (r : Result A Refusal) (a : A) → provided c refusal r ≡ Ok a → r ≡ Ok a
-provided_ok c refusal r a e = (provided_is c refusal r a e).1
-
-unless_ok : {A : Type 0} (fault : Option Refusal) (r : Result A Refusal) (a : A) → unless fault r ≡ Ok a → r ≡ Ok a
-unless_ok fault r a e = (unless_is fault r a e).1
-
-found_ok : {A : Type 0} (name : List ℕ) (o : Option A) (a : A) → found name o ≡ Ok a → o ≡ Some a
-found_ok name None a e = cc
-found_ok name (Some x) a e = ap (λ y. let o : Option _ = Some y in o) (ok_same x a e)
 
 -- ---- assertions
 
@@ -111,17 +95,13 @@ StaysWritten-law tables more name condition attributes assertion e =
     let p = passed tables name condition attributes assertion e in
     subst (law.IsWritten (tables ++ more) name condition attributes) p.made (has_written (tables ++ more) name condition attributes p.form (KeepsForm-law tables more condition p.form p.formed))
 
-not_true : (b : Bool) → not b ≡ true → b ≡ false
-not_true true e = cc
-not_true false e = refl
-
 same_form : (tables : Tables) (condition : Condition) (f g : Form) → form_of tables condition ≡ Ok f → form_of tables condition ≡ Ok g → f ≡ g
 same_form tables condition f g e h = ok_same f g (sym e ∙ h)
 
 may_be_taken : (tables : Tables) (name : List ℕ) (condition : Condition) (attributes : Attributes) → ((assertion : Assertion) × (checked tables name condition attributes ≡ Ok assertion)) → law.MayBeTaken tables condition attributes
 may_be_taken tables name condition attributes (assertion, e) =
     let p = passed tables name condition attributes assertion e in record {
-      agreed = not_true (are_at_odds attributes) p.agreed;
+      agreed = not-true (are_at_odds attributes) p.agreed;
       known = ap is_some p.known;
       shaped = form_class tables condition (p.form, p.formed);
       typed = λ form is. subst (λ f. is_typed_form (layouts_of tables) f ≡ true) (same_form tables condition p.form form p.formed is) p.typed;
@@ -147,29 +127,28 @@ TakesExactly-law tables name condition attributes = (may_be_taken tables name co
 
 -- ---- statements
 
-where_filter : (tables : Tables) (scope : Scope) (condition : Option Condition) (kept : Cond) → where_of tables scope condition ≡ Ok kept → row_filter scope condition ≡ Ok kept
-where_filter tables scope None kept e = e
-where_filter tables scope (Some condition) kept e =
-    let (made, (is, more)) = and_then_ok (row_condition scope condition) (sound_condition scope) kept (unless_ok (condition_fault tables condition (scope ∷ [])) (and_then (row_condition scope condition) (sound_condition scope)) kept e) in
+where_filter : (tables : Tables) (scope : Scope) (condition : Option Condition) (restriction : Cond) → where_of tables scope condition ≡ Ok restriction → row_filter scope condition ≡ Ok restriction
+where_filter tables scope condition restriction e =
+    let (made, (is, more)) = and_then_ok (row_filter scope condition) (sound_condition scope) restriction (unless_ok (where_fault tables scope condition) (and_then (row_filter scope condition) (sound_condition scope)) restriction e) in
     let bounded : Result Cond Refusal = provided (is_bounded [] made) TooWide (Ok made) in
-    let same = provided_ok (is_bounded [] made) TooWide (Ok made) kept (provided_ok (is_typed_condition scope.layout.columns [] made) TypeMismatch bounded kept more) in
+    let same = provided_ok (is_bounded [] made) TooWide (Ok made) restriction (provided_ok (is_typed_condition scope.layout.columns [] made) TypeMismatch bounded restriction more) in
     is ∙ same
 
 -- the rows that a resolved WHERE keeps of its table
-kept_of : (tables : Tables) (state : State) (name : List ℕ) (condition : Option Condition) (target : Source) (kept : Cond) → source_of tables name None ≡ Some target → row_filter target.scope condition ≡ Ok kept
-    → where_rows tables state name condition ≡ kept_rows kept (rows_of target.table state)
-kept_of tables state name condition target kept found is =
+filtered_of : (tables : Tables) (state : State) (name : List ℕ) (condition : Option Condition) (target : Source) (restriction : Cond) → source_of tables name None ≡ Some target → row_filter target.scope condition ≡ Ok restriction
+    → where_rows tables state name condition ≡ filtered_rows restriction (rows_of target.table state)
+filtered_of tables state name condition target restriction found is =
     let rows = rows_of target.table state in
     ap (λ table. filter (λ row. passes (option_map (truth tables state) condition) (with_rows table (row ∷ []) [])) table.rows) (source_seen tables state name None target found)
-    ∙ filter_agree (λ row. passes (option_map (truth tables state) condition) (with_rows (seen target.scope rows) (row ∷ []) [])) (λ row. resolved.keeps row [] kept) (λ row. row_filter_keeps target.scope condition kept is tables state row []) rows
+    ∙ filter_agree (λ row. passes (option_map (truth tables state) condition) (with_rows (seen target.scope rows) (row ∷ []) [])) (λ row. resolved.keeps row [] restriction) (λ row. row_filter_keeps target.scope condition restriction is tables state row []) rows
 
 pub DeletesRows-law : law.DeletesRows
 DeletesRows-law tables name condition delete e state =
-    let make : Source → Cond → Delete = λ target kept. record { table = target.table; kept = kept } in
-    let (target, (is, more)) = and_then_ok (target_of tables name) (λ target. and_then (where_of tables target.scope condition) (λ kept. let r : Result Delete Refusal = Ok (make target kept) in r)) delete e in
-    let (kept, (keeps, makes)) = and_then_ok (where_of tables target.scope condition) (λ kept. let r : Result Delete Refusal = Ok (make target kept) in r) delete more in
-    kept_of tables state name condition target kept (found_ok name (source_of tables name None) target is) (where_filter tables target.scope condition kept keeps)
-    ∙ ap (λ (d : Delete). kept_rows d.kept (rows_of d.table state)) (ok_same (make target kept) delete makes)
+    let make : Source → Cond → Delete = λ target restriction. record { table = target.table; filter = restriction } in
+    let (target, (is, more)) = and_then_ok (target_of tables name) (λ target. and_then (where_of tables target.scope condition) (λ restriction. let r : Result Delete Refusal = Ok (make target restriction) in r)) delete e in
+    let (restriction, (keeps, makes)) = and_then_ok (where_of tables target.scope condition) (λ restriction. let r : Result Delete Refusal = Ok (make target restriction) in r) delete more in
+    filtered_of tables state name condition target restriction (found_ok name (source_of tables name None) target is) (where_filter tables target.scope condition restriction keeps)
+    ∙ ap (λ (d : Delete). filtered_rows d.filter (rows_of d.table state)) (ok_same (make target restriction) delete makes)
 
 -- each of a list, one by one
 each_pairs : {X A : Type 0} (make : X → Result A Refusal) (P : X → A → Type 0) → ((x : X) (a : A) → make x ≡ Ok a → P x a) → (xs : List X) (made : List A) → each make xs ≡ Ok made → Pairs P xs made
@@ -189,22 +168,22 @@ record Selects (tables : Tables) (columns : Which) (name : List ℕ) (condition 
   found : source_of tables name None ≡ Some target
   places : List ℕ
   select_list : selected target.scope.layout.columns columns ≡ Ok places
-  kept : Cond
-  keeps : row_filter target.scope condition ≡ Ok kept
-  made : ◌≡◌ {A = Select} (record { table = target.table; columns = places; kept = kept }) select
+  restriction : Cond
+  keeps : row_filter target.scope condition ≡ Ok restriction
+  made : ◌≡◌ {A = Select} (record { table = target.table; columns = places; filter = restriction }) select
 
 selects : (tables : Tables) (columns : Which) (name : List ℕ) (condition : Option Condition) (select : Select) → select_of tables columns name condition ≡ Ok select → Selects tables columns name condition select
 selects tables columns name condition select e =
-    let make : Source → List ℕ → Cond → Select = λ target places kept. record { table = target.table; columns = places; kept = kept } in
-    let (target, (is, more)) = and_then_ok (target_of tables name) (λ target. and_then (selected target.scope.layout.columns columns) (λ places. and_then (where_of tables target.scope condition) (λ kept. let r : Result Select Refusal = Ok (make target places kept) in r))) select e in
-    let (places, (are, rest)) = and_then_ok (selected target.scope.layout.columns columns) (λ places. and_then (where_of tables target.scope condition) (λ kept. let r : Result Select Refusal = Ok (make target places kept) in r)) select more in
-    let (kept, (keeps, makes)) = and_then_ok (where_of tables target.scope condition) (λ kept. let r : Result Select Refusal = Ok (make target places kept) in r) select rest in
-    record { target = target; found = found_ok name (source_of tables name None) target is; places = places; select_list = are; kept = kept; keeps = where_filter tables target.scope condition kept keeps; made = ok_same (make target places kept) select makes }
+    let make : Source → List ℕ → Cond → Select = λ target places restriction. record { table = target.table; columns = places; filter = restriction } in
+    let (target, (is, more)) = and_then_ok (target_of tables name) (λ target. and_then (selected target.scope.layout.columns columns) (λ places. and_then (where_of tables target.scope condition) (λ restriction. let r : Result Select Refusal = Ok (make target places restriction) in r))) select e in
+    let (places, (are, rest)) = and_then_ok (selected target.scope.layout.columns columns) (λ places. and_then (where_of tables target.scope condition) (λ restriction. let r : Result Select Refusal = Ok (make target places restriction) in r)) select more in
+    let (restriction, (keeps, makes)) = and_then_ok (where_of tables target.scope condition) (λ restriction. let r : Result Select Refusal = Ok (make target places restriction) in r) select rest in
+    record { target = target; found = found_ok name (source_of tables name None) target is; places = places; select_list = are; restriction = restriction; keeps = where_filter tables target.scope condition restriction keeps; made = ok_same (make target places restriction) select makes }
 
 pub SelectsRows-law : law.SelectsRows
 SelectsRows-law tables columns name condition select e state =
     let s = selects tables columns name condition select e in
-    kept_of tables state name condition s.target s.kept s.found s.keeps ∙ ap (λ (s : Select). kept_rows s.kept (rows_of s.table state)) s.made
+    filtered_of tables state name condition s.target s.restriction s.found s.keeps ∙ ap (λ (s : Select). filtered_rows s.filter (rows_of s.table state)) s.made
 
 named_is : (scope : Scope) (name : List ℕ) (place : ℕ) → named_column scope.layout.columns name ≡ Ok place → IsPlaceOf scope name place
 named_is scope name place e = found_ok name (column_of name scope.layout.columns) place e
@@ -227,27 +206,27 @@ record Updates (tables : Tables) (name : List ℕ) (sets : List Assignment) (con
   assigned : assigned_places target.scope.layout [] sets ≡ Ok columns
   settings : List Setting
   set : settings_of target.scope columns sets ≡ Ok settings
-  kept : Cond
-  keeps : row_filter target.scope condition ≡ Ok kept
-  made : ◌≡◌ {A = Update} (record { table = target.table; sets = settings; kept = kept }) update
+  restriction : Cond
+  keeps : row_filter target.scope condition ≡ Ok restriction
+  made : ◌≡◌ {A = Update} (record { table = target.table; sets = settings; filter = restriction }) update
 
 updates : (tables : Tables) (name : List ℕ) (sets : List Assignment) (condition : Option Condition) (update : Update) → update_of tables name sets condition ≡ Ok update → Updates tables name sets condition update
 updates tables name sets condition update e =
-    let make : Source → List Setting → Cond → Update = λ target settings kept. record { table = target.table; sets = settings; kept = kept } in
+    let make : Source → List Setting → Cond → Update = λ target settings restriction. record { table = target.table; sets = settings; filter = restriction } in
     let (target, (is, more)) = and_then_ok (target_of tables name) (λ target. and_then (assigned_places target.scope.layout [] sets) (λ columns. unless (names_fault tables target.scope sets condition) (update_over target columns sets condition))) update e in
     let (columns, (are, rest)) = and_then_ok (assigned_places target.scope.layout [] sets) (λ columns. unless (names_fault tables target.scope sets condition) (update_over target columns sets condition)) update more in
     let over = unless_ok (names_fault tables target.scope sets condition) (update_over target columns sets condition) update rest in
-    let (settings, (set, last)) = and_then_ok (settings_of target.scope columns sets) (λ settings. and_then (row_filter target.scope condition) (λ kept. sound_update target.scope.layout.columns (make target settings kept))) update over in
-    let (kept, (keeps, sound)) = and_then_ok (row_filter target.scope condition) (λ kept. sound_update target.scope.layout.columns (make target settings kept)) update last in
-    let made = make target settings kept in
-    let bounded : Result Update Refusal = provided (list_all is_bounded_setting settings && is_bounded [] kept) TooWide (Ok made) in
-    let same = provided_ok (list_all is_bounded_setting settings && is_bounded [] kept) TooWide (Ok made) update (provided_ok (list_all (fits target.scope.layout.columns) settings && is_typed_condition target.scope.layout.columns [] kept) TypeMismatch bounded update sound) in
-    record { target = target; found = found_ok name (source_of tables name None) target is; columns = columns; assigned = are; settings = settings; set = set; kept = kept; keeps = keeps; made = ok_same made update same }
+    let (settings, (set, last)) = and_then_ok (settings_of target.scope columns sets) (λ settings. and_then (row_filter target.scope condition) (λ restriction. sound_update target.scope.layout.columns (make target settings restriction))) update over in
+    let (restriction, (keeps, sound)) = and_then_ok (row_filter target.scope condition) (λ restriction. sound_update target.scope.layout.columns (make target settings restriction)) update last in
+    let made = make target settings restriction in
+    let bounded : Result Update Refusal = provided (list_all is_bounded_setting settings && is_bounded [] restriction) TooWide (Ok made) in
+    let same = provided_ok (list_all is_bounded_setting settings && is_bounded [] restriction) TooWide (Ok made) update (provided_ok (list_all (fits target.scope.layout.columns) settings && is_typed_condition target.scope.layout.columns [] restriction) TypeMismatch bounded update sound) in
+    record { target = target; found = found_ok name (source_of tables name None) target is; columns = columns; assigned = are; settings = settings; set = set; restriction = restriction; keeps = keeps; made = ok_same made update same }
 
 pub UpdatesRows-law : law.UpdatesRows
 UpdatesRows-law tables name sets condition update e state =
     let u = updates tables name sets condition update e in
-    kept_of tables state name condition u.target u.kept u.found u.keeps ∙ ap (λ (u : Update). kept_rows u.kept (rows_of u.table state)) u.made
+    filtered_of tables state name condition u.target u.restriction u.found u.keeps ∙ ap (λ (u : Update). filtered_rows u.filter (rows_of u.table state)) u.made
 
 -- a test that refuses, or else hands on
 not_refused : (b : Bool) (refusal : Refusal) (c d : ℕ) → ◌≡◌ {A = Result ℕ Refusal} (if b then Err refusal else Ok c) (Ok d) → c ≡ d

@@ -10,8 +10,10 @@ use Rattle.table.specs.declared.aggregates.Aggregate.{Aggregate}
 use Rattle.table.specs.declared.aggregates.Aggregate.TheVariants.{CountRows}
 use Rattle.cond.specs.declared.conds.Cond.{Cond}
 use Rattle.cond.specs.declared.conds.Cond.TheViews as cond_of
-use Rattle.assertion.specs.declared.linked_queries.Linked.{Linked}
-use Rattle.assertion.specs.declared.plain_queries.Plain.{Plain}
+use Rattle.assertion.specs.declared.queries.Query.{Query as Subquery}
+use Rattle.assertion.specs.declared.queries.Link.{Link}
+use Rattle.assertion.specs.declared.queries.Link.TheVariants.{Column}
+use Rattle.assertion.specs.declared.queries.Whole.{Whole}
 use Rattle.assertion.specs.declared.forms.Form.{Form}
 use Rattle.assertion.specs.declared.forms.Form.TheVariants.{ByRow, ByGroup, Single}
 use Rattle.syntax.specs.declared.trees.ColumnName.{ColumnName}
@@ -28,17 +30,18 @@ use Rattle.form_check.specs.Leaves.{Leaf, Leaves, numbered}
 use Rattle.form_check.specs.Queries.{Source, sourced, source_of, alone, aggregate_in, aggregate_selected, expression_may_stand, selection_may_stand, row_condition, row_filter, of_column, selected_aggregate, may_be_selected}
 use Rattle.form_check.specs.Forms.{Clauses, plain, plain_by, plain_value, aggregate_of, row_where, by_row, having_over, by_group, by_clauses, not_exists, single, denied, form_in, form_of, linked}
 use Rattle.meaning.specs.Class as class
-use Rattle.meaning.specs.Class.{Piece, Pieces, Each, IfWritten, columns_in, pieces_in, read_by, named_as, IsColumnAt, IsSimple, IsSimpleList, IsSet, IsSetList, parts_of, condition_pieces, condition_columns, expression_columns, IsOwn, IsOverRows, IsPlainQuery, IsPlainPiece, IsSingle, IsSetFunction, IsGroupQuery, IsLink, IsLinkedWhere, IsLinkedPiece, IsRowWhere, IsRowQuery, IsDenied, IsByRows, IsByGroups, IsInClass}
-use Rattle.form_check.specs.Links.{top_parts, name_in, is_key, linked_column, either, link_between, link_in, link_of, links_in, only_one, own_parts, kept_parts}
+use Rattle.meaning.specs.Class.{Piece, Pieces, Each, IfWritten, columns_in, pieces_in, read_by, named_as, IsColumnAt, IsSimple, IsSimpleList, IsSet, IsSetList, condition_pieces, condition_columns, expression_columns, IsOwn, IsOverRows, IsPlainQuery, IsPlainPiece, IsSingle, IsSetFunction, IsGroupQuery, IsLink, IsLinkedWhere, IsLinkedPiece, IsRowWhere, IsRowQuery, IsDenied, IsByRows, IsByGroups, IsInClass}
+use Rattle.form_check.specs.Links.{top_parts, name_in, is_key, linked_column, either, link_between, link_in, link_of, links_in, only_one, own_parts, filter_parts}
 use Rattle.form_check.specs.Forms.{linked_where}
 use Rattle.syntax.specs.declared.trees.Condition.TheFolds.{map-Condition, map-Expression, fold_out-Condition, fold_out-Expression}
 use Rattle.std.proofs.Common.{arith}
 use Rattle.std.proofs.lemmas.Bool.Decides.{nat_tests}
-use Rattle.meaning.proofs.Links.{one_test, linked_column_is, either_is, linked_where_ok}
+use Rattle.std.proofs.lemmas.Option.{same_Some}
+use Rattle.meaning.proofs.Links.{one_test, linked_column_is, either_is, linked_where_ok, only_one_is}
 use Rattle.meaning.specs.Laws as law
 use Rattle.meaning.proofs.Steps.{and_then_ok, in_class_ok, only_if_ok}
 use Rattle.meaning.proofs.Rows.{alone_ok}
-use Rattle.meaning.proofs.Queries.{plain_by_ok, some_same}
+use Rattle.meaning.proofs.Queries.{plain_by_ok}
 use Rattle.meaning.proofs.Groups.{in_group_is}
 use Rattle.meaning.proofs.Whole.{by_clauses_ok}
 use Rattle.meaning.proofs.Standing.{leaf_of, MayStand, condition_numbers, some_is, columns_of, pieces_at, each_append, condition_pieces_rolled}
@@ -117,7 +120,7 @@ source_read : (name : List ℕ) (p : Option ℕ) (l : Option Layout) (source : S
 source_read name None l source e = cc
 source_read name (Some t) None source e = cc
 source_read name (Some t) (Some l) source e =
-    let found : Source = record { table = t; scope = named_as name l } in ap (λ (s : Source). let o : Option Scope = Some s.scope in o) (some_same found source e)
+    let found : Source = record { table = t; scope = named_as name l } in ap (λ (s : Source). let o : Option Scope = Some s.scope in o) (same_Some found source e)
 
 reads_scope : (tables : Tables) (query : Query) (source : Source) → source_of tables (out-Query query).table (out-Query query).correlation_name ≡ Some source → read_by tables (out-Query query).table (out-Query query).correlation_name ≡ Some source.scope
 reads_scope tables query source e =
@@ -137,7 +140,7 @@ placed_at name tables l e = ap (λ b. let o : Option ℕ = cond b (Some (positio
 
 scope_layout : (name : List ℕ) (o : Option Layout) (scope : Scope) → option_map (named_as name) o ≡ Some scope → (l : Layout) × ((o ≡ Some l) × (named_as name l ≡ scope))
 scope_layout name None scope e = cc
-scope_layout name (Some l) scope e = (l, (refl, some_same (named_as name l) scope e))
+scope_layout name (Some l) scope e = (l, (refl, same_Some (named_as name l) scope e))
 
 -- and so it has a place
 scope_reads : (tables : Tables) (query : Query) (scope : Scope) → read_by tables (out-Query query).table (out-Query query).correlation_name ≡ Some scope → (t : ℕ) × (source_of tables (out-Query query).table (out-Query query).correlation_name ≡ Some (record { table = t; scope = scope }))
@@ -253,8 +256,8 @@ plain_query : (tables : Tables) (query : Query) → Answers (plain_value tables 
 plain_query tables query (p, e) =
     let q = out-Query query in
     let (source, (found, more)) = in_class_ok (source_of tables q.table q.correlation_name) (λ source. plain_by source (selected_aggregate source.scope q.select_list) q.keeps q.group q.having) p e in
-    let (no_group, (no_having, (function, (lists, (kept, (filters, makes)))))) = plain_by_ok source (selected_aggregate source.scope q.select_list) q.keeps q.group q.having p more in
-    record { scope = source.scope; reads = reads_scope tables query source found; lists = set_list source.scope q.select_list (ap is_some lists); kept = over_filter source.scope q.keeps (kept, filters); ungrouped = ap is_some no_group; whole = ap is_some no_having }
+    let (no_group, (no_having, (function, (lists, (restriction, (filters, makes)))))) = plain_by_ok source (selected_aggregate source.scope q.select_list) q.keeps q.group q.having p more in
+    record { scope = source.scope; reads = reads_scope tables query source found; lists = set_list source.scope q.select_list (ap is_some lists); filter = over_filter source.scope q.keeps (restriction, filters); ungrouped = ap is_some no_group; whole = ap is_some no_having }
 
 query_plain : (tables : Tables) (query : Query) → IsPlainQuery tables query → Answers (plain_value tables (out-Query query))
 query_plain tables query is =
@@ -263,14 +266,14 @@ query_plain tables query is =
     let (t, reads) = scope_reads tables query scope is.reads in
     let source : Source = record { table = t; scope = scope } in
     let (a, lists) = some_is no_column (selected_aggregate scope q.select_list) (list_set scope q.select_list is.lists) in
-    let (kept, filters) = filter_over scope q.keeps is.kept in
-    let make : Aggregate → Cond → Plain = λ a kept. record { table = t; kept = kept; aggregate = a } in (
-      make a kept,
+    let (restriction, filters) = filter_over scope q.keeps is.filter in
+    let make : Aggregate → Cond → Subquery Whole = λ a restriction. record { table = t; filter = restriction; grouping = record {}; aggregate = a } in (
+      make a restriction,
       ap (λ o. in_class o (λ source. plain_by source (selected_aggregate source.scope q.select_list) q.keeps q.group q.having)) reads
           ∙ ap (λ g. plain_by source (selected_aggregate scope q.select_list) q.keeps g q.having) (none_is q.group is.ungrouped)
           ∙ ap (λ h. plain_by source (selected_aggregate scope q.select_list) q.keeps None h) (none_is q.having is.whole)
           ∙ ap (λ o. plain_by source o q.keeps None None) lists
-          ∙ ap (λ r. and_then r (λ kept. let r : Result Plain Refusal = Ok (make a kept) in r)) filters,
+          ∙ ap (λ r. and_then r (λ restriction. let r : Result (Subquery Whole) Refusal = Ok (make a restriction) in r)) filters,
     )
 
 plain_leaf_is : (tables : Tables) (p : Piece) → Answers (plain tables (leaf_of p)) → IsPlainPiece tables p
@@ -326,27 +329,27 @@ group_class : (source : Source) (query : Clauses) (column : ColumnName) (having 
     → (group : ℕ) × ((own_column source.scope column ≡ Some group) × (IsSimpleList (IsColumnAt source.scope group) (out-SelectList query.select_list) × (IfWritten (IsOverRows source.scope) query.keeps × (Each (IsColumnAt source.scope group) (columns_in having) × Each (IsSetFunction source.scope) (pieces_in having)))))
 group_class source query column having (form, e) =
     let scope = source.scope in
-    let (group, (own, more)) = in_class_ok (own_column scope column) (λ group. only_if (may_be_selected (grouping_column scope group) query.select_list) (and_then (row_filter scope query.keeps) (λ kept. having_over source group kept having))) form e in
-    let (lists, rest) = only_if_ok (may_be_selected (grouping_column scope group) query.select_list) (and_then (row_filter scope query.keeps) (λ kept. having_over source group kept having)) form more in
-    let (kept, (filters, over)) = and_then_ok (row_filter scope query.keeps) (λ kept. having_over source group kept having) form rest in
-    let (m, (is, made)) = and_then_ok (numbered (grouping_column scope group) having []) (λ made. and_then (each (aggregate_of scope) made.1) (λ aggregates. let r : Result Form Refusal = Ok (ByGroup source.table kept group made.0 aggregates) in r)) form over in
-    let (aggregates, (are, makes)) = and_then_ok (each (aggregate_of scope) m.1) (λ aggregates. let r : Result Form Refusal = Ok (ByGroup source.table kept group m.0 aggregates) in r) form made in
+    let (group, (own, more)) = in_class_ok (own_column scope column) (λ group. only_if (may_be_selected (grouping_column scope group) query.select_list) (and_then (row_filter scope query.keeps) (λ restriction. having_over source group restriction having))) form e in
+    let (lists, rest) = only_if_ok (may_be_selected (grouping_column scope group) query.select_list) (and_then (row_filter scope query.keeps) (λ restriction. having_over source group restriction having)) form more in
+    let (restriction, (filters, over)) = and_then_ok (row_filter scope query.keeps) (λ restriction. having_over source group restriction having) form rest in
+    let (m, (is, made)) = and_then_ok (numbered (grouping_column scope group) having []) (λ made. and_then (each (aggregate_of scope) made.1) (λ aggregates. let r : Result Form Refusal = Ok (ByGroup source.table restriction group made.0 aggregates) in r)) form over in
+    let (aggregates, (are, makes)) = and_then_ok (each (aggregate_of scope) m.1) (λ aggregates. let r : Result Form Refusal = Ok (ByGroup source.table restriction group m.0 aggregates) in r) form made in
     let (columns, leaves) = (condition_numbers (grouping_column scope group) having).says [] m.0 m.1 is in
-    (group, (own, (group_list scope group query.select_list lists, (over_filter scope query.keeps (kept, filters), (each_other (MayStand (grouping_column scope group)) (IsColumnAt scope group) (λ c h. grouped_at group (own_column scope c) h) (columns_in having) columns, pieces_of (aggregate_of scope) (IsSetFunction scope) (set_leaf scope) m.1 (pieces_in having) leaves (aggregates, are))))))
+    (group, (own, (group_list scope group query.select_list lists, (over_filter scope query.keeps (restriction, filters), (each_other (MayStand (grouping_column scope group)) (IsColumnAt scope group) (λ c h. grouped_at group (own_column scope c) h) (columns_in having) columns, pieces_of (aggregate_of scope) (IsSetFunction scope) (set_leaf scope) m.1 (pieces_in having) leaves (aggregates, are))))))
 
 class_group : (source : Source) (query : Clauses) (column : ColumnName) (having : Condition) (group : ℕ) → own_column source.scope column ≡ Some group → IsSimpleList (IsColumnAt source.scope group) (out-SelectList query.select_list) → IfWritten (IsOverRows source.scope) query.keeps
     → Each (IsColumnAt source.scope group) (columns_in having) → Each (IsSetFunction source.scope) (pieces_in having) → Answers (by_group source query column having)
 class_group source query column having group own lists keeps columns leaves =
     let scope = source.scope in
-    let (kept, filters) = filter_over scope query.keeps keeps in
+    let (restriction, filters) = filter_over scope query.keeps keeps in
     let (made, is) = (condition_numbers (grouping_column scope group) having).finds [] (each_other (IsColumnAt scope group) (MayStand (grouping_column scope group)) (λ c h. at_group group (own_column scope c) h) (columns_in having) columns) in
     let (aggregates, are) = of_pieces (aggregate_of scope) (IsSetFunction scope) (leaf_set scope) (pieces_in having) leaves in (
-      ByGroup source.table kept group made aggregates,
-      ap (λ o. in_class o (λ group. only_if (may_be_selected (grouping_column scope group) query.select_list) (and_then (row_filter scope query.keeps) (λ kept. having_over source group kept having)))) own
-          ∙ ap (λ b. only_if b (and_then (row_filter scope query.keeps) (λ kept. having_over source group kept having))) (list_group scope group query.select_list lists)
-          ∙ ap (λ r. and_then r (λ kept. having_over source group kept having)) filters
-          ∙ ap (λ r. and_then r (λ made. and_then (each (aggregate_of scope) made.1) (λ aggregates. let r : Result Form Refusal = Ok (ByGroup source.table kept group made.0 aggregates) in r))) is
-          ∙ ap (λ r. and_then r (λ aggregates. let r : Result Form Refusal = Ok (ByGroup source.table kept group made aggregates) in r)) are,
+      ByGroup source.table restriction group made aggregates,
+      ap (λ o. in_class o (λ group. only_if (may_be_selected (grouping_column scope group) query.select_list) (and_then (row_filter scope query.keeps) (λ restriction. having_over source group restriction having)))) own
+          ∙ ap (λ b. only_if b (and_then (row_filter scope query.keeps) (λ restriction. having_over source group restriction having))) (list_group scope group query.select_list lists)
+          ∙ ap (λ r. and_then r (λ restriction. having_over source group restriction having)) filters
+          ∙ ap (λ r. and_then r (λ made. and_then (each (aggregate_of scope) made.1) (λ aggregates. let r : Result Form Refusal = Ok (ByGroup source.table restriction group made.0 aggregates) in r))) is
+          ∙ ap (λ r. and_then r (λ aggregates. let r : Result Form Refusal = Ok (ByGroup source.table restriction group made aggregates) in r)) are,
     )
 
 -- ---- links
@@ -491,17 +494,12 @@ module _ (child root : Scope) where
       let rest = before ++ link ∷ behind in
       (ap (λ o. option_to_list o ++ links_in child root rest) none ∙ links, ap (λ o. cond (is_none o) (part ∷ own_parts child root rest) (own_parts child root rest)) none ∙ ap (λ ps. part ∷ ps) own)
 
-  only : (cs : List ℕ) (c : ℕ) → only_one cs ≡ Some c → cs ≡ c ∷ []
-  only [] c e = cc
-  only (x ∷ []) c e = ap (λ o. elim o [ None ↦ x ∷ [] | Some y ↦ y ∷ [] ]) e
-  only (x ∷ y ∷ cs) c e = cc
-
-  where_class : (condition : Condition) (c : ℕ) → only_one (links_in child root (top_parts condition)) ≡ Some c → Answers (kept_parts child root (top_parts condition)) → IsLinkedWhere child root condition
-  where_class condition c one kept =
-      let (before, (link, (behind, (is, (links, others))))) = split (top_parts condition) c (only (links_in child root (top_parts condition)) c one) (each_of (row_condition child) (IsOverRows child) (over_rows child) (own_parts child root (top_parts condition)) kept) in
+  where_class : (condition : Condition) (c : ℕ) → only_one (links_in child root (top_parts condition)) ≡ Some c → Answers (filter_parts child root (top_parts condition)) → IsLinkedWhere child root condition
+  where_class condition c one restriction =
+      let (before, (link, (behind, (is, (links, others))))) = split (top_parts condition) c (only_one_is (links_in child root (top_parts condition)) c one) (each_of (row_condition child) (IsOverRows child) (over_rows child) (own_parts child root (top_parts condition)) restriction) in
       record { before = before; link = link; behind = behind; parts = is; links = links; others = others }
 
-  class_where : (condition : Condition) → IsLinkedWhere child root condition → (c : ℕ) × ((only_one (links_in child root (top_parts condition)) ≡ Some c) × Answers (kept_parts child root (top_parts condition)))
+  class_where : (condition : Condition) → IsLinkedWhere child root condition → (c : ℕ) × ((only_one (links_in child root (top_parts condition)) ≡ Some c) × Answers (filter_parts child root (top_parts condition)))
   class_where condition h =
       let (c, is) = is_link h.link h.links in
       let (links, own) = join h.before h.behind h.link c is h.others in (
@@ -519,17 +517,17 @@ Made child root keeps g h = (condition : Condition) × ((keeps ≡ Some conditio
 
 linked_where_class : (child : Source) (root : Scope) (a : Aggregate) (keeps : Option Condition) (g : Option ColumnName) (h : Option Condition) → Answers (linked_where child root a keeps g h) → Made child root keeps g h
 linked_where_class child root a keeps g h (q, e) =
-    let (no_group, (no_having, (condition, (is, (link, (one, (kept, (are, makes)))))))) = linked_where_ok child root a keeps g h q e in
-    (condition, (is, (where_class child.scope root condition link one (kept, are), (ap is_some no_group, ap is_some no_having))))
+    let (no_group, (no_having, (condition, (is, (link, (one, (restriction, (are, makes)))))))) = linked_where_ok child root a keeps g h q e in
+    (condition, (is, (where_class child.scope root condition link one (restriction, are), (ap is_some no_group, ap is_some no_having))))
 
 class_linked_where : (child : Source) (root : Scope) (a : Aggregate) (keeps : Option Condition) (g : Option ColumnName) (h : Option Condition) → Made child root keeps g h → Answers (linked_where child root a keeps g h)
 class_linked_where child root a keeps g h (condition, (is, (linked, (no_group, no_having)))) =
-    let (link, (one, (kept, are))) = class_where child.scope root condition linked in
-    let make : ℕ → List Cond → Linked = λ link kept. record { table = child.table; kept = cond_of.And kept; link = link; aggregate = a } in (
-      make link kept,
+    let (link, (one, (restriction, are))) = class_where child.scope root condition linked in
+    let make : ℕ → List Cond → Subquery Link = λ link restriction. record { table = child.table; filter = cond_of.And restriction; grouping = Column link; aggregate = a } in (
+      make link restriction,
       ap (λ k. linked_where child root a k g h) is ∙ ap (λ g. linked_where child root a (Some condition) g h) (none_is g no_group) ∙ ap (λ h. linked_where child root a (Some condition) None h) (none_is h no_having)
-          ∙ ap (λ o. in_class o (λ link. and_then (kept_parts child.scope root (top_parts condition)) (λ kept. let r : Result Linked Refusal = Ok (make link kept) in r))) one
-          ∙ ap (λ r. and_then r (λ kept. let r : Result Linked Refusal = Ok (make link kept) in r)) are,
+          ∙ ap (λ o. in_class o (λ link. and_then (filter_parts child.scope root (top_parts condition)) (λ restriction. let r : Result (Subquery Link) Refusal = Ok (make link restriction) in r))) one
+          ∙ ap (λ r. and_then r (λ restriction. let r : Result (Subquery Link) Refusal = Ok (make link restriction) in r)) are,
     )
 
 linked_leaf_class : (tables : Tables) (root : Scope) (p : Piece) → Answers (linked tables root (leaf_of p)) → IsLinkedPiece tables root p
@@ -540,13 +538,13 @@ linked_leaf_class tables root (class.Exists query) (q, e) =
     let (child, (found, more)) = in_class_ok (source_of tables c.table c.correlation_name) (λ child. only_if (may_be_selected (own_column child.scope) c.select_list) (linked_where child root CountRows c.keeps c.group c.having)) q e in
     let (lists, rest) = only_if_ok (may_be_selected (own_column child.scope) c.select_list) (linked_where child root CountRows c.keeps c.group c.having) q more in
     let (condition, (is, (where_is, (g, h)))) = linked_where_class child root CountRows c.keeps c.group c.having (q, rest) in
-    record { scope = child.scope; condition = condition; reads = reads_scope tables query child found; lists = own_list child.scope c.select_list lists; kept = is; linked = where_is; ungrouped = g; whole = h }
+    record { scope = child.scope; condition = condition; reads = reads_scope tables query child found; lists = own_list child.scope c.select_list lists; filter = is; linked = where_is; ungrouped = g; whole = h }
 linked_leaf_class tables root (class.Value query) (q, e) =
     let c = out-Query query in
     let (child, (found, more)) = in_class_ok (source_of tables c.table c.correlation_name) (λ child. in_class (selected_aggregate child.scope c.select_list) (λ a. linked_where child root a c.keeps c.group c.having)) q e in
     let (a, (lists, rest)) = in_class_ok (selected_aggregate child.scope c.select_list) (λ a. linked_where child root a c.keeps c.group c.having) q more in
     let (condition, (is, (where_is, (g, h)))) = linked_where_class child root a c.keeps c.group c.having (q, rest) in
-    record { scope = child.scope; condition = condition; reads = reads_scope tables query child found; lists = set_list child.scope c.select_list (ap is_some lists); kept = is; linked = where_is; ungrouped = g; whole = h }
+    record { scope = child.scope; condition = condition; reads = reads_scope tables query child found; lists = set_list child.scope c.select_list (ap is_some lists); filter = is; linked = where_is; ungrouped = g; whole = h }
 
 class_linked_leaf : (tables : Tables) (root : Scope) (p : Piece) → IsLinkedPiece tables root p → Answers (linked tables root (leaf_of p))
 class_linked_leaf tables root class.Rows h = absurd h
@@ -555,7 +553,7 @@ class_linked_leaf tables root (class.Exists query) h =
     let c = out-Query query in
     let (t, reads) = scope_reads tables query h.scope h.reads in
     let child : Source = record { table = t; scope = h.scope } in
-    let (q, is) = class_linked_where child root CountRows c.keeps c.group c.having (h.condition, (h.kept, (h.linked, (h.ungrouped, h.whole)))) in (
+    let (q, is) = class_linked_where child root CountRows c.keeps c.group c.having (h.condition, (h.filter, (h.linked, (h.ungrouped, h.whole)))) in (
       q,
       ap (λ o. in_class o (λ child. only_if (may_be_selected (own_column child.scope) c.select_list) (linked_where child root CountRows c.keeps c.group c.having))) reads
           ∙ ap (λ b. only_if b (linked_where child root CountRows c.keeps c.group c.having)) (list_own h.scope c.select_list h.lists) ∙ is,
@@ -565,7 +563,7 @@ class_linked_leaf tables root (class.Value query) h =
     let (t, reads) = scope_reads tables query h.scope h.reads in
     let child : Source = record { table = t; scope = h.scope } in
     let (a, lists) = some_is no_column (selected_aggregate h.scope c.select_list) (list_set h.scope c.select_list h.lists) in
-    let (q, is) = class_linked_where child root a c.keeps c.group c.having (h.condition, (h.kept, (h.linked, (h.ungrouped, h.whole)))) in (
+    let (q, is) = class_linked_where child root a c.keeps c.group c.having (h.condition, (h.filter, (h.linked, (h.ungrouped, h.whole)))) in (
       q,
       ap (λ o. in_class o (λ child. in_class (selected_aggregate child.scope c.select_list) (λ a. linked_where child root a c.keeps c.group c.having))) reads
           ∙ ap (λ o. in_class o (λ a. linked_where child root a c.keeps c.group c.having)) lists ∙ is,
@@ -578,7 +576,7 @@ row_where_class tables root (Some c) made leaves e h =
     record { columns = columns; queries = pieces_of (linked tables root) (IsLinkedPiece tables root) (linked_leaf_class tables root) leaves (pieces_in c) are h }
 
 class_row_where : (tables : Tables) (root : Scope) (keeps : Option Condition) → IfWritten (IsRowWhere tables root) keeps → (made : Cond) × ((leaves : Leaves) × ((row_where root keeps ≡ Ok (made, leaves)) × Answers (each (linked tables root) leaves)))
-class_row_where tables root None h = let none : Leaves = [] in let no_queries : List Linked = [] in (cond_of.And [], (none, (refl, (no_queries, refl))))
+class_row_where tables root None h = let none : Leaves = [] in let no_queries : List (Subquery Link) = [] in (cond_of.And [], (none, (refl, (no_queries, refl))))
 class_row_where tables root (Some c) h =
     let (made, is) = (condition_numbers (own_column root) c).finds [] h.columns in
     (made, (map leaf_of (pieces_in c), (is, of_pieces (linked tables root) (IsLinkedPiece tables root) (class_linked_leaf tables root) (pieces_in c) h.queries)))
@@ -608,10 +606,10 @@ exists_class tables query (form, e) =
     let q = out-Query query in
     let (source, (found, more)) = in_class_ok (source_of tables q.table q.correlation_name) (λ source. by_clauses tables source q q.group q.having) form e in
     ⊎_elim
-    (λ rows. let (lists, keeps) = row_class tables source q (form, rows.1.1) in inl (record { scope = source.scope; reads = reads_scope tables query source found; lists = lists; kept = keeps; ungrouped = ap is_some rows.0; whole = ap is_some rows.1.0 }))
+    (λ rows. let (lists, keeps) = row_class tables source q (form, rows.1.1) in inl (record { scope = source.scope; reads = reads_scope tables query source found; lists = lists; filter = keeps; ungrouped = ap is_some rows.0; whole = ap is_some rows.1.0 }))
     (λ groups.
     let (group, (own, (lists, (keeps, (columns, sets))))) = group_class source q groups.0 groups.1.0 (form, groups.1.1.1.1) in
-    inr (record { scope = source.scope; column = groups.0; group = group; having = groups.1.0; reads = reads_scope tables query source found; grouped = groups.1.1.0; is_own = own; lists = lists; kept = keeps; filtered = groups.1.1.1.0; columns = columns; sets = sets }))
+    inr (record { scope = source.scope; column = groups.0; group = group; having = groups.1.0; reads = reads_scope tables query source found; grouped = groups.1.1.0; is_own = own; lists = lists; filter = keeps; filtered = groups.1.1.1.0; columns = columns; sets = sets }))
     (by_clauses_ok tables source q q.group q.having form more)
 
 class_rows : (tables : Tables) (query : Query) → IsRowQuery tables query → Answers (not_exists tables (out-Query query))
@@ -619,7 +617,7 @@ class_rows tables query h =
     let q = out-Query query in
     let (t, reads) = scope_reads tables query h.scope h.reads in
     let source : Source = record { table = t; scope = h.scope } in
-    let (form, is) = class_row tables source q h.lists h.kept in
+    let (form, is) = class_row tables source q h.lists h.filter in
     (form, ap (λ o. in_class o (λ source. by_clauses tables source q q.group q.having)) reads ∙ ap (λ g. by_clauses tables source q g q.having) (none_is q.group h.ungrouped) ∙ ap (λ o. by_clauses tables source q None o) (none_is q.having h.whole) ∙ is)
 
 class_groups : (tables : Tables) (query : Query) → IsGroupQuery tables query → Answers (not_exists tables (out-Query query))
@@ -627,7 +625,7 @@ class_groups tables query h =
     let q = out-Query query in
     let (t, reads) = scope_reads tables query h.scope h.reads in
     let source : Source = record { table = t; scope = h.scope } in
-    let (form, is) = class_group source q h.column h.having h.group h.is_own h.lists h.kept h.columns h.sets in
+    let (form, is) = class_group source q h.column h.having h.group h.is_own h.lists h.filter h.columns h.sets in
     (form, ap (λ o. in_class o (λ source. by_clauses tables source q q.group q.having)) reads ∙ ap (λ g. by_clauses tables source q g q.having) h.grouped ∙ ap (λ o. by_clauses tables source q (Some h.column) o) h.filtered ∙ is)
 
 -- ---- all

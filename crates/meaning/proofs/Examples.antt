@@ -1,5 +1,5 @@
 -- Worked rows: names, and the written bad roots and truth of an assertion of each form, computed.
-use Rattle.std.proofs.Common.{◌≡◌, ℕ, pos, true, false, List, [], ◌∷◌, Some, None, refl, ap, ◌∙◌}
+use Rattle.std.proofs.Common.{◌≡◌, ℕ, pos, true, List, [], ◌∷◌, Some, None, refl, ap, ◌∙◌}
 use Rattle.value.specs.declared.values.Value.{Value}
 use Rattle.value.specs.declared.values.Value.TheVariants.{Null, Int}
 use Rattle.value.specs.declared.values.Root.TheVariants as root
@@ -21,12 +21,12 @@ use Rattle.syntax.specs.declared.trees.Expression.{Expression, roll-Expression}
 use Rattle.syntax.specs.declared.trees.SelectList.{SelectList, roll-SelectList}
 use Rattle.syntax.specs.declared.trees.Query.{Query, roll-Query, out-roll-Query}
 use Rattle.meaning.specs.Meaning as written
-use Rattle.meaning.specs.Meaning.{Reference, References, Valued, Answer, answers, simple, first_value, column_values, rows_counted, set_of_column, only_value, is_any, written_bad_roots, written_truth}
+use Rattle.meaning.specs.Meaning.{References, Valued, Answer, answers, simple, first_value, column_values, rows_counted, set_of_column, only_value, is_any, written_bad_roots, written_truth}
 use Rattle.meaning.specs.Laws.{seen}
 use Rattle.meaning.proofs.Nodes.{clauses, number_is, column_is, count_is, set_is, value_is, compare_is, both_is, denies_is, star_is, one_is, filtered_is, grouped_is}
 
 abbrev column_at : ℕ → Column
-column_at name = record { name = name ∷ []; kind = Integer; nullable = true; is_key = false }
+column_at name = record { name = name ∷ []; kind = Integer; nullable = true }
 
 -- names of one letter
 abbrev S : ℕ

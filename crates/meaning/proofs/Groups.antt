@@ -5,6 +5,9 @@ use Rattle.std.proofs.lemmas.List.Elements.{filter_agree}
 use Rattle.std.specs.Ordering.{eq_by_cmp}
 use Rattle.std.proofs.lemmas.Cmp.{tied_itself}
 use Rattle.std.proofs.lemmas.Bool.Decides.{nat_tests}
+use Rattle.std.proofs.lemmas.Option.{same_Some}
+use Rattle.std.proofs.Math.Bool.{and-false}
+use Rattle.std.proofs.lemmas.Bool.{or_right}
 use Rattle.value.specs.declared.values.Value.{Value}
 use Rattle.value.specs.declared.values.Root.{Root}
 use Rattle.value.specs.declared.values.Root.TheVariants.{All, Of}
@@ -20,7 +23,7 @@ use Rattle.table.specs.declared.aggregates.Aggregate.{Aggregate}
 use Rattle.table.specs.declared.aggregates.Aggregate.TheVariants.{CountRows}
 use Rattle.cond.specs.declared.conds.Cond.{Cond}
 use Rattle.cond.specs.Eval as resolved
-use Rattle.assertion.specs.Meaning.{State, kept_rows, lists_group, group_roots}
+use Rattle.assertion.specs.Meaning.{State, filtered_rows, lists_group, group_roots}
 use Rattle.syntax.specs.declared.trees.ColumnName.{ColumnName}
 use Rattle.syntax.specs.declared.trees.Condition.{Condition}
 use Rattle.name_check.specs.Scopes as names
@@ -36,7 +39,7 @@ use Rattle.meaning.specs.Laws.{seen}
 use Rattle.meaning.proofs.Steps.{in_class_ok, ok_same}
 use Rattle.meaning.proofs.Numbering.{leaf_value, condition_faithful}
 use Rattle.meaning.proofs.Rows.{own_value, own_values, row_filter_keeps}
-use Rattle.meaning.proofs.Queries.{answers_by, each_leaf, set_function_of, some_same}
+use Rattle.meaning.proofs.Queries.{answers_by, each_leaf, set_function_of}
 
 -- ---- lists
 
@@ -54,23 +57,19 @@ same_value v w e = value_exact v w (equal_from (value_cmp v w) e)
 pub itself : (v : Value) → eq_by_cmp value_cmp v v ≡ true
 itself v = rw (tied_itself value_cmp_total v) refl
 
-and_false : (b : Bool) → b && false ≡ false
-and_false true = refl
-and_false false = refl
-
 -- a list's values, each once, are its values
-has_kept : (t : Value → Bool) (w x : Value) (xs : List Value) → has value_cmp w (filter t xs) ≡ has value_cmp w xs && t w → (b : Bool) → t x ≡ b → (c : Bool) → eq_by_cmp value_cmp w x ≡ c
+has_filtered : (t : Value → Bool) (w x : Value) (xs : List Value) → has value_cmp w (filter t xs) ≡ has value_cmp w xs && t w → (b : Bool) → t x ≡ b → (c : Bool) → eq_by_cmp value_cmp w x ≡ c
     → has value_cmp w (cond b (x ∷ filter t xs) (filter t xs)) ≡ (c || has value_cmp w xs) && t w
-has_kept t w x xs more true e true d = rw d (sym (ap t (same_value w x d) ∙ e))
-has_kept t w x xs more true e false d = rw d more
-has_kept t w x xs more false e true d =
+has_filtered t w x xs more true e true d = rw d (sym (ap t (same_value w x d) ∙ e))
+has_filtered t w x xs more true e false d = rw d more
+has_filtered t w x xs more false e true d =
     let no : t w ≡ false = ap t (same_value w x d) ∙ e in
-    more ∙ ap (λ b. has value_cmp w xs && b) no ∙ and_false (has value_cmp w xs) ∙ sym no
-has_kept t w x xs more false e false d = more
+    more ∙ ap (λ b. has value_cmp w xs && b) no ∙ and-false (has value_cmp w xs) ∙ sym no
+has_filtered t w x xs more false e false d = more
 
 has_filter : (t : Value → Bool) (w : Value) (xs : List Value) → has value_cmp w (filter t xs) ≡ has value_cmp w xs && t w
 has_filter t w [] = refl
-has_filter t w (x ∷ xs) = has_kept t w x xs (has_filter t w xs) (t x) refl (eq_by_cmp value_cmp w x) refl
+has_filter t w (x ∷ xs) = has_filtered t w x xs (has_filter t w xs) (t x) refl (eq_by_cmp value_cmp w x) refl
 
 one_more : (w v : Value) (b c : Bool) → eq_by_cmp value_cmp w v ≡ b → (d : Bool) → eq_by_cmp value_cmp v w ≡ d → b || (c && not d) ≡ b || c
 one_more w v true c e d f = refl
@@ -110,17 +109,13 @@ pub first_of_group : (g : ℕ) (v : Value) (rows : List RowValues) → has value
 first_of_group g v [] h = cc
 first_of_group g v (row ∷ rows) h = value_first g v row rows (first_of_group g v rows) (eq_by_cmp value_cmp v (value_in g row)) refl h
 
-or_true : (a b : Bool) → b ≡ true → a || b ≡ true
-or_true true b h = refl
-or_true false b h = h
-
 -- groups that pass, by their values
 passing : (group : Value → List RowValues) (name : List RowValues → Value) (p : List RowValues → Bool) (q : Value → Bool) (vs : List Value) → ((w : Value) → has value_cmp w vs ≡ true → (name (group w) ≡ w) × (p (group w) ≡ q w))
     → map (λ rows. Of (name rows)) (filter p (map group vs)) ≡ map Of (filter q vs)
 passing group name p q [] same = refl
 passing group name p q (v ∷ vs) same =
     let here = same v (ap (λ b. b || has value_cmp v vs) (itself v)) in
-    let rest = passing group name p q vs (λ w h. same w (or_true (eq_by_cmp value_cmp w v) (has value_cmp w vs) h)) in
+    let rest = passing group name p q vs (λ w h. same w (or_right (eq_by_cmp value_cmp w v) (has value_cmp w vs) h)) in
     ap (λ b. map (λ rows. Of (name rows)) (cond b (group v ∷ filter p (map group vs)) (filter p (map group vs)))) here.1
     ∙ elim (q v) as (λ b. map (λ rows. Of (name rows)) (cond b (group v ∷ filter p (map group vs)) (filter p (map group vs))) ≡ map Of (cond b (v ∷ filter q vs) (filter q vs))) [
       | true ↦ ap (λ w. Of w ∷ map (λ rows. Of (name rows)) (filter p (map group vs))) here.0 ∙ ap (λ rs. Of v ∷ rs) rest
@@ -142,7 +137,7 @@ pub in_group_is : (group : ℕ) (o : Option ℕ) (c : ℕ) → in_group group o 
 in_group_is group None c e = cc
 in_group_is group (Some column) c e =
     let case : (b : Bool) → column == group ≡ b → (if b then Some 0 else None) ≡ Some c → (◌≡◌ {A = Option ℕ} (Some column) (Some group)) × (c ≡ 0) = λ b. elim b as (λ b. column == group ≡ b → (if b then Some 0 else None) ≡ Some c → (◌≡◌ {A = Option ℕ} (Some column) (Some group)) × (c ≡ 0)) [
-      | true ↦ λ t e. let same : column ≡ group = grind (arith, nat_tests) in (ap (λ (n : ℕ). let o : Option ℕ = Some n in o) same, sym (some_same 0 c e))
+      | true ↦ λ t e. let same : column ≡ group = grind (arith, nat_tests) in (ap (λ (n : ℕ). let o : Option ℕ = Some n in o) same, sym (same_Some 0 c e))
       | false ↦ λ t e. cc
     ] in case (column == group) refl e
 
@@ -173,21 +168,21 @@ regrouped f g same p rows =
     ∙ ap (λ vs. map (λ rows. Of (first_value (map g rows))) (filter p (map (λ v. filter (λ row. eq_by_cmp value_cmp v (g row)) rows) (distinct vs)))) (map_agree f g same rows)
 
 -- the groups that a query with GROUP BY and HAVING gives are those that the form lists
-pub group_roots_are : (tables : Tables) (state : State) (scope : names.Scope) (rows : List RowValues) (l : ℕ) (list : Valued) (keeps : Option Condition) (kept : Cond) (column : ColumnName) (group : ℕ) (having : Condition) (made : Cond) (leaves : Leaves) (aggregates : List Aggregate)
-    → row_filter scope keeps ≡ Ok kept → own_column scope column ≡ Some group → numbered (grouping_column scope group) having [] ≡ Ok (made, leaves) → each (aggregate_of scope) leaves ≡ Ok aggregates → (r : Root)
+pub group_roots_are : (tables : Tables) (state : State) (scope : names.Scope) (rows : List RowValues) (l : ℕ) (list : Valued) (keeps : Option Condition) (restriction : Cond) (column : ColumnName) (group : ℕ) (having : Condition) (made : Cond) (leaves : Leaves) (aggregates : List Aggregate)
+    → row_filter scope keeps ≡ Ok restriction → own_column scope column ≡ Some group → numbered (grouping_column scope group) having [] ≡ Ok (made, leaves) → each (aggregate_of scope) leaves ≡ Ok aggregates → (r : Root)
     → has root_cmp r (map (root_of (written.grouping (Some column) (seen scope rows) []) l) (answers_by (seen scope rows) list (option_map (truth tables state) keeps) (Some column) (Some (truth tables state having)) []))
-    ≡ has root_cmp r (group_roots (kept_rows kept rows) group made aggregates)
-group_roots_are tables state scope rows l list keeps kept column group having made leaves aggregates filters own is are r =
+    ≡ has root_cmp r (group_roots (filtered_rows restriction rows) group made aggregates)
+group_roots_are tables state scope rows l list keeps restriction column group having made leaves aggregates filters own is are r =
     let table = seen scope rows in
     let f : RowValues → Value = λ row. first_value (column_values column (with_rows table (row ∷ []) [])) in
     let same : (row : RowValues) → f row ≡ value_in group row = λ row. own_value scope row [] column group own in
     let p : List RowValues → Bool = λ rows. passes (Some (truth tables state having)) (with_rows table rows []) in
-    let k = kept_rows kept rows in
+    let k = filtered_rows restriction rows in
     let q = lists_group k group made aggregates in
     let groups_in : List RowValues → List (List RowValues) = λ rows. filter p (map (λ v. filter (λ row. eq_by_cmp value_cmp v (f row)) rows) (distinct (map f rows))) in
-    let kept_same = filter_agree (λ row. passes (option_map (truth tables state) keeps) (with_rows table (row ∷ []) [])) (λ row. resolved.keeps row [] kept) (λ row. row_filter_keeps scope keeps kept filters tables state row []) rows in
+    let filtered_same = filter_agree (λ row. passes (option_map (truth tables state) keeps) (with_rows table (row ∷ []) [])) (λ row. resolved.keeps row [] restriction) (λ row. row_filter_keeps scope keeps restriction filters tables state row []) rows in
     let answer : List RowValues → Answer = λ rows. record { rows = rows; value = list.value (with_rows table rows []) } in
-    ap (λ rows. has root_cmp r (map (root_of (Some f) l) (map answer (groups_in rows)))) kept_same
+    ap (λ rows. has root_cmp r (map (root_of (Some f) l) (map answer (groups_in rows)))) filtered_same
     ∙ ap (has root_cmp r) (map_twice answer (root_of (Some f) l) (groups_in k) ∙ regrouped f (value_in group) same p k
     ∙ passing (λ v. rows_of_group group v k) (λ rows. first_value (map (value_in group) rows)) p q (distinct (map (value_in group) k)) (λ w h.
     let named = first_of_group group w k (sym (has_distinct w (map (value_in group) k)) ∙ h) in

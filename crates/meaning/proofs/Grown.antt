@@ -9,8 +9,9 @@ use Rattle.table.specs.Rows.{Layout, Tables, layout_of, names_of, position_of}
 use Rattle.table.specs.declared.aggregates.Aggregate.TheVariants.{CountRows}
 use Rattle.assertion.specs.declared.forms.Form.{Form}
 use Rattle.assertion.specs.declared.forms.Form.TheVariants.{ByRow, Single}
-use Rattle.assertion.specs.declared.linked_queries.Linked.{Linked}
-use Rattle.assertion.specs.declared.plain_queries.Plain.{Plain}
+use Rattle.assertion.specs.declared.queries.Query.{Query as Subquery}
+use Rattle.assertion.specs.declared.queries.Link.{Link}
+use Rattle.assertion.specs.declared.queries.Whole.{Whole}
 use Rattle.syntax.specs.declared.trees.ColumnName.{ColumnName}
 use Rattle.syntax.specs.declared.trees.Condition.{Condition, out-Condition}
 use Rattle.syntax.specs.declared.trees.Condition.TheOpen.{Condition-F}
@@ -76,7 +77,7 @@ module _ (tables more : Tables) where
       let (source, (found, rest)) = in_class_ok (source_of tables q.table q.correlation_name) next a e in
       ap (λ o. in_class o next) (source_grown tables more q.table q.correlation_name source found) ∙ rest
 
-  linked_grown : (root : Scope) (leaf : Leaf) (q : Linked) → linked tables root leaf ≡ Ok q → linked (tables ++ more) root leaf ≡ Ok q
+  linked_grown : (root : Scope) (leaf : Leaf) (q : Subquery Link) → linked tables root leaf ≡ Ok q → linked (tables ++ more) root leaf ≡ Ok q
   linked_grown root Rows q e = cc
   linked_grown root (Of f c) q e = cc
   linked_grown root (Exists query) q e =
@@ -84,7 +85,7 @@ module _ (tables more : Tables) where
   linked_grown root (Value query) q e =
       let c = out-Query query in goes_on query (λ child. in_class (selected_aggregate child.scope c.select_list) (λ a. linked_where child root a c.keeps c.group c.having)) q e
 
-  plain_grown : (leaf : Leaf) (p : Plain) → plain tables leaf ≡ Ok p → plain (tables ++ more) leaf ≡ Ok p
+  plain_grown : (leaf : Leaf) (p : Subquery Whole) → plain tables leaf ≡ Ok p → plain (tables ++ more) leaf ≡ Ok p
   plain_grown Rows p e = cc
   plain_grown (Of f c) p e = cc
   plain_grown (Exists query) p e = cc

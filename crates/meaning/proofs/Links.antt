@@ -5,6 +5,7 @@ use Rattle.std.specs.List.{list_all}
 use Rattle.std.proofs.lemmas.List.Elements.{filter_agree}
 use Rattle.std.specs.Ordering.{eq_by_cmp}
 use Rattle.std.proofs.lemmas.Bool.Decides.{nat_tests}
+use Rattle.std.proofs.lemmas.Option.{same_Some}
 use Rattle.value.specs.declared.values.Value.{Value}
 use Rattle.value.specs.declared.values.Value.TheVariants.{Null, Int, Text}
 use Rattle.value.specs.declared.refusals.Refusal.{Refusal}
@@ -21,7 +22,9 @@ use Rattle.cond.specs.declared.conds.Cond.{Cond}
 use Rattle.cond.specs.declared.conds.Cond.TheViews as cond_of
 use Rattle.cond.specs.Values as sql
 use Rattle.cond.specs.Eval as resolved
-use Rattle.assertion.specs.declared.linked_queries.Linked.{Linked}
+use Rattle.assertion.specs.declared.queries.Query.{Query as Subquery}
+use Rattle.assertion.specs.declared.queries.Link.{Link}
+use Rattle.assertion.specs.declared.queries.Link.TheVariants.{Column}
 use Rattle.assertion.specs.Meaning.{State, rows_of, links, linked_answer}
 use Rattle.syntax.specs.declared.trees.ColumnName.{ColumnName}
 use Rattle.syntax.specs.declared.trees.Condition.{Condition, out-Condition}
@@ -36,7 +39,7 @@ use Rattle.value.specs.Results.{and_then, each}
 use Rattle.form_check.specs.Results.{in_class, only_if}
 use Rattle.form_check.specs.Leaves.{Leaf, Rows, Of, Exists, Value as Worth}
 use Rattle.form_check.specs.Queries.{Source, source_of, row_condition, selected_aggregate, may_be_selected, selection_may_stand, expression_may_stand}
-use Rattle.form_check.specs.Links.{parts_in, top_parts, name_in, is_key, outer_column, linked_column, either, link_between, link_in, link_of, links_in, only_one, own_parts, kept_parts}
+use Rattle.form_check.specs.Links.{parts_in, top_parts, name_in, is_key, outer_column, linked_column, either, link_between, link_in, link_of, links_in, only_one, own_parts, filter_parts}
 use Rattle.form_check.specs.Forms.{linked_where, linked_exists, linked_value, linked}
 use Rattle.meaning.specs.Meaning as written
 use Rattle.meaning.specs.Meaning.{References, Valued, Answer, column_values, first_value, only_value, with_rows, passes, truth, valued, select_list, answers}
@@ -44,7 +47,7 @@ use Rattle.meaning.specs.Laws.{seen}
 use Rattle.meaning.proofs.Steps.{and_then_ok, in_class_ok, only_if_ok, ok_same}
 use Rattle.meaning.proofs.Numbering.{leaf_value, truth-And}
 use Rattle.meaning.proofs.Rows.{own_value, outer_values, row_condition_truth}
-use Rattle.meaning.proofs.Queries.{answers_by, answers_at, list_set, only_set, some_same}
+use Rattle.meaning.proofs.Queries.{answers_by, answers_at, list_set, only_set}
 use Rattle.meaning.proofs.Groups.{map_twice, same_value, itself}
 
 -- ---- lists of truths
@@ -117,6 +120,11 @@ either_is (Some x) b c e = inl e
 
 -- ---- a query's WHERE
 
+pub only_one_is : (cs : List ℕ) (c : ℕ) → only_one cs ≡ Some c → cs ≡ c ∷ []
+only_one_is [] c e = cc
+only_one_is (x ∷ []) c e = ap (λ (n : ℕ). n ∷ []) (same_Some x c e)
+only_one_is (x ∷ y ∷ cs) c e = cc
+
 module _ (tables : Tables) (state : State) where
   pub condition_out : (c : Condition) → truth tables state c ≡ written.condition_step (map-Condition Condition Expression SelectList Query (References → Truth) Valued Valued (References → List Answer) (truth tables state) (valued tables state) (select_list tables state) (answers tables state) (out-Condition c))
   condition_out c = fold_out-Condition (References → Truth) Valued Valued (References → List Answer) written.condition_step written.expression_step written.select_list_step (written.query_step tables state) c
@@ -126,7 +134,7 @@ module _ (tables : Tables) (state : State) where
       → (written.expression_step (map-Expression Condition Expression SelectList Query (References → Truth) Valued Valued (References → List Answer) (truth tables state) (valued tables state) (select_list tables state) (answers tables state) layer)).value scopes ≡ first_value (column_values column scopes)
   name_layer (Expression-F.Number n) column scopes e = cc
   name_layer (Expression-F.Text t) column scopes e = cc
-  name_layer (Expression-F.Column c) column scopes e = ap (λ c. first_value (column_values c scopes)) (some_same c column e)
+  name_layer (Expression-F.Column c) column scopes e = ap (λ c. first_value (column_values c scopes)) (same_Some c column e)
   name_layer Expression-F.CountRows column scopes e = cc
   name_layer (Expression-F.Aggregate f c) column scopes e = cc
   name_layer (Expression-F.Subquery query) column scopes e = cc
@@ -195,7 +203,7 @@ module _ (tables : Tables) (state : State) where
     link_layer (Condition-F.Between x low high) c e = cc
     link_layer (Condition-F.In x list) c e = cc
 
-    link_true : (part : Condition) (c : ℕ) → link_of child root part ≡ Some c → is_of (truth tables state part around) True ≡ links c key drow
+    link_true : (part : Condition) (c : ℕ) → link_of child root part ≡ Some c → is_of (truth tables state part around) True ≡ links (Column c) key drow
     link_true part c e = ap (λ t. is_of t True) (ap (λ t. t around) (condition_out part) ∙ link_layer (out-Condition part) c e)
 
     abbrev is_true : Condition → Bool
@@ -211,46 +219,41 @@ module _ (tables : Tables) (state : State) where
     and_join true b c = refl
     and_join false b c = refl
 
-    -- all parts are true where the links are, and what is kept
-    parts_true : (parts : List Condition) (kept : List Cond) → each (row_condition child) (own_parts child root parts) ≡ Ok kept
-        → list_all is_true parts ≡ list_all (λ c. links c key drow) (links_in child root parts) && list_all (resolved.keeps drow []) kept
-    parts_true [] kept e = let none : List Cond = [] in ap (list_all (resolved.keeps drow [])) (ok_same none kept e)
-    parts_true (part ∷ parts) kept e =
-        let l = list_all (λ c. links c key drow) (links_in child root parts) in
-        let case : (o : Option ℕ) → link_of child root part ≡ o → each (row_condition child) (cond (is_none o) (part ∷ own_parts child root parts) (own_parts child root parts)) ≡ Ok kept
-        → is_true part && list_all is_true parts ≡ list_all (λ c. links c key drow) (option_to_list o ++ links_in child root parts) && list_all (resolved.keeps drow []) kept
-        = λ o. elim o as (λ o. link_of child root part ≡ o → each (row_condition child) (cond (is_none o) (part ∷ own_parts child root parts) (own_parts child root parts)) ≡ Ok kept
-        → is_true part && list_all is_true parts ≡ list_all (λ c. links c key drow) (option_to_list o ++ links_in child root parts) && list_all (resolved.keeps drow []) kept) [
+    -- all parts are true where the links are, and what is restriction
+    parts_true : (parts : List Condition) (restriction : List Cond) → each (row_condition child) (own_parts child root parts) ≡ Ok restriction
+        → list_all is_true parts ≡ list_all (λ c. links (Column c) key drow) (links_in child root parts) && list_all (resolved.keeps drow []) restriction
+    parts_true [] restriction e = let none : List Cond = [] in ap (list_all (resolved.keeps drow [])) (ok_same none restriction e)
+    parts_true (part ∷ parts) restriction e =
+        let l = list_all (λ c. links (Column c) key drow) (links_in child root parts) in
+        let case : (o : Option ℕ) → link_of child root part ≡ o → each (row_condition child) (cond (is_none o) (part ∷ own_parts child root parts) (own_parts child root parts)) ≡ Ok restriction
+        → is_true part && list_all is_true parts ≡ list_all (λ c. links (Column c) key drow) (option_to_list o ++ links_in child root parts) && list_all (resolved.keeps drow []) restriction
+        = λ o. elim o as (λ o. link_of child root part ≡ o → each (row_condition child) (cond (is_none o) (part ∷ own_parts child root parts) (own_parts child root parts)) ≡ Ok restriction
+        → is_true part && list_all is_true parts ≡ list_all (λ c. links (Column c) key drow) (option_to_list o ++ links_in child root parts) && list_all (resolved.keeps drow []) restriction) [
           | None ↦ λ n e.
-              let (made, (is, more)) = and_then_ok (row_condition child part) (λ first_value. and_then (each (row_condition child) (own_parts child root parts)) (λ others. let r : Result (List Cond) Refusal = Ok (first_value ∷ others) in r)) kept e in
-              let (others, (are, makes)) = and_then_ok (each (row_condition child) (own_parts child root parts)) (λ others. let r : Result (List Cond) Refusal = Ok (made ∷ others) in r) kept more in
+              let (made, (is, more)) = and_then_ok (row_condition child part) (λ first_value. and_then (each (row_condition child) (own_parts child root parts)) (λ others. let r : Result (List Cond) Refusal = Ok (first_value ∷ others) in r)) restriction e in
+              let (others, (are, makes)) = and_then_ok (each (row_condition child) (own_parts child root parts)) (λ others. let r : Result (List Cond) Refusal = Ok (made ∷ others) in r) restriction more in
               ap (λ t. is_of t True && list_all is_true parts) (row_condition_truth child part made is tables state drow (seen root (row ∷ []) ∷ []))
               ∙ ap (λ b. resolved.keeps drow [] made && b) (parts_true parts others are)
               ∙ and_swap (resolved.keeps drow [] made) l (list_all (resolved.keeps drow []) others)
-              ∙ ap (λ ks. l && list_all (resolved.keeps drow []) ks) (ok_same (made ∷ others) kept makes)
+              ∙ ap (λ ks. l && list_all (resolved.keeps drow []) ks) (ok_same (made ∷ others) restriction makes)
           | Some c ↦ λ s e.
-              ap (λ b. b && list_all is_true parts) (link_true part c s) ∙ ap (λ b. links c key drow && b) (parts_true parts kept e) ∙ and_join (links c key drow) l (list_all (resolved.keeps drow []) kept)
+              ap (λ b. b && list_all is_true parts) (link_true part c s) ∙ ap (λ b. links (Column c) key drow && b) (parts_true parts restriction e) ∙ and_join (links (Column c) key drow) l (list_all (resolved.keeps drow []) restriction)
         ] in case (link_of child root part) refl e
-
-    only_one_is : (cs : List ℕ) (c : ℕ) → only_one cs ≡ Some c → cs ≡ c ∷ []
-    only_one_is [] c e = cc
-    only_one_is (x ∷ []) c e = ap (λ (n : ℕ). n ∷ []) (some_same x c e)
-    only_one_is (x ∷ y ∷ cs) c e = cc
 
     and_one : (a b : Bool) → (a && true) && b ≡ a && b
     and_one true b = refl
     and_one false b = refl
 
-    -- WHERE is true of a row where the link is, and what is kept
-    where_true : (condition : Condition) (link : ℕ) (kept : List Cond) → only_one (links_in child root (top_parts condition)) ≡ Some link → kept_parts child root (top_parts condition) ≡ Ok kept
-        → is_true condition ≡ links link key drow && resolved.keeps drow [] (cond_of.And kept)
-    where_true condition link kept one are =
+    -- WHERE is true of a row where the link is, and what is restriction
+    where_true : (condition : Condition) (link : ℕ) (restriction : List Cond) → only_one (links_in child root (top_parts condition)) ≡ Some link → filter_parts child root (top_parts condition) ≡ Ok restriction
+        → is_true condition ≡ links (Column link) key drow && resolved.keeps drow [] (cond_of.And restriction)
+    where_true condition link restriction one are =
         ap (λ t. is_of t True) (parts_layer condition around (out-Condition condition) refl)
         ∙ all_true (λ part. truth tables state part around) (top_parts condition)
-        ∙ parts_true (top_parts condition) kept are
-        ∙ ap (λ cs. list_all (λ c. links c key drow) cs && list_all (resolved.keeps drow []) kept) (only_one_is (links_in child root (top_parts condition)) link one)
-        ∙ and_one (links link key drow) (list_all (resolved.keeps drow []) kept)
-        ∙ ap (λ b. links link key drow && b) (sym (all_true (resolved.truth drow []) kept) ∙ sym (ap (λ t. is_of t True) (truth-And tables state around drow [] kept)))
+        ∙ parts_true (top_parts condition) restriction are
+        ∙ ap (λ cs. list_all (λ c. links (Column c) key drow) cs && list_all (resolved.keeps drow []) restriction) (only_one_is (links_in child root (top_parts condition)) link one)
+        ∙ and_one (links (Column link) key drow) (list_all (resolved.keeps drow []) restriction)
+        ∙ ap (λ b. links (Column link) key drow && b) (sym (all_true (resolved.truth drow []) restriction) ∙ sym (ap (λ t. is_of t True) (truth-And tables state around drow [] restriction)))
 
 -- ---- what a row's queries give
 
@@ -286,14 +289,14 @@ plain_list tables state place list e =
     ap (λ v. v.sets) (fold_out-SelectList (References → Truth) Valued Valued (References → List Answer) written.condition_step written.expression_step written.select_list_step (written.query_step tables state) list) ∙ plain_list_layer tables state place (out-SelectList list) e
 
 -- what a linked query is made of
-pub linked_where_ok : (child : Source) (root : names.Scope) (a : Aggregate) (keeps : Option Condition) (g : Option ColumnName) (h : Option Condition) (q : Linked) → linked_where child root a keeps g h ≡ Ok q
-    → (g ≡ None) × ((h ≡ None) × ((condition : Condition) × ((keeps ≡ Some condition) × ((link : ℕ) × ((only_one (links_in child.scope root (top_parts condition)) ≡ Some link) × ((kept : List Cond) × ((kept_parts child.scope root (top_parts condition) ≡ Ok kept)
-    × (◌≡◌ {A = Linked} (record { table = child.table; kept = cond_of.And kept; link = link; aggregate = a }) q))))))))
+pub linked_where_ok : (child : Source) (root : names.Scope) (a : Aggregate) (keeps : Option Condition) (g : Option ColumnName) (h : Option Condition) (q : Subquery Link) → linked_where child root a keeps g h ≡ Ok q
+    → (g ≡ None) × ((h ≡ None) × ((condition : Condition) × ((keeps ≡ Some condition) × ((link : ℕ) × ((only_one (links_in child.scope root (top_parts condition)) ≡ Some link) × ((restriction : List Cond) × ((filter_parts child.scope root (top_parts condition) ≡ Ok restriction)
+    × (◌≡◌ {A = Subquery Link} (record { table = child.table; filter = cond_of.And restriction; grouping = Column link; aggregate = a }) q))))))))
 linked_where_ok child root a (Some condition) None None q e =
-    let make : ℕ → List Cond → Linked = λ link kept. record { table = child.table; kept = cond_of.And kept; link = link; aggregate = a } in
-    let (link, (one, more)) = in_class_ok (only_one (links_in child.scope root (top_parts condition))) (λ link. and_then (kept_parts child.scope root (top_parts condition)) (λ kept. let r : Result Linked Refusal = Ok (make link kept) in r)) q e in
-    let (kept, (are, makes)) = and_then_ok (kept_parts child.scope root (top_parts condition)) (λ kept. let r : Result Linked Refusal = Ok (make link kept) in r) q more in
-    (refl, (refl, (condition, (refl, (link, (one, (kept, (are, ok_same (make link kept) q makes))))))))
+    let make : ℕ → List Cond → Subquery Link = λ link restriction. record { table = child.table; filter = cond_of.And restriction; grouping = Column link; aggregate = a } in
+    let (link, (one, more)) = in_class_ok (only_one (links_in child.scope root (top_parts condition))) (λ link. and_then (filter_parts child.scope root (top_parts condition)) (λ restriction. let r : Result (Subquery Link) Refusal = Ok (make link restriction) in r)) q e in
+    let (restriction, (are, makes)) = and_then_ok (filter_parts child.scope root (top_parts condition)) (λ restriction. let r : Result (Subquery Link) Refusal = Ok (make link restriction) in r) q more in
+    (refl, (refl, (condition, (refl, (link, (one, (restriction, (are, ok_same (make link restriction) q makes))))))))
 linked_where_ok child root a None g h q e = cc
 linked_where_ok child root a (Some condition) (Some g) h q e = cc
 linked_where_ok child root a (Some condition) None (Some h) q e = cc
@@ -306,11 +309,11 @@ module _ (tables : Tables) (state : State) (root : names.Scope) (row : RowValues
   root_key = value_in root.layout.key row
 
   -- the rows that a linked query keeps
-  kept_rows_are : (child : Source) (condition : Condition) (link : ℕ) (kept : List Cond) → only_one (links_in child.scope root (top_parts condition)) ≡ Some link → kept_parts child.scope root (top_parts condition) ≡ Ok kept
+  filtered_rows_are : (child : Source) (condition : Condition) (link : ℕ) (restriction : List Cond) → only_one (links_in child.scope root (top_parts condition)) ≡ Some link → filter_parts child.scope root (top_parts condition) ≡ Ok restriction
       → filter (λ drow. passes (Some (truth tables state condition)) (with_rows (seen child.scope (rows_of child.table state)) (drow ∷ []) outer_row)) (rows_of child.table state)
-      ≡ filter (λ drow. links link root_key drow && resolved.keeps drow [] (cond_of.And kept)) (rows_of child.table state)
-  kept_rows_are child condition link kept one are =
-      filter_agree (λ drow. passes (Some (truth tables state condition)) (with_rows (seen child.scope (rows_of child.table state)) (drow ∷ []) outer_row)) (λ drow. links link root_key drow && resolved.keeps drow [] (cond_of.And kept)) (λ drow. where_true tables state child.scope root drow row condition link kept one are) (rows_of child.table state)
+      ≡ filter (λ drow. links (Column link) root_key drow && resolved.keeps drow [] (cond_of.And restriction)) (rows_of child.table state)
+  filtered_rows_are child condition link restriction one are =
+      filter_agree (λ drow. passes (Some (truth tables state condition)) (with_rows (seen child.scope (rows_of child.table state)) (drow ∷ []) outer_row)) (λ drow. links (Column link) root_key drow && resolved.keeps drow [] (cond_of.And restriction)) (λ drow. where_true tables state child.scope root drow row condition link restriction one are) (rows_of child.table state)
 
   -- a query of these clauses, without GROUP BY and HAVING
   clauses_are : (query : Query) (child : Source) (condition : Condition) → source_of tables (out-Query query).table (out-Query query).correlation_name ≡ Some child → (out-Query query).group ≡ None → (out-Query query).having ≡ None → (out-Query query).keeps ≡ Some condition
@@ -324,38 +327,38 @@ module _ (tables : Tables) (state : State) (root : names.Scope) (row : RowValues
       ∙ ap (λ h. answers_by table list (option_map (truth tables state) q.keeps) None (option_map (truth tables state) h) outer_row) no_having
       ∙ ap (λ k. answers_by table list (option_map (truth tables state) k) None None outer_row) keeps
 
-  exists_is : (query : Query) (q : Linked) → linked_exists tables root (out-Query query) ≡ Ok q → ◌≡◌ {A = Value} (Int (pos (length (answers tables state query outer_row)))) (linked_answer state root_key q)
+  exists_is : (query : Query) (q : Subquery Link) → linked_exists tables root (out-Query query) ≡ Ok q → ◌≡◌ {A = Value} (Int (pos (length (answers tables state query outer_row)))) (linked_answer state root_key q)
   exists_is query q e =
       let c = out-Query query in
       let (child, (found, more)) = in_class_ok (source_of tables c.table c.correlation_name) (λ child. only_if (may_be_selected (own_column child.scope) c.select_list) (linked_where child root CountRows c.keeps c.group c.having)) q e in
       let (lists, rest) = only_if_ok (may_be_selected (own_column child.scope) c.select_list) (linked_where child root CountRows c.keeps c.group c.having) q more in
-      let (no_group, (no_having, (condition, (keeps, (link, (one, (kept, (are, makes)))))))) = linked_where_ok child root CountRows c.keeps c.group c.having q rest in
+      let (no_group, (no_having, (condition, (keeps, (link, (one, (restriction, (are, makes)))))))) = linked_where_ok child root CountRows c.keeps c.group c.having q rest in
       let table = seen child.scope (rows_of child.table state) in
       let list = select_list tables state c.select_list in
       let f : List RowValues → Answer = λ rows. record { rows = rows; value = list.value (with_rows table rows outer_row) } in
       ap (λ (n : ℕ). Int (pos n)) (
       ap length (clauses_are query child condition found no_group no_having keeps ∙ is_plain table list (Some (truth tables state condition)) outer_row (plain_list tables state (own_column child.scope) c.select_list lists))
       ∙ ones f (filter (λ drow. passes (Some (truth tables state condition)) (with_rows table (drow ∷ []) outer_row)) (rows_of child.table state))
-      ∙ ap length (kept_rows_are child condition link kept one are))
+      ∙ ap length (filtered_rows_are child condition link restriction one are))
       ∙ ap (linked_answer state root_key) makes
 
-  value_is : (query : Query) (q : Linked) → linked_value tables root (out-Query query) ≡ Ok q → only_value (answers tables state query outer_row) ≡ linked_answer state root_key q
+  value_is : (query : Query) (q : Subquery Link) → linked_value tables root (out-Query query) ≡ Ok q → only_value (answers tables state query outer_row) ≡ linked_answer state root_key q
   value_is query q e =
       let c = out-Query query in
       let (child, (found, more)) = in_class_ok (source_of tables c.table c.correlation_name) (λ child. in_class (selected_aggregate child.scope c.select_list) (λ a. linked_where child root a c.keeps c.group c.having)) q e in
       let (a, (lists, rest)) = in_class_ok (selected_aggregate child.scope c.select_list) (λ a. linked_where child root a c.keeps c.group c.having) q more in
-      let (no_group, (no_having, (condition, (keeps, (link, (one, (kept, (are, makes)))))))) = linked_where_ok child root a c.keeps c.group c.having q rest in
+      let (no_group, (no_having, (condition, (keeps, (link, (one, (restriction, (are, makes)))))))) = linked_where_ok child root a c.keeps c.group c.having q rest in
       let table = seen child.scope (rows_of child.table state) in
       let list = select_list tables state c.select_list in
       let (sets, gives) = list_set tables state child.scope a c.select_list lists in
       ap only_value (clauses_are query child condition found no_group no_having keeps)
       ∙ only_set table list (Some (truth tables state condition)) outer_row sets
       ∙ gives (filter (λ drow. passes (Some (truth tables state condition)) (with_rows table (drow ∷ []) outer_row)) (rows_of child.table state)) outer_row
-      ∙ ap (aggregate a) (kept_rows_are child condition link kept one are)
+      ∙ ap (aggregate a) (filtered_rows_are child condition link restriction one are)
       ∙ ap (linked_answer state root_key) makes
 
   -- what stands in a slot of a condition over a row
-  pub linked_leaf : (leaf : Leaf) (q : Linked) → linked tables root leaf ≡ Ok q → leaf_value tables state outer_row leaf ≡ linked_answer state root_key q
+  pub linked_leaf : (leaf : Leaf) (q : Subquery Link) → linked tables root leaf ≡ Ok q → leaf_value tables state outer_row leaf ≡ linked_answer state root_key q
   linked_leaf Rows q e = cc
   linked_leaf (Of f column) q e = cc
   linked_leaf (Exists query) q e = exists_is query q e

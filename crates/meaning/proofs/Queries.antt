@@ -2,6 +2,7 @@
 use Rattle.std.proofs.Common.{◌≡◌, ℕ, true, Option, Some, None, Result, Ok, List, [], ◌∷◌, map, filter, refl, ap, sym, ◌∙◌, subst}
 use Rattle.std.specs.Prelude.{◌||◌, is_some, unwrap_or, option_map}
 use Rattle.std.proofs.lemmas.List.Elements.{filter_agree}
+use Rattle.std.proofs.lemmas.Option.{same_Some}
 use Rattle.value.specs.declared.values.Value.{Value}
 use Rattle.value.specs.declared.refusals.Refusal.{Refusal}
 use Rattle.threeval.specs.declared.Truth.{Truth}
@@ -11,7 +12,8 @@ use Rattle.table.specs.declared.aggregates.Aggregate.{Aggregate}
 use Rattle.table.specs.declared.aggregates.Aggregate.TheVariants.{CountRows}
 use Rattle.cond.specs.declared.conds.Cond.{Cond}
 use Rattle.cond.specs.Eval as resolved
-use Rattle.assertion.specs.declared.plain_queries.Plain.{Plain}
+use Rattle.assertion.specs.declared.queries.Query.{Query as Subquery}
+use Rattle.assertion.specs.declared.queries.Whole.{Whole}
 use Rattle.assertion.specs.Meaning.{State, rows_of, plain_answer}
 use Rattle.syntax.specs.declared.trees.Aggregate.{Aggregate as Function}
 use Rattle.syntax.specs.declared.trees.Aggregate.TheVariants as function
@@ -35,9 +37,6 @@ use Rattle.meaning.proofs.Steps.{and_then_ok, in_class_ok, ok_same}
 use Rattle.meaning.proofs.Numbering.{leaf_value}
 use Rattle.meaning.proofs.Rows.{own_values, row_filter_keeps}
 
-pub some_same : {A : Type 0} (a b : A) → Some a ≡ Some b → a ≡ b
-some_same {A = A} a b e = ap (λ (o : Option A). unwrap_or o a) e
-
 -- ---- FROM
 
 sourced_seen : (name : List ℕ) (p : Option ℕ) (l : Option Layout) (state : State) (source : Source) → sourced name p l ≡ Some source
@@ -46,7 +45,7 @@ sourced_seen name None l state source e = cc
 sourced_seen name (Some t) None state source e = cc
 sourced_seen name (Some t) (Some l) state source e =
     let found : Source = record { table = t; scope = record { exposed_name = name; layout = l } } in
-    ap (λ (s : Source). seen s.scope (rows_of s.table state)) (some_same found source e)
+    ap (λ (s : Source). seen s.scope (rows_of s.table state)) (same_Some found source e)
 
 -- the table that a query reads
 pub source_seen : (tables : Tables) (state : State) (table : List ℕ) (correlation_name : Option (List ℕ)) (source : Source) → source_of tables table correlation_name ≡ Some source → table_of tables state table correlation_name ≡ seen source.scope (rows_of source.table state)
@@ -112,7 +111,7 @@ set_function_of f scope rows outer column c is = ap (λ vs. set_function f (filt
 
 mapped_some : {A B : Type 0} (f : A → B) (o : Option A) (b : B) → option_map f o ≡ Some b → (a : A) × ((o ≡ Some a) × (f a ≡ b))
 mapped_some f None b e = cc
-mapped_some f (Some a) b e = (a, (refl, some_same (f a) b e))
+mapped_some f (Some a) b e = (a, (refl, same_Some (f a) b e))
 
 -- an expression that is one set function
 abbrev IsSet : names.Scope → Aggregate → Valued → Type 0
@@ -123,7 +122,7 @@ set_in : (tables : Tables) (state : State) (scope : names.Scope) (a : Aggregate)
 set_in tables state scope a (Expression-F.Number n) e = cc
 set_in tables state scope a (Expression-F.Text t) e = cc
 set_in tables state scope a (Expression-F.Column column) e = cc
-set_in tables state scope a Expression-F.CountRows e = (refl, λ rows outer. ap (λ (a : Aggregate). aggregate a rows) (some_same CountRows a e))
+set_in tables state scope a Expression-F.CountRows e = (refl, λ rows outer. ap (λ (a : Aggregate). aggregate a rows) (same_Some CountRows a e))
 set_in tables state scope a (Expression-F.Aggregate f column) e =
     let (c, (is, same)) = mapped_some (of_column f) (own_column scope column) a e in
     (refl, λ rows outer. set_function_of f scope rows outer column c is ∙ ap (λ (a : Aggregate). aggregate a rows) same)
@@ -149,21 +148,21 @@ only_set table list keeps outer sets = rw sets refl
 
 -- ---- slots of a single condition
 
-pub plain_by_ok : (source : Source) (a : Option Aggregate) (keeps : Option Condition) (g : Option ColumnName) (h : Option Condition) (p : Plain) → plain_by source a keeps g h ≡ Ok p
-    → (g ≡ None) × ((h ≡ None) × ((function : Aggregate) × ((a ≡ Some function) × ((kept : Cond) × ((row_filter source.scope keeps ≡ Ok kept) × (◌≡◌ {A = Plain} (record { table = source.table; kept = kept; aggregate = function }) p))))))
+pub plain_by_ok : (source : Source) (a : Option Aggregate) (keeps : Option Condition) (g : Option ColumnName) (h : Option Condition) (p : Subquery Whole) → plain_by source a keeps g h ≡ Ok p
+    → (g ≡ None) × ((h ≡ None) × ((function : Aggregate) × ((a ≡ Some function) × ((restriction : Cond) × ((row_filter source.scope keeps ≡ Ok restriction) × (◌≡◌ {A = Subquery Whole} (record { table = source.table; filter = restriction; grouping = record {}; aggregate = function }) p))))))
 plain_by_ok source a keeps None None p e =
-    let (function, (is, more)) = in_class_ok a (λ a. and_then (row_filter source.scope keeps) (λ kept. let r : Result Plain Refusal = Ok (record { table = source.table; kept = kept; aggregate = a }) in r)) p e in
-    let (kept, (filters, makes)) = and_then_ok (row_filter source.scope keeps) (λ kept. let r : Result Plain Refusal = Ok (record { table = source.table; kept = kept; aggregate = function }) in r) p more in
-    let made : Plain = record { table = source.table; kept = kept; aggregate = function } in
-    (refl, (refl, (function, (is, (kept, (filters, ok_same made p makes))))))
+    let (function, (is, more)) = in_class_ok a (λ a. and_then (row_filter source.scope keeps) (λ restriction. let r : Result (Subquery Whole) Refusal = Ok (record { table = source.table; filter = restriction; grouping = record {}; aggregate = a }) in r)) p e in
+    let (restriction, (filters, makes)) = and_then_ok (row_filter source.scope keeps) (λ restriction. let r : Result (Subquery Whole) Refusal = Ok (record { table = source.table; filter = restriction; grouping = record {}; aggregate = function }) in r) p more in
+    let made : Subquery Whole = record { table = source.table; filter = restriction; grouping = record {}; aggregate = function } in
+    (refl, (refl, (function, (is, (restriction, (filters, ok_same made p makes))))))
 plain_by_ok source a keeps (Some g) h p e = cc
 plain_by_ok source a keeps None (Some h) p e = cc
 
-plain_is : (tables : Tables) (state : State) (scopes : References) (query : Query) (p : Plain) → plain_value tables (out-Query query) ≡ Ok p → only_value (answers tables state query scopes) ≡ plain_answer state p
+plain_is : (tables : Tables) (state : State) (scopes : References) (query : Query) (p : Subquery Whole) → plain_value tables (out-Query query) ≡ Ok p → only_value (answers tables state query scopes) ≡ plain_answer state p
 plain_is tables state scopes query p e =
     let q = out-Query query in
     let (source, (found, more)) = in_class_ok (source_of tables q.table q.correlation_name) (λ source. plain_by source (selected_aggregate source.scope q.select_list) q.keeps q.group q.having) p e in
-    let (no_group, (no_having, (function, (lists, (kept, (filters, makes)))))) = plain_by_ok source (selected_aggregate source.scope q.select_list) q.keeps q.group q.having p more in
+    let (no_group, (no_having, (function, (lists, (restriction, (filters, makes)))))) = plain_by_ok source (selected_aggregate source.scope q.select_list) q.keeps q.group q.having p more in
     let rows = rows_of source.table state in
     let table = seen source.scope rows in
     let list = select_list tables state q.select_list in
@@ -173,10 +172,10 @@ plain_is tables state scopes query p e =
     ap only_value (answers_at tables state query source scopes found ∙ ap (λ g. answers_by table list keeps g (option_map (truth tables state) q.having) scopes) no_group ∙ ap (λ h. answers_by table list keeps None (option_map (truth tables state) h) scopes) no_having)
     ∙ only_set table list keeps scopes sets
     ∙ gives where_rows scopes
-    ∙ ap (aggregate function) (filter_agree (λ row. passes keeps (with_rows table (row ∷ []) scopes)) (λ row. resolved.keeps row [] kept) (λ row. row_filter_keeps source.scope q.keeps kept filters tables state row scopes) rows)
+    ∙ ap (aggregate function) (filter_agree (λ row. passes keeps (with_rows table (row ∷ []) scopes)) (λ row. resolved.keeps row [] restriction) (λ row. row_filter_keeps source.scope q.keeps restriction filters tables state row scopes) rows)
     ∙ ap (plain_answer state) makes
 
-pub plain_leaf : (tables : Tables) (state : State) (scopes : References) (leaf : Leaf) (p : Plain) → plain tables leaf ≡ Ok p → leaf_value tables state scopes leaf ≡ plain_answer state p
+pub plain_leaf : (tables : Tables) (state : State) (scopes : References) (leaf : Leaf) (p : Subquery Whole) → plain tables leaf ≡ Ok p → leaf_value tables state scopes leaf ≡ plain_answer state p
 plain_leaf tables state scopes Rows p e = cc
 plain_leaf tables state scopes (Of f column) p e = cc
 plain_leaf tables state scopes (Exists query) p e = cc

@@ -4,6 +4,7 @@ use Rattle.std.specs.Prelude.{not, option_map, slice_index_or, nat_lt}
 use Rattle.std.specs.List.{position_or_len}
 use Rattle.std.specs.Cmp.Lexicographic.{pointwise}
 use Rattle.std.proofs.lemmas.List.Elements.{filter_agree}
+use Rattle.std.proofs.lemmas.Option.{same_Some}
 use Rattle.value.specs.declared.values.Value.{Value}
 use Rattle.value.specs.declared.values.Root.{Root}
 use Rattle.value.specs.declared.values.Root.TheVariants.{Of}
@@ -13,7 +14,8 @@ use Rattle.table.specs.Rows.{RowValues, Layout, Tables, value_in, layout_of, pos
 use Rattle.cond.specs.declared.conds.Cond.{Cond}
 use Rattle.cond.specs.declared.conds.Cond.TheViews as cond_of
 use Rattle.cond.specs.Eval as resolved
-use Rattle.assertion.specs.declared.linked_queries.Linked.{Linked}
+use Rattle.assertion.specs.declared.queries.Query.{Query as Subquery}
+use Rattle.assertion.specs.declared.queries.Link.{Link}
 use Rattle.assertion.specs.Meaning.{State, rows_of, linked_answer, lists_row, row_roots}
 use Rattle.syntax.specs.declared.trees.Condition.{Condition}
 use Rattle.name_check.specs.Scopes as names
@@ -27,17 +29,17 @@ use Rattle.meaning.specs.Laws.{seen}
 use Rattle.meaning.proofs.Steps.{ok_pair}
 use Rattle.meaning.proofs.Numbering.{leaf_value, condition_faithful, truth-And}
 use Rattle.meaning.proofs.Rows.{own_value}
-use Rattle.meaning.proofs.Queries.{answers_by, each_leaf, some_same}
+use Rattle.meaning.proofs.Queries.{answers_by, each_leaf}
 use Rattle.meaning.proofs.Links.{linked_leaf, is_plain}
 
 -- ---- the place of a table
 
 cond_some : (b : Bool) (n t : ℕ) → ◌≡◌ {A = Option ℕ} (cond b (Some n) None) (Some t) → n ≡ t
-cond_some true n t e = some_same n t e
+cond_some true n t e = same_Some n t e
 cond_some false n t e = cc
 
 at_next : (b : Bool) (first_value l : Layout) (rest : List Layout) (n : ℕ) (d : Layout) (o : Option Layout) → ◌≡◌ {A = Option Layout} (cond b (Some first_value) o) (Some l) → (o ≡ Some l → slice_index_or rest n d ≡ l) → slice_index_or (first_value ∷ rest) (cond (not b) (1 + n) 0) d ≡ l
-at_next true first_value l rest n d o e more = some_same first_value l e
+at_next true first_value l rest n d o e more = same_Some first_value l e
 at_next false first_value l rest n d o e more = let next : 1 + n ≡ suc n = omega arith in ap (λ k. slice_index_or (first_value ∷ rest) k d) next ∙ more e
 
 at_first : (name : List ℕ) (d : Layout) (tables : Tables) (l : Layout) → layout_of name tables ≡ Some l → slice_index_or (layouts_of tables) (position_or_len (pointwise nat_eq name) (names_of tables)) d ≡ l
@@ -55,19 +57,19 @@ sourced_parts name None l source e = cc
 sourced_parts name (Some t) None source e = cc
 sourced_parts name (Some t) (Some l) source e =
     let found : Source = record { table = t; scope = record { exposed_name = name; layout = l } } in
-    let same = some_same found source e in
+    let same = same_Some found source e in
     (ap (λ (s : Source). let o : Option ℕ = Some s.table in o) same, ap (λ (s : Source). let o : Option Layout = Some s.scope.layout in o) same)
 
 -- ---- WHERE of the outer query
 
-row_kept : (tables : Tables) (state : State) (root : names.Scope) (keeps : Option Condition) (made : Cond) (leaves : Leaves) (queries : List Linked) → row_where root keeps ≡ Ok (made, leaves) → each (linked tables root) leaves ≡ Ok queries → (row : RowValues)
+row_filtered : (tables : Tables) (state : State) (root : names.Scope) (keeps : Option Condition) (made : Cond) (leaves : Leaves) (queries : List (Subquery Link)) → row_where root keeps ≡ Ok (made, leaves) → each (linked tables root) leaves ≡ Ok queries → (row : RowValues)
     → passes (option_map (truth tables state) keeps) (seen root (row ∷ []) ∷ []) ≡ lists_row state made queries (value_in root.layout.key row) row
-row_kept tables state root None made leaves queries is are row =
+row_filtered tables state root None made leaves queries is are row =
     let none : Leaves = [] in
     let slots = map (linked_answer state (value_in root.layout.key row)) queries in
     let (same, nothing) = ok_pair (cond_of.And []) made none leaves is in
     ap (λ t. is_of t True) (sym (truth-And tables state [] row slots [])) ∙ ap (resolved.keeps row slots) same
-row_kept tables state root (Some condition) made leaves queries is are row =
+row_filtered tables state root (Some condition) made leaves queries is are row =
     let scopes : References = seen root (row ∷ []) ∷ [] in
     let slots = map (linked_answer state (value_in root.layout.key row)) queries in
     let fits = each_leaf tables state scopes (linked tables root) (linked_answer state (value_in root.layout.key row)) (linked_leaf tables state root row) leaves queries are ∙ sym (append-nil (map (leaf_value tables state scopes) leaves)) in
@@ -78,7 +80,7 @@ one_row f key g same [] = refl
 one_row f key g same (row ∷ rows) = ap (λ r. r ∷ map g (map f (filter (λ rows. true) (map (λ row. row ∷ []) rows)))) (same row) ∙ ap (λ rs. Of (key row) ∷ rs) (one_row f key g same rows)
 
 -- the rows that a query with neither gives are those that the form lists
-pub row_roots_are : (tables : Tables) (state : State) (root : names.Scope) (table : ℕ) (list : Valued) (keeps : Option Condition) (made : Cond) (leaves : Leaves) (queries : List Linked) → list.sets ≡ false → row_where root keeps ≡ Ok (made, leaves) → each (linked tables root) leaves ≡ Ok queries
+pub row_roots_are : (tables : Tables) (state : State) (root : names.Scope) (table : ℕ) (list : Valued) (keeps : Option Condition) (made : Cond) (leaves : Leaves) (queries : List (Subquery Link)) → list.sets ≡ false → row_where root keeps ≡ Ok (made, leaves) → each (linked tables root) leaves ≡ Ok queries
     → map (root_of None root.layout.key) (answers_by (seen root (rows_of table state)) list (option_map (truth tables state) keeps) None None []) ≡ row_roots state table root.layout.key made queries
 row_roots_are tables state root table list keeps made leaves queries none is are =
     let rows = rows_of table state in
@@ -86,4 +88,4 @@ row_roots_are tables state root table list keeps made leaves queries none is are
     let f : List RowValues → Answer = λ rows. record { rows = rows; value = list.value (with_rows scope rows []) } in
     ap (map (root_of None root.layout.key)) (is_plain scope list (option_map (truth tables state) keeps) [] none)
     ∙ one_row f (value_in root.layout.key) (root_of None root.layout.key) (λ row. refl) (filter (λ row. passes (option_map (truth tables state) keeps) (with_rows scope (row ∷ []) [])) rows)
-    ∙ ap (map (λ row. Of (value_in root.layout.key row))) (filter_agree (λ row. passes (option_map (truth tables state) keeps) (with_rows scope (row ∷ []) [])) (λ row. lists_row state made queries (value_in root.layout.key row) row) (row_kept tables state root keeps made leaves queries is are) rows)
+    ∙ ap (map (λ row. Of (value_in root.layout.key row))) (filter_agree (λ row. passes (option_map (truth tables state) keeps) (with_rows scope (row ∷ []) [])) (λ row. lists_row state made queries (value_in root.layout.key row) row) (row_filtered tables state root keeps made leaves queries is are) rows)

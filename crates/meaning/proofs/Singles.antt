@@ -4,7 +4,8 @@ use Rattle.value.specs.declared.refusals.Refusal.{Refusal}
 use Rattle.cond.specs.declared.conds.Cond.{Cond}
 use Rattle.assertion.specs.declared.forms.Form.{Form}
 use Rattle.assertion.specs.declared.forms.Form.TheVariants.{Single}
-use Rattle.assertion.specs.declared.plain_queries.Plain.{Plain}
+use Rattle.assertion.specs.declared.queries.Query.{Query as Subquery}
+use Rattle.assertion.specs.declared.queries.Whole.{Whole}
 use Rattle.assertion.specs.Meaning.{State, plain_answer, single_truth}
 use Rattle.table.specs.Rows.{RowValues, Tables, value_in}
 use Rattle.syntax.specs.declared.trees.ColumnName.{ColumnName}
@@ -23,7 +24,7 @@ no_column_means row column c e = cc
 
 -- what a single condition becomes, and that it has its truth
 pub single_is : (tables : Tables) (condition : Condition) (form : Form) → single tables condition ≡ Ok form
-    → (made : Cond) × ((queries : List Plain) × ((Single made queries ≡ form) × ((state : State) → written_truth tables state condition ≡ single_truth state made queries)))
+    → (made : Cond) × ((queries : List (Subquery Whole)) × ((Single made queries ≡ form) × ((state : State) → written_truth tables state condition ≡ single_truth state made queries)))
 single_is tables condition form e =
     let (m, (is, more)) = and_then_ok (numbered no_column condition []) (λ m. and_then (each (plain tables) m.1) (λ queries. let r : Result Form Refusal = Ok (Single m.0 queries) in r)) form e in
     let (queries, (are, makes)) = and_then_ok (each (plain tables) m.1) (λ queries. let r : Result Form Refusal = Ok (Single m.0 queries) in r) form more in

@@ -1,18 +1,10 @@
 -- What a step that went on says of those before it.
 use Rattle.std.proofs.Common.{◌≡◌, Result, Ok, Err, Option, Some, None, refl, ap}
 use Rattle.value.specs.declared.refusals.Refusal.{Refusal}
-use Rattle.value.specs.Results.{and_then}
+pub use Rattle.value.proofs.Results.{ok_same, and_then_ok}
 use Rattle.form_check.specs.Results.{in_class, only_if}
 use Rattle.form_check.specs.Leaves.{Leaves, then_made}
 use Rattle.std.specs.Prelude.{Bool, true, false}
-
--- what an answer holds
-abbrev pub of_ok : {A : Type 0} → A → Result A Refusal → A
-of_ok other (Ok a) = a
-of_ok other (Err refusal) = other
-
-pub ok_same : {A : Type 0} (a b : A) → ◌≡◌ {A = Result A Refusal} (Ok a) (Ok b) → a ≡ b
-ok_same {A = A} a b e = ap (λ (r : Result A Refusal). of_ok a r) e
 
 -- both parts of a pair
 pub ok_pair : {A B : Type 0} (a c : A) (b d : B) → ◌≡◌ {A = Result (A × B) Refusal} (Ok (a, b)) (Ok (c, d)) → (a ≡ c) × (b ≡ d)
@@ -23,10 +15,6 @@ ok_pair {A = A} {B = B} a c b d e =
     let y : A × B = (c, d) in
     let same : x ≡ y = ok_same x y e in
     (ap first same, ap second same)
-
-pub and_then_ok : {A B : Type 0} (r : Result A Refusal) (next : A → Result B Refusal) (b : B) → and_then r next ≡ Ok b → (a : A) × ((r ≡ Ok a) × (next a ≡ Ok b))
-and_then_ok (Ok a) next b e = (a, (refl, e))
-and_then_ok (Err refusal) next b e = cc
 
 pub in_class_ok : {A B : Type 0} (o : Option A) (next : A → Result B Refusal) (b : B) → in_class o next ≡ Ok b → (a : A) × ((o ≡ Some a) × (next a ≡ Ok b))
 in_class_ok (Some a) next b e = (a, (refl, e))

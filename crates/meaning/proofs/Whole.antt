@@ -121,14 +121,14 @@ group_agrees : (tables : Tables) (state : State) (query : Query) (source : Sourc
     → (r : Root) → has root_cmp r (query_roots tables state query (out-Query query)) ≡ has root_cmp r (bad_roots (layouts_of tables) form state)
 group_agrees tables state query source column having form found is_group is_having e r =
     let q = out-Query query in
-    let (group, (own, more)) = in_class_ok (own_column source.scope column) (λ group. only_if (may_be_selected (grouping_column source.scope group) q.select_list) (and_then (row_filter source.scope q.keeps) (λ kept. having_over source group kept having))) form e in
-    let (lists, rest) = only_if_ok (may_be_selected (grouping_column source.scope group) q.select_list) (and_then (row_filter source.scope q.keeps) (λ kept. having_over source group kept having)) form more in
-    let (kept, (filters, over)) = and_then_ok (row_filter source.scope q.keeps) (λ kept. having_over source group kept having) form rest in
-    let (m, (is, made)) = and_then_ok (numbered (grouping_column source.scope group) having []) (λ made. and_then (each (aggregate_of source.scope) made.1) (λ aggregates. let r : Result Form Refusal = Ok (ByGroup source.table kept group made.0 aggregates) in r)) form over in
-    let (aggregates, (are, makes)) = and_then_ok (each (aggregate_of source.scope) m.1) (λ aggregates. let r : Result Form Refusal = Ok (ByGroup source.table kept group m.0 aggregates) in r) form made in
+    let (group, (own, more)) = in_class_ok (own_column source.scope column) (λ group. only_if (may_be_selected (grouping_column source.scope group) q.select_list) (and_then (row_filter source.scope q.keeps) (λ restriction. having_over source group restriction having))) form e in
+    let (lists, rest) = only_if_ok (may_be_selected (grouping_column source.scope group) q.select_list) (and_then (row_filter source.scope q.keeps) (λ restriction. having_over source group restriction having)) form more in
+    let (restriction, (filters, over)) = and_then_ok (row_filter source.scope q.keeps) (λ restriction. having_over source group restriction having) form rest in
+    let (m, (is, made)) = and_then_ok (numbered (grouping_column source.scope group) having []) (λ made. and_then (each (aggregate_of source.scope) made.1) (λ aggregates. let r : Result Form Refusal = Ok (ByGroup source.table restriction group made.0 aggregates) in r)) form over in
+    let (aggregates, (are, makes)) = and_then_ok (each (aggregate_of source.scope) m.1) (λ aggregates. let r : Result Form Refusal = Ok (ByGroup source.table restriction group m.0 aggregates) in r) form made in
     ap (has root_cmp r) (roots_by tables state query source found (Some column) (Some having) is_group is_having)
-    ∙ group_roots_are tables state source.scope (rows_of source.table state) source.scope.layout.key (select_list tables state q.select_list) q.keeps kept column group having m.0 m.1 aggregates filters own is are r
-    ∙ ap (λ form. has root_cmp r (bad_roots (layouts_of tables) form state)) (ok_same (ByGroup source.table kept group m.0 aggregates) form makes)
+    ∙ group_roots_are tables state source.scope (rows_of source.table state) source.scope.layout.key (select_list tables state q.select_list) q.keeps restriction column group having m.0 m.1 aggregates filters own is are r
+    ∙ ap (λ form. has root_cmp r (bad_roots (layouts_of tables) form state)) (ok_same (ByGroup source.table restriction group m.0 aggregates) form makes)
 
 -- a form that NOT EXISTS makes has the truth of its roots
 abbrev IsOfRoots : Tables → State → Form → Type 0
@@ -143,12 +143,12 @@ by_row_of_roots tables state source query form e =
 
 by_group_of_roots : (tables : Tables) (state : State) (source : Source) (query : Clauses) (column : ColumnName) (having : Condition) (form : Form) → by_group source query column having ≡ Ok form → IsOfRoots tables state form
 by_group_of_roots tables state source query column having form e =
-    let (group, (own, more)) = in_class_ok (own_column source.scope column) (λ group. only_if (may_be_selected (grouping_column source.scope group) query.select_list) (and_then (row_filter source.scope query.keeps) (λ kept. having_over source group kept having))) form e in
-    let (lists, rest) = only_if_ok (may_be_selected (grouping_column source.scope group) query.select_list) (and_then (row_filter source.scope query.keeps) (λ kept. having_over source group kept having)) form more in
-    let (kept, (filters, over)) = and_then_ok (row_filter source.scope query.keeps) (λ kept. having_over source group kept having) form rest in
-    let (m, (is, made)) = and_then_ok (numbered (grouping_column source.scope group) having []) (λ made. and_then (each (aggregate_of source.scope) made.1) (λ aggregates. let r : Result Form Refusal = Ok (ByGroup source.table kept group made.0 aggregates) in r)) form over in
-    let (aggregates, (are, makes)) = and_then_ok (each (aggregate_of source.scope) m.1) (λ aggregates. let r : Result Form Refusal = Ok (ByGroup source.table kept group m.0 aggregates) in r) form made in
-    subst (IsOfRoots tables state) (ok_same (ByGroup source.table kept group m.0 aggregates) form makes) refl
+    let (group, (own, more)) = in_class_ok (own_column source.scope column) (λ group. only_if (may_be_selected (grouping_column source.scope group) query.select_list) (and_then (row_filter source.scope query.keeps) (λ restriction. having_over source group restriction having))) form e in
+    let (lists, rest) = only_if_ok (may_be_selected (grouping_column source.scope group) query.select_list) (and_then (row_filter source.scope query.keeps) (λ restriction. having_over source group restriction having)) form more in
+    let (restriction, (filters, over)) = and_then_ok (row_filter source.scope query.keeps) (λ restriction. having_over source group restriction having) form rest in
+    let (m, (is, made)) = and_then_ok (numbered (grouping_column source.scope group) having []) (λ made. and_then (each (aggregate_of source.scope) made.1) (λ aggregates. let r : Result Form Refusal = Ok (ByGroup source.table restriction group made.0 aggregates) in r)) form over in
+    let (aggregates, (are, makes)) = and_then_ok (each (aggregate_of source.scope) m.1) (λ aggregates. let r : Result Form Refusal = Ok (ByGroup source.table restriction group m.0 aggregates) in r) form made in
+    subst (IsOfRoots tables state) (ok_same (ByGroup source.table restriction group m.0 aggregates) form makes) refl
 
 exists_agrees : (tables : Tables) (query : Query) (form : Form) → not_exists tables (out-Query query) ≡ Ok form → (state : State) → Agrees tables state form (query_roots tables state query (out-Query query)) (not_of (known (is_any (answers tables state query []))))
 exists_agrees tables query form e state =

@@ -13,6 +13,7 @@ use Rattle.syntax.specs.declared.trees.Condition.TheFolds.{fold-Condition, para-
 use Rattle.syntax.specs.declared.trees.Expression.{Expression, out-Expression}
 use Rattle.syntax.specs.declared.trees.SelectList.{SelectList, out-SelectList}
 use Rattle.syntax.specs.declared.trees.Query.{Query, out-Query}
+use Rattle.syntax.specs.Grammar.{and_layer}
 use Rattle.name_check.specs.Scopes.{Scope, is_name_of, own_column}
 
 -- each of a list is so
@@ -150,7 +151,7 @@ pub record IsPlainQuery (tables : Tables) (query : Query) : Type 0 where
   pub scope : Scope
   pub reads : read_by tables (out-Query query).table (out-Query query).correlation_name ≡ Some scope
   pub lists : IsSetList scope (out-SelectList (out-Query query).select_list)
-  pub kept : IfWritten (IsOverRows scope) (out-Query query).keeps
+  pub filter : IfWritten (IsOverRows scope) (out-Query query).keeps
   pub ungrouped : IsNone (out-Query query).group
   pub whole : IsNone (out-Query query).having
 
@@ -183,7 +184,7 @@ pub record IsGroupQuery (tables : Tables) (query : Query) : Type 0 where
   pub grouped : (out-Query query).group ≡ Some column
   pub is_own : IsColumnAt scope group column
   pub lists : IsSimpleList (IsColumnAt scope group) (out-SelectList (out-Query query).select_list)
-  pub kept : IfWritten (IsOverRows scope) (out-Query query).keeps
+  pub filter : IfWritten (IsOverRows scope) (out-Query query).keeps
   pub filtered : (out-Query query).having ≡ Some having
   pub columns : Each (IsColumnAt scope group) (columns_in having)
   pub sets : Each (IsSetFunction scope) (pieces_in having)
@@ -210,17 +211,12 @@ pub record IsLink (child root : Scope) (part : Condition) : Type 0 where
   pub equality : out-Condition part ≡ Condition-F.Compare left Equal right
   pub sides : JoinsKey child root left right ⊎ JoinsKey child root right left
 
--- the parts that AND joins at the top; a condition without one is its only part
-abbrev pub parts_of : Condition → Condition-F Condition Expression SelectList Query → List Condition
-parts_of whole (Condition-F.And parts) = parts
-parts_of whole other = whole ∷ []
-
 -- a WHERE of which AND joins one link and conditions over the child's rows
 pub record IsLinkedWhere (child root : Scope) (condition : Condition) : Type 0 where
   pub before : List Condition
   pub link : Condition
   pub behind : List Condition
-  pub parts : parts_of condition (out-Condition condition) ≡ before ++ link ∷ behind
+  pub parts : and_layer condition (out-Condition condition) ≡ before ++ link ∷ behind
   pub links : IsLink child root link
   pub others : Each (IsOverRows child) (before ++ behind)
 
@@ -234,7 +230,7 @@ pub record IsLinkedQuery (tables : Tables) (root : Scope) (Lists : MayList) (que
   pub condition : Condition
   pub reads : read_by tables (out-Query query).table (out-Query query).correlation_name ≡ Some scope
   pub lists : Lists scope (out-SelectList (out-Query query).select_list)
-  pub kept : (out-Query query).keeps ≡ Some condition
+  pub filter : (out-Query query).keeps ≡ Some condition
   pub linked : IsLinkedWhere scope root condition
   pub ungrouped : IsNone (out-Query query).group
   pub whole : IsNone (out-Query query).having
@@ -255,7 +251,7 @@ pub record IsRowQuery (tables : Tables) (query : Query) : Type 0 where
   pub scope : Scope
   pub reads : read_by tables (out-Query query).table (out-Query query).correlation_name ≡ Some scope
   pub lists : IsSimpleList (IsOwn scope) (out-SelectList (out-Query query).select_list)
-  pub kept : IfWritten (IsRowWhere tables scope) (out-Query query).keeps
+  pub filter : IfWritten (IsRowWhere tables scope) (out-Query query).keeps
   pub ungrouped : IsNone (out-Query query).group
   pub whole : IsNone (out-Query query).having
 

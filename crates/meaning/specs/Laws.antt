@@ -11,7 +11,7 @@ use Rattle.cond.specs.declared.conds.Cond.{Cond}
 use Rattle.cond.specs.Eval as resolved
 use Rattle.assertion.specs.declared.forms.Form.{Form}
 use Rattle.assertion.specs.declared.assertions.Assertion.{Assertion}
-use Rattle.assertion.specs.Meaning.{State, rows_of, kept_rows, bad_roots, verdict_of, least_bad_of}
+use Rattle.assertion.specs.Meaning.{State, rows_of, filtered_rows, bad_roots, verdict_of, least_bad_of}
 use Rattle.syntax.specs.declared.trees.Condition.{Condition}
 use Rattle.syntax.specs.declared.trees.Expression.{Expression}
 use Rattle.statement_syntax.specs.declared.definitions.Attributes.{Attributes}
@@ -146,18 +146,21 @@ where_rows tables state name condition =
 abbrev pub DeletesRows : Type 0
 DeletesRows = (tables : Tables) (name : List ℕ) (condition : Option Condition) (delete : Delete)
     → delete_of tables name condition ≡ Ok delete
-    → (state : State) → where_rows tables state name condition ≡ kept_rows delete.kept (rows_of delete.table state)
+    → (state : State)
+    → where_rows tables state name condition ≡ filtered_rows delete.filter (rows_of delete.table state)
 
 abbrev pub SelectsRows : Type 0
 SelectsRows = (tables : Tables) (columns : Which) (name : List ℕ) (condition : Option Condition) (select : Select)
     → select_of tables columns name condition ≡ Ok select
-    → (state : State) → where_rows tables state name condition ≡ kept_rows select.kept (rows_of select.table state)
+    → (state : State)
+    → where_rows tables state name condition ≡ filtered_rows select.filter (rows_of select.table state)
 
 abbrev pub UpdatesRows : Type 0
 UpdatesRows = (tables : Tables) (name : List ℕ) (sets : List Assignment) (condition : Option Condition)
     → (update : Update)
     → update_of tables name sets condition ≡ Ok update
-    → (state : State) → where_rows tables state name condition ≡ kept_rows update.kept (rows_of update.table state)
+    → (state : State)
+    → where_rows tables state name condition ≡ filtered_rows update.filter (rows_of update.table state)
 
 -- two lists are as long as each other, and so is each pair of them
 abbrev pub Pairs : {X Y : Type 0} → (X → Y → Type 0) → List X → List Y → Type 0

@@ -1,5 +1,5 @@
 -- The assertions that are immediate where their modes say just which.
-use Rattle.std.proofs.Common.{◌≡◌, ℕ, Bool, true, false, cond, List, [], ◌∷◌, map, filter, refl, ap, ◌∙◌}
+use Rattle.std.proofs.Common.{◌≡◌, ℕ, Bool, true, false, cond, List, [], ◌∷◌, map, filter, refl, ap}
 use Rattle.std.specs.List.{zip}
 use Rattle.assertion.specs.declared.assertions.Assertion.{Assertion}
 use Rattle.modes.specs.Modes.{all_immediate, immediate_ones, is_named, named_immediate, named_ones}

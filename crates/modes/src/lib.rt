@@ -18,6 +18,3 @@ mod names;
 
 pub use modes::Modes;
 pub use names::settable_names;
-
-#[cfg(test)]
-mod tests;

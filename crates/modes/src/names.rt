@@ -26,7 +26,7 @@ pub fn settable_names(
 {
     match which {
         Which::All => deferrable_names(alloc, assertions),
-        Which::Names(names) => tested_names(alloc, assertions, names.as_slice()),
+        Which::Names(names) => require_deferrable(alloc, assertions, names.as_slice()),
     }
 }
 
@@ -43,7 +43,7 @@ fn deferrable_names(alloc: Global, assertions: &[Assertion]) -> Result<Items<Tex
     Ok(Items::from_vec(names))
 }
 
-fn tested_names(
+fn require_deferrable(
     alloc: Global,
     assertions: &[Assertion],
     names: &[Text],
@@ -54,17 +54,17 @@ fn tested_names(
 {
     let mut made = Vec::new(alloc);
     for name in names {
-        made.push(tested_name(assertions, name)?)?;
+        made.push(require_deferrable_name(assertions, name)?)?;
     }
     Ok(Items::from_vec(made))
 }
 
-fn tested_name(assertions: &[Assertion], name: &Text) -> Result<Text, Refusal>
+fn require_deferrable_name(assertions: &[Assertion], name: &Text) -> Result<Text, Refusal>
     ensures found { IfOk result (λ made. settable name.now (assertion_of name.now assertions.now) ≡ Ok made) }
     ensures refused { IfErr result (λ refusal.
         refusal ≢ NoMemory → settable name.now (assertion_of name.now assertions.now) ≡ Err refusal) }
 {
-    match assertion_named(assertions, name) {
+    match find_assertion(assertions, name) {
         None => Err(Refusal::UnknownName { name: name.copy()? }),
         Some(assertion) if assertion.attributes.deferrable => Ok(name.copy()?),
         Some(_) => Err(Refusal::NotDeferrable {
@@ -74,7 +74,7 @@ fn tested_name(assertions: &[Assertion], name: &Text) -> Result<Text, Refusal>
 }
 
 /// The first assertion of this name.
-fn assertion_named<'a>(assertions: &'a [Assertion], name: &Text) -> Option<&'a Assertion>
+fn find_assertion<'a>(assertions: &'a [Assertion], name: &Text) -> Option<&'a Assertion>
     ensures { option_copied result ≡ assertion_of name.now assertions.now }
 {
     assertions.iter().find(|assertion| assertion.name == *name)

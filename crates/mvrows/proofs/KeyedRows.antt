@@ -1,5 +1,5 @@
 -- What stands at a key, and a change, are the same with the keys kept beside the rows.
-use Rattle.std.proofs.Common.{◌≡◌, ℕ, zero, suc, ◌+◌, ◌<◌, List, [], ◌∷◌, ◌++◌, take, drop, length, map, Option, Some, None, refl, sym, ◌∙◌, ap, arith, option_map, subst, ◌≤◌, slice_index_or, Global}
+use Rattle.std.proofs.Common.{◌≡◌, ℕ, zero, suc, ◌+◌, ◌<◌, List, [], ◌∷◌, ◌++◌, take, drop, length, map, Option, Some, None, refl, sym, ◌∙◌, ap, arith, option_map, subst, slice_index_or, Global}
 use Rattle.std.proofs.lemmas.List.{drop_more, take_more}
 use Rattle.std.specs.Arc.{arc_value}
 use Rattle.std.specs.declared.sync.Arc.{Arc}
@@ -13,10 +13,7 @@ use Rattle.pages.specs.Reach.{key_of, value_of, entry_of}
 use Rattle.table.specs.Rows.{RowValues, value_in, row_at, put_row}
 use Rattle.mvrows.specs.Keyed.{rows_of, AreKeyed}
 use Rattle.mvrows.proofs.LastRows.{put-last, ascending-take}
-
-pub rows_of-append : (es fs : List (Value × RowValues)) → rows_of (es ++ fs) ≡ rows_of es ++ rows_of fs
-rows_of-append [] fs = refl
-rows_of-append (e ∷ es) fs = ap (λ rs. e.1 ∷ rs) (rows_of-append es fs)
+use Rattle.mvrows.proofs.Walked.{first_or}
 
 pub length-rows_of : (es : List (Value × RowValues)) → length (rows_of es) ≡ length es
 length-rows_of [] = refl
@@ -64,33 +61,11 @@ keyed-put column k new (e ∷ es) h a = elim (value_cmp k e.0) as (λ c. AreKeye
   | Greater ↦ (a.0, keyed-put column k new es h a.1)
 ]
 
-pub rows_of-take : (n : ℕ) (es : List (Value × RowValues)) → rows_of (take n es) ≡ take n (rows_of es)
-rows_of-take zero [] = refl
-rows_of-take (suc n) [] = refl
-rows_of-take zero (e ∷ es) = refl
-rows_of-take (suc n) (e ∷ es) = ap (λ rs. e.1 ∷ rs) (rows_of-take n es)
-
 pub rows_of-drop : (n : ℕ) (es : List (Value × RowValues)) → rows_of (drop n es) ≡ drop n (rows_of es)
 rows_of-drop zero [] = refl
 rows_of-drop (suc n) [] = refl
 rows_of-drop zero (e ∷ es) = refl
 rows_of-drop (suc n) (e ∷ es) = rows_of-drop n es
-
-abbrev pub first_or : {X : Type 0} → X → List X → X
-first_or d [] = d
-first_or d (x ∷ xs) = x
-
-pub drop_whole : {X : Type 0} (n : ℕ) (xs : List X) → length xs ≤ n → drop n xs ≡ []
-drop_whole zero [] h = refl
-drop_whole (suc n) [] h = refl
-drop_whole zero (x ∷ xs) h = absurd (omega (arith, h))
-drop_whole (suc n) (x ∷ xs) h = drop_whole n xs (omega (arith, h))
-
-pub take_whole : {X : Type 0} (n : ℕ) (xs : List X) → length xs ≤ n → take n xs ≡ xs
-take_whole zero [] h = refl
-take_whole (suc n) [] h = refl
-take_whole zero (x ∷ xs) h = absurd (omega (arith, h))
-take_whole (suc n) (x ∷ xs) h = ap (λ ys. x ∷ ys) (take_whole n xs (omega (arith, h)))
 
 -- the first entry of what stands from a place on
 pub first_row : (es : List (Value × RowValues)) (at : ℕ) (page : List (Arc (Value × RowValues) Global)) (x : Arc (Value × RowValues) Global) → at < length es → 0 < length page

@@ -1,10 +1,10 @@
 -- Rows that are put behind all others, in the order of their keys.
-use Rattle.std.proofs.Common.{◌≡◌, ℕ, zero, suc, List, [], ◌∷◌, ◌++◌, take, Some, None, refl, ◌∙◌, ap}
+use Rattle.std.proofs.Common.{◌≡◌, ℕ, zero, suc, List, [], ◌∷◌, ◌++◌, take, Some, refl, ◌∙◌, ap}
 use Rattle.std.specs.Ordering.{ordering_reverse}
 use Rattle.std.specs.declared.cmp.Ordering.TheVariants.{Less, Greater}
 use Rattle.value.specs.declared.values.Value.{Value}
 use Rattle.value.specs.ValueOrder.{value_cmp}
-use Rattle.value.specs.Ordered.{by_order, AreAbove, IsAscending, at, put}
+use Rattle.value.specs.Ordered.{by_order, AreAbove, IsAscending, put}
 use Rattle.value.proofs.ValueOrders.{value_cmp_total}
 use Rattle.table.specs.Rows.{RowValues}
 
@@ -17,11 +17,7 @@ module _ (key : RowValues → Value) where
   below_last : (y : RowValues) (xs : List RowValues) (x : RowValues) → IsAscending value_cmp key ((y ∷ xs) ++ x ∷ []) → value_cmp (key x) (key y) ≡ Greater
   below_last y xs x s = value_cmp_total.antisymm (key x) (key y) ∙ ap ordering_reverse (last_above (key y) xs x s.0)
 
-  -- nothing stands under a key that is above all, and what is put there comes last
-  pub at-last : (xs : List RowValues) (x : RowValues) → IsAscending value_cmp key (xs ++ x ∷ []) → at value_cmp key (key x) xs ≡ None
-  at-last [] x s = refl
-  at-last (y ∷ xs) x s = ap (λ c. by_order c None (Some y) (at value_cmp key (key x) xs)) (below_last y xs x s) ∙ at-last xs x s.1
-
+  -- what is put under a key that is above all comes last
   pub put-last : (xs : List RowValues) (x : RowValues) → IsAscending value_cmp key (xs ++ x ∷ []) → put value_cmp key (key x) (Some x) xs ≡ xs ++ x ∷ []
   put-last [] x s = refl
   put-last (y ∷ xs) x s = ap (λ c. by_order c (x ∷ y ∷ xs) (x ∷ xs) (y ∷ put value_cmp key (key x) (Some x) xs)) (below_last y xs x s) ∙ ap (λ ys. y ∷ ys) (put-last xs x s.1)

@@ -1,9 +1,9 @@
 -- The first name of a condition that stands for nothing, in the order in which names are looked up.
 use Rattle.std.specs.Prelude.{List, [], ◌∷◌, Option, Some, None, unwrap_or}
+use Rattle.std.specs.Option.{option_or}
 use Rattle.value.specs.declared.refusals.Refusal.{Refusal}
 use Rattle.value.specs.declared.refusals.Refusal.TheVariants.{UnknownName}
 use Rattle.table.specs.Rows.{Layout, Tables, layout_of}
-use Rattle.table.specs.Faults.{first_of}
 use Rattle.syntax.specs.declared.trees.ColumnName.{ColumnName}
 use Rattle.syntax.specs.declared.trees.Condition.{Condition}
 use Rattle.syntax.specs.declared.trees.Condition.TheOpen.{Condition-F, Expression-F, SelectList-F, Query-F}
@@ -20,7 +20,7 @@ Fault = Scopes → Option Refusal
 -- parts from the left
 abbrev pub parts_fault : List Fault → Fault
 parts_fault [] scopes = None
-parts_fault (part ∷ rest) scopes = first_of (part scopes) (parts_fault rest scopes)
+parts_fault (part ∷ rest) scopes = option_or (part scopes) (parts_fault rest scopes)
 
 -- a part that may be missing
 abbrev pub part_fault : Option Fault → Fault
@@ -50,11 +50,11 @@ condition_step (Condition-F.And parts) scopes = parts_fault parts scopes
 condition_step (Condition-F.Not part) scopes = part scopes
 condition_step (Condition-F.Is part truth) scopes = part scopes
 condition_step (Condition-F.Exists query) scopes = query scopes
-condition_step (Condition-F.Compare left comparison right) scopes = first_of (left scopes) (right scopes)
+condition_step (Condition-F.Compare left comparison right) scopes = option_or (left scopes) (right scopes)
 condition_step (Condition-F.IsNull part) scopes = part scopes
 condition_step (Condition-F.Between subject low high) scopes =
-    first_of (subject scopes) (first_of (low scopes) (high scopes))
-condition_step (Condition-F.In subject values) scopes = first_of (subject scopes) (parts_fault values scopes)
+    option_or (subject scopes) (option_or (low scopes) (high scopes))
+condition_step (Condition-F.In subject values) scopes = option_or (subject scopes) (parts_fault values scopes)
 
 -- what a query lists
 abbrev pub select_list_step : SelectList-F Fault Fault Fault Fault → Fault
@@ -64,9 +64,9 @@ select_list_step (SelectList-F.One part) scopes = part scopes
 -- a query's list, WHERE, GROUP BY and HAVING, seen from its own table inside those around it
 abbrev pub clauses_fault : Query-F Fault Fault Fault Fault → Fault
 clauses_fault query scopes =
-    first_of (query.select_list scopes)
-    (first_of (part_fault query.keeps scopes)
-    (first_of (group_fault query.group scopes) (part_fault query.having scopes)))
+    option_or (query.select_list scopes)
+    (option_or (part_fault query.keeps scopes)
+    (option_or (group_fault query.group scopes) (part_fault query.having scopes)))
 
 abbrev pub inner_fault : Option Layout → Query-F Fault Fault Fault Fault → Fault
 inner_fault None query scopes = Some (UnknownName query.table)

@@ -12,7 +12,7 @@
 //! (The standard refuses a name that two tables of one FROM have; here each FROM has one table, so none is
 //! ambiguous.)
 //!
-//! [`known_condition`] and [`known_expression`] look names up from the left, and of a query first its table, then
+//! [`look_up_condition`] and [`look_up_expression`] look names up from the left, and of a query first its table, then
 //! what it lists, WHERE, GROUP BY and HAVING: the order in which a fault is answered. They look at names alone,
 //! whatever the shape, so that an unknown name is told before a shape that isn't allowed. A [`Scope`] is one table
 //! with the name it goes by; [`Scope::is_named`] says whether a name is of it, and [`Scope::own`] gives the column of
@@ -27,4 +27,4 @@ mod scopes;
 mod trees;
 
 pub use scopes::{Scope, exposed_name};
-pub use trees::{known_condition, known_expression};
+pub use trees::{look_up_condition, look_up_expression};

@@ -1,8 +1,8 @@
 //! Where a column's name is looked up.
 
-ghost use Rattle.std.specs.Prelude.{◌≡◌, ◌≢◌, ◌++◌, ◌∷◌, [], map, IfOk, IfErr, IsOkUnless, Some, None, unwrap_or};
+ghost use Rattle.std.specs.Prelude.{◌≡◌, ◌≢◌, ◌∷◌, IfOk, IfErr, IsOkUnless, Some, None, unwrap_or};
 ghost use Rattle.value.specs.declared.refusals.Refusal.TheVariants.{NoMemory};
-ghost use Rattle.name_check.specs.Scopes.{column_error, column_fault, fault_in, innermost, is_name_of, own_column};
+ghost use Rattle.name_check.specs.Scopes.{column_error, column_fault, is_name_of, own_column};
 ghost use Rattle.name_check.specs.Shown.{shown, all_shown};
 
 use std::alloc::Global;
@@ -54,7 +54,7 @@ pub fn exposed_name<'a>(correlation_name: &'a Option<Text>, table: &'a Text) -> 
 }
 
 /// The scopes with one more inside them.
-pub fn within<'a>(
+pub fn put_inside<'a>(
     alloc: Global,
     inner: Scope<'a>,
     outer: &[Scope<'a>],
@@ -71,14 +71,14 @@ pub fn within<'a>(
 }
 
 /// Refuses a column's name that means nothing: UnknownName of the qualifier if no table goes by it, else of the column.
-pub fn known_column(scopes: &[Scope], column: &ColumnName) -> Result<(), Refusal>
+pub fn look_up_column(scopes: &[Scope], column: &ColumnName) -> Result<(), Refusal>
     ensures known { IfOk result (λ _. column_fault column.now (all_shown scopes.now) ≡ None) }
     ensures refused { IfErr result (λ refusal.
         refusal ≢ NoMemory → column_fault column.now (all_shown scopes.now) ≡ Some refusal) }
 {
     for scope in scopes {
         if scope.is_named(column) {
-            return known_in(scope, &column.name);
+            return look_up_in(scope, &column.name);
         }
     }
     let name = match &column.qualifier {
@@ -89,7 +89,7 @@ pub fn known_column(scopes: &[Scope], column: &ColumnName) -> Result<(), Refusal
 }
 
 /// Refuses the name of a column that this table does not have.
-fn known_in(scope: &Scope, name: &Text) -> Result<(), Refusal>
+fn look_up_in(scope: &Scope, name: &Text) -> Result<(), Refusal>
     ensures known { IfOk result (λ _. column_error name.now (shown scope.now) ≡ None) }
     ensures refused { IfErr result (λ refusal.
         refusal ≢ NoMemory → column_error name.now (shown scope.now) ≡ Some refusal) }

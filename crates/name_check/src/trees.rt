@@ -1,11 +1,11 @@
 //! The names of conditions, expressions and queries are looked up from the left.
 
-ghost use Rattle.std.specs.Prelude.{◌≡◌, ◌≢◌, map, IfOk, IfErr, Some, None};
+ghost use Rattle.std.specs.Prelude.{◌≡◌, ◌≢◌, IfOk, IfErr, Some, None};
 ghost use Rattle.value.specs.declared.refusals.Refusal.TheVariants.{NoMemory};
-ghost use Rattle.name_check.specs.Names.{condition_fault, expression_fault, select_list_fault, query_fault, part_fault, parts_fault, group_fault, clauses_fault};
+ghost use Rattle.name_check.specs.Names.{condition_fault, expression_fault, query_fault, group_fault};
 ghost use Rattle.name_check.specs.Shown.{all_shown};
 
-use crate::scopes::{Scope, exposed_name, known_column, within};
+use crate::scopes::{Scope, exposed_name, look_up_column, put_inside};
 use std::alloc::Global;
 use syntax::{ColumnName, Condition, Expression, Query, SelectList};
 use table::Catalog;
@@ -18,7 +18,7 @@ use value::Refusal;
 /// [`Refusal::UnknownName`] with the first name that stands for nothing, from the left; of a query its table comes
 /// first, then its list, WHERE, GROUP BY and HAVING. Or [`Refusal::NoMemory`].
 #[cycle(names)]
-pub fn known_condition(
+pub fn look_up_condition(
     alloc: Global,
     catalog: &Catalog,
     scopes: &[Scope],
@@ -31,28 +31,28 @@ pub fn known_condition(
     match condition {
         Condition::Or(parts) | Condition::And(parts) => {
             for part in parts.as_slice() {
-                known_condition(alloc, catalog, scopes, part)?;
+                look_up_condition(alloc, catalog, scopes, part)?;
             }
             Ok(())
         }
         Condition::Not(part) | Condition::Is(part, _) => {
-            known_condition(alloc, catalog, scopes, part.get())
+            look_up_condition(alloc, catalog, scopes, part.get())
         }
-        Condition::Exists(query) => known_query(alloc, catalog, scopes, query.get()),
+        Condition::Exists(query) => look_up_query(alloc, catalog, scopes, query.get()),
         Condition::Compare(left, _, right) => {
-            known_expression(alloc, catalog, scopes, left)?;
-            known_expression(alloc, catalog, scopes, right)
+            look_up_expression(alloc, catalog, scopes, left)?;
+            look_up_expression(alloc, catalog, scopes, right)
         }
-        Condition::IsNull(part) => known_expression(alloc, catalog, scopes, part),
+        Condition::IsNull(part) => look_up_expression(alloc, catalog, scopes, part),
         Condition::Between(subject, low, high) => {
-            known_expression(alloc, catalog, scopes, subject)?;
-            known_expression(alloc, catalog, scopes, low)?;
-            known_expression(alloc, catalog, scopes, high)
+            look_up_expression(alloc, catalog, scopes, subject)?;
+            look_up_expression(alloc, catalog, scopes, low)?;
+            look_up_expression(alloc, catalog, scopes, high)
         }
         Condition::In(subject, values) => {
-            known_expression(alloc, catalog, scopes, subject)?;
+            look_up_expression(alloc, catalog, scopes, subject)?;
             for value in values.as_slice() {
-                known_expression(alloc, catalog, scopes, value)?;
+                look_up_expression(alloc, catalog, scopes, value)?;
             }
             Ok(())
         }
@@ -61,7 +61,7 @@ pub fn known_condition(
 
 /// Looks up the names of an expression, as of a condition.
 #[cycle(names)]
-pub fn known_expression(
+pub fn look_up_expression(
     alloc: Global,
     catalog: &Catalog,
     scopes: &[Scope],
@@ -74,13 +74,13 @@ pub fn known_expression(
     match expression {
         Expression::Number(_) | Expression::Text(_) | Expression::CountRows => Ok(()),
         Expression::Column(column) | Expression::Aggregate(_, column) => {
-            known_column(scopes, column)
+            look_up_column(scopes, column)
         }
-        Expression::Subquery(query) => known_query(alloc, catalog, scopes, query.get()),
-        Expression::Negation(part) => known_expression(alloc, catalog, scopes, part.get()),
+        Expression::Subquery(query) => look_up_query(alloc, catalog, scopes, query.get()),
+        Expression::Negation(part) => look_up_expression(alloc, catalog, scopes, part.get()),
         Expression::Sum(parts) | Expression::Product(parts) => {
             for part in parts.as_slice() {
-                known_expression(alloc, catalog, scopes, part)?;
+                look_up_expression(alloc, catalog, scopes, part)?;
             }
             Ok(())
         }
@@ -89,7 +89,7 @@ pub fn known_expression(
 
 /// Looks up the names of a query: its table, and then those of its clauses, for which the table is the innermost.
 #[cycle(names)]
-fn known_query(
+fn look_up_query(
     alloc: Global,
     catalog: &Catalog,
     scopes: &[Scope],
@@ -105,7 +105,7 @@ fn known_query(
         });
     };
     let exposed_name = exposed_name(&query.correlation_name, &query.table);
-    let scopes = within(
+    let scopes = put_inside(
         alloc,
         Scope {
             exposed_name,
@@ -114,26 +114,26 @@ fn known_query(
         scopes,
     )?;
     if let SelectList::One(select_list) = &query.select_list {
-        known_expression(alloc, catalog, &scopes, select_list)?;
+        look_up_expression(alloc, catalog, &scopes, select_list)?;
     }
     if let Some(keeps) = &query.keeps {
-        known_condition(alloc, catalog, &scopes, keeps)?;
+        look_up_condition(alloc, catalog, &scopes, keeps)?;
     }
-    known_group(&scopes, &query.group)?;
+    look_up_group(&scopes, &query.group)?;
     match &query.having {
-        Some(having) => known_condition(alloc, catalog, &scopes, having),
+        Some(having) => look_up_condition(alloc, catalog, &scopes, having),
         None => Ok(()),
     }
 }
 
 /// Looks up the column of GROUP BY, if there is one.
-fn known_group(scopes: &[Scope], group: &Option<ColumnName>) -> Result<(), Refusal>
+fn look_up_group(scopes: &[Scope], group: &Option<ColumnName>) -> Result<(), Refusal>
     ensures known { IfOk result (λ _. group_fault group.now (all_shown scopes.now) ≡ None) }
     ensures refused { IfErr result (λ refusal.
         refusal ≢ NoMemory → group_fault group.now (all_shown scopes.now) ≡ Some refusal) }
 {
     match group {
-        Some(column) => known_column(scopes, column),
+        Some(column) => look_up_column(scopes, column),
         None => Ok(()),
     }
 }

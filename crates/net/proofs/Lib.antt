@@ -1,2 +1,2 @@
 mod Members
-mod Places
+pub mod Places

@@ -28,7 +28,8 @@ pub fn net_change(
     ensures net { IfOk result (λ made. made.items
         ≡ net_change (layouts_in before.now.declared) before.now.state after.now.state) }
 {
-    touched.in_order();
+    touched.recall_order();
+    // (that a view's tables are as its declarations say is a clause of its catalog)
     let _ = before.catalog();
     let _ = after.catalog();
     let made = differences(alloc, before, after, touched)?;
@@ -72,8 +73,8 @@ fn difference(before: &View, after: &View, place: &Place) -> Result<Option<Chang
     Ok(Some(Change {
         table: place.table,
         key: place.key.copy()?,
-        old: copied(old)?,
-        new: copied(new)?,
+        old: copy_row(old)?,
+        new: copy_row(new)?,
     }))
 }
 
@@ -89,7 +90,7 @@ pub fn row_in<'a>(view: &'a View, place: &Place) -> Option<&'a Row>
     }
 }
 
-fn copied(row: Option<&Row>) -> Result<Option<Row>, Refusal>
+fn copy_row(row: Option<&Row>) -> Result<Option<Row>, Refusal>
     ensures only_memory { IsOkUnless result NoMemory }
     ensures equal { IfOk result (λ copy. copy ≡ option_copied row.entry) }
 {

@@ -15,6 +15,3 @@ mod touched;
 
 pub use changes::{is_same_there, net_change, row_in};
 pub use touched::Touched;
-
-#[cfg(test)]
-mod tests;

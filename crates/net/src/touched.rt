@@ -82,9 +82,10 @@ impl Touched {
     }
 
     /// The places stand in their order, each once.
-    pub fn in_order(&self)
+    pub fn recall_order(&self)
         ensures { IsAscending place_cmp (λ place. place) self.now }
     {
+        // (what holds of every value of a type is known where a field of it is read)
         let _ = self.places.len();
     }
 }

@@ -13,28 +13,8 @@ use Rattle.value.specs.Ordered.{by_order, at, put, AreAbove}
 use Rattle.value.proofs.ValueOrders.{value_cmp_total}
 use Rattle.value.proofs.OrderedLists.{AreAbove-below, at-above, flipped}
 use Rattle.std.proofs.lemmas.Cmp.{tied_itself}
+use Rattle.std.proofs.Math.Bool.{or_assoc, or-true, or-false}
 use Rattle.pages.specs.Reach.{key_of, reaches, IsGreatest, AreInOrder}
-
-or_assoc : (a b c : Bool) → a || (b || c) ≡ (a || b) || c
-or_assoc true b c = refl
-or_assoc false b c = refl
-
-pub or_false : (a b : Bool) → a ≡ false → b ≡ false → a || b ≡ false
-or_false true b h i = cc
-or_false false b h i = i
-
-or_true : (a : Bool) → a || true ≡ true
-or_true true = refl
-or_true false = refl
-
-or_nothing : (a : Bool) → a || false ≡ a
-or_nothing true = refl
-or_nothing false = refl
-
-pub gt_is : (c : Ordering) → is_gt c ≡ true → c ≡ Greater
-gt_is Less h = cc
-gt_is Equal h = cc
-gt_is Greater h = refl
 
 passed_first : (c : Ordering) (b : Bool) → not (is_gt c) || b ≡ false → c ≡ Greater
 passed_first Less b h = cc
@@ -112,7 +92,7 @@ shared_there xs i x y h e f = record {
 module _ {V : Type 0} where
   pub reaches-append : (k : Value) (xs ys : List (Value × V)) → reaches k (xs ++ ys) ≡ reaches k xs || reaches k ys
   reaches-append k [] ys = refl
-  reaches-append k (x ∷ xs) ys = ap (λ b. not (is_gt (value_cmp k (key_of x))) || b) (reaches-append k xs ys) ∙ or_assoc (not (is_gt (value_cmp k (key_of x)))) (reaches k xs) (reaches k ys)
+  reaches-append k (x ∷ xs) ys = ap (λ b. not (is_gt (value_cmp k (key_of x))) || b) (reaches-append k xs ys) ∙ sym (or_assoc (not (is_gt (value_cmp k (key_of x)))) (reaches k xs) (reaches k ys))
 
   pub at_past : (k : Value) (xs ys : List (Value × V)) → reaches k xs ≡ false → at value_cmp key_of k (xs ++ ys) ≡ at value_cmp key_of k ys
   at_past k [] ys h = refl
@@ -196,7 +176,7 @@ module _ {V : Type 0} where
   pub last_reaches : (k : Value) (xs ys : List (Value × V)) → AreInOrder (xs ++ ys) → 0 < length ys → reaches k (xs ++ ys) ≡ reaches k ys
   last_reaches k xs ys s n =
       let case : (b : Bool) → reaches k ys ≡ b → reaches k (xs ++ ys) ≡ b = λ b. elim b as (λ b. reaches k ys ≡ b → reaches k (xs ++ ys) ≡ b) [
-        | true ↦ λ e. reaches-append k xs ys ∙ ap (λ c. reaches k xs || c) e ∙ or_true (reaches k xs)
+        | true ↦ λ e. reaches-append k xs ys ∙ ap (λ c. reaches k xs || c) e ∙ or-true (reaches k xs)
         | false ↦ λ e. passed k xs ys s n e
       ]
       in case (reaches k ys) refl
@@ -212,7 +192,7 @@ module _ {V : Type 0} where
       let last : ℕ = length page - 1 in
       let h : last < length page = omega (arith, n) in
       let whole : page ≡ take last page ++ x ∷ [] = sym (take_all (last + 1) page (omega (arith, n))) ∙ take_more page last x h ∙ ap (λ z. take last page ++ z ∷ []) (sym e) in
-      ap (reaches k) whole ∙ last_reaches k (take last page) (x ∷ []) (subst AreInOrder whole s) (omega arith) ∙ or_nothing (not (is_gt (value_cmp k (key_of x))))
+      ap (reaches k) whole ∙ last_reaches k (take last page) (x ∷ []) (subst AreInOrder whole s) (omega arith) ∙ or-false (not (is_gt (value_cmp k (key_of x))))
 
   put_above : (k : Value) (new : Option (Value × V)) (xs : List (Value × V)) → AreAbove value_cmp key_of k xs → put value_cmp key_of k new xs ≡ option_to_list new ++ xs
   put_above k new [] a = sym (append-nil (option_to_list new))

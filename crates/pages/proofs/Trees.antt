@@ -9,7 +9,7 @@ use Rattle.value.specs.ValueOrder.{value_cmp}
 use Rattle.value.specs.Ordered.{at, put}
 use Rattle.pages.specs.Reach.{key_of, reaches, IsGreatest, AreInOrder}
 use Rattle.pages.specs.Levels.{Tree, entries_of, entries_at, highest, HaveHeight}
-use Rattle.pages.proofs.Orders.{at_past, at_stops, put_past, put_stops, order_front, passed, last_reaches, some_entry, take_all, drop_within, drop_past}
+use Rattle.pages.proofs.Orders.{IsThere, at_past, at_stops, put_past, put_stops, order_front, passed, last_reaches, some_entry, take_all, drop_within, drop_past}
 
 module _ {V : Type 0} where
   pub entries_of-append : (ts us : List (Tree V)) → entries_of (ts ++ us) ≡ entries_of ts ++ entries_of us
@@ -71,6 +71,10 @@ module _ {V : Type 0} where
   changed k ts r h p (inr s) new = ap (put value_cmp key_of k new) (around ts r h) ∙ put_past k new (entries_of (take r ts)) (entries_at ts r ++ entries_of (drop (r + 1) ts)) p
       ∙ ap (λ es. entries_of (take r ts) ++ es) (ap (λ es. put value_cmp key_of k new (entries_at ts r ++ es)) (behind_last ts r s) ∙ ap (put value_cmp key_of k new) (append-nil (entries_at ts r))
       ∙ sym (append-nil (put value_cmp key_of k new (entries_at ts r))) ∙ ap (λ es. put value_cmp key_of k new (entries_at ts r) ++ es) (sym (behind_last ts r s)))
+
+  -- the greatest key of a node that stands there
+  pub greatest_at : (greatest : Value) (ts : List (Tree V)) (r : ℕ) (t : Tree V) → IsThere ts r t → IsGreatest greatest t.1 → IsGreatest greatest (entries_at ts r)
+  greatest_at greatest ts r t there = subst (IsGreatest greatest) (ap (λ (u : Tree V). u.1) there.is ∙ sym (entries_at-is ts r t there.within))
 
   -- a node whose greatest key is below the key, and all before it
   pub passed_node : (k greatest : Value) (ts : List (Tree V)) (r : ℕ) → r < length ts → AreInOrder (entries_of ts) → IsGreatest greatest (entries_at ts r) → is_gt (value_cmp k greatest) ≡ true

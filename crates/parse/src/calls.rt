@@ -14,7 +14,7 @@ use crate::wholes::{event_of, schema_of, script_of};
 use sqlite_items::Items;
 use statement_syntax::{Definition, Event, Step};
 use std::alloc::Global;
-use token::tokens;
+use token::read_tokens;
 use value::Refusal;
 
 const MOST_OPEN: usize = 64;
@@ -33,7 +33,7 @@ pub fn parse_schema(alloc: Global, text: &[u8]) -> Result<Items<Definition>, Ref
     // A refusal names the first wrong token, or the first parenthesis too many.
     ensures refused { IfErr result (Refused IsSchema most_open (lexemes text.now) (length text.now)) }
 {
-    let tokens = tokens(alloc, text)?;
+    let tokens = read_tokens(alloc, text)?;
     schema_of(alloc, text, &tokens, MOST_OPEN)
 }
 
@@ -48,7 +48,7 @@ pub fn parse_statement(alloc: Global, text: &[u8]) -> Result<Event, Refusal>
     // A refusal names the first wrong token, or the first parenthesis too many.
     ensures refused { IfErr result (Refused IsEvent most_open (lexemes text.now) (length text.now)) }
 {
-    let tokens = tokens(alloc, text)?;
+    let tokens = read_tokens(alloc, text)?;
     event_of(alloc, text, &tokens, MOST_OPEN)
 }
 
@@ -63,6 +63,6 @@ pub fn parse_script(alloc: Global, text: &[u8]) -> Result<Items<Step>, Refusal>
     // A refusal names the first wrong token, or the first parenthesis too many.
     ensures refused { IfErr result (Refused IsScript most_open (lexemes text.now) (length text.now)) }
 {
-    let tokens = tokens(alloc, text)?;
+    let tokens = read_tokens(alloc, text)?;
     script_of(alloc, text, &tokens, MOST_OPEN)
 }

@@ -11,7 +11,7 @@ ghost use Rattle.parse.specs.Told as spec;
 
 use leaf_parser::{Cursor, Stop};
 use sqlite_items::Items;
-use statement_parser::{definitions, event_, script};
+use statement_parser::{parse_definitions, parse_event, parse_script};
 use statement_syntax::{Definition, Event, Step};
 use std::alloc::Global;
 use token::Token;
@@ -30,7 +30,7 @@ fn refusal_of(stop: Stop, cursor: &Cursor<'_>, end: usize) -> Refusal
 }
 
 /// What was found, if nothing is left.
-fn ended<T: Drop>(cursor: &mut Cursor<'_>, found: T) -> Result<T, Stop>
+fn expect_end<T: Drop>(cursor: &mut Cursor<'_>, found: T) -> Result<T, Stop>
     ensures { Reads (rd.ended found cursor.old) result cursor.new }
 {
     if cursor.is_empty() {
@@ -40,29 +40,33 @@ fn ended<T: Drop>(cursor: &mut Cursor<'_>, found: T) -> Result<T, Stop>
     }
 }
 
-fn whole_event(alloc: Global, cursor: &mut Cursor<'_>, depth: usize) -> Result<Event, Stop>
-    ensures { Reads (rd.whole (event.event_ depth) cursor.old) result cursor.new }
+fn parse_whole_event(alloc: Global, cursor: &mut Cursor<'_>, depth: usize) -> Result<Event, Stop>
+    ensures { Reads (rd.whole (event.one_event depth) cursor.old) result cursor.new }
 {
-    let found = event_(alloc, cursor, depth)?;
-    ended(cursor, found)
+    let found = parse_event(alloc, cursor, depth)?;
+    expect_end(cursor, found)
 }
 
-fn whole_schema(
+fn parse_whole_schema(
     alloc: Global,
     cursor: &mut Cursor<'_>,
     depth: usize,
 ) -> Result<Items<Definition>, Stop>
-    ensures { Reads (rd.whole (schema.defs depth) cursor.old) result cursor.new }
+    ensures { Reads (rd.whole (schema.definitions depth) cursor.old) result cursor.new }
 {
-    let found = definitions(alloc, cursor, depth)?;
-    ended(cursor, found)
+    let found = parse_definitions(alloc, cursor, depth)?;
+    expect_end(cursor, found)
 }
 
-fn whole_script(alloc: Global, cursor: &mut Cursor<'_>, depth: usize) -> Result<Items<Step>, Stop>
+fn parse_whole_script(
+    alloc: Global,
+    cursor: &mut Cursor<'_>,
+    depth: usize,
+) -> Result<Items<Step>, Stop>
     ensures { Reads (rd.whole (schema.script depth) cursor.old) result cursor.new }
 {
-    let found = script(alloc, cursor, depth)?;
-    ended(cursor, found)
+    let found = parse_script(alloc, cursor, depth)?;
+    expect_end(cursor, found)
 }
 
 /// The event of these tokens, where so many parentheses may be open.
@@ -73,10 +77,10 @@ pub fn event_of(
     tokens: &[Token],
     depth: usize,
 ) -> Result<Event, Refusal>
-    ensures { Told (rd.whole (event.event_ depth) (map (lexeme text.now) tokens.now)) (length text.now) result }
+    ensures { Told (rd.whole (event.one_event depth) (map (lexeme text.now) tokens.now)) (length text.now) result }
 {
     let mut cursor = Cursor::new(text, tokens);
-    match whole_event(alloc, &mut cursor, depth) {
+    match parse_whole_event(alloc, &mut cursor, depth) {
         Ok(found) => Ok(found),
         Err(stop) => Err(refusal_of(stop, &cursor, text.len())),
     }
@@ -90,10 +94,10 @@ pub fn schema_of(
     tokens: &[Token],
     depth: usize,
 ) -> Result<Items<Definition>, Refusal>
-    ensures { Told (rd.whole (schema.defs depth) (map (lexeme text.now) tokens.now)) (length text.now) result }
+    ensures { Told (rd.whole (schema.definitions depth) (map (lexeme text.now) tokens.now)) (length text.now) result }
 {
     let mut cursor = Cursor::new(text, tokens);
-    match whole_schema(alloc, &mut cursor, depth) {
+    match parse_whole_schema(alloc, &mut cursor, depth) {
         Ok(found) => Ok(found),
         Err(stop) => Err(refusal_of(stop, &cursor, text.len())),
     }
@@ -110,7 +114,7 @@ pub fn script_of(
     ensures { Told (rd.whole (schema.script depth) (map (lexeme text.now) tokens.now)) (length text.now) result }
 {
     let mut cursor = Cursor::new(text, tokens);
-    match whole_script(alloc, &mut cursor, depth) {
+    match parse_whole_script(alloc, &mut cursor, depth) {
         Ok(found) => Ok(found),
         Err(stop) => Err(refusal_of(stop, &cursor, text.len())),
     }

@@ -67,8 +67,8 @@ fn answer_script<R: Print + Eprint + AllocGlobal>(rt: &R, text: &[u8]) -> u8
     ensures { result ≤ 3 }
 {
     match parse_script(rt.alloc(), text) {
-        Ok(steps) => ended(rt.println(steps.len()), READ),
-        Err(refusal) => ended(rt.eprintln(refusal), REFUSED),
+        Ok(steps) => status_of(rt.println(steps.len()), READ),
+        Err(refusal) => status_of(rt.eprintln(refusal), REFUSED),
     }
 }
 
@@ -103,7 +103,7 @@ fn refusal_of(alloc: Global, letter: u8, text: &[u8]) -> Option<Refusal> {
 }
 
 /// The status, if the output could be written.
-fn ended(printed: io::Result<()>, status: u8) -> u8
+fn status_of(printed: io::Result<()>, status: u8) -> u8
     requires { status ≤ 3 }
     ensures { result ≤ 3 }
 {

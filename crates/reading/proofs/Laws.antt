@@ -1,6 +1,7 @@
 -- What a reader promises of a language, and how readers that promise it are put together.
-use Rattle.std.proofs.Common.{◌≡◌, ℕ, ◌≤◌, Bool, true, false, List, [], ◌∷◌, ◌++◌, length, Option, Some, ◌&&◌, refl, sym, ◌∙◌, ap, subst, inl, inr, ◌⊎◌, arith, rules, append_assoc, cond}
+use Rattle.std.proofs.Common.{◌≡◌, ℕ, ◌≤◌, Bool, true, false, List, [], ◌∷◌, ◌++◌, length, Option, Some, refl, sym, ◌∙◌, ap, subst, inl, inr, ◌⊎◌, arith, rules, append_assoc, cond}
 use Rattle.std.proofs.lemmas.List.{append_cancel_right}
+use Rattle.std.proofs.lemmas.Bool.{and_parts}
 use Rattle.token.specs.declared.kinds.Kind.{Kind}
 use Rattle.token.specs.declared.kinds.Kind.TheVariants as k
 use Rattle.token.specs.contracts.kinds.Kind.{the_type}
@@ -262,16 +263,12 @@ sound_expect n m kind neutral = record {
   looks = λ w a b v e same. expect_looks kind w a b v e same;
 }
 
-both_true : (a b : Bool) → a && b ≡ true → (a ≡ true) × (b ≡ true)
-both_true true b e = (refl, e)
-both_true false b e = absurd (cc)
-
 taken_where : (kind : Kind) (test : Lexeme → Bool) (n m : ℕ) (b : Bool) (ts : Lexemes) (v : Verdict Lexeme) (rest : Lexemes) → Begins (lang.token_where kind test) [] → after_kind kind n ≡ Some m
     → passes kind test (head ts) ≡ b → cond b (take ts) (Fail, ts) ≡ (v, rest) → Took n m (lang.token_where kind test) ts v rest
 taken_where kind test n m true [] v rest some neutral is e =
     record { text = []; cut = ap (λ o. o.1) e; meets = subst (λ u. Meets n m (lang.token_where kind test) [] rest u) (ap (λ o. o.0) e) (some, (n, refl)) }
 taken_where kind test n m true (x ∷ ts) v rest some neutral is e =
-    let two = both_true (same_kind x.kind kind) (test x) is in
+    let two = and_parts (same_kind x.kind kind) (test x) is in
     let same : x.kind ≡ kind = same_kind_is x.kind kind two.0 in
     let room : after_kind x.kind n ≡ Some m = ap (λ kind. after_kind kind n) same ∙ neutral in
     record { text = x ∷ []; cut = ap (λ o. x ∷ o.1) e; meets = subst (λ u. Meets n m (lang.token_where kind test) (x ∷ []) rest u) (ap (λ o. o.0) e) ((refl, same, two.1), room) }

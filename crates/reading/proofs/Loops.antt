@@ -9,33 +9,6 @@ use Rattle.reading.proofs.Laws.{append-nil, kind_at-append, bind_done, bind_deep
 
 -- ---- parentheses
 
-some_parens : {A : Type 0} (L : Language A) (w : Lexemes) (a : A) → L w a → Begins (lang.parens L) (some_lexeme k.Open ∷ [])
-some_parens L w a h = (
-  w ++ some_lexeme k.Close ∷ [],
-  a,
-  record {
-    tree = some_lexeme k.Open;
-    split = record {
-      front = some_lexeme k.Open ∷ [];
-      back = w ++ some_lexeme k.Close ∷ [];
-      cut = refl;
-      first = (refl, refl);
-      second =
-          record {
-            tree = a;
-            split = record {
-              front = w;
-              back = some_lexeme k.Close ∷ [];
-              cut = refl;
-              first = h;
-              second =
-                  record { tree = some_lexeme k.Close; split = record { front = some_lexeme k.Close ∷ []; back = []; cut = refl; first = (refl, refl); second = (refl, refl) } };
-            };
-          };
-    };
-  },
-)
-
 -- after any opening parenthesis
 begun_parens : {A : Type 0} (L : Language A) (x : Lexeme) → x.kind ≡ k.Open → (w : Lexemes) (a : A) → L w a → Begins (lang.parens L) (x ∷ [])
 begun_parens L x is w a h = (
@@ -65,7 +38,7 @@ begun_parens L x is w a h = (
 )
 
 begun_nothing : {A : Type 0} (L : Language A) → Begins L [] → Begins (lang.parens L) []
-begun_nothing L (w, a, h) = let b = some_parens L w a h in (some_lexeme k.Open ∷ b.0, b.1, b.2)
+begun_nothing L (w, a, h) = let b = begun_parens L (some_lexeme k.Open) refl w a h in (some_lexeme k.Open ∷ b.0, b.1, b.2)
 
 full_took : {A : Type 0} (L : Language A) (n m : ℕ) (b : Bool) (ts : Lexemes) (v : Verdict A) (rest : Lexemes) → Begins L [] → n ≡ 0
     → same_kind (kind_at ts) k.Open ≡ b → ◌≡◌ {A = Outcome A} (cond b (Deep, ts) (Fail, ts)) (v, rest) → Took n m (lang.parens L) ts v rest

@@ -1,17 +1,10 @@
 -- The keys of a list, one item after the other.
-use Rattle.std.proofs.Common.{◌≡◌, ℕ, zero, suc, ◌<◌, Bool, true, false, cond, List, [], ◌∷◌, ◌++◌, length, map, drop, get_or, refl, sym, ap, ◌∙◌, arith, append_assoc}
+use Rattle.std.proofs.Common.{◌≡◌, ℕ, zero, suc, ◌<◌, Bool, true, false, cond, List, [], ◌∷◌, ◌++◌, length, drop, get_or, refl, sym, ap, ◌∙◌, arith, append_assoc}
 use Rattle.table.specs.declared.rows.Change.{Change}
 use Rattle.assertion.specs.declared.assertions.Assertion.{Assertion}
 use Rattle.siread.specs.declared.keys.LockKey.{LockKey}
-use Rattle.siread.specs.declared.keys.LockKey.TheVariants.{Table as WholeTable}
 use Rattle.modes.specs.Modes.{immediate_ones}
 use Rattle.alone.specs.Checks.{check_keys, checks_read}
-
--- the tables of queries, as keys
-pub tables_of : {Q : Type 0} (table : Q → ℕ) (queries : List Q)
-    → map (λ q. WholeTable (table q)) queries ≡ map WholeTable (map table queries)
-tables_of table [] = refl
-tables_of table (q ∷ queries) = ap (λ rest. WholeTable (table q) ∷ rest) (tables_of table queries)
 
 -- what a check of the assertions meant reads, by the first of them
 first_one : (m : Bool) (meant : List Bool) (a : Assertion) (assertions : List Assertion) (changes : List Change)

@@ -3,11 +3,11 @@
 ghost use Rattle.std.specs.Prelude.{◌≡◌, ◌<◌, ◌++◌, [], flat_map, length, map, slice_index_or, if◌then◌else◌, IfOk, OnOk, IsOkUnless};
 ghost use Rattle.value.specs.declared.refusals.Refusal.TheVariants.{NoMemory};
 ghost use Rattle.assertion.specs.declared.assertions.Assertion.{Assertion as AnyAssertion};
-ghost use Rattle.siread.specs.declared.keys.LockKey.TheVariants.{Column as InColumn, Table as WholeTable};
+ghost use Rattle.siread.specs.declared.keys.LockKey.TheVariants.{Table as WholeTable};
 ghost use Rattle.modes.specs.Modes.{immediate_ones};
-ghost use Rattle.alone.specs.Checks.{check_keys, checks_read as checks_read_of, keys_for, tables_in};
+ghost use Rattle.alone.specs.Checks.{check_keys, checks_read as checks_read_of, keys_for, link_key, tables_in};
 
-use assertion::{Form, Linked, Plain};
+use assertion::{Form, Link, Query};
 use delta::View;
 use siread::{LockKey, Place};
 use std::alloc::Global;
@@ -111,15 +111,14 @@ fn push_root(keys: &mut Vec<LockKey>, form: &Form, root: &Root) -> Result<(), Re
 }
 
 /// Puts the rows that the subqueries link to a key behind the keys.
-fn push_links(keys: &mut Vec<LockKey>, queries: &[Linked], key: &Value) -> Result<(), Refusal>
+fn push_links(keys: &mut Vec<LockKey>, queries: &[Query<Link>], key: &Value) -> Result<(), Refusal>
     ensures only_memory { IsOkUnless result NoMemory }
-    ensures pushed { OnOk result (keys.new.items
-        ≡ keys.old.items ++ map (λ q. InColumn q.table q.link key.now) queries.now) }
+    ensures pushed { OnOk result (keys.new.items ≡ keys.old.items ++ map (link_key key.now) queries.now) }
 {
     for query in queries {
         keys.push(LockKey::Column {
             table: query.table,
-            column: query.link,
+            column: query.grouping.column(),
             value: key.copy()?,
         })?;
     }
@@ -127,19 +126,7 @@ fn push_links(keys: &mut Vec<LockKey>, queries: &[Linked], key: &Value) -> Resul
 }
 
 /// Puts the tables of the subqueries behind the keys.
-fn push_tables(keys: &mut Vec<LockKey>, queries: &[Plain]) -> Result<(), Refusal>
-    ensures only_memory { IsOkUnless result NoMemory }
-    ensures pushed { OnOk result (keys.new.items
-        ≡ keys.old.items ++ map (λ q. WholeTable q.table) queries.now) }
-{
-    for query in queries {
-        keys.push(LockKey::Table(query.table))?;
-    }
-    Ok(())
-}
-
-/// Puts the tables of the linked subqueries behind the keys.
-fn push_linked_tables(keys: &mut Vec<LockKey>, queries: &[Linked]) -> Result<(), Refusal>
+fn push_tables<G>(keys: &mut Vec<LockKey>, queries: &[Query<G>]) -> Result<(), Refusal>
     ensures only_memory { IsOkUnless result NoMemory }
     ensures pushed { OnOk result (keys.new.items
         ≡ keys.old.items ++ map WholeTable (map (λ q. q.table) queries.now)) }
@@ -170,7 +157,7 @@ fn push_named(keys: &mut Vec<LockKey>, form: &Form) -> Result<(), Refusal>
     match form {
         Form::ByRow { table, queries, .. } => {
             keys.push(LockKey::Table(*table))?;
-            push_linked_tables(keys, queries.as_slice())?;
+            push_tables(keys, queries.as_slice())?;
             Ok(())
         }
         Form::ByGroup { table, .. } => {

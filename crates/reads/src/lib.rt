@@ -27,6 +27,3 @@ mod wheres;
 pub use checks::{checks_read, tables_read};
 pub use real::real_changes;
 pub use wheres::{Equality, equality_on, where_key};
-
-#[cfg(test)]
-mod tests;

@@ -23,23 +23,23 @@ pub struct Equality<'a> {
 /// AND joins at the top, whether it is there or not, else the rows of the first `column = literal`, else the table
 /// (SIREAD locks: Cahill, Röhm and Fekete 2008; keys of a predicate: Ports and Grittner 2012, "index-range and
 /// relation locks"). NoMemory is the only error.
-pub fn where_key(table: usize, key: usize, kept: &Cond) -> Result<LockKey, Refusal>
+pub fn where_key(table: usize, key: usize, filter: &Cond) -> Result<LockKey, Refusal>
     ensures only_memory { IsOkUnless result NoMemory }
-    ensures key { IfOk result (λ read. read ≡ where_key_of table key kept.now) }
+    ensures key { IfOk result (λ read. read ≡ where_key_of table key filter.now) }
 {
     key_of(
         table,
-        equality_on(kept, key),
-        first_equality(top_parts(kept)),
+        equality_on(filter, key),
+        first_equality(top_parts(filter)),
     )
 }
 
 /// The first `column = literal` of this column among the parts that AND joins at the top of a WHERE. A row that the
 /// WHERE keeps has that literal's value there. It takes no memory.
-pub fn equality_on(kept: &Cond, column: usize) -> Option<Equality<'_>>
-    ensures { shown result ≡ first_of_column column (top_parts_of kept.now) }
+pub fn equality_on(filter: &Cond, column: usize) -> Option<Equality<'_>>
+    ensures { shown result ≡ first_of_column column (top_parts_of filter.now) }
 {
-    first_on(column, top_parts(kept))
+    first_on(column, top_parts(filter))
 }
 
 /// The row of the one, else the rows of the other, else the table.
@@ -108,13 +108,13 @@ fn equality_in(condition: &Cond) -> Option<Equality<'_>>
     ensures { shown result ≡ equality_of (out-Cond condition.now) }
 {
     match condition {
-        Cond::Compare(Comparison::Equal, left, right) => sides(left, right),
+        Cond::Compare(Comparison::Equal, left, right) => equality_of(left, right),
         _ => None,
     }
 }
 
 /// The column and the literal of which they are, in either order.
-fn sides<'a>(left: &'a Expr, right: &'a Expr) -> Option<Equality<'a>>
+fn equality_of<'a>(left: &'a Expr, right: &'a Expr) -> Option<Equality<'a>>
     ensures { shown result ≡ sides_of (out-Expr left.now) (out-Expr right.now) }
 {
     match (left, right) {

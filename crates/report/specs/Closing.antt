@@ -1,10 +1,11 @@
 -- The closing part of the report: the commits, their serial order, the COMMITs that were refused, and the assertions.
 use Rattle.std.specs.Prelude.{ℕ, true, List, [], ◌∷◌, ◌++◌, length, codes, decimal}
 use Rattle.threeval.specs.declared.Truth.{Truth}
+use Rattle.threeval.specs.Truths.{name_of}
 use Rattle.assertion.specs.declared.assertions.Assertion.{Assertion}
 use Rattle.serial.specs.declared.records.Record.{Record}
 use Rattle.answer.specs.declared.answers.RefusedCommit.{RefusedCommit}
-use Rattle.report.specs.Report.{fault_text, truth_text}
+use Rattle.report.specs.Report.{fault_text}
 
 -- a word and how many lines follow it
 unfoldable pub count_line : List ℕ → ℕ → List ℕ
@@ -48,7 +49,7 @@ refused_part refused = count_line (codes "REFUSED ") (length refused) ++ refused
 
 -- an assertion by its name, and its truth
 abbrev pub verdict_line : List ℕ → Truth → List ℕ
-verdict_line name truth = name ++ codes " " ++ truth_text truth ++ codes "\n"
+verdict_line name truth = name ++ codes " " ++ name_of truth ++ codes "\n"
 
 -- a line for each assertion that has a truth beside it
 abbrev pub verdict_lines : List Assertion → List Truth → List ℕ

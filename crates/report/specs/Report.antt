@@ -11,8 +11,7 @@ use Rattle.value.specs.declared.refusals.Excess.{Excess}
 use Rattle.value.specs.declared.refusals.Excess.TheVariants as excess
 use Rattle.value.specs.declared.refusals.Refusal.{Refusal}
 use Rattle.value.specs.declared.refusals.Refusal.TheVariants as refusal
-use Rattle.threeval.specs.declared.Truth.{Truth}
-use Rattle.threeval.specs.declared.Truth.TheVariants.{True, False, Unknown}
+use Rattle.threeval.specs.Truths.{name_of}
 use Rattle.table.specs.Rows.{RowValues}
 use Rattle.answer.specs.declared.answers.Reply.{Reply}
 use Rattle.answer.specs.declared.answers.Reply.TheVariants.{Inserted, Updated, Deleted, Rows, ModesSet, Verdict}
@@ -41,11 +40,6 @@ value_text (Text bytes) = codes "'" ++ doubled bytes ++ codes "'"
 abbrev pub root_text : Root → List ℕ
 root_text All = codes "ALL"
 root_text (Of v) = value_text v
-
-abbrev pub truth_text : Truth → List ℕ
-truth_text True = codes "TRUE"
-truth_text False = codes "FALSE"
-truth_text Unknown = codes "UNKNOWN"
 
 abbrev pub party_text : Party → List ℕ
 party_text This = codes "THIS"
@@ -126,7 +120,7 @@ reply_text event (Updated n) = codes "UPDATE " ++ decimal n
 reply_text event (Deleted n) = codes "DELETE " ++ decimal n
 reply_text event (Rows rows) = (codes "SELECT " ++ decimal (length rows)) ++ row_lines rows
 reply_text event ModesSet = codes "SET CONSTRAINTS"
-reply_text event (Verdict truth) = codes "VERDICT " ++ asked_name event ++ codes " " ++ truth_text truth
+reply_text event (Verdict truth) = codes "VERDICT " ++ asked_name event ++ codes " " ++ name_of truth
 
 abbrev pub answer_text : Event → Answer → List ℕ
 answer_text event (Begun n) = codes "BEGIN " ++ decimal n

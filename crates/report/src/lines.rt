@@ -69,171 +69,175 @@ impl Lines {
     }
 
     /// The line of a step's answer.
-    pub fn answer(&mut self, step: &Step, answer: &Answer) -> Result<(), AllocError>
+    pub fn add_answer(&mut self, step: &Step, answer: &Answer) -> Result<(), AllocError>
         ensures grown { OnOk result (self.new ≡ self.old ++ answer_line step.now answer.now) }
         ensures front { KeepsFront self.old self.new }
     {
-        self.text(&step.session)?;
-        self.word(": ")?;
-        self.answer_to(&step.event, answer)?;
-        self.word("\n")
+        self.add_text(&step.session)?;
+        self.add_word(": ")?;
+        self.add_event_answer(&step.event, answer)?;
+        self.add_word("\n")
     }
 
     /// The line of a transaction that is open when its session's events end.
-    pub fn left_open(&mut self, session: &Text) -> Result<(), AllocError>
+    pub fn add_left_open(&mut self, session: &Text) -> Result<(), AllocError>
         ensures grown { OnOk result (self.new ≡ self.old ++ left_open_line session.now) }
         ensures front { KeepsFront self.old self.new }
     {
-        self.text(session)?;
-        self.word(": ROLLBACK AT END\n")
+        self.add_text(session)?;
+        self.add_word(": ROLLBACK AT END\n")
     }
 
     /// The line of a text that was refused whole, by the name of the text.
-    pub fn refusal(&mut self, text: &str, refusal: &Refusal) -> Result<(), AllocError>
+    pub fn add_refusal(&mut self, text: &str, refusal: &Refusal) -> Result<(), AllocError>
         ensures grown { OnOk result (self.new ≡ self.old ++ refusal_line text.now refusal.now) }
         ensures front { KeepsFront self.old self.new }
     {
-        self.word(text)?;
-        self.word(": REFUSED ")?;
-        self.fault(false, refusal)?;
-        self.word("\n")
+        self.add_word(text)?;
+        self.add_word(": REFUSED ")?;
+        self.add_fault(false, refusal)?;
+        self.add_word("\n")
     }
 
-    fn answer_to(&mut self, event: &Event, answer: &Answer) -> Result<(), AllocError>
+    fn add_event_answer(&mut self, event: &Event, answer: &Answer) -> Result<(), AllocError>
         ensures grown { OnOk result (self.new ≡ self.old ++ answer_text event.now answer.now) }
         ensures front { KeepsFront self.old self.new }
     {
         match answer {
-            Answer::Begun(commits) => self.numbered("BEGIN ", *commits),
-            Answer::Replied(reply) => self.reply(event, reply),
-            Answer::Committed(number) => self.numbered("COMMIT ", *number),
-            Answer::RolledBack => self.word("ROLLBACK"),
+            Answer::Begun(commits) => self.add_numbered("BEGIN ", *commits),
+            Answer::Replied(reply) => self.add_reply(event, reply),
+            Answer::Committed(number) => self.add_numbered("COMMIT ", *number),
+            Answer::RolledBack => self.add_word("ROLLBACK"),
             Answer::Refused(refusal) => {
-                self.word("REFUSED ")?;
-                self.fault(matches!(event, Event::Commit), refusal)
+                self.add_word("REFUSED ")?;
+                self.add_fault(matches!(event, Event::Commit), refusal)
             }
         }
     }
 
-    fn reply(&mut self, event: &Event, reply: &Reply) -> Result<(), AllocError>
+    fn add_reply(&mut self, event: &Event, reply: &Reply) -> Result<(), AllocError>
         ensures grown { OnOk result (self.new ≡ self.old ++ reply_text event.now reply.now) }
         ensures front { KeepsFront self.old self.new }
     {
         match reply {
-            Reply::Inserted => self.word("INSERT 1"),
-            Reply::Updated(count) => self.numbered("UPDATE ", *count),
-            Reply::Deleted(count) => self.numbered("DELETE ", *count),
+            Reply::Inserted => self.add_word("INSERT 1"),
+            Reply::Updated(count) => self.add_numbered("UPDATE ", *count),
+            Reply::Deleted(count) => self.add_numbered("DELETE ", *count),
             Reply::Rows(rows) => {
-                self.numbered("SELECT ", rows.len() as u64)?;
-                self.rows(rows.as_slice())
+                self.add_numbered("SELECT ", rows.len() as u64)?;
+                self.add_rows(rows.as_slice())
             }
-            Reply::ModesSet => self.word("SET CONSTRAINTS"),
+            Reply::ModesSet => self.add_word("SET CONSTRAINTS"),
             Reply::Verdict(truth) => {
-                self.word("VERDICT ")?;
-                self.asked(event)?;
-                self.word(" ")?;
-                self.word(truth.name())
+                self.add_word("VERDICT ")?;
+                self.add_asked_name(event)?;
+                self.add_word(" ")?;
+                self.add_word(truth.name())
             }
         }
     }
 
     /// A line for each row, behind the line before it.
-    fn rows(&mut self, rows: &[Row]) -> Result<(), AllocError>
+    fn add_rows(&mut self, rows: &[Row]) -> Result<(), AllocError>
         ensures grown { OnOk result (self.new ≡ self.old ++ row_lines rows.now) }
         ensures front { KeepsFront self.old self.new }
     {
         for row in rows {
-            self.word("\n  ")?;
-            self.row(row.values())?;
+            self.add_word("\n  ")?;
+            self.add_row(row.values())?;
         }
         Ok(())
     }
 
-    fn row(&mut self, values: &[Value]) -> Result<(), AllocError>
+    fn add_row(&mut self, values: &[Value]) -> Result<(), AllocError>
         ensures grown { OnOk result (self.new ≡ self.old ++ row_text values.now) }
         ensures front { KeepsFront self.old self.new }
     {
         match values.split_first() {
             None => Ok(()),
             Some((first, others)) => {
-                self.value(first)?;
-                self.further_values(others)
+                self.add_value(first)?;
+                self.add_further_values(others)
             }
         }
     }
 
     /// The values behind the first, each behind a comma and a space.
-    fn further_values(&mut self, values: &[Value]) -> Result<(), AllocError>
+    fn add_further_values(&mut self, values: &[Value]) -> Result<(), AllocError>
         ensures grown { OnOk result (self.new ≡ self.old ++ further_values values.now) }
         ensures front { KeepsFront self.old self.new }
     {
         for value in values {
-            self.word(", ")?;
-            self.value(value)?;
+            self.add_word(", ")?;
+            self.add_value(value)?;
         }
         Ok(())
     }
 
     /// The name that a VERDICT asks for; another event asks for none.
-    fn asked(&mut self, event: &Event) -> Result<(), AllocError>
+    fn add_asked_name(&mut self, event: &Event) -> Result<(), AllocError>
         ensures grown { OnOk result (self.new ≡ self.old ++ asked_name event.now) }
         ensures front { KeepsFront self.old self.new }
     {
         match event {
-            Event::Run(Statement::Verdict(name)) => self.text(name),
+            Event::Run(Statement::Verdict(name)) => self.add_text(name),
             _ => Ok(()),
         }
     }
 
     /// A fault: its number, its SQLSTATE or a dash, and what it names. A violated assertion's SQLSTATE is another at
     /// COMMIT.
-    pub fn fault(&mut self, at_commit: bool, refusal: &Refusal) -> Result<(), AllocError>
+    pub fn add_fault(&mut self, at_commit: bool, refusal: &Refusal) -> Result<(), AllocError>
         ensures grown { OnOk result (self.new ≡ self.old ++ fault_text at_commit refusal.now) }
         ensures front { KeepsFront self.old self.new }
     {
         match refusal {
-            Refusal::NoMemory => self.word("1 - NO MEMORY"),
-            Refusal::Syntax { at } => self.numbered("2 - SYNTAX ", *at as u64),
-            Refusal::UnknownName { name } => self.named("3 - ", name),
-            Refusal::NameTaken { name } => self.named("4 - ", name),
-            Refusal::TypeMismatch => self.word("5 - TYPE"),
-            Refusal::NullNotAllowed { column } => self.named("6 23000 ", column),
-            Refusal::DuplicateKey { table, key } => self.keyed("7 23000 ", table, key),
-            Refusal::KeyUpdate { column } => self.named("8 - ", column),
-            Refusal::OutOfRange { column, excess } => self.out_of_range(column, *excess),
-            Refusal::Violated { assertion, group } => self.violated(at_commit, assertion, group),
-            Refusal::NotDeferrable { assertion } => self.named("11 - ", assertion),
-            Refusal::WriteConflict { table, key, by } => self.conflict(table, key, *by),
+            Refusal::NoMemory => self.add_word("1 - NO MEMORY"),
+            Refusal::Syntax { at } => self.add_numbered("2 - SYNTAX ", *at as u64),
+            Refusal::UnknownName { name } => self.add_named("3 - ", name),
+            Refusal::NameTaken { name } => self.add_named("4 - ", name),
+            Refusal::TypeMismatch => self.add_word("5 - TYPE"),
+            Refusal::NullNotAllowed { column } => self.add_named("6 23000 ", column),
+            Refusal::DuplicateKey { table, key } => self.add_keyed("7 23000 ", table, key),
+            Refusal::KeyUpdate { column } => self.add_named("8 - ", column),
+            Refusal::OutOfRange { column, excess } => self.add_out_of_range(column, *excess),
+            Refusal::Violated { assertion, group } => self.add_violated(
+                at_commit, assertion, group,
+            ),
+            Refusal::NotDeferrable { assertion } => self.add_named("11 - ", assertion),
+            Refusal::WriteConflict { table, key, by } => self.add_conflict(table, key, *by),
             Refusal::Dangerous {
                 reader,
                 pivot,
                 writer,
-            } => self.dangerous(*reader, *pivot, *writer),
-            Refusal::NoTransaction => self.word("14 - NO TRANSACTION"),
-            Refusal::TransactionOpen => self.word("15 - TRANSACTION OPEN"),
-            Refusal::Stranger => self.word("16 - STRANGER"),
-            Refusal::EpochFull => self.word("17 - EPOCH FULL"),
-            Refusal::TooWide => self.word("18 - TOO WIDE"),
-            Refusal::TooDeep { at } => self.numbered("19 - TOO DEEP ", *at as u64),
-            Refusal::OutsideClass => self.word("20 - OUTSIDE CLASS"),
-            Refusal::FalseAtCreation { assertion, group } => self.rooted("21 - ", assertion, group),
-            Refusal::AttributeClash { assertion } => self.named("22 - ", assertion),
-            Refusal::ReadOnlyTransaction => self.word("23 - READ ONLY"),
-            Refusal::TooManySessions => self.word("24 - TOO MANY SESSIONS"),
+            } => self.add_dangerous(*reader, *pivot, *writer),
+            Refusal::NoTransaction => self.add_word("14 - NO TRANSACTION"),
+            Refusal::TransactionOpen => self.add_word("15 - TRANSACTION OPEN"),
+            Refusal::Stranger => self.add_word("16 - STRANGER"),
+            Refusal::EpochFull => self.add_word("17 - EPOCH FULL"),
+            Refusal::TooWide => self.add_word("18 - TOO WIDE"),
+            Refusal::TooDeep { at } => self.add_numbered("19 - TOO DEEP ", *at as u64),
+            Refusal::OutsideClass => self.add_word("20 - OUTSIDE CLASS"),
+            Refusal::FalseAtCreation { assertion, group } => self.add_rooted(
+                "21 - ", assertion, group,
+            ),
+            Refusal::AttributeClash { assertion } => self.add_named("22 - ", assertion),
+            Refusal::ReadOnlyTransaction => self.add_word("23 - READ ONLY"),
+            Refusal::TooManySessions => self.add_word("24 - TOO MANY SESSIONS"),
         }
     }
 
-    fn out_of_range(&mut self, column: &Text, excess: Excess) -> Result<(), AllocError>
+    fn add_out_of_range(&mut self, column: &Text, excess: Excess) -> Result<(), AllocError>
         ensures grown { OnOk result (self.new ≡ self.old ++ (excess_text excess ++ column.now)) }
         ensures front { KeepsFront self.old self.new }
     {
         match excess {
-            Excess::Number => self.named("9 22003 ", column),
-            Excess::Text => self.named("9 22001 ", column),
+            Excess::Number => self.add_named("9 22003 ", column),
+            Excess::Text => self.add_named("9 22001 ", column),
         }
     }
 
-    fn violated(
+    fn add_violated(
         &mut self,
         at_commit: bool,
         assertion: &Text,
@@ -244,127 +248,132 @@ impl Lines {
         ensures front { KeepsFront self.old self.new }
     {
         if at_commit {
-            self.rooted("10 40002 ", assertion, group)
+            self.add_rooted("10 40002 ", assertion, group)
         } else {
-            self.rooted("10 23000 ", assertion, group)
+            self.add_rooted("10 23000 ", assertion, group)
         }
     }
 
-    fn conflict(&mut self, table: &Text, key: &Value, by: u64) -> Result<(), AllocError>
+    fn add_conflict(&mut self, table: &Text, key: &Value, by: u64) -> Result<(), AllocError>
         ensures grown { OnOk result (self.new ≡ self.old
             ++ (codes "12 40001 " ++ table.now ++ codes " " ++ value_text key.now ++ codes " BY " ++ decimal by)) }
         ensures front { KeepsFront self.old self.new }
     {
-        self.keyed("12 40001 ", table, key)?;
-        self.numbered(" BY ", by)
+        self.add_keyed("12 40001 ", table, key)?;
+        self.add_numbered(" BY ", by)
     }
 
-    fn dangerous(&mut self, reader: Party, pivot: Party, writer: Party) -> Result<(), AllocError>
+    fn add_dangerous(
+        &mut self,
+        reader: Party,
+        pivot: Party,
+        writer: Party,
+    ) -> Result<(), AllocError>
         ensures grown { OnOk result (self.new ≡ self.old
             ++ ((codes "13 40001 READER " ++ party_text reader)
             ++ (codes " PIVOT " ++ party_text pivot)
             ++ (codes " WRITER " ++ party_text writer))) }
         ensures front { KeepsFront self.old self.new }
     {
-        self.party("13 40001 READER ", reader)?;
-        self.party(" PIVOT ", pivot)?;
-        self.party(" WRITER ", writer)?;
+        self.add_party("13 40001 READER ", reader)?;
+        self.add_party(" PIVOT ", pivot)?;
+        self.add_party(" WRITER ", writer)?;
         Ok(())
     }
 
-    fn party(&mut self, word: &str, party: Party) -> Result<(), AllocError>
+    fn add_party(&mut self, word: &str, party: Party) -> Result<(), AllocError>
         ensures grown { OnOk result (self.new ≡ self.old ++ (word.now ++ party_text party)) }
         ensures front { KeepsFront self.old self.new }
     {
         match party {
             Party::This => {
-                self.word(word)?;
-                self.word("THIS")
+                self.add_word(word)?;
+                self.add_word("THIS")
             }
-            Party::Number(number) => self.numbered(word, number),
+            Party::Number(number) => self.add_numbered(word, number),
         }
     }
 
-    pub fn named(&mut self, word: &str, name: &Text) -> Result<(), AllocError>
+    pub fn add_named(&mut self, word: &str, name: &Text) -> Result<(), AllocError>
         ensures grown { OnOk result (self.new ≡ self.old ++ (word.now ++ name.now)) }
         ensures front { KeepsFront self.old self.new }
     {
-        self.word(word)?;
-        self.text(name)
+        self.add_word(word)?;
+        self.add_text(name)
     }
 
-    pub fn numbered(&mut self, word: &str, number: u64) -> Result<(), AllocError>
+    pub fn add_numbered(&mut self, word: &str, number: u64) -> Result<(), AllocError>
         ensures grown { OnOk result (self.new ≡ self.old ++ (word.now ++ decimal number)) }
         ensures front { KeepsFront self.old self.new }
     {
-        self.word(word)?;
-        self.number(number)
+        self.add_word(word)?;
+        self.add_number(number)
     }
 
-    pub fn number(&mut self, number: u64) -> Result<(), AllocError>
+    pub fn add_number(&mut self, number: u64) -> Result<(), AllocError>
         ensures grown { OnOk result (self.new ≡ self.old ++ decimal number) }
         ensures front { KeepsFront self.old self.new }
     {
-        self.word(Buffer::new().format(number))
+        self.add_word(Buffer::new().format(number))
     }
 
-    fn keyed(&mut self, word: &str, table: &Text, key: &Value) -> Result<(), AllocError>
+    fn add_keyed(&mut self, word: &str, table: &Text, key: &Value) -> Result<(), AllocError>
         ensures grown { OnOk result (self.new ≡ self.old
             ++ (word.now ++ table.now ++ codes " " ++ value_text key.now)) }
         ensures front { KeepsFront self.old self.new }
     {
-        self.named(word, table)?;
-        self.word(" ")?;
-        self.value(key)
+        self.add_named(word, table)?;
+        self.add_word(" ")?;
+        self.add_value(key)
     }
 
-    fn rooted(&mut self, word: &str, assertion: &Text, root: &Root) -> Result<(), AllocError>
+    fn add_rooted(&mut self, word: &str, assertion: &Text, root: &Root) -> Result<(), AllocError>
         ensures grown { OnOk result (self.new ≡ self.old
             ++ (word.now ++ assertion.now ++ codes " " ++ root_text root.now)) }
         ensures front { KeepsFront self.old self.new }
     {
-        self.named(word, assertion)?;
-        self.word(" ")?;
-        self.root(root)
+        self.add_named(word, assertion)?;
+        self.add_word(" ")?;
+        self.add_root(root)
     }
 
-    fn root(&mut self, root: &Root) -> Result<(), AllocError>
+    fn add_root(&mut self, root: &Root) -> Result<(), AllocError>
         ensures grown { OnOk result (self.new ≡ self.old ++ root_text root.now) }
         ensures front { KeepsFront self.old self.new }
     {
         match root {
-            Root::All => self.word("ALL"),
-            Root::Of(value) => self.value(value),
+            Root::All => self.add_word("ALL"),
+            Root::Of(value) => self.add_value(value),
         }
     }
 
-    fn value(&mut self, value: &Value) -> Result<(), AllocError>
+    fn add_value(&mut self, value: &Value) -> Result<(), AllocError>
         ensures grown { OnOk result (self.new ≡ self.old ++ value_text value.now) }
         ensures front { KeepsFront self.old self.new }
     {
         match value {
-            Value::Null => self.word("NULL"),
-            Value::Int(number) => self.word(Buffer::new().format(*number)),
+            Value::Null => self.add_word("NULL"),
+            Value::Int(number) => self.add_word(Buffer::new().format(*number)),
             Value::Text(text) => {
-                self.word("'")?;
-                self.quoted(text)?;
-                self.word("'")
+                self.add_word("'")?;
+                self.add_quoted(text)?;
+                self.add_word("'")
             }
         }
     }
 
     /// The text with each quote in it written twice.
-    fn quoted(&mut self, text: &Text) -> Result<(), AllocError>
+    fn add_quoted(&mut self, text: &Text) -> Result<(), AllocError>
         ensures grown { OnOk result (self.new ≡ self.old ++ doubled text.now) }
         ensures front { KeepsFront self.old self.new }
     {
         for byte in text.as_bytes() {
-            self.quoted_byte(*byte)?;
+            self.add_quoted_byte(*byte)?;
         }
         Ok(())
     }
 
-    fn quoted_byte(&mut self, byte: u8) -> Result<(), AllocError>
+    fn add_quoted_byte(&mut self, byte: u8) -> Result<(), AllocError>
         ensures grown { OnOk result (self.new ≡ self.old ++ quoted_byte byte) }
         ensures front { KeepsFront self.old self.new }
     {
@@ -375,14 +384,14 @@ impl Lines {
         }
     }
 
-    pub fn text(&mut self, text: &Text) -> Result<(), AllocError>
+    pub fn add_text(&mut self, text: &Text) -> Result<(), AllocError>
         ensures grown { OnOk result (self.new ≡ self.old ++ text.now) }
         ensures front { KeepsFront self.old self.new }
     {
         self.put(text.as_bytes())
     }
 
-    pub fn word(&mut self, word: &str) -> Result<(), AllocError>
+    pub fn add_word(&mut self, word: &str) -> Result<(), AllocError>
         ensures grown { OnOk result (self.new ≡ self.old ++ word.now) }
         ensures front { KeepsFront self.old self.new }
     {

@@ -60,13 +60,13 @@ impl Report {
     /// # Errors
     ///
     /// `AllocError` where no memory is left, and then the report is as it was.
-    pub fn answer(&mut self, step: &Step, answer: &Answer) -> Result<(), AllocError>
+    pub fn add_answer(&mut self, step: &Step, answer: &Answer) -> Result<(), AllocError>
         ensures grown { OnOk result (self.new ≡ self.old ++ answer_line step.now answer.now) }
         ensures same { OnErr result (self.new ≡ self.old) }
     {
         let before = self.lines.len();
-        let grown = self.lines.answer(step, answer);
-        self.settled(before, grown)
+        let grown = self.lines.add_answer(step, answer);
+        self.settle(before, grown)
     }
 
     /// Adds the line of a transaction that is open when its session's events end.
@@ -74,13 +74,13 @@ impl Report {
     /// # Errors
     ///
     /// `AllocError` where no memory is left, and then the report is as it was.
-    pub fn left_open(&mut self, session: &Text) -> Result<(), AllocError>
+    pub fn add_left_open(&mut self, session: &Text) -> Result<(), AllocError>
         ensures grown { OnOk result (self.new ≡ self.old ++ left_open_line session.now) }
         ensures same { OnErr result (self.new ≡ self.old) }
     {
         let before = self.lines.len();
-        let grown = self.lines.left_open(session);
-        self.settled(before, grown)
+        let grown = self.lines.add_left_open(session);
+        self.settle(before, grown)
     }
 
     /// Adds the line of a text that was refused whole, by the name of the text.
@@ -88,13 +88,13 @@ impl Report {
     /// # Errors
     ///
     /// `AllocError` where no memory is left, and then the report is as it was.
-    pub fn refusal(&mut self, text: &str, refusal: &Refusal) -> Result<(), AllocError>
+    pub fn add_refusal(&mut self, text: &str, refusal: &Refusal) -> Result<(), AllocError>
         ensures grown { OnOk result (self.new ≡ self.old ++ refusal_line text.now refusal.now) }
         ensures same { OnErr result (self.new ≡ self.old) }
     {
         let before = self.lines.len();
-        let grown = self.lines.refusal(text, refusal);
-        self.settled(before, grown)
+        let grown = self.lines.add_refusal(text, refusal);
+        self.settle(before, grown)
     }
 
     /// Adds the closing part whole: the commits, the serial order, the refused COMMITs and the assertions.
@@ -102,7 +102,7 @@ impl Report {
     /// # Errors
     ///
     /// `AllocError` where no memory is left, and then the report is as it was.
-    pub fn close(
+    pub fn add_closing_part(
         &mut self,
         commits: &[Record],
         order: &[u64],
@@ -117,8 +117,8 @@ impl Report {
         let before = self.lines.len();
         let grown = self
             .lines
-            .close(commits, order, refused, assertions, verdicts);
-        self.settled(before, grown)
+            .add_closing_part(commits, order, refused, assertions, verdicts);
+        self.settle(before, grown)
     }
 
     /// Adds how many commits there are, and the line of each.
@@ -126,13 +126,13 @@ impl Report {
     /// # Errors
     ///
     /// `AllocError` where no memory is left, and then the report is as it was.
-    pub fn commits(&mut self, commits: &[Record]) -> Result<(), AllocError>
+    pub fn add_commits(&mut self, commits: &[Record]) -> Result<(), AllocError>
         ensures grown { OnOk result (self.new ≡ self.old ++ commits_part commits.now) }
         ensures same { OnErr result (self.new ≡ self.old) }
     {
         let before = self.lines.len();
-        let grown = self.lines.commits(commits);
-        self.settled(before, grown)
+        let grown = self.lines.add_commits(commits);
+        self.settle(before, grown)
     }
 
     /// Adds the line of a commit.
@@ -140,13 +140,13 @@ impl Report {
     /// # Errors
     ///
     /// `AllocError` where no memory is left, and then the report is as it was.
-    pub fn committed(&mut self, commit: &Record) -> Result<(), AllocError>
+    pub fn add_commit(&mut self, commit: &Record) -> Result<(), AllocError>
         ensures grown { OnOk result (self.new ≡ self.old ++ commit_line commit.now) }
         ensures same { OnErr result (self.new ≡ self.old) }
     {
         let before = self.lines.len();
-        let grown = self.lines.committed(commit);
-        self.settled(before, grown)
+        let grown = self.lines.add_commit(commit);
+        self.settle(before, grown)
     }
 
     /// Adds the line of the serial order, given by the numbers of the commits.
@@ -154,13 +154,13 @@ impl Report {
     /// # Errors
     ///
     /// `AllocError` where no memory is left, and then the report is as it was.
-    pub fn serial(&mut self, order: &[u64]) -> Result<(), AllocError>
+    pub fn add_serial_order(&mut self, order: &[u64]) -> Result<(), AllocError>
         ensures grown { OnOk result (self.new ≡ self.old ++ serial_line order.now) }
         ensures same { OnErr result (self.new ≡ self.old) }
     {
         let before = self.lines.len();
-        let grown = self.lines.serial(order);
-        self.settled(before, grown)
+        let grown = self.lines.add_serial_order(order);
+        self.settle(before, grown)
     }
 
     /// Adds how many COMMITs were refused, and the line of each.
@@ -168,13 +168,13 @@ impl Report {
     /// # Errors
     ///
     /// `AllocError` where no memory is left, and then the report is as it was.
-    pub fn refused(&mut self, refused: &[RefusedCommit]) -> Result<(), AllocError>
+    pub fn add_refused(&mut self, refused: &[RefusedCommit]) -> Result<(), AllocError>
         ensures grown { OnOk result (self.new ≡ self.old ++ refused_part refused.now) }
         ensures same { OnErr result (self.new ≡ self.old) }
     {
         let before = self.lines.len();
-        let grown = self.lines.refused(refused);
-        self.settled(before, grown)
+        let grown = self.lines.add_refused(refused);
+        self.settle(before, grown)
     }
 
     /// Adds how many assertions there are, and a line for each that has a truth beside it.
@@ -182,7 +182,7 @@ impl Report {
     /// # Errors
     ///
     /// `AllocError` where no memory is left, and then the report is as it was.
-    pub fn verdicts(
+    pub fn add_verdicts(
         &mut self,
         assertions: &[Assertion],
         verdicts: &[Truth],
@@ -191,8 +191,8 @@ impl Report {
         ensures same { OnErr result (self.new ≡ self.old) }
     {
         let before = self.lines.len();
-        let grown = self.lines.verdicts(assertions, verdicts);
-        self.settled(before, grown)
+        let grown = self.lines.add_verdicts(assertions, verdicts);
+        self.settle(before, grown)
     }
 
     /// Adds the line of a refused COMMIT.
@@ -200,13 +200,13 @@ impl Report {
     /// # Errors
     ///
     /// `AllocError` where no memory is left, and then the report is as it was.
-    pub fn refused_commit(&mut self, refused: &RefusedCommit) -> Result<(), AllocError>
+    pub fn add_refused_commit(&mut self, refused: &RefusedCommit) -> Result<(), AllocError>
         ensures grown { OnOk result (self.new ≡ self.old ++ refused_line refused.now) }
         ensures same { OnErr result (self.new ≡ self.old) }
     {
         let before = self.lines.len();
-        let grown = self.lines.refused_commit(refused);
-        self.settled(before, grown)
+        let grown = self.lines.add_refused_commit(refused);
+        self.settle(before, grown)
     }
 
     /// Adds the line of an assertion, by its name.
@@ -214,13 +214,13 @@ impl Report {
     /// # Errors
     ///
     /// `AllocError` where no memory is left, and then the report is as it was.
-    pub fn verdict(&mut self, name: &Text, verdict: Truth) -> Result<(), AllocError>
+    pub fn add_verdict(&mut self, name: &Text, verdict: Truth) -> Result<(), AllocError>
         ensures grown { OnOk result (self.new ≡ self.old ++ verdict_line name.now verdict) }
         ensures same { OnErr result (self.new ≡ self.old) }
     {
         let before = self.lines.len();
-        let grown = self.lines.verdict(name, verdict);
-        self.settled(before, grown)
+        let grown = self.lines.add_verdict(name, verdict);
+        self.settle(before, grown)
     }
 
     /// Adds the line that says how many commits there are, for a caller that adds their lines one by one.
@@ -228,13 +228,13 @@ impl Report {
     /// # Errors
     ///
     /// `AllocError` where no memory is left, and then the report is as it was.
-    pub fn commit_count(&mut self, count: usize) -> Result<(), AllocError>
+    pub fn add_commit_count(&mut self, count: usize) -> Result<(), AllocError>
         ensures grown { OnOk result (self.new ≡ self.old ++ count_line (codes "COMMITS ") count) }
         ensures same { OnErr result (self.new ≡ self.old) }
     {
         let before = self.lines.len();
-        let grown = self.lines.count("COMMITS ", count);
-        self.settled(before, grown)
+        let grown = self.lines.add_count("COMMITS ", count);
+        self.settle(before, grown)
     }
 
     /// Adds the line that says how many COMMITs were refused.
@@ -242,13 +242,13 @@ impl Report {
     /// # Errors
     ///
     /// `AllocError` where no memory is left, and then the report is as it was.
-    pub fn refused_count(&mut self, count: usize) -> Result<(), AllocError>
+    pub fn add_refused_count(&mut self, count: usize) -> Result<(), AllocError>
         ensures grown { OnOk result (self.new ≡ self.old ++ count_line (codes "REFUSED ") count) }
         ensures same { OnErr result (self.new ≡ self.old) }
     {
         let before = self.lines.len();
-        let grown = self.lines.count("REFUSED ", count);
-        self.settled(before, grown)
+        let grown = self.lines.add_count("REFUSED ", count);
+        self.settle(before, grown)
     }
 
     /// Adds the line that says how many assertions there are.
@@ -256,17 +256,17 @@ impl Report {
     /// # Errors
     ///
     /// `AllocError` where no memory is left, and then the report is as it was.
-    pub fn assertion_count(&mut self, count: usize) -> Result<(), AllocError>
+    pub fn add_assertion_count(&mut self, count: usize) -> Result<(), AllocError>
         ensures grown { OnOk result (self.new ≡ self.old ++ count_line (codes "ASSERTIONS ") count) }
         ensures same { OnErr result (self.new ≡ self.old) }
     {
         let before = self.lines.len();
-        let grown = self.lines.count("ASSERTIONS ", count);
-        self.settled(before, grown)
+        let grown = self.lines.add_count("ASSERTIONS ", count);
+        self.settle(before, grown)
     }
 
     /// Takes the bytes back to so many where growing failed.
-    fn settled(&mut self, before: usize, grown: Result<(), AllocError>) -> Result<(), AllocError>
+    fn settle(&mut self, before: usize, grown: Result<(), AllocError>) -> Result<(), AllocError>
         ensures told { result ≡ grown }
         ensures kept { OnOk result (self.new ≡ self.old) }
         ensures back { (old : List ℕ) → KeepsFront old self.old → before ≡ length old → OnErr result (self.new ≡ old) }

@@ -1,5 +1,5 @@
 -- The conditions of a form are bounded over the slots that they see.
-use Rattle.std.proofs.Common.{◌≡◌, ℕ, ◌<◌, List, [], ◌∷◌, map, length, get_or, refl, sym, ◌∙◌, ap, subst}
+use Rattle.std.proofs.Common.{◌≡◌, ℕ, ◌<◌, List, [], ◌∷◌, map, length, get_or, refl, sym, ap, subst}
 use Rattle.std.specs.Prelude.{All}
 use Rattle.std.proofs.lemmas.List.Elements.{All-map}
 use Rattle.table.specs.declared.aggregates.Aggregate.{Aggregate}
@@ -8,36 +8,35 @@ use Rattle.assertion.specs.declared.forms.Form.{Form}
 use Rattle.assertion.specs.declared.forms.Form.TheVariants.{ByRow, ByGroup, Single}
 use Rattle.assertion.specs.Bounded.{IsBounded, IsBoundedOver}
 use Rattle.cond.specs.Kinds.{kind_of_aggregate}
-use Rattle.assertion.specs.declared.linked_queries.Linked.{Linked}
-use Rattle.assertion.specs.declared.plain_queries.Plain.{Plain}
-use Rattle.roots.specs.Answers.{SlotQuery, kinds_in, queries_of}
-use Rattle.roots.specs.Summaries.{GroupedTable, Summary, group_table, linked_table, plain_table, kept_columns, columns_of, aggregated_column, summaries_of}
+use Rattle.assertion.specs.declared.queries.Query.{Query}
+use Rattle.assertion.specs.declared.queries.Link.{Link}
+use Rattle.assertion.specs.declared.queries.Whole.{Whole as AnyWhole}
+use Rattle.roots.specs.declared.grouped.Grouping.{Grouping}
+use Rattle.roots.specs.Answers.{kinds_in}
+use Rattle.roots.specs.Summaries.{summed_up, group_query, linked_query, whole_query, queries_of, summaries_of}
 
-abbrev IsKeptBounded : Summary → Type 0
-IsKeptBounded s = IsBoundedOver [] s.grouped.kept
+abbrev IsFilterBounded : Query Grouping → Type 0
+IsFilterBounded q = IsBoundedOver [] q.filter
 
-all_group : (g : GroupedTable) (columns : List _) → IsBoundedOver [] g.kept → All IsKeptBounded (map (λ column. record { grouped = g; column = column }) columns)
-all_group g columns b = All-map IsKeptBounded (λ column. record { grouped = g; column = column }) columns (λ i d h. b)
-
-pub all-bounded : (form : Form) → IsBounded form → All IsKeptBounded (summaries_of form)
-all-bounded (ByRow table condition queries) b = All-map IsKeptBounded (λ (q : Linked). record { grouped = linked_table q; column = aggregated_column q.aggregate }) queries b.1
-all-bounded (ByGroup table kept group having aggregates) b = all_group (group_table table kept group) (kept_columns (columns_of aggregates)) b.0
-all-bounded (Single condition queries) b = All-map IsKeptBounded (λ (q : Plain). record { grouped = plain_table q; column = aggregated_column q.aggregate }) queries b.1
+pub all-bounded : (form : Form) → IsBounded form → All IsFilterBounded (summaries_of form)
+all-bounded (ByRow table condition queries) b = All-map IsFilterBounded linked_query queries b.1
+all-bounded (ByGroup table restriction group having aggregates) b = All-map IsFilterBounded (group_query table restriction group) (summed_up aggregates) (λ i d h. b.0)
+all-bounded (Single condition queries) b = All-map IsFilterBounded whole_query queries b.1
 
 -- the WHERE of each summary is bounded
-pub summary-bounded : (form : Form) → IsBounded form → (i : ℕ) (s : Summary) → i < length (summaries_of form) → s ≡ get_or (summaries_of form) i s → IsBoundedOver [] s.grouped.kept
-summary-bounded form b i s h e = subst IsKeptBounded (sym e) (all-bounded form b i s h)
+pub summary-bounded : (form : Form) → IsBounded form → (i : ℕ) (s : Query Grouping) → i < length (summaries_of form) → s ≡ get_or (summaries_of form) i s → IsBoundedOver [] s.filter
+summary-bounded form b i s h e = subst IsFilterBounded (sym e) (all-bounded form b i s h)
 
-kinds-map : {X : Type 0} (f : X → SlotQuery) (set : X → Aggregate) → ((x : X) → (f x).aggregate ≡ set x) → (xs : List X) → kinds_in (map f xs) ≡ map (λ x. kind_of_aggregate (set x)) xs
-kinds-map f set e [] = refl
-kinds-map f set e (x ∷ xs) = ap (λ a. kind_of_aggregate a ∷ kinds_in (map f xs)) (e x) ∙ ap (λ kinds. kind_of_aggregate (set x) ∷ kinds) (kinds-map f set e xs)
+kinds-map : {X : Type 0} (query_of : X → Query Grouping) (xs : List X) → kinds_in (map query_of xs) ≡ map (λ x. kind_of_aggregate (query_of x).aggregate) xs
+kinds-map query_of [] = refl
+kinds-map query_of (x ∷ xs) = ap (λ kinds. kind_of_aggregate (query_of x).aggregate ∷ kinds) (kinds-map query_of xs)
 
 -- the condition of a form is bounded over the kinds of its slots
-pub row-bounded : (form : Form) (table : ℕ) (condition : Cond) (queries : List Linked) → form ≡ ByRow table condition queries → IsBounded form → IsBoundedOver (kinds_in (queries_of form)) condition
-row-bounded form table condition queries e = rw e (λ b. subst (λ kinds. IsBoundedOver kinds condition) (sym (kinds-map (λ (q : Linked). record { grouped = linked_table q; aggregate = q.aggregate }) (λ (q : Linked). q.aggregate) (λ q. refl) queries)) b.0)
+pub row-bounded : (form : Form) (table : ℕ) (condition : Cond) (queries : List (Query Link)) → form ≡ ByRow table condition queries → IsBounded form → IsBoundedOver (kinds_in (queries_of form)) condition
+row-bounded form table condition queries e = rw e (λ b. subst (λ kinds. IsBoundedOver kinds condition) (sym (kinds-map linked_query queries)) b.0)
 
-pub having-bounded : (form : Form) (table : ℕ) (kept : Cond) (group : ℕ) (having : Cond) (aggregates : List Aggregate) → form ≡ ByGroup table kept group having aggregates → IsBounded form → IsBoundedOver (kinds_in (queries_of form)) having
-having-bounded form table kept group having aggregates e = rw e (λ b. subst (λ kinds. IsBoundedOver kinds having) (sym (kinds-map (λ a. record { grouped = group_table table kept group; aggregate = a }) (λ a. a) (λ a. refl) aggregates)) b.1)
+pub having-bounded : (form : Form) (table : ℕ) (restriction : Cond) (group : ℕ) (having : Cond) (aggregates : List Aggregate) → form ≡ ByGroup table restriction group having aggregates → IsBounded form → IsBoundedOver (kinds_in (queries_of form)) having
+having-bounded form table restriction group having aggregates e = rw e (λ b. subst (λ kinds. IsBoundedOver kinds having) (sym (kinds-map (group_query table restriction group) aggregates)) b.1)
 
-pub whole-bounded : (form : Form) (condition : Cond) (queries : List Plain) → form ≡ Single condition queries → IsBounded form → IsBoundedOver (kinds_in (queries_of form)) condition
-whole-bounded form condition queries e = rw e (λ b. subst (λ kinds. IsBoundedOver kinds condition) (sym (kinds-map (λ (q : Plain). record { grouped = plain_table q; aggregate = q.aggregate }) (λ (q : Plain). q.aggregate) (λ q. refl) queries)) b.0)
+pub whole-bounded : (form : Form) (condition : Cond) (queries : List (Query AnyWhole)) → form ≡ Single condition queries → IsBounded form → IsBoundedOver (kinds_in (queries_of form)) condition
+whole-bounded form condition queries e = rw e (λ b. subst (λ kinds. IsBoundedOver kinds condition) (sym (kinds-map whole_query queries)) b.0)

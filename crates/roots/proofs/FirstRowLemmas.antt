@@ -9,7 +9,7 @@ use Rattle.table.specs.Rows.{RowValues, value_in, row_at, put_row}
 use Rattle.cond.specs.Bounds.{IsSmallRow}
 use Rattle.assertion.specs.Meaning.{State, rows_of}
 use Rattle.assertion.specs.Roots.{IsChangeOf, state_after}
-use Rattle.roots.specs.Kept.{IsSmallState}
+use Rattle.roots.specs.Maintained.{IsSmallState}
 
 -- one table without rows
 abbrev pub no_rows_yet : State

@@ -1,11 +1,10 @@
 pub mod AnswerLemmas
 pub mod BadLemmas
 pub mod BoundLemmas
-pub mod ColumnLemmas
 pub mod ElsewhereLemmas
 pub mod FirstRowLemmas
 pub mod ItemLemmas
-pub mod KeptLemmas
+pub mod MaintainedLemmas
 pub mod ListedLemmas
 pub mod LoadedLemmas
 pub mod UpdateLemmas

@@ -1,17 +1,17 @@
--- What is kept for an assertion, made in one pass over tables.
-use Rattle.std.proofs.Common.{◌≡◌, ℕ, ◌<◌, ◌^◌, Bool, true, false, List, [], ◌∷◌, ◌++◌, Option, Some, None, length, get_or, refl, sym, ◌∙◌, ap, subst, arith, length-append}
+-- What is maintained for an assertion, made in one pass over tables.
+use Rattle.std.proofs.Common.{◌≡◌, ℕ, ◌<◌, ◌^◌, Bool, true, false, List, [], ◌∷◌, ◌++◌, Option, Some, None, length, refl, sym, ◌∙◌, ap, subst, arith, length-append}
 use Rattle.std.specs.Prelude.{◌&&◌, All, filter, if◌then◌else◌}
 use Rattle.std.proofs.lemmas.List.{get_or_append_left}
 use Rattle.std.specs.Ordering.{eq_by_cmp, is_eq}
 use Rattle.std.specs.declared.cmp.Ordering.{Ordering}
 use Rattle.std.specs.declared.cmp.Ordering.TheVariants.{Less, Equal, Greater}
+use Rattle.std.proofs.lemmas.Bool.{or_parts}
 use Rattle.value.specs.declared.values.Value.{Value}
 use Rattle.value.specs.declared.values.Root.{Root}
 use Rattle.value.specs.declared.values.Root.TheVariants.{All as Whole, Of}
 use Rattle.value.specs.ValueOrder.{value_cmp, root_cmp}
 use Rattle.value.specs.Ordered.{by_order}
 use Rattle.value.proofs.OrderedLists.{has}
-use Rattle.table.specs.declared.aggregates.Aggregate.TheVariants.{CountRows, Count}
 use Rattle.table.specs.Aggregates.{rows_of_group}
 use Rattle.table.specs.Rows.{RowValues, Layout, value_in, row_at}
 use Rattle.cond.specs.declared.conds.Cond.{Cond}
@@ -19,27 +19,26 @@ use Rattle.cond.specs.Bounds.{IsSmallRow}
 use Rattle.cond.specs.Eval.{keeps}
 use Rattle.assertion.specs.declared.forms.Form.{Form}
 use Rattle.assertion.specs.declared.forms.Form.TheVariants.{ByRow, ByGroup, Single}
+use Rattle.assertion.specs.declared.queries.Query.{Query}
 use Rattle.assertion.specs.Candidates.{group_candidates}
-use Rattle.assertion.specs.Meaning.{State, rows_of, key_of, kept_rows}
+use Rattle.assertion.specs.Meaning.{State, rows_of, key_of, filtered_rows}
 use Rattle.assertion.specs.Roots.{AreBad, is_bad_row, is_bad_root, is_among}
 use Rattle.assertion.proofs.KeptTruth.{not_of_group}
-use Rattle.assertion.proofs.ListLemmas.{DropsAll, filter-filter, or_false}
+use Rattle.assertion.proofs.ListLemmas.{DropsAll, filter-filter}
 use Rattle.groups.specs.Totals.{Entries, AreTotalsOf, AreWithin}
 use Rattle.groups.proofs.RowLemmas.{members_within}
 use Rattle.roots.specs.Bad.{AreUpdated, is_touched, named_roots}
-use Rattle.roots.specs.Kept.{IsSmallState}
-use Rattle.roots.specs.Summaries.{Summary, place, row_members}
+use Rattle.roots.specs.Maintained.{IsSmallState}
+use Rattle.roots.specs.declared.grouped.Grouping.{Grouping}
+use Rattle.roots.specs.Summaries.{place, row_members}
 use Rattle.roots.proofs.UpdateLemmas.{is_touched-has, groups_small, column_small}
-use Rattle.roots.specs.Kept.{IsSmallRoot}
+use Rattle.roots.specs.Maintained.{IsSmallRoot}
 
 -- the totals so far are those of the rows that are done
-pub record AreDone (s : Summary) (all left : List RowValues) (made : Entries) : Type 0 where
+pub record AreDone (s : Query Grouping) (all left : List RowValues) (made : Entries) : Type 0 where
   pub done : List RowValues
   pub split : all ≡ done ++ left
   pub totals : AreTotalsOf (row_members s done) made
-
-pub done-none : (s : Summary) (all left : List RowValues) (made : Entries) → left ≡ all → AreTotalsOf (λ v. []) made → AreDone s all left made
-done-none s all left made e t = record { done = []; split = sym e; totals = t }
 
 joined : (done rest : List RowValues) (row : RowValues) → done ++ row ∷ rest ≡ (done ++ row ∷ []) ++ rest
 joined [] rest row = refl
@@ -48,47 +47,24 @@ joined (d ∷ done) rest row = ap (λ rows. d ∷ rows) (joined done rest row)
 front-all : (P : RowValues → Type 0) (xs ys : List RowValues) → All P (xs ++ ys) → All P xs
 front-all P xs ys h = λ k d below. subst P (get_or_append_left xs ys d k below) (h k d (omega (arith, below, length-append xs ys)))
 
-members_small : (s : Summary) (rows : List RowValues) → length rows < 2 ^ 63 → All IsSmallRow rows → AreWithin (row_members s rows)
-members_small s rows short small = elim s.column as (λ column. AreWithin (row_members (record { grouped = s.grouped; column = column }) rows)) [
-  | None ↦ members_within (place s.grouped) CountRows rows short small
-  | Some c ↦ members_within (place s.grouped) (Count c) rows short small
-]
-
 -- what a row that is next has, and what is done behind it
-pub next-split : (s : Summary) (all left rest : List RowValues) (row : RowValues) (made : Entries) → left ≡ row ∷ rest → (a : AreDone s all left made) → all ≡ (a.done ++ row ∷ []) ++ rest
+pub next-split : (s : Query Grouping) (all left rest : List RowValues) (row : RowValues) (made : Entries) → left ≡ row ∷ rest → (a : AreDone s all left made) → all ≡ (a.done ++ row ∷ []) ++ rest
 next-split s all left rest row made e a = a.split ∙ ap (λ rows. a.done ++ rows) e ∙ joined a.done rest row
 
-pub next-within : (s : Summary) (all left rest : List RowValues) (row : RowValues) (made : Entries) → left ≡ row ∷ rest → length all < 2 ^ 63 → All IsSmallRow all → (a : AreDone s all left made) → AreWithin (row_members s (a.done ++ row ∷ []))
+pub next-within : (s : Query Grouping) (all left rest : List RowValues) (row : RowValues) (made : Entries) → left ≡ row ∷ rest → length all < 2 ^ 63 → All IsSmallRow all → (a : AreDone s all left made) → AreWithin (row_members s (a.done ++ row ∷ []))
 next-within s all left rest row made e short small a =
     let split : all ≡ (a.done ++ row ∷ []) ++ rest = next-split s all left rest row made e a in
-    members_small s (a.done ++ row ∷ []) (omega (arith, short, ap length split, length-append (a.done ++ row ∷ []) rest)) (front-all IsSmallRow (a.done ++ row ∷ []) rest (subst (All IsSmallRow) split small))
+    members_within (place s) s.aggregate (a.done ++ row ∷ []) (omega (arith, short, ap length split, length-append (a.done ++ row ∷ []) rest)) (front-all IsSmallRow (a.done ++ row ∷ []) rest (subst (All IsSmallRow) split small))
 
-pub next-small : (all left rest : List RowValues) (row : RowValues) (s : Summary) (made : Entries) → left ≡ row ∷ rest → All IsSmallRow all → (a : AreDone s all left made) → IsSmallRow row
-next-small all left rest row s made e small a = last-all IsSmallRow a.done row (front-all IsSmallRow (a.done ++ row ∷ []) rest (subst (All IsSmallRow) (next-split s all left rest row made e a) small))
-  where
-    last-all : (P : RowValues → Type 0) (xs : List RowValues) (x : RowValues) → All P (xs ++ x ∷ []) → P x
-    last-all P xs x h = subst P (last-of xs x) (h (length xs) x (omega (arith, length-append xs (x ∷ []))))
-      where
-        last-of : (xs : List RowValues) (x : RowValues) → get_or (xs ++ x ∷ []) (length xs) x ≡ x
-        last-of [] x = refl
-        last-of (y ∷ xs) x = last-of xs x
-
-pub done-more : (s : Summary) (all left rest : List RowValues) (row : RowValues) (made more : Entries) → left ≡ row ∷ rest → (a : AreDone s all left made) → AreTotalsOf (row_members s (a.done ++ row ∷ [])) more → AreDone s all rest more
+pub done-more : (s : Query Grouping) (all left rest : List RowValues) (row : RowValues) (made more : Entries) → left ≡ row ∷ rest → (a : AreDone s all left made) → AreTotalsOf (row_members s (a.done ++ row ∷ [])) more → AreDone s all rest more
 done-more s all left rest row made more e a t = record { done = a.done ++ row ∷ []; split = next-split s all left rest row made e a; totals = t }
-
-pub done-all : (s : Summary) (all left : List RowValues) (made : Entries) → left ≡ [] → AreDone s all left made → AreTotalsOf (row_members s all) made
-done-all s all left made e a = subst (λ rows. AreTotalsOf (row_members s rows) made) (sym (a.split ∙ ap (λ rows. a.done ++ rows) e ∙ whole a.done)) a.totals
-  where
-    whole : (xs : List RowValues) → xs ++ [] ≡ xs
-    whole [] = refl
-    whole (x ∷ xs) = ap (λ ys. x ∷ ys) (whole xs)
 
 -- a key that no row has has no row
 no-row-at : (key : ℕ) (v : Value) (rows : List RowValues) → has root_cmp (Of v) (group_candidates key rows) ≡ false → row_at key v rows ≡ None
 no-row-at key v [] h = refl
 no-row-at key v (row ∷ rows) h =
     let none : Option RowValues = None in
-    let parts : (eq_by_cmp value_cmp v (value_in key row) ≡ false) × (has root_cmp (Of v) (group_candidates key rows) ≡ false) = or_false (eq_by_cmp value_cmp v (value_in key row)) (has root_cmp (Of v) (group_candidates key rows)) h in
+    let parts : (eq_by_cmp value_cmp v (value_in key row) ≡ false) × (has root_cmp (Of v) (group_candidates key rows) ≡ false) = or_parts (eq_by_cmp value_cmp v (value_in key row)) (has root_cmp (Of v) (group_candidates key rows)) h in
     case (value_cmp v (value_in key row)) parts.0 (no-row-at key v rows parts.1)
   where
     case : (c : Ordering) → is_eq c ≡ false → row_at key v rows ≡ None → by_order c None (Some row) (row_at key v rows) ≡ None
@@ -100,17 +76,17 @@ dropped : (p : RowValues → Bool) (rows : List RowValues) → DropsAll p rows �
 dropped p [] d = refl
 dropped p (row ∷ rows) d = rw d.0 (dropped p rows d.1)
 
-no-group-of : (group : ℕ) (v : Value) (kept : Cond) (rows : List RowValues) → has root_cmp (Of v) (group_candidates group rows) ≡ false → rows_of_group group v (kept_rows kept rows) ≡ []
-no-group-of group v kept rows h =
-    filter-filter (λ row. eq_by_cmp value_cmp v (value_in group row)) (λ row. keeps row [] kept) rows
-    ∙ dropped (λ row. keeps row [] kept && eq_by_cmp value_cmp v (value_in group row)) rows (not_of_group group v kept rows h)
+no-group-of : (group : ℕ) (v : Value) (restriction : Cond) (rows : List RowValues) → has root_cmp (Of v) (group_candidates group rows) ≡ false → rows_of_group group v (filtered_rows restriction rows) ≡ []
+no-group-of group v restriction rows h =
+    filter-filter (λ row. eq_by_cmp value_cmp v (value_in group row)) (λ row. keeps row [] restriction) rows
+    ∙ dropped (λ row. keeps row [] restriction && eq_by_cmp value_cmp v (value_in group row)) rows (not_of_group group v restriction rows h)
 
 -- a root that no row names isn't bad
 unnamed-good : (layouts : List Layout) (form : Form) (state : State) (r : Root) → has root_cmp r (named_roots layouts form state) ≡ false → is_bad_root layouts form state r ≡ false
 unnamed-good layouts (ByRow table c queries) state Whole h = refl
 unnamed-good layouts (ByRow table c queries) state (Of v) h = ap (is_bad_row state c queries v) (no-row-at (key_of table layouts) v (rows_of table state) h)
-unnamed-good layouts (ByGroup table kept group having aggregates) state Whole h = refl
-unnamed-good layouts (ByGroup table kept group having aggregates) state (Of v) h = rw (no-group-of group v kept (rows_of table state) h) refl
+unnamed-good layouts (ByGroup table restriction group having aggregates) state Whole h = refl
+unnamed-good layouts (ByGroup table restriction group having aggregates) state (Of v) h = rw (no-group-of group v restriction (rows_of table state) h) refl
 unnamed-good layouts (Single c queries) state Whole h = cc
 unnamed-good layouts (Single c queries) state (Of v) h = refl
 
@@ -128,5 +104,5 @@ AreBad-named layouts form state bad made e u = record {
 -- the named roots are within bounds
 pub named-small : (layouts : List Layout) (form : Form) (state : State) → IsSmallState state → All (IsSmallRoot form) (named_roots layouts form state)
 named-small layouts (ByRow table c queries) state k = λ i d h. tt
-named-small layouts (ByGroup table kept group having aggregates) state k = groups_small group (ByGroup table kept group having aggregates) (rows_of table state) (λ row h. column_small row group h) (k.small table)
+named-small layouts (ByGroup table restriction group having aggregates) state k = groups_small group (ByGroup table restriction group having aggregates) (rows_of table state) (λ row h. column_small row group h) (k.small table)
 named-small layouts (Single c queries) state k = λ i d h. tt

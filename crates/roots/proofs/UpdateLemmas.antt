@@ -1,9 +1,10 @@
--- The kept bad roots follow a change.
+-- The maintained bad roots follow a change.
 use Rattle.std.proofs.Common.{◌≡◌, ℕ, zero, suc, arith, ◌+◌, ◌<◌, Bool, true, false, cond, List, [], ◌∷◌, ◌++◌, Option, Some, None, length, take, get_or, refl, sym, ◌∙◌, ap}
 use Rattle.std.specs.Prelude.{◌==◌, ◌||◌, ◌≤◌, ◌^◌, All, is_some, option_to_list, if◌then◌else◌}
 use Rattle.std.proofs.lemmas.List.{take_more}
 use Rattle.std.proofs.lemmas.List.Elements.{All-nil, All-cons, All-head, All-tail}
 use Rattle.std.specs.Ordering.{eq_by_cmp}
+use Rattle.std.proofs.Math.Bool.{or-true}
 use Rattle.value.specs.declared.values.Root.{Root}
 use Rattle.value.specs.declared.values.Root.TheVariants.{All as Whole, Of}
 use Rattle.value.specs.ValueOrder.{root_cmp}
@@ -21,7 +22,7 @@ use Rattle.assertion.specs.Meaning.{State}
 use Rattle.assertion.specs.Roots.{is_bad_root, is_among, AreBad, IsOrdered, IsChangeOf, state_after}
 use Rattle.assertion.proofs.KeptTruth.{kept_truth}
 use Rattle.roots.specs.Bad.{put_root, is_touched, AreUpdated}
-use Rattle.roots.specs.Kept.{IsSmallRoot}
+use Rattle.roots.specs.Maintained.{IsSmallRoot}
 
 -- the roots after one is put in or taken out
 is_among-put : (q : Root) (b : Bool) (rs : List Root) → IsAscending root_cmp (λ k. k) rs → (r : Root) → is_among r (put_root q b rs) ≡ cond (eq_by_cmp root_cmp r q) b (is_among r rs)
@@ -41,21 +42,13 @@ is_touched-push : (r : Root) (qs : List Root) (q : Root) → is_touched r (qs ++
 is_touched-push r [] q = elim (eq_by_cmp root_cmp r q) as (λ b. b || false ≡ (if b then true else false)) [ true ↦ refl | false ↦ refl ]
 is_touched-push r (p ∷ qs) q =
     ap (λ b. eq_by_cmp root_cmp r p || b) (is_touched-push r qs q)
-    ∙ elim (eq_by_cmp root_cmp r q) as (λ b. eq_by_cmp root_cmp r p || (if b then true else is_touched r qs) ≡ (if b then true else eq_by_cmp root_cmp r p || is_touched r qs)) [ true ↦ or_true (eq_by_cmp root_cmp r p) | false ↦ refl ]
-  where
-    or_true : (b : Bool) → b || true ≡ true
-    or_true true = refl
-    or_true false = refl
+    ∙ elim (eq_by_cmp root_cmp r q) as (λ b. eq_by_cmp root_cmp r p || (if b then true else is_touched r qs) ≡ (if b then true else eq_by_cmp root_cmp r p || is_touched r qs)) [ true ↦ or-true (eq_by_cmp root_cmp r p) | false ↦ refl ]
 
 pub is_touched-has : (r : Root) (qs : List Root) → is_touched r qs ≡ has root_cmp r qs
 is_touched-has r [] = refl
 is_touched-has r (q ∷ qs) = ap (λ b. eq_by_cmp root_cmp r q || b) (is_touched-has r qs)
 
 module _ (layouts : List Layout) (form : Form) (state : State) (bad : List Root) where
-  -- none of the touched roots so far
-  pub AreUpdated-none : (made : List Root) → made ≡ bad → IsAscending root_cmp (λ k. k) bad → AreUpdated layouts form state [] bad made
-  AreUpdated-none made e s = record { in_order = rw e s; right = λ r. ap (is_among r) e }
-
   -- one more of them
   pub AreUpdated-more : (ts : List Root) (i : ℕ) (q : Root) (b : Bool) (made more : List Root) → i < length ts → q ≡ get_or ts i q → b ≡ is_bad_root layouts form state q → more ≡ put_root q b made
       → AreUpdated layouts form state (take i ts) bad made → AreUpdated layouts form state (take (i + 1) ts) bad more
@@ -101,14 +94,14 @@ touched_small (Some o) (Some n) h k = All-cons IsSmallRow o (n ∷ []) h (All-co
 pub candidates_small : (change : Change) (form : Form) → HoldsOf IsSmallRow change.old → HoldsOf IsSmallRow change.new → All (IsSmallRoot form) (candidates change form)
 candidates_small change (ByRow table c queries) old new = λ k d h. tt
 candidates_small change (Single c queries) old new = λ k d h. tt
-candidates_small change (ByGroup table kept group having aggregates) old new =
-    elim (table == change.table) as (λ b. All (IsSmallRoot (ByGroup table kept group having aggregates)) (if b then group_candidates group (touched change) else [])) [
-      | true ↦ groups_small group (ByGroup table kept group having aggregates) (touched change) (λ row h. column_small row group h) (touched_small change.old change.new old new)
-      | false ↦ All-nil (IsSmallRoot (ByGroup table kept group having aggregates))
+candidates_small change (ByGroup table restriction group having aggregates) old new =
+    elim (table == change.table) as (λ b. All (IsSmallRoot (ByGroup table restriction group having aggregates)) (if b then group_candidates group (touched change) else [])) [
+      | true ↦ groups_small group (ByGroup table restriction group having aggregates) (touched change) (λ row h. column_small row group h) (touched_small change.old change.new old new)
+      | false ↦ All-nil (IsSmallRoot (ByGroup table restriction group having aggregates))
     ]
 
 -- the whole is no group
-pub all_small : (form : Form) → IsSmallRoot form Whole
-all_small (ByRow table c queries) = tt
-all_small (ByGroup table kept group having aggregates) = tt
-all_small (Single c queries) = tt
+pub whole_is_small : (form : Form) → IsSmallRoot form Whole
+whole_is_small (ByRow table c queries) = tt
+whole_is_small (ByGroup table restriction group having aggregates) = tt
+whole_is_small (Single c queries) = tt

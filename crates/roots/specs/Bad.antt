@@ -1,4 +1,4 @@
--- Bad roots as they are kept.
+-- Bad roots as a view holds them.
 use Rattle.std.specs.Prelude.{◌≡◌, Bool, false, ◌&&◌, ◌||◌, nat_lt, length, map, List, [], ◌∷◌, Option, Some, None, if◌then◌else◌}
 use Rattle.std.specs.Ordering.{eq_by_cmp}
 use Rattle.value.specs.declared.values.Value.{Value}
@@ -11,38 +11,40 @@ use Rattle.threeval.specs.declared.Truth.{Truth}
 use Rattle.table.specs.Rows.{RowValues, Layout, row_at}
 use Rattle.cond.specs.declared.conds.Cond.{Cond}
 use Rattle.cond.specs.Eval.{truth, keeps}
+use Rattle.assertion.specs.declared.queries.Query.{Query}
 use Rattle.assertion.specs.declared.forms.Form.{Form}
 use Rattle.assertion.specs.declared.forms.Form.TheVariants.{ByRow, ByGroup, Single}
 use Rattle.assertion.specs.Candidates.{group_candidates}
 use Rattle.assertion.specs.Meaning.{State, rows_of, key_of}
 use Rattle.assertion.specs.Roots.{is_bad_root, is_among}
-use Rattle.roots.specs.Summaries.{Summary, members}
-use Rattle.roots.specs.Answers.{SlotQuery, query_answer}
+use Rattle.roots.specs.declared.grouped.Grouping.{Grouping}
+use Rattle.roots.specs.Summaries.{members}
+use Rattle.roots.specs.Answers.{query_answer}
 
 -- this is the row of the root, where a form asks for one: the row under the key in the root table
 abbrev pub IsRowOf : List Layout → Form → State → Root → Option RowValues → Type 0
 IsRowOf layouts (ByRow table condition queries) state All row = Unit {0}
 IsRowOf layouts (ByRow table condition queries) state (Of key) row =
     row ≡ row_at (key_of table layouts) key (rows_of table state)
-IsRowOf layouts (ByGroup table kept group having aggregates) state root row = Unit {0}
+IsRowOf layouts (ByGroup table restriction group having aggregates) state root row = Unit {0}
 IsRowOf layouts (Single condition queries) state root row = Unit {0}
 
 -- what the queries give for a group
-abbrev pub answers : State → List SlotQuery → Value → List Value
+abbrev pub answers : State → List (Query Grouping) → Value → List Value
 answers state queries v = map (query_answer state v) queries
 
 -- whether a condition is true of a row, if there is one, with what the queries give for its key
-abbrev pub row_passes : State → List SlotQuery → Cond → Value → Option RowValues → Bool
+abbrev pub row_passes : State → List (Query Grouping) → Cond → Value → Option RowValues → Bool
 row_passes state queries condition key None = false
 row_passes state queries condition key (Some row) = keeps row (answers state queries key) condition
 
 -- whether a group has a row, and HAVING is true of it
-abbrev pub group_passes : State → Summary → List SlotQuery → Cond → Value → Bool
+abbrev pub group_passes : State → Query Grouping → List (Query Grouping) → Cond → Value → Bool
 group_passes state summary queries having v =
     nat_lt 0 (length (members state summary v)) && keeps (v ∷ []) (answers state queries v) having
 
 -- the truth of a condition that sees no row
-abbrev pub whole_truth : State → List SlotQuery → Cond → Truth
+abbrev pub whole_truth : State → List (Query Grouping) → Cond → Truth
 whole_truth state queries condition = truth [] (answers state queries Null) condition
 
 -- the roots with this one in or out
@@ -53,7 +55,8 @@ put_root root is_in = ordered.put root_cmp (λ k. k) root (if is_in then Some ro
 abbrev pub named_roots : List Layout → Form → State → List Root
 named_roots layouts (ByRow table condition queries) state =
     group_candidates (key_of table layouts) (rows_of table state)
-named_roots layouts (ByGroup table kept group having aggregates) state = group_candidates group (rows_of table state)
+named_roots layouts (ByGroup table restriction group having aggregates) state =
+    group_candidates group (rows_of table state)
 named_roots layouts (Single condition queries) state = All ∷ []
 
 -- whether a root is one of these

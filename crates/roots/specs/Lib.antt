@@ -1,6 +1,6 @@
 pub mod Answers
 pub mod Bad
-pub mod Kept
+pub mod Maintained
 pub mod Listed
 pub mod Over
 pub mod Shown

@@ -1,4 +1,4 @@
-//! Whether an assertion is false at a root, from the kept totals.
+//! Whether an assertion is false at a root, from the maintained totals.
 
 ghost use Rattle.std.specs.Prelude.{◌≡◌, ◌<◌, ◌≤◌, ◌^◌, ◌∷◌, [], List, Option, length, slice_index_or, IfOk, IsOkUnless};
 ghost use Rattle.std.specs.Option.{option_copied};
@@ -10,12 +10,14 @@ ghost use Rattle.table.specs.Rows.{Layout};
 ghost use Rattle.cond.specs.Bounds.{IsSmallRow};
 ghost use Rattle.cond.specs.Slots.{magnitude};
 ghost use Rattle.assertion.specs.Bounded.{IsBounded, IsBoundedOver};
+ghost use Rattle.assertion.specs.declared.queries.Query.{Query};
 ghost use Rattle.assertion.specs.Meaning.{State, truth_of_roots, verdict_of};
 ghost use Rattle.assertion.specs.Roots.{AreBad, IsOrdered, is_bad_root};
-ghost use Rattle.roots.specs.Answers.{kinds_in, queries_of};
+ghost use Rattle.roots.specs.Answers.{kinds_in};
+ghost use Rattle.roots.specs.declared.grouped.Grouping.{Grouping};
 ghost use Rattle.roots.specs.Bad.{IsRowOf, group_passes as group_passes_by, row_passes as row_passes_by, whole_truth};
-ghost use Rattle.roots.specs.Kept.{AreKept, AreOfTables, IsSmallRoot};
-ghost use Rattle.roots.specs.Summaries.{Summary, summaries_of};
+ghost use Rattle.roots.specs.Maintained.{AreMaintained, AreOfTables, IsSmallRoot};
+ghost use Rattle.roots.specs.Summaries.{queries_of, summaries_of};
 
 use crate::answers::{count_of, slots};
 use crate::lists::BadRoots;
@@ -33,26 +35,28 @@ pub fn is_bad(
     alloc: Global,
     form: &Form,
     row: Option<&Row>,
-    kept: &[Totals],
+    totals: &[Totals],
     root: &Root,
 ) -> Result<bool, Refusal>
     requires bounded { IsBounded form.now }
-    requires kept { AreOfTables form.now kept.now }
+    requires totals { AreOfTables form.now totals.now }
     requires row_small { HoldsOf IsSmallRow (option_copied row) }
     requires root_small { IsSmallRoot form.now root.now }
     ensures only_memory { IsOkUnless result NoMemory }
-    ensures bad { IfOk result (λ bad. (layouts : List Layout) (state : State) → AreKept state form.now kept.now
+    ensures bad { IfOk result (λ bad. (layouts : List Layout) (state : State) → AreMaintained state form.now totals.now
         → IsRowOf layouts form.now state root.now (option_copied row.entry)
         → bad ≡ is_bad_root layouts form.now state root.now) }
 {
     match (form, root) {
         (Form::ByRow { condition, .. }, Root::Of(key)) => {
-            row_passes(alloc, form, kept, condition, row, key)
+            row_passes(alloc, form, totals, condition, row, key)
         }
         (Form::ByGroup { having, .. }, Root::Of(group)) => {
-            group_passes(alloc, form, kept, having, group)
+            group_passes(alloc, form, totals, having, group)
         }
-        (Form::Single { condition, .. }, Root::All) => whole_is_false(alloc, form, kept, condition),
+        (Form::Single { condition, .. }, Root::All) => whole_is_false(
+            alloc, form, totals, condition,
+        ),
         (Form::ByRow { .. } | Form::ByGroup { .. }, Root::All)
         | (Form::Single { .. }, Root::Of(_)) => Ok(false),
     }
@@ -63,18 +67,18 @@ pub fn is_bad(
 pub fn truth_of(
     alloc: Global,
     form: &Form,
-    kept: &[Totals],
+    totals: &[Totals],
     bad: &BadRoots,
 ) -> Result<Truth, Refusal>
     requires bounded { IsBounded form.now }
-    requires kept { AreOfTables form.now kept.now }
+    requires totals { AreOfTables form.now totals.now }
     ensures only_memory { IsOkUnless result NoMemory }
     ensures truth { IfOk result (λ truth. (layouts : List Layout) (state : State) → IsOrdered layouts state
-        → AreKept state form.now kept.now → AreBad layouts form.now state bad.now
+        → AreMaintained state form.now totals.now → AreBad layouts form.now state bad.now
         → truth ≡ verdict_of layouts form.now state) }
 {
     match form {
-        Form::Single { condition, .. } => truth_of_whole(alloc, form, kept, condition),
+        Form::Single { condition, .. } => truth_of_whole(alloc, form, totals, condition),
         Form::ByRow { .. } | Form::ByGroup { .. } => Ok(truth_by_roots(bad)),
     }
 }
@@ -93,20 +97,20 @@ fn truth_by_roots(bad: &BadRoots) -> Truth
 fn row_passes(
     alloc: Global,
     form: &Form,
-    kept: &[Totals],
+    totals: &[Totals],
     condition: &Cond,
     row: Option<&Row>,
     key: &Value,
 ) -> Result<bool, Refusal>
     requires bounded { IsBoundedOver (kinds_in (queries_of form.now)) condition.now }
-    requires kept { AreOfTables form.now kept.now }
+    requires totals { AreOfTables form.now totals.now }
     requires row_small { HoldsOf IsSmallRow (option_copied row) }
     ensures only_memory { IsOkUnless result NoMemory }
-    ensures bad { IfOk result (λ bad. (state : State) → AreKept state form.now kept.now
+    ensures bad { IfOk result (λ bad. (state : State) → AreMaintained state form.now totals.now
         → bad ≡ row_passes_by state (queries_of form.now) condition.now key.now (option_copied row.entry)) }
 {
     match row {
-        Some(row) => Ok(keeps(condition, row, &slots(alloc, form, kept, key)?)),
+        Some(row) => Ok(keeps(condition, row, &slots(alloc, form, totals, key)?)),
         None => Ok(false),
     }
 }
@@ -115,23 +119,23 @@ fn row_passes(
 fn group_passes(
     alloc: Global,
     form: &Form,
-    kept: &[Totals],
+    totals: &[Totals],
     having: &Cond,
     group: &Value,
 ) -> Result<bool, Refusal>
     requires bounded { IsBoundedOver (kinds_in (queries_of form.now)) having.now }
-    requires kept { AreOfTables form.now kept.now }
+    requires totals { AreOfTables form.now totals.now }
     requires some { 0 < length (summaries_of form.now) }
     requires group_small { magnitude group.now ≤ 10 ^ 15 }
     ensures only_memory { IsOkUnless result NoMemory }
-    ensures bad { IfOk result (λ bad. (state : State) (summary : Summary) → AreKept state form.now kept.now
-        → bad ≡ group_passes_by state (slice_index_or (summaries_of form.now) 0 summary)
+    ensures bad { IfOk result (λ bad. (state : State) (summary : Query Grouping)
+        → AreMaintained state form.now totals.now → bad ≡ group_passes_by state (slice_index_or (summaries_of form.now) 0 summary)
         (queries_of form.now) having.now group.now) }
 {
-    if count_of(&kept[0], group) == 0 {
+    if count_of(&totals[0], group) == 0 {
         return Ok(false);
     }
-    let slots = slots(alloc, form, kept, group)?;
+    let slots = slots(alloc, form, totals, group)?;
     let row = row_with(alloc, group)?;
     Ok(keeps(having, &row, &slots))
 }
@@ -150,31 +154,31 @@ fn row_with(alloc: Global, value: &Value) -> Result<Row, Refusal>
 fn whole_is_false(
     alloc: Global,
     form: &Form,
-    kept: &[Totals],
+    totals: &[Totals],
     condition: &Cond,
 ) -> Result<bool, Refusal>
     requires bounded { IsBoundedOver (kinds_in (queries_of form.now)) condition.now }
-    requires kept { AreOfTables form.now kept.now }
+    requires totals { AreOfTables form.now totals.now }
     ensures only_memory { IsOkUnless result NoMemory }
-    ensures bad { IfOk result (λ bad. (state : State) → AreKept state form.now kept.now
+    ensures bad { IfOk result (λ bad. (state : State) → AreMaintained state form.now totals.now
         → bad ≡ is_of (whole_truth state (queries_of form.now) condition.now) False) }
 {
-    Ok(truth_of_whole(alloc, form, kept, condition)?.is(Truth::False))
+    Ok(truth_of_whole(alloc, form, totals, condition)?.is(Truth::False))
 }
 
 /// The truth of a condition that sees no row.
 fn truth_of_whole(
     alloc: Global,
     form: &Form,
-    kept: &[Totals],
+    totals: &[Totals],
     condition: &Cond,
 ) -> Result<Truth, Refusal>
     requires bounded { IsBoundedOver (kinds_in (queries_of form.now)) condition.now }
-    requires kept { AreOfTables form.now kept.now }
+    requires totals { AreOfTables form.now totals.now }
     ensures only_memory { IsOkUnless result NoMemory }
-    ensures truth { IfOk result (λ truth. (state : State) → AreKept state form.now kept.now
+    ensures truth { IfOk result (λ truth. (state : State) → AreMaintained state form.now totals.now
         → truth ≡ whole_truth state (queries_of form.now) condition.now) }
 {
-    let slots = slots(alloc, form, kept, &Value::Null)?;
+    let slots = slots(alloc, form, totals, &Value::Null)?;
     Ok(eval(condition, &Row::new(Vec::new(alloc)), &slots))
 }

@@ -3,10 +3,10 @@
 ghost use Rattle.std.specs.Prelude.{◌≡◌, ◌++◌, flat_map, IfOk, OnOk, IsOkUnless, option_to_list};
 ghost use Rattle.value.specs.declared.refusals.Refusal.TheVariants.{NoMemory};
 ghost use Rattle.assertion.specs.Candidates.{candidates as candidates_by, candidates_of, group_candidates, is_named as is_named_of, link_candidates, query_candidates};
-ghost use Rattle.roots.specs.Over.{is_linked as is_linked_of, is_over as is_over_of};
+ghost use Rattle.roots.specs.Over.{is_over as is_over_of};
 
 use crate::columns::value_at;
-use assertion::{Form, Linked, Plain};
+use assertion::{Form, Link, Query};
 use std::alloc::Global;
 use table::{Change, Row};
 use value::{Refusal, Root, Value};
@@ -56,15 +56,19 @@ pub(crate) fn push_candidates(
 }
 
 /// Puts the keys to which the subqueries link the old and the new row behind the roots.
-fn push_links(roots: &mut Vec<Root>, queries: &[Linked], change: &Change) -> Result<(), Refusal>
+fn push_links(
+    roots: &mut Vec<Root>,
+    queries: &[Query<Link>],
+    change: &Change,
+) -> Result<(), Refusal>
     ensures only_memory { IsOkUnless result NoMemory }
     ensures pushed { OnOk result (roots.new.items
         ≡ roots.old.items ++ flat_map (query_candidates change.now) queries.now) }
 {
     for query in queries {
         if query.table == change.table {
-            push_link(roots, query.link, &change.old)?;
-            push_link(roots, query.link, &change.new)?;
+            push_link(roots, query.grouping, &change.old)?;
+            push_link(roots, query.grouping, &change.new)?;
         }
     }
     Ok(())
@@ -72,12 +76,12 @@ fn push_links(roots: &mut Vec<Root>, queries: &[Linked], change: &Change) -> Res
 
 /// Puts what a linked column holds behind the roots: nothing where there is no row, and nothing for NULL, which links
 /// to no key.
-fn push_link(roots: &mut Vec<Root>, link: usize, row: &Option<Row>) -> Result<(), Refusal>
+fn push_link(roots: &mut Vec<Root>, link: Link, row: &Option<Row>) -> Result<(), Refusal>
     ensures only_memory { IsOkUnless result NoMemory }
     ensures pushed { OnOk result (roots.new.items ≡ roots.old.items ++ link_candidates link (option_to_list row.now)) }
 {
     if let Some(row) = row {
-        match row.values().get(link) {
+        match row.values().get(link.column()) {
             Some(Value::Null) | None => {}
             Some(value) => roots.push(Root::Of(value.copy()?))?,
         }
@@ -98,7 +102,7 @@ fn push_group(roots: &mut Vec<Root>, group: usize, row: &Option<Row>) -> Result<
 }
 
 /// Whether one of the subqueries is over the table.
-fn is_named(queries: &[Plain], table: usize) -> bool
+fn is_named<G>(queries: &[Query<G>], table: usize) -> bool
     ensures { result ≡ is_named_of table queries.now }
 {
     for query in queries {
@@ -109,20 +113,8 @@ fn is_named(queries: &[Plain], table: usize) -> bool
     false
 }
 
-/// Whether one of the linked subqueries is over the table.
-fn is_linked(queries: &[Linked], table: usize) -> bool
-    ensures { result ≡ is_linked_of table queries.now }
-{
-    for query in queries {
-        if query.table == table {
-            return true;
-        }
-    }
-    false
-}
-
 /// Whether an assertion is over a table, by its outer query or by a subquery. A change of another table has no
-/// candidates, and what is kept for the assertion stays right.
+/// candidates, and what is maintained for the assertion stays right.
 pub fn is_over(form: &Form, table: usize) -> bool
     ensures { result ≡ is_over_of table form.now }
 {
@@ -131,7 +123,7 @@ pub fn is_over(form: &Form, table: usize) -> bool
             table: of,
             queries,
             ..
-        } => *of == table || is_linked(queries.as_slice(), table),
+        } => *of == table || is_named(queries.as_slice(), table),
         Form::ByGroup { table: of, .. } => *of == table,
         Form::Single { queries, .. } => is_named(queries.as_slice(), table),
     }

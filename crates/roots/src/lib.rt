@@ -1,44 +1,43 @@
-//! Which roots a change can turn, and whether an assertion is false at a root, by totals that are kept.
+//! Which roots a change can turn, and whether an assertion is false at a root, by totals that are maintained.
 //!
 //! Evaluated from scratch, an assertion reads whole tables. Between one statement and the next little changes, so
 //! here the answers of its subqueries and set functions are carried on instead (incremental view maintenance: Gupta,
 //! Mumick and Subrahmanian, "Maintaining Views Incrementally", 1993), as *summaries*: the rows of a table that a
 //! WHERE keeps, in groups, and for each group the totals of one column (summary tables: Mumick, Quass and Mumick,
-//! "Maintenance of Data Cubes and Summary Tables in a Warehouse", 1997). A form has these, in order:
+//! "Maintenance of Data Cubes and Summary Tables in a Warehouse", 1997). A form has one for each slot of its condition,
+//! in order, which is the slot's own query, so nothing is made of the form at a change:
 //!
-//! - by rows, one for each subquery, in which a row's group is what its linked column holds. NULL links to no key,
-//!   and so such a row has no group;
-//! - by groups, one for each column under a set function, or one of the rows alone where there is no such column.
-//!   NULL is a group here. COUNT(*) is answered from any of them, since each counts its rows;
-//! - of a single condition, one for each subquery, in which all rows are one group.
-//!
-//! A slot of the form's condition is thus a set function and the place of the kept totals that answer it.
+//! - by rows, a subquery, in which a row's group is what its linked column holds. NULL links to no key, and so such a
+//!   row has no group;
+//! - by groups, a set function of HAVING, in which NULL is a group like another. Where HAVING has none there is one
+//!   summary all the same, that of COUNT(*), since a group is listed only where it has a row;
+//! - of a single condition, a subquery, in which all rows are one group.
 //!
 //! - [`candidates`] are the roots that changes can turn, in order; every other root keeps its truth.
-//! - [`totals_of`] and [`totals_after`] are the kept totals of tables, made in one pass, and after a change. A row
-//!   that moves leaves its old group, and a group without rows has no entry. The tables are not handed in: whatever
-//!   tables the old totals are of, the new ones are of those with the change.
+//! - [`totals_of`] and [`totals_after`] are the maintained totals of tables, made in one pass, and after a change. A
+//!   row that moves leaves its old group, and a group without rows has no entry. The tables are not handed in:
+//!   whatever tables the old totals are of, the new ones are of those with the change.
 //! - [`is_bad`] is whether the assertion is false at one root, from the row under that key, where the form is by
-//!   rows, and the kept totals.
+//!   rows, and the maintained totals.
 //! - [`bad_of`] and [`bad_after`] are the bad roots, in order, as a [`BadRoots`], of which every version stays whole.
 //!   Of tables only the roots that rows name are evaluated, since no other can be bad. After a change its candidates
 //!   are evaluated and no other root is: one that turned bad is put in, one that was mended is taken out, and the
 //!   rest stays.
-//! - [`is_over`] is whether an assertion is over a table. A change of another one has no candidates, and what is kept
-//!   stays right as it is.
+//! - [`is_over`] is whether an assertion is over a table. A change of another one has no candidates, and what is
+//!   maintained stays right as it is.
 //! - [`truth_of`] is the assertion's truth: by rows and by groups whether there is a bad root, of a single condition
 //!   its truth, which can be unknown and is then not bad.
 //! - [`key_column`] is the place of a table's key column, and [`value_at`] a copy of what a row has in a column, for
 //!   whoever makes changes.
 //!
 //! What the layer above may rest on: each of these is what `assertion`'s definitions say from scratch of the tables
-//! that the kept totals are of; NoMemory is the only error, and it changes nothing, since the calls only read what
-//! they are handed. What it owes: the form's expressions are bounded; the rows of the tables and of a change are
-//! within the bounds of a column, and fewer than 2^63 in a table; the kept totals are those of some tables.
+//! that the maintained totals are of; NoMemory is the only error, and it changes nothing, since the calls only read
+//! what they are handed. What it owes: the form's expressions are bounded; the rows of the tables and of a change are
+//! within the bounds of a column, and fewer than 2^63 in a table; the maintained totals are those of some tables.
 //!
-//! The definitions are in `specs/`: `Summaries` (of what totals are kept), `Kept` (kept totals of tables, and
-//! bounds), `Answers` (the queries of the slots, and from which totals each is answered), `Bad` (rows of roots, and
-//! lists of bad roots), `Listed` (how such a list is kept), `Over` (the tables of an assertion) and `Shown` (what is
+//! The definitions are in `specs/`: `Summaries` (the queries of the slots, and those whose totals are maintained),
+//! `Maintained` (maintained totals of tables, and bounds), `Answers` (what the queries give), `Bad` (rows of roots, and
+//! lists of bad roots), `Listed` (how such a list is held), `Over` (the tables of an assertion) and `Shown` (what is
 //! lent from a form). Truth, bad roots and candidates are those of `assertion`.
 #![tactic(auto)]
 
@@ -47,14 +46,14 @@ mod bad_roots;
 mod candidate_roots;
 mod columns;
 mod grouped;
-mod kept;
 mod lists;
+mod maintained;
 mod summaries;
 mod updates;
 
 pub use bad_roots::{is_bad, truth_of};
 pub use candidate_roots::{candidates, is_over};
 pub use columns::value_at;
-pub use kept::{totals_after, totals_of};
 pub use lists::BadRoots;
+pub use maintained::{totals_after, totals_of};
 pub use updates::{bad_after, bad_of, key_column};

@@ -124,7 +124,7 @@ fn copy_of(root: &Option<Root>) -> Result<Option<Root>, Refusal>
     }
 }
 
-/// What is kept with the root of a value in or out; where it is so already, the same is shared.
+/// What is held with the root of a value in or out; where it is so already, the same is shared.
 fn with_value(values: &Pages<Root>, value: &Value, is_in: bool) -> Result<Pages<Root>, Refusal>
     requires { AreUnder values.now }
     ensures only_memory { IsOkUnless result NoMemory }

@@ -1,4 +1,4 @@
-//! The kept bad roots of a form, of tables and after a change.
+//! The maintained bad roots of a form, of tables and after a change.
 
 ghost use Rattle.std.specs.Prelude.{◌≡◌, All, IfOk, IsOkUnless};
 ghost use Rattle.std.specs.Option.{option_copied};
@@ -12,7 +12,7 @@ ghost use Rattle.assertion.specs.Candidates.{group_candidates};
 ghost use Rattle.assertion.specs.Meaning.{State, key_of, rows_of};
 ghost use Rattle.assertion.specs.Roots.{AreBad, IsChangeOf, IsOrdered, state_after};
 ghost use Rattle.roots.specs.Bad.{AreUpdated, IsRowOf, named_roots as named_roots_of};
-ghost use Rattle.roots.specs.Kept.{AreKept, IsSmallRoot, IsSmallState};
+ghost use Rattle.roots.specs.Maintained.{AreMaintained, IsSmallRoot, IsSmallState};
 
 use crate::bad_roots::is_bad;
 use crate::candidate_roots::push_candidates;
@@ -25,24 +25,24 @@ use std::alloc::Global;
 use table::{Change, Row, Schema};
 use value::{Refusal, Root, Value};
 
-/// The bad roots of these tables, in order, by their kept totals. Only roots that a row names are looked at, since no
-/// other can be bad.
+/// The bad roots of these tables, in order, by their maintained totals. Only roots that a row names are looked at,
+/// since no other can be bad.
 pub fn bad_of(
     alloc: Global,
     schemas: &[Schema],
     tables: &[Rows],
     form: &Form,
-    kept: &[Totals],
+    totals: &[Totals],
 ) -> Result<BadRoots, Refusal>
     requires bounded { IsBounded form.now }
     requires small { IsSmallState tables.now }
-    requires kept { AreKept tables.now form.now kept.now }
+    requires totals { AreMaintained tables.now form.now totals.now }
     ensures only_memory { IsOkUnless result NoMemory }
     ensures bad { IfOk result (AreBad schemas.now form.now tables.now) }
 {
     let named = named_roots(alloc, schemas, tables, form)?;
     let none = BadRoots::new(alloc);
-    updated(alloc, schemas, tables, form, kept, &none, &named)
+    updated(alloc, schemas, tables, form, totals, &none, &named)
 }
 
 /// The roots that rows name, and the whole of a single condition.
@@ -107,14 +107,14 @@ pub fn key_column(schemas: &[Schema], table: usize) -> usize
     }
 }
 
-/// The bad roots after a change, in order: `tables` and `kept` are those after it, `bad` the bad roots before. Only
+/// The bad roots after a change, in order: `tables` and `totals` are those after it, `bad` the bad roots before. Only
 /// the candidates of the change are looked at, and each other root is bad where it was.
 pub fn bad_after(
     alloc: Global,
     schemas: &[Schema],
     tables: &[Rows],
     form: &Form,
-    kept: &[Totals],
+    totals: &[Totals],
     bad: &BadRoots,
     change: &Change,
 ) -> Result<BadRoots, Refusal>
@@ -122,7 +122,7 @@ pub fn bad_after(
     requires small { IsSmallState tables.now }
     requires old_small { ordered.HoldsOf IsSmallRow change.now.old }
     requires new_small { ordered.HoldsOf IsSmallRow change.now.new }
-    requires kept { AreKept tables.now form.now kept.now }
+    requires totals { AreMaintained tables.now form.now totals.now }
     ensures only_memory { IsOkUnless result NoMemory }
     ensures bad { IfOk result (λ made. (before : State) → IsOrdered schemas.now before
         → IsChangeOf schemas.now change.now before
@@ -131,7 +131,7 @@ pub fn bad_after(
 {
     let mut touched = Vec::new(alloc);
     push_candidates(&mut touched, form, change)?;
-    updated(alloc, schemas, tables, form, kept, bad, &touched)
+    updated(alloc, schemas, tables, form, totals, bad, &touched)
 }
 
 /// The roots with each of the touched ones put in where it is bad and taken out where it isn't.
@@ -140,14 +140,14 @@ fn updated(
     schemas: &[Schema],
     tables: &[Rows],
     form: &Form,
-    kept: &[Totals],
+    totals: &[Totals],
     bad: &BadRoots,
     touched: &[Root],
 ) -> Result<BadRoots, Refusal>
     requires bounded { IsBounded form.now }
     requires small { IsSmallState tables.now }
     requires roots_small { All (IsSmallRoot form.now) touched.now }
-    requires kept { AreKept tables.now form.now kept.now }
+    requires totals { AreMaintained tables.now form.now totals.now }
     ensures only_memory { IsOkUnless result NoMemory }
     ensures updated { IfOk result (λ made. ordered.IsAscending root_cmp (λ k. k) bad.now
         → AreUpdated schemas.now form.now tables.now touched.now bad.now made) }
@@ -155,7 +155,7 @@ fn updated(
     let mut made = bad.copy()?;
     for root in touched {
         let row = row_of(schemas, tables, form, root);
-        let is_in = is_bad(alloc, form, row, kept, root)?;
+        let is_in = is_bad(alloc, form, row, totals, root)?;
         made = made.with(root, is_in)?;
     }
     Ok(made)

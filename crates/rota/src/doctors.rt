@@ -71,12 +71,12 @@ fn commit<N: Named, R: Wait>(
 ) -> Result<Option<Ending<N>>, Refusal> {
     match manager.commit(rt, session, txn) {
         Ok(receipt) => Ok(Some(Ending::OffCall(receipt))),
-        Err(fault) => after_fault(rt, manager, fault),
+        Err(fault) => answer_fault(rt, manager, fault),
     }
 }
 
 /// What was refused 40001 may be run again. Any other refusal is the caller's.
-fn after_fault<N: Named, R: Wait>(
+fn answer_fault<N: Named, R: Wait>(
     rt: &R,
     manager: &Manager<N>,
     fault: CommitFault<N>,

@@ -14,13 +14,13 @@ use threeval::Truth;
 /// # Errors
 ///
 /// `AllocError` where no memory is left, and then the report is as it was.
-pub fn close(alloc: Global, core: &Core, lines: &mut Report) -> Result<(), AllocError>
+pub fn add_closing_part(alloc: Global, core: &Core, lines: &mut Report) -> Result<(), AllocError>
     ensures closed { OnOk result (lines.new ≡ lines.old ++ closing core.now) }
     ensures same { OnErr result (lines.new ≡ lines.old) }
 {
     let newest = core.newest();
-    let truths = truths(alloc, newest)?;
-    lines.close(
+    let truths = list_truths(alloc, newest)?;
+    lines.add_closing_part(
         core.records(),
         core.serial_order(),
         core.refused(),
@@ -30,7 +30,7 @@ pub fn close(alloc: Global, core: &Core, lines: &mut Report) -> Result<(), Alloc
 }
 
 /// The truth of each assertion on the tables.
-fn truths(alloc: Global, tables: &View) -> Result<Vec<Truth>, AllocError>
+fn list_truths(alloc: Global, tables: &View) -> Result<Vec<Truth>, AllocError>
     ensures { IfOk result (λ found. found.items ≡ truths tables.now) }
 {
     let mut found = Vec::new(alloc);

@@ -4,8 +4,8 @@
 //! The definitions say what there is, and the script what sessions do. Both are read whole before anything runs
 //! ([`read_texts`]). A [`ProgramFault`] is the first fault in the order of the work, which `specs/Texts` says of
 //! the two texts alone: the definitions' grammar, the script's, the definitions themselves, too many sessions; and
-//! then memory or the writer. Behind the replies stands the closing part of the committed transactions ([`close`],
-//! `specs/Lines`), however they came to be.
+//! then memory or the writer. Behind the replies stands the closing part of the committed transactions
+//! ([`add_closing_part`], `specs/Lines`), however they came to be.
 #![tactic(auto)]
 
 mod closing;
@@ -13,7 +13,7 @@ mod faults;
 mod texts;
 mod writing;
 
-pub use closing::close;
+pub use closing::add_closing_part;
 pub use faults::ProgramFault;
 pub use texts::{MOST_SESSIONS, read_texts};
 pub use writing::{flush, write_all};

@@ -1,13 +1,9 @@
 -- Of a transaction, conflicts look at its number, its snapshot, its reads and its changes alone.
-use Rattle.std.proofs.Common.{◌≡◌, ℕ, Bool, cond, ltb, leb, eqb, not, min, max, List, [], ◌∷◌, inl, inr, refl, sym, ap, ◌∙◌, ne_eqb, eq-eqb}
-use Rattle.std.specs.Prelude.{Contains, ◌&&◌}
+use Rattle.std.proofs.Common.{◌≡◌, Bool, cond, ltb, leb, eqb, not, min, max, List, [], ◌∷◌, refl, sym, ap, ◌∙◌}
+use Rattle.std.specs.Prelude.{◌&&◌}
 use Rattle.std.specs.List.{list_any}
-use Rattle.std.proofs.Math.Bool.{and_comm}
-use Rattle.std.proofs.lemmas.Bool.{cases_eq}
-use Rattle.table.specs.declared.rows.Change.{Change}
-use Rattle.siread.specs.declared.keys.LockKey.{LockKey}
 use Rattle.serial.specs.declared.records.Record.{Record}
-use Rattle.serial.specs.Commits.{conflicts_to, overlap, touch_any}
+use Rattle.serial.specs.Commits.{conflicts_to, touch_any}
 use Rattle.serial.specs.Numbers.{greatest_in, is_reader, is_reader_of, IsLeastPivot}
 use Rattle.serial.specs.Order.{least_out}
 
@@ -59,14 +55,3 @@ least_pivot_alike log a b p e h = record {
   passes = sym (pivot_alike log a b p e) ∙ h.passes;
   least = λ other m t. h.least other m (pivot_alike log a b other e ∙ t);
 }
-
-eqb_turned : (m n : ℕ) → eqb m n ≡ eqb n m
-eqb_turned m n = elim (cases_eq m n) [
-  | inl same ↦ eq-eqb m n same ∙ sym (eq-eqb n m (sym same))
-  | inr apart ↦ ne_eqb m n apart ∙ sym (ne_eqb n m (λ e. apart (sym e)))
-]
-
-pub overlap_turned : (a b : Record) → overlap a b ≡ overlap b a
-overlap_turned a b =
-    (λ i. not (eqb_turned a.number b.number i) && (ltb b.snapshot a.number && ltb a.snapshot b.number))
-    ∙ ap (λ x. not (eqb b.number a.number) && x) (and_comm (ltb b.snapshot a.number) (ltb a.snapshot b.number))

@@ -1,5 +1,5 @@
 -- What stands in the newest tables where no commit after a snapshot has written.
-use Rattle.std.proofs.Common.{◌≡◌, ℕ, ◌<◌, ◌≤◌, Bool, true, false, cond, List, [], ◌∷◌, inl, inr, refl, sym, ap, ◌∙◌, arith}
+use Rattle.std.proofs.Common.{◌≡◌, ℕ, ◌<◌, ◌≤◌, cond, List, [], ◌∷◌, inl, inr, refl, sym, ap, ◌∙◌, arith}
 use Rattle.std.specs.Prelude.{Contains, nat_le}
 use Rattle.std.proofs.lemmas.Bool.{cases_Bool, leb-true, leb-false}
 use Rattle.table.specs.declared.rows.Change.{Change}
@@ -9,7 +9,7 @@ use Rattle.siread.specs.declared.keys.Place.{Place}
 use Rattle.siread.specs.Keys.{place_of}
 use Rattle.alone.specs.States.{row_in, IsState}
 use Rattle.siread.proofs.Members.{in_head, in_tail}
-use Rattle.alone.proofs.Lists.{Each, each_filter, each_weaker}
+use Rattle.alone.proofs.Lists.{Each, each_weaker}
 use Rattle.alone.proofs.Stores.{all_fit, changed, change_at_cases, row_in-put}
 use Rattle.serial.specs.declared.records.Record.{Record}
 use Rattle.serial.specs.Epoch.{newest, state_of}
@@ -21,10 +21,6 @@ module _ (declared : Declared) (start : State) (fit : IsState (layouts_in declar
   pub newest_fits : (log : List Record) → HaveNets (AreNets declared) log → IsState (layouts_in declared) (newest declared start log)
   newest_fits [] nets = fit
   newest_fits (c ∷ rest) nets = all_fit (layouts_in declared) c.changes (newest declared start rest) (newest_fits rest nets.1) nets.0
-
-  pub state_fits : (log : List Record) → HaveNets (AreNets declared) log → (number : ℕ) → IsState (layouts_in declared) (state_of declared start log number)
-  state_fits log nets number =
-      newest_fits (held number log) (each_filter (λ r. AreNets declared r.changes) (λ r. nat_le r.number number) log nets)
 
   -- no commit after the snapshot has this row
   abbrev pub Unwritten : List Record → ℕ → Place → Type 0

@@ -6,7 +6,7 @@ use Rattle.serial.specs.declared.records.Record.{Record}
 use Rattle.serial.specs.Commits.{IsLog, IsAccepted, IsDangerous, conflicts_to, share_row}
 use Rattle.serial.specs.Order.{least_out, rank, put_by, sort_by, serial_order, IsSerial, without}
 use Rattle.siread.proofs.Members.{in_head, in_tail, in_cases, not_in_nil}
-use Rattle.alone.proofs.Lists.{Each, Pairs, each_weaker, each_both, each_right, each_at, each_from, pairs_put, pairs_out, pairs_before, pairs_after}
+use Rattle.alone.proofs.Lists.{Each, Pairs, each_weaker, each_both, each_at, each_from, pairs_put}
 use Rattle.serial.proofs.Arranged.{conflict_overlaps, Arranges, arranges_each, MayPrecede, serial_from, arranges_permutation, taken_out}
 
 -- what a log says of all its commits
@@ -48,14 +48,6 @@ clean (c ∷ log) h =
     }
 
 -- where a commit stands
-pub least_out_up_to_own : (log : List Record) (c : Record) → least_out log c ≤ c.number
-least_out_up_to_own [] c = omega arith
-least_out_up_to_own (v ∷ log) c = go (ltb v.number c.number && conflicts_to c v) (least_out_up_to_own log c)
-  where
-    go : (b : Bool) → least_out log c ≤ c.number → cond b (min v.number (least_out log c)) (least_out log c) ≤ c.number
-    go true l = omega arith
-    go false l = l
-
 pub least_out_up_to : (log : List Record) (c w : Record) → Contains log w → w.number < c.number → conflicts_to c w ≡ true → least_out log c ≤ w.number
 least_out_up_to [] c w m l h = absurd (not_in_nil w m)
 least_out_up_to (v ∷ log) c w m l h = elim (in_cases v log w m) [
@@ -278,32 +270,3 @@ order_is_kept c earlier h =
 pub log_falls : (log : List Record) → IsLog log → Pairs (λ a b. b.number < a.number) log
 log_falls [] h = tt
 log_falls (c ∷ log) h = (each_from (λ w. w.number < c.number) log (earlier_numbers c log h.0 h.1), log_falls log h.1)
-
--- the one stands before the other, by rank and then by number
-abbrev pub Comes : (Record → ℕ) → Record → Record → Type 0
-Comes key a b = (key a < key b) ⊎ ((key a ≡ key b) × (a.number < b.number))
-
-put_by_in : (key : Record → ℕ) (c : Record) (before after : List Record) → Each (λ w. Comes key w c) before → Each (Comes key c) after → Each (λ w. w.number < c.number) after → put_by key c (before ++ after) ≡ before ++ c ∷ after
-put_by_in key c [] [] e f g = refl
-put_by_in key c [] (w ∷ after) e f g = ap (λ b. cond b (c ∷ w ∷ after) (w ∷ put_by key c after)) (lt-ltb _ _ less)
-  where
-    less : key c < key w
-    less = elim f.0 [ inl l ↦ l | inr tie ↦ absurd (let l = tie.1 in let k = g.0 in omega arith) ]
-put_by_in key c (w ∷ before) after e f g =
-    ap (λ b. cond b (c ∷ w ∷ before ++ after) (w ∷ put_by key c (before ++ after))) (le-ltb _ _ no_less) ∙ ap (λ o. w ∷ o) (put_by_in key c before after e.1 f g)
-  where
-    no_less : key w ≤ key c
-    no_less = elim e.0 [ inl l ↦ omega arith | inr tie ↦ (let k = tie.0 in omega arith) ]
-
--- There is one such list: whoever sorts the commits by rank and number has the serial order.
-pub sorted_is_sort_by : (key : Record → ℕ) (order log : List Record) → Arranges order log → Pairs (λ a b. b.number < a.number) log → Pairs (Comes key) order → order ≡ sort_by key log
-sorted_is_sort_by key order [] h falls p = h
-sorted_is_sort_by key order (c ∷ log) h falls p =
-    let pairs : Pairs (Comes key) (h.0 ++ c ∷ h.1) = subst (Pairs (Comes key)) h.2 p in
-    let below : Each (λ w. w.number < c.number) h.1 = each_right (λ w. w.number < c.number) h.0 h.1 (arranges_each (λ w. w.number < c.number) (h.0 ++ h.1) log h.3 falls.0) in
-    h.2
-    ∙ sym (put_by_in key c h.0 h.1 (pairs_before (Comes key) h.0 c h.1 pairs) (pairs_after (Comes key) h.0 c h.1 pairs) below)
-    ∙ ap (put_by key c) (sorted_is_sort_by key (h.0 ++ h.1) log h.3 falls.1 (pairs_out (Comes key) h.0 c h.1 pairs))
-
-pub sorted_is_serial_order : (log order : List Record) → IsLog log → Arranges order log → Pairs (Comes (rank log)) order → order ≡ serial_order log
-sorted_is_serial_order log order h arr p = sorted_is_sort_by (rank log) order log arr (log_falls log h) p

@@ -1,5 +1,5 @@
 -- The commits after a snapshot. A number is a place in the log, and a commit conflicts with none that its snapshot holds.
-use Rattle.std.proofs.Common.{◌≡◌, ℕ, suc, ◌<◌, ◌≤◌, Bool, true, false, cond, ltb, leb, min, max, List, [], ◌∷◌, ◌++◌, length, take, drop, refl, sym, ap, ◌∙◌, subst, arith, length-append}
+use Rattle.std.proofs.Common.{◌≡◌, ℕ, suc, ◌<◌, ◌≤◌, false, cond, ltb, leb, min, List, [], ◌∷◌, ◌++◌, length, take, drop, refl, sym, ap, ◌∙◌, subst, arith, length-append}
 use Rattle.std.specs.Prelude.{Contains, ◌&&◌}
 use Rattle.std.specs.List.{list_any}
 use mathlib.Core.List.{reverse}
@@ -9,7 +9,7 @@ use Rattle.alone.proofs.Lists.{Each, Pairs, each_weaker, each_at}
 use Rattle.alone.proofs.Members.{in_left, in_either}
 use Rattle.serial.specs.declared.records.Record.{Record}
 use Rattle.serial.specs.Commits.{IsLog, conflicts_to}
-use Rattle.serial.specs.Numbers.{greatest_in, is_reader_of}
+use Rattle.serial.specs.Numbers.{is_reader_of}
 use Rattle.serial.specs.Order.{least_out}
 use Rattle.serial.proofs.Arranged.{conflict_overlaps}
 use Rattle.serial.proofs.Ranks.{numbers_below, log_falls}
@@ -63,9 +63,6 @@ recent_past commits snapshot p w m = each_at (λ x. snapshot < x.number) (revers
 no_conflict_out : (c w : Record) → w.number ≤ c.snapshot → conflicts_to c w ≡ false
 no_conflict_out c w l = false_from_ne_true (conflicts_to c w) (λ e. let o = conflict_overlaps c w e in omega (arith, o.second))
 
-no_conflict_in : (c w : Record) → w.number ≤ c.snapshot → conflicts_to w c ≡ false
-no_conflict_in c w l = false_from_ne_true (conflicts_to w c) (λ e. let o = conflict_overlaps w c e in omega (arith, o.first))
-
 least_out_held : (older : List Record) (c : Record) → Each (λ w. w.number ≤ c.snapshot) older → least_out older c ≡ c.number
 least_out_held [] c e = refl
 least_out_held (w ∷ older) c e =
@@ -77,22 +74,9 @@ least_out_past [] older c e = least_out_held older c e
 least_out_past (v ∷ newer) older c e =
     ap (λ n. cond (ltb v.number c.number && conflicts_to c v) (min v.number n) n) (least_out_past newer older c e)
 
-greatest_in_held : (older : List Record) (c : Record) → Each (λ w. w.number ≤ c.snapshot) older → greatest_in older c ≡ 0
-greatest_in_held [] c e = refl
-greatest_in_held (w ∷ older) c e =
-    ap (λ b. cond b (max w.number (greatest_in older c)) (greatest_in older c)) (no_conflict_in c w e.0) ∙ greatest_in_held older c e.1
-
-greatest_in_past : (newer older : List Record) (c : Record) → Each (λ w. w.number ≤ c.snapshot) older → greatest_in (newer ++ older) c ≡ greatest_in newer c
-greatest_in_past [] older c e = greatest_in_held older c e
-greatest_in_past (v ∷ newer) older c e = ap (λ n. cond (conflicts_to v c) (max v.number n) n) (greatest_in_past newer older c e)
-
 pub least_out_recent : (commits : List Record) (c : Record) → Parts commits c.snapshot → least_out (reverse commits) c ≡ least_out (reverse (drop c.snapshot commits)) c
 least_out_recent commits c p =
     ap (λ o. least_out o c) p.whole ∙ least_out_past (reverse (drop c.snapshot commits)) (reverse (take c.snapshot commits)) c p.held
-
-pub greatest_in_recent : (commits : List Record) (c : Record) → Parts commits c.snapshot → greatest_in (reverse commits) c ≡ greatest_in (reverse (drop c.snapshot commits)) c
-greatest_in_recent commits c p =
-    ap (λ o. greatest_in o c) p.whole ∙ greatest_in_past (reverse (drop c.snapshot commits)) (reverse (take c.snapshot commits)) c p.held
 
 pub no_pivot_held : (log : List Record) (c : Record) (older : List Record) → Each (λ w. w.number ≤ c.snapshot) older → list_any (is_reader_of log c) older ≡ false
 no_pivot_held log c [] e = refl

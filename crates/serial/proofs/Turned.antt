@@ -1,5 +1,5 @@
 -- Lists turned round.
-use Rattle.std.proofs.Common.{◌≡◌, List, [], ◌∷◌, ◌++◌, sym, subst}
+use Rattle.std.proofs.Common.{List, [], ◌∷◌, ◌++◌, sym, subst}
 use Rattle.std.specs.Prelude.{Contains}
 use mathlib.Core.List.{reverse, reverse-cons}
 use Rattle.alone.proofs.Lists.{Each, Pairs, each_left, each_right, each_append, each_at, each_from, pairs_before}

@@ -56,10 +56,10 @@ one_commit declared start sound session trace accepted = record {
 abbrev pub bare : List Layout → State
 bare layouts = map (λ layout. []) layouts
 
-no_rows : (layouts : List Layout) (t : ℕ) → rows_of t (bare layouts) ≡ []
-no_rows [] t = refl
-no_rows (l ∷ rest) zero = refl
-no_rows (l ∷ rest) (suc t) = no_rows rest t
+bare_has_none : (layouts : List Layout) (t : ℕ) → rows_of t (bare layouts) ≡ []
+bare_has_none [] t = refl
+bare_has_none (l ∷ rest) zero = refl
+bare_has_none (l ∷ rest) (suc t) = bare_has_none rest t
 
 long : (layouts : List Layout) → length (bare layouts) ≡ length layouts
 long [] = refl
@@ -67,6 +67,6 @@ long (l ∷ rest) = ap suc (long rest)
 
 pub empty_start : (tables : Tables) → IsSound (record { tables = tables; assertions = [] }) (bare (layouts_of tables))
 empty_start tables = record {
-  fit = record { long = long (layouts_of tables); ordered = λ t. subst (IsAscending value_cmp (value_in (key_of t (layouts_of tables)))) (sym (no_rows (layouts_of tables) t)) tt };
+  fit = record { long = long (layouts_of tables); ordered = λ t. subst (IsAscending value_cmp (value_in (key_of t (layouts_of tables)))) (sym (bare_has_none (layouts_of tables) t)) tt };
   good = refl;
 }

@@ -10,7 +10,7 @@ ghost use Rattle.serial.specs.Epoch.{InEachEpoch, AreRecorded, AnswersAgain, End
 /// The order law: in the serial order of a log each commit stands once, after all that its snapshot holds, after the
 /// earlier writers of its rows, and before all to which it conflicts. One commit more leaves the others as they
 /// stood, and is put in just before the least to which it conflicts, or at the end.
-pub fn order()
+pub fn commits_have_an_order()
     ensures once { (log : List Record) → IsLog log → IsPermutation log (serial_order log) }
     ensures serial { (log : List Record) → IsLog log → IsSerial log (serial_order log) }
     ensures kept { (commit : Record) (earlier : List Record) → IsLog (commit ∷ earlier) → IsKept commit earlier }
@@ -21,12 +21,12 @@ pub fn order()
 /// Two numbers decide: no dangerous triple has the next commit in it exactly where neither test passes. Where the first
 /// does, it is the pivot of one, and the two numbers are the greatest reader and the least writer. Where it can be no
 /// pivot and the second test passes, it is the reader, and the least pivot has the least writer in its own number.
-pub fn numbers()
+pub fn two_numbers_decide()
     ensures { (log : List Record) (commit : Record) → IsNext commit log → AreJudged log commit }
 {}
 
 /// A commit that is answered with its number is accepted.
-pub fn answers()
+pub fn numbered_commits_are_accepted()
     ensures { (log : List Record) (commit : Record) → IsNumbered log commit → IsAccepted commit log }
 {}
 
@@ -34,7 +34,7 @@ pub fn answers()
 /// its snapshot, and end in the newest tables; and the tables after each number of commits make no assertion false.
 /// What each was answered has an accepted COMMIT in it, and the net change that is recorded. The newest tables are
 /// those of the start with the net changes put in from the oldest on.
-pub fn replay()
+pub fn replay_answers_again()
     ensures again { InEachEpoch AnswersAgain }
     ensures newest { InEachEpoch EndsNewest }
     ensures sound { InEachEpoch AreSound }

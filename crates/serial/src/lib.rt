@@ -14,13 +14,16 @@
 //! - `specs/Replay`, `specs/Epoch`: transactions run alone one after the other, on states of rows;
 //! - `specs/Answer`: what a COMMIT is to be answered by the commits before it.
 //!
-//! The laws are contracts of functions without parameters: [`order`] is the order law, [`numbers`] says what the two
-//! numbers decide, and [`replay`] is the theorem of the whole: run alone in the serial order, each committed
-//! transaction answers what it was answered on its snapshot. That there are such logs is shown in `proofs/Witness`.
+//! The laws are contracts of functions without parameters: [`commits_have_an_order`] is the order law,
+//! [`two_numbers_decide`] says what the two numbers decide, and [`replay_answers_again`] is the theorem of the whole:
+//! run alone in the serial order, each committed transaction answers what it was answered on its snapshot. That there
+//! are such logs is shown in `proofs/Witness`.
 #![tactic(auto)]
 
 mod laws;
 mod records;
 
-pub use laws::{answers, numbers, order, replay};
+pub use laws::{
+    commits_have_an_order, numbered_commits_are_accepted, replay_answers_again, two_numbers_decide,
+};
 pub use records::Record;

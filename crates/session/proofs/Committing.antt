@@ -1,15 +1,14 @@
 -- What a COMMIT leaves of a Book.
 use Rattle.std.proofs.Common.{◌≡◌, ℕ, ◌+◌, Bool, true, false, List, Option, Some, None, Result, Ok, Err, length, refl, sym, ap, ◌∙◌, subst}
 use Rattle.std.specs.Prelude.{◌==◌, IfOk}
-use Rattle.boxcar.specs.Table.{Shelves, Shows}
+use Rattle.boxcar.specs.Table.{Shelves}
 use Rattle.value.specs.Ordered.{HoldsOf}
 use Rattle.value.specs.declared.refusals.Refusal.{Refusal}
 use Rattle.serial.specs.Commits.{IsLog}
 use Rattle.txn.specs.Transactions.{OpenTransaction, outcome_of}
 use Rattle.commit.specs.Cores.{CoreState, IsCommitAnswer, IsDecided, IsUncommitted, log_of, record_of}
-use Rattle.session.specs.declared.items.Item.{Item}
 use Rattle.session.specs.Limits.{LimitsState}
-use Rattle.session.specs.Books.{BookState, IsBook, IsReceipt, IsTicketed, ReceiptState, Ticketed, Token, item_after}
+use Rattle.session.specs.Books.{BookState, IsBook, IsTicketed, ReceiptState, Ticketed}
 use Rattle.session.specs.Answers.{record_of as record_with, IsNotCommitted, IsReason, IsUnbegun, only, shown_for, shown_unless, with_ticket}
 use Rattle.session.proofs.Reasons.{reasons}
 use Rattle.session.proofs.Tokens.{book_refused}
@@ -22,15 +21,6 @@ next_number c session t number h = go (outcome_of t).refused (length c.records =
     go (Some refusal) full h = let no : ⊥ = cc in absurd no
     go None true h = let no : ⊥ = cc in absurd no
     go None false h = h.0
-
--- the token of its item serves for a receipt
-pub receipt_made : (shelf : Shelves) (epoch number : ℕ) (token : Token) (c : CoreState) (session : List ℕ) (t : OpenTransaction) → Shows shelf token
-    → token.value ≡ item_after epoch c session t → IsCommitAnswer c session t (Ok number) → IsReceipt shelf epoch number token
-receipt_made shelf epoch number token c session t shown is answer = record {
-  shown = shown;
-  epoch_is = ap (λ (x : Item). x.epoch) is;
-  number_is = ap (λ (x : Item). x.number) is ∙ sym (next_number c session t number answer);
-}
 
 -- the transaction that a refused COMMIT gives back is the one that was closed
 pub back_ticketed : (c after : CoreState) (session : List ℕ) (t : Ticketed) (refusal : Refusal) (back : Option OpenTransaction) → IsTicketed t

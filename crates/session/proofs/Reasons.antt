@@ -3,7 +3,7 @@ use Rattle.std.proofs.Common.{◌≡◌, ℕ, suc, ◌+◌, ◌<◌, Bool, true,
 use Rattle.std.specs.Prelude.{slice_get, Contains, ◌==◌}
 use Rattle.std.specs.List.{list_any}
 use Rattle.std.proofs.lemmas.List.{length-reverse, reverse-append, reverse-reverse}
-use Rattle.std.proofs.lemmas.Option.{slice_get_cases}
+use Rattle.std.proofs.lemmas.Option.{slice_get_cases, same_Some}
 use Rattle.std.proofs.lemmas.Bool.Decides.{nat_tests}
 use Rattle.boxcar.specs.Table.{Shelves}
 use Rattle.value.specs.declared.refusals.Party.{Party}
@@ -44,13 +44,10 @@ pub record IsViolation (refusal : Refusal) : Type 0 where
   pub root : Root
   pub is : refusal ≡ Violated name root
 
-some_is : {X : Type 0} (x y : X) → Some x ≡ Some y → x ≡ y
-some_is x y e = cc
-
 violation_at : (name : List ℕ) (root : Option Root) (rest : Option Refusal) (refusal : Refusal) → (rest ≡ Some refusal → IsViolation refusal)
     → refusal_at name root rest ≡ Some refusal → IsViolation refusal
 violation_at name None rest refusal h e = h e
-violation_at name (Some root) rest refusal h e = record { name = name; root = root; is = sym (some_is _ _ e) }
+violation_at name (Some root) rest refusal h e = record { name = name; root = root; is = sym (same_Some _ _ e) }
 
 violated : (layouts : List Layout) (assertions : List Assertion) (state : State) (refusal : Refusal) → violation layouts assertions state ≡ Some refusal → IsViolation refusal
 violated layouts [] state refusal e = let no : ⊥ = cc in absurd no

@@ -1,7 +1,6 @@
 -- How assertions stand on tables that make none false.
 use Rattle.std.proofs.Common.{◌≡◌, ◌≢◌, ℕ, Bool, true, false, cond, List, [], ◌∷◌, Option, Some, None, length, refl, sym, subst}
 use Rattle.std.specs.Str.{bytes_eq}
-use Rattle.value.specs.declared.refusals.Refusal.{Refusal}
 use Rattle.value.specs.Ordered.{least}
 use Rattle.value.specs.ValueOrder.{root_cmp}
 use Rattle.value.specs.declared.values.Root.{Root}
@@ -15,7 +14,8 @@ use Rattle.assertion.specs.declared.forms.Form.{Form}
 use Rattle.assertion.specs.declared.forms.Form.TheVariants.{ByRow, ByGroup, Single}
 use Rattle.assertion.specs.Declarations.{Declared, layouts_in}
 use Rattle.assertion.specs.Meaning.{State, bad_roots, least_bad_of, single_truth, truth_of_roots, verdict_of}
-use Rattle.alone.specs.Checks.{refusal_at, violation}
+use Rattle.alone.specs.Checks.{violation}
+use Rattle.alone.proofs.Checks.{none_first}
 use Rattle.modes.specs.Modes.{assertion_of}
 use Rattle.txn.specs.Transactions.{truth_of}
 use Rattle.serial.specs.Commits.{IsLog}
@@ -37,12 +37,8 @@ module _ (layouts : List Layout) (state : State) where
 
   upheld : (form : Form) → least_bad_of layouts form state ≡ None → IsUpheld form (Some (verdict_of layouts form state))
   upheld (ByRow table condition queries) h = no_roots (bad_roots layouts (ByRow table condition queries) state) h
-  upheld (ByGroup table kept group having aggregates) h = no_roots (bad_roots layouts (ByGroup table kept group having aggregates) state) h
+  upheld (ByGroup table restriction group having aggregates) h = no_roots (bad_roots layouts (ByGroup table restriction group having aggregates) state) h
   upheld (Single condition queries) h = not_false (single_truth state condition queries) h
-
-  first_none : (name : List ℕ) (root : Option Root) (rest : Option Refusal) → refusal_at name root rest ≡ None → (root ≡ None) × (rest ≡ None)
-  first_none name None rest h = (refl, h)
-  first_none name (Some root) rest h = let no : ⊥ = cc in absurd no
 
   abbrev truth : Option Assertion → Option Truth
   truth None = None
@@ -57,7 +53,7 @@ module _ (layouts : List Layout) (state : State) where
       → IsStanding (assertion_of name assertions) (truth (assertion_of name assertions))
   found name [] h = refl
   found name (a ∷ rest) h =
-      let parts = first_none a.name (least_bad_of layouts a.form state) (violation layouts rest state) h in
+      let parts = none_first a.name (least_bad_of layouts a.form state) (violation layouts rest state) h in
       here (bytes_eq a.name name) a (assertion_of name rest) (upheld a.form parts.0) (found name rest parts.1)
 
 truth_same : (declared : Declared) (state : State) (o : Option Assertion) → truth (layouts_in declared) state o ≡ truth_of (record { declared = declared; state = state }) o

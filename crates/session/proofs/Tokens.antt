@@ -1,12 +1,11 @@
 -- The tokens of a Book whose core has answered an event.
 use Rattle.std.proofs.Common.{◌≡◌, ℕ, zero, suc, ◌+◌, ◌<◌, ◌≤◌, ◌⊎◌, List, [], ◌∷◌, ◌++◌, Option, Some, length, reverse, inl, inr, refl, sym, ap, ◌∙◌, subst, arith, add-one}
-use Rattle.std.specs.Prelude.{slice_get, Contains}
+use Rattle.std.specs.Prelude.{slice_get}
 use Rattle.std.proofs.lemmas.List.{length-append, length-reverse, reverse-append}
 use Rattle.boxcar.specs.Table.{Shelves, Shows}
 use Rattle.assertion.specs.Declarations.{Declared}
 use Rattle.assertion.specs.Meaning.{State}
 use Rattle.alone.proofs.Lists.{Each, each_weaker}
-use Rattle.delta.specs.Views.{Shown}
 use Rattle.serial.specs.declared.records.Record.{Record}
 use Rattle.serial.specs.Commits.{IsLog}
 use Rattle.serial.specs.Epoch.{newest, put_in, state_of}
@@ -15,11 +14,11 @@ use Rattle.serial.proofs.Ranks.{numbers_below}
 use Rattle.serial.proofs.Replays.{held_all, held_same}
 use Rattle.txn.specs.Transactions.{OpenTransaction}
 use Rattle.value.specs.declared.refusals.Refusal.{Refusal}
-use Rattle.commit.specs.Cores.{CoreState, IsLive, committed, log_of, record_of}
+use Rattle.commit.specs.Cores.{committed, log_of, record_of}
 use Rattle.session.specs.declared.items.Item.{Item}
 use Rattle.session.specs.Limits.{LimitsState}
-use Rattle.session.specs.Answers.{after_refusal, after_rollback}
-use Rattle.session.specs.Books.{AreReceipts, AreTokens, BookState, IsAt, IsBook, Token, after_begin, after_commit, item_after, item_at, record_at}
+use Rattle.session.specs.Answers.{after_refusal}
+use Rattle.session.specs.Books.{AreReceipts, AreTokens, BookState, IsBook, Token, after_commit, item_after, item_at, record_at}
 
 -- what stands at a place of a list with one more at its end
 get_snoc : {X : Type 0} (xs : List X) (y : X) (i : ℕ) (e : X) → slice_get (xs ++ y ∷ []) i ≡ Some e
@@ -107,16 +106,10 @@ book_committed shelf limits b session t w book log shown is = record {
   tokens = tokens_snoc shelf b.epoch b.core.declared b.core.start b.core.records b.tokens (record_of b.core session t) w refl log book.tokens shown is;
 }
 
--- after a begin, a refused commit, a rollback
-pub book_begun : (shelf : Shelves) (limits : LimitsState) (b : BookState) → IsBook shelf limits b → IsBook shelf limits (after_begin b)
-book_begun shelf limits b book = record { commits = book.commits; sessions = book.sessions; handed = book.handed; idle = book.idle; tokens = book.tokens }
-
+-- after a refused commit
 pub book_refused : (shelf : Shelves) (limits : LimitsState) (b : BookState) (session : List ℕ) (t : OpenTransaction) (refusal : Refusal) → IsBook shelf limits b
     → IsBook shelf limits (after_refusal b session t refusal)
 book_refused shelf limits b session t refusal book = record { commits = book.commits; sessions = book.sessions; handed = book.handed; idle = book.idle; tokens = book.tokens }
-
-pub book_ended : (shelf : Shelves) (limits : LimitsState) (b : BookState) (t : OpenTransaction) → IsBook shelf limits b → IsBook shelf limits (after_rollback b t)
-book_ended shelf limits b t book = record { commits = book.commits; sessions = book.sessions; handed = book.handed; idle = book.idle; tokens = book.tokens }
 
 -- tokens serve for receipts
 pub receipts_of : (shelf : Shelves) (limits : LimitsState) (b : BookState) → IsBook shelf limits b → AreReceipts shelf b.epoch b.tokens
@@ -125,25 +118,3 @@ receipts_of shelf limits b book = record {
       let p = book.tokens.each n w at in
       record { shown = p.shown; epoch_is = ap (λ (x : Item). x.epoch) p.item; number_is = ap (λ (x : Item). x.number) p.item };
 }
-
--- a transaction on the tables that its token shows is live where the token's are those of its snapshot
-pub live_from : (c : CoreState) (t : OpenTransaction) (view : Shown) → Contains c.live.snapshots (record { ticket = t.ticket; snapshot = t.snapshot })
-    → t.snapshot ≤ length c.records → view ≡ record { declared = c.declared; state = state_of c.declared c.start (log_of c) t.snapshot }
-    → view ≡ record { declared = t.declared; state = t.start } → IsLive c t
-live_from c t view held within mine its = record {
-  held = held;
-  declared_is = ap (λ (s : Shown). s.declared) (sym its ∙ mine);
-  within = within;
-  start_is = ap (λ (s : Shown). s.state) (sym its ∙ mine);
-}
-
--- the Book's token and the ticket's are of one shelf, at one index
-pub agrees_asks : (shelf_of : ℕ → Shelves) (shelf : Shelves) (b : BookState) (number index : ℕ) (id other : ℕ) (mine : Token) (theirs : Token) → shelf ≡ shelf_of id
-    → b.id ≡ id → other ≡ id → IsAt b number theirs.index → slice_get b.tokens number ≡ Some mine → Shows (shelf_of b.id) mine → Shows (shelf_of other) theirs
-    → Shows shelf mine × Shows shelf theirs × (mine.index ≡ theirs.index)
-agrees_asks shelf_of shelf b number index id other mine theirs is book_id other_id own at book_shows shows =
-    let same : own.token ≡ mine = cc (own.at, at) in (
-      subst (λ (s : Shelves). Shows s mine) (ap shelf_of book_id ∙ sym is) book_shows,
-      subst (λ (s : Shelves). Shows s theirs) (ap shelf_of other_id ∙ sym is) shows,
-      sym (ap (λ (x : Token). x.index) same) ∙ own.same,
-    )

@@ -177,7 +177,7 @@ IsSatisfied view = violation (layouts_in view.declared) view.declared.assertions
 abbrev pub IsUpheld : Form → Option Truth → Type 0
 IsUpheld form None = ⊥
 IsUpheld (ByRow table condition queries) (Some truth) = truth ≡ True
-IsUpheld (ByGroup table kept group having aggregates) (Some truth) = truth ≡ True
+IsUpheld (ByGroup table restriction group having aggregates) (Some truth) = truth ≡ True
 IsUpheld (Single condition queries) (Some truth) = truth ≢ False
 
 -- how an assertion stands on committed tables, if there is one

@@ -99,17 +99,23 @@ pub record IsReceipt (shelf : Shelves) (epoch number : ℕ) (token : Token) : Ty
 pub record AreReceipts (shelf : Shelves) (epoch : ℕ) (tokens : List Token) : Type 0 where
   pub each : (number : ℕ) (token : Token) → slice_get tokens number ≡ Some token → IsReceipt shelf epoch number token
 
--- the Book and the session are of the manager that asks, and the session has seen no number above the Book's
-abbrev pub knows : BookState → SessionState → (id epoch : ℕ) → Bool
-knows b s id epoch =
-    (b.id == id)
-    && ((b.epoch == epoch) && ((s.id == id) && ((s.epoch == epoch) && nat_le s.seen (length b.core.records))))
+-- the Book, and what was handed out by this id and epoch, are of the manager that asks
+abbrev pub is_of : BookState → (own_id own_epoch id epoch : ℕ) → Bool
+is_of b own_id own_epoch id epoch =
+    (b.id == id) && ((b.epoch == epoch) && ((own_id == id) && (own_epoch == epoch)))
 
-pub record IsKnown (b : BookState) (s : SessionState) (id epoch : ℕ) : Type 0 where
+pub record IsOf (b : BookState) (own_id own_epoch id epoch : ℕ) : Type 0 where
   pub book_id : b.id ≡ id
   pub book_epoch : b.epoch ≡ epoch
-  pub session_id : s.id ≡ id
-  pub session_epoch : s.epoch ≡ epoch
+  pub same_id : own_id ≡ id
+  pub same_epoch : own_epoch ≡ epoch
+
+-- the session is of the manager that asks, and has seen no number above the Book's
+abbrev pub knows : BookState → SessionState → (id epoch : ℕ) → Bool
+knows b s id epoch = is_of b s.id s.epoch id epoch && nat_le s.seen (length b.core.records)
+
+pub record IsKnown (b : BookState) (s : SessionState) (id epoch : ℕ) : Type 0 where
+  pub of : IsOf b s.id s.epoch id epoch
   pub seen : s.seen ≤ length b.core.records
 
 -- the token is the one with this index
@@ -117,15 +123,12 @@ abbrev pub is_index : (index : ℕ) → Option Token → Bool
 is_index index None = false
 is_index index (Some token) = token.index == index
 
--- The Book and the ticket are of the manager that asks, the transaction that began with this number and snapshot has
--- not ended, and its token is the Book's own.
+-- The ticket is of the manager that asks, the transaction that began with this number and snapshot has not ended,
+-- and its token is the Book's own.
 abbrev pub owns : BookState → TicketState → (number snapshot id epoch : ℕ) → Bool
 owns b t number snapshot id epoch =
-    (b.id == id)
-    && ((b.epoch == epoch)
-    && ((t.id == id)
-    && ((t.epoch == epoch)
-    && (is_held number snapshot b.core.live.snapshots && is_index t.token.index (slice_get b.tokens snapshot)))))
+    is_of b t.id t.epoch id epoch
+    && (is_held number snapshot b.core.live.snapshots && is_index t.token.index (slice_get b.tokens snapshot))
 
 -- the Book has a token for this number, with this index
 pub record IsAt (b : BookState) (number index : ℕ) : Type 0 where
@@ -134,10 +137,7 @@ pub record IsAt (b : BookState) (number index : ℕ) : Type 0 where
   pub same : token.index ≡ index
 
 pub record IsOwned (b : BookState) (t : TicketState) (number snapshot id epoch : ℕ) : Type 0 where
-  pub book_id : b.id ≡ id
-  pub book_epoch : b.epoch ≡ epoch
-  pub ticket_id : t.id ≡ id
-  pub ticket_epoch : t.epoch ≡ epoch
+  pub of : IsOf b t.id t.epoch id epoch
   pub held : Contains b.core.live.snapshots (record { ticket = number; snapshot = snapshot })
   pub token : IsAt b snapshot t.token.index
 
@@ -148,19 +148,14 @@ owns_txn b t id epoch = owns b t.ticket t.inner.ticket t.inner.snapshot id epoch
 abbrev pub is_own : BookState → SessionState → Ticketed → (id epoch : ℕ) → Bool
 is_own b s t id epoch = knows b s id epoch && owns_txn b t id epoch
 
--- the Book and the receipt are of the manager that asks, and its token is the Book's own
+-- the receipt is of the manager that asks, and its token is the Book's own
 abbrev pub is_kept : BookState → ReceiptState → (id epoch : ℕ) → Bool
 is_kept b r id epoch =
-    (b.id == id)
-    && ((b.epoch == epoch)
-    && ((r.id == id)
-    && ((r.epoch == epoch) && (nat_lt 0 r.number && is_index r.token.index (slice_get b.tokens r.number)))))
+    is_of b r.id r.epoch id epoch
+    && (nat_lt 0 r.number && is_index r.token.index (slice_get b.tokens r.number))
 
 pub record IsKept (b : BookState) (r : ReceiptState) (id epoch : ℕ) : Type 0 where
-  pub book_id : b.id ≡ id
-  pub book_epoch : b.epoch ≡ epoch
-  pub receipt_id : r.id ≡ id
-  pub receipt_epoch : r.epoch ≡ epoch
+  pub of : IsOf b r.id r.epoch id epoch
   pub positive : 0 < r.number
   pub token : IsAt b r.number r.token.index
 

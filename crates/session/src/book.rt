@@ -12,8 +12,9 @@ ghost use Rattle.serial.specs.Epoch.{state_of};
 ghost use Rattle.txn.specs.Transactions.{begun, truth_of};
 ghost use Rattle.commit.specs.Cores.{IsCommitAnswer, IsLive, IsSerializable, log_of, newest_tables, record_of};
 ghost use Rattle.commit.specs.Runs.{empty_core};
-ghost use Rattle.session.specs.Books.{AreReceipts, IsBook, IsKept, IsKnown, IsOwned, IsTicketed, IsToken};
-ghost use Rattle.session.specs.Books.{after_begin, after_commit, is_index, is_kept, is_own, knows, owns, owns_txn};
+ghost use Rattle.session.specs.Books.{AreReceipts, IsBook, IsKept, IsKnown, IsOf, IsOwned, IsTicketed, IsToken};
+ghost use Rattle.session.specs.Books.{after_begin, after_commit, is_index, is_kept, is_of, is_own, knows, owns};
+ghost use Rattle.session.specs.Books.{owns_txn};
 ghost use Rattle.session.specs.Answers.{IsNotCommitted, IsReason, IsSatisfied, IsStanding, IsUnbegun, after_rollback};
 ghost use Rattle.session.specs.Answers.{only, party_receipt, receipt_at, shown_among, shown_unless};
 ghost use Rattle.session.specs.Answers.{with_ticket};
@@ -33,7 +34,7 @@ use std::alloc::Global;
 use std::marker::{Model, PhantomData};
 use std::sync::Wait;
 use threeval::Truth;
-use txn::truth_on;
+use txn::verdict_on;
 use value::{Party, Refusal, Text};
 
 /// What lies under a manager's lock: the commits, whose they are, a token of the shelf for each number, and how many
@@ -166,7 +167,7 @@ impl<N: Named> Book<N> {
         }
         let token = self.newest_token();
         let inner = self.core.begin()?;
-        session.sees(inner.snapshot());
+        session.note_seen(inner.snapshot());
         Ok(Txn::new(inner, Ticket::new(id, epoch, token)))
     }
 
@@ -211,7 +212,7 @@ impl<N: Named> Book<N> {
         if !self.knows(session, id, epoch)
             || !self.owns(&closed.ticket, number, snapshot, id, epoch)
         {
-            return Err(given_back(Refusal::Stranger, closed.reopen()));
+            return Err(give_back(Refusal::Stranger, closed.reopen()));
         }
         self.settle(shelf, &closed.ticket, number, snapshot, id, epoch);
         self.commit_own(rt, shelf, id, epoch, session, closed)
@@ -270,9 +271,9 @@ impl<N: Named> Book<N> {
         ensures { IsStanding (assertion_of name.now loaded.now.value.view.declared.assertions) result }
     {
         if self.id != id || !is_at(self.tokens.as_slice(), 0, loaded.index()) {
-            return truth_on(&shelf.item(loaded).view, name);
+            return verdict_on(&shelf.item(loaded).view, name);
         }
-        self.begins_on(shelf, id, loaded);
+        self.recall_loaded(shelf, id, loaded);
         self.core.is_log();
         self.core.is_serializable();
         self.core.verdict(name)
@@ -295,55 +296,55 @@ impl<N: Named> Book<N> {
 }
 
 impl<N: Named> Book<N> {
-    /// The Book and the session are of the manager that asks, and the session has seen no number above the Book's.
+    /// The Book, and what was handed out by this id and epoch, are of the manager that asks.
+    #[tactic(auto, using(crate::proofs::Known::of_facts))]
+    fn is_of(&self, own_id: u64, own_epoch: u64, id: u64, epoch: u64) -> bool
+        ensures test { result ≡ is_of self.now own_id own_epoch id epoch }
+        ensures facts { result ≡ true → IsOf self.now own_id own_epoch id epoch }
+    {
+        // (nested to the right, as the definition is)
+        self.id == id && (self.epoch == epoch && (own_id == id && own_epoch == epoch))
+    }
+
+    /// The session is of the manager that asks, and has seen no number above the Book's.
     #[tactic(auto, using(crate::proofs::Known::known_facts))]
     fn knows(&self, session: &Session<N>, id: u64, epoch: u64) -> bool
         ensures test { result ≡ knows self.now session.now id epoch }
         ensures facts { result ≡ true → IsKnown self.now session.now id epoch }
     {
-        self.id == id
-            && (self.epoch == epoch
-                && (session.id == id
-                    && (session.epoch == epoch
-                        && session.seen <= self.core.records().len() as u64)))
+        self.is_of(session.id, session.epoch, id, epoch)
+            && session.seen <= self.core.records().len() as u64
     }
 
-    /// The Book and the ticket are of the manager that asks, the transaction has not ended, and its token is the one
-    /// that the Book has for its snapshot.
+    /// The ticket is of the manager that asks, the transaction has not ended, and its token is the one that the Book
+    /// has for its snapshot.
     #[tactic(auto, using(crate::proofs::Known::owned_facts))]
     fn owns(&self, ticket: &Ticket<N>, number: u64, snapshot: u64, id: u64, epoch: u64) -> bool
         ensures test { result ≡ owns self.now ticket.now number snapshot id epoch }
         ensures facts { result ≡ true → IsOwned self.now ticket.now number snapshot id epoch }
     {
-        self.id == id
-            && (self.epoch == epoch
-                && (ticket.id == id
-                    && (ticket.epoch == epoch
-                        && (self.core.holds(number, snapshot)
-                            && is_at(
-                                self.tokens.as_slice(),
-                                snapshot as usize,
-                                ticket.token.index(),
-                            )))))
+        self.is_of(ticket.id, ticket.epoch, id, epoch)
+            && (self.core.holds(number, snapshot)
+                && is_at(
+                    self.tokens.as_slice(),
+                    snapshot as usize,
+                    ticket.token.index(),
+                ))
     }
 
-    /// The Book and the receipt are of the manager that asks, and its token is the one that the Book has for its
-    /// number.
+    /// The receipt is of the manager that asks, and its token is the one that the Book has for its number.
     #[tactic(auto, using(crate::proofs::Known::kept_facts))]
     pub(crate) fn keeps(&self, receipt: &Receipt<N>, id: u64, epoch: u64) -> bool
         ensures test { result ≡ is_kept self.now receipt.now id epoch }
         ensures facts { result ≡ true → IsKept self.now receipt.now id epoch }
     {
-        self.id == id
-            && (self.epoch == epoch
-                && (receipt.id == id
-                    && (receipt.epoch == epoch
-                        && (0 < receipt.number
-                            && is_at(
-                                self.tokens.as_slice(),
-                                receipt.number as usize,
-                                receipt.token.index(),
-                            )))))
+        self.is_of(receipt.id, receipt.epoch, id, epoch)
+            && (0 < receipt.number
+                && is_at(
+                    self.tokens.as_slice(),
+                    receipt.number as usize,
+                    receipt.token.index(),
+                ))
     }
 
     /// How many commits there are.
@@ -422,7 +423,7 @@ impl<N: Named> Book<N> {
         ) {
             Ok(made) => made,
             Err(fault) => {
-                return Err(not_committed(
+                return Err(refuse_commit(
                     self.tokens.as_slice(),
                     self.id,
                     self.epoch,
@@ -432,7 +433,7 @@ impl<N: Named> Book<N> {
                 ));
             }
         };
-        session.sees(made.number);
+        session.note_seen(made.number);
         Ok(Receipt::new(id, epoch, made.number, made.token))
     }
 
@@ -459,13 +460,14 @@ impl<N: Named> Book<N> {
               state = state_of self.now.core.declared self.now.core.start (log_of self.now.core) snapshot;
             } }
     {
+        // (what holds of every book is known where a field of it is read)
         let _ = &self.core;
         let mine = self.token_of(snapshot);
-        shelf.agrees(&mine, &ticket.token);
+        shelf.recall_agreement(&mine, &ticket.token);
     }
 
     /// A token whose index is that of the Book's first shows the tables before the first commit.
-    fn begins_on(&self, shelf: &Shelf, id: u64, loaded: &Token)
+    fn recall_loaded(&self, shelf: &Shelf, id: u64, loaded: &Token)
         requires shelf { shelf.now ≡ N.shelf id }
         requires shown { Shows (N.shelf id) loaded.now }
         requires id { self.now.id ≡ id }
@@ -473,11 +475,11 @@ impl<N: Named> Book<N> {
         ensures { self.now.core.declared ≡ loaded.now.value.view.declared }
     {
         let mine = self.token_of(0);
-        shelf.agrees(&mine, loaded);
+        shelf.recall_agreement(&mine, loaded);
     }
 
     /// The record of a receipt, which the Book keeps.
-    pub(crate) fn record_shown(
+    pub(crate) fn find_record(
         &self,
         shelf: &Shelf,
         receipt: &Receipt<N>,
@@ -490,8 +492,8 @@ impl<N: Named> Book<N> {
         ensures at { slice_get self.now.core.records (receipt.now.number - 1) ≡ Some result.now }
     {
         let mine = self.token_of(receipt.number);
-        shelf.agrees(&mine, &receipt.token);
-        record_before(self.core.records(), receipt.number)
+        shelf.recall_agreement(&mine, &receipt.token);
+        record_at(self.core.records(), receipt.number)
     }
 }
 
@@ -507,7 +509,7 @@ fn first_item(epoch: u64, view: View) -> Item
     }
 }
 
-fn record_before(records: &[Record], number: u64) -> &Record
+fn record_at(records: &[Record], number: u64) -> &Record
     requires { (0 < number) × (number < length records.now + 1) }
     ensures { slice_get records.now (number - 1) ≡ Some result.now }
 {
@@ -540,7 +542,7 @@ fn find_token(tokens: &[Token], number: usize) -> Option<Token>
 }
 
 /// A transaction that was not committed, given back.
-fn given_back<N: Named>(refusal: Refusal, txn: Txn<N>) -> CommitFault<N>
+fn give_back<N: Named>(refusal: Refusal, txn: Txn<N>) -> CommitFault<N>
     ensures refusal { result.refusal ≡ refusal }
     ensures txn { result.txn ≡ Some txn }
     ensures shown { result.shown ≡ only None }
@@ -553,7 +555,7 @@ fn given_back<N: Named>(refusal: Refusal, txn: Txn<N>) -> CommitFault<N>
 }
 
 /// A commit that was not made, with the ticket of its transaction, or the receipts that show why.
-fn not_committed<N: Named>(
+fn refuse_commit<N: Named>(
     tokens: &[Token],
     id: u64,
     epoch: u64,
@@ -569,13 +571,13 @@ fn not_committed<N: Named>(
 {
     let Uncommitted { refusal, txn } = fault;
     match txn {
-        Some(inner) => given_back(refusal, Txn::new(inner, ticket)),
-        None => ended(tokens, id, epoch, count, refusal),
+        Some(inner) => give_back(refusal, Txn::new(inner, ticket)),
+        None => refuse_and_end(tokens, id, epoch, count, refusal),
     }
 }
 
 /// A transaction that was not committed, and has ended.
-fn ended<N: Named>(
+fn refuse_and_end<N: Named>(
     tokens: &[Token],
     id: u64,
     epoch: u64,
@@ -587,7 +589,7 @@ fn ended<N: Named>(
     ensures txn { result.txn ≡ None }
     ensures shown { result.shown ≡ shown_among tokens.now id epoch count refusal }
 {
-    let shown = shown_by(tokens, id, epoch, count, &refusal);
+    let shown = show_receipts(tokens, id, epoch, count, &refusal);
     CommitFault {
         refusal,
         txn: None,
@@ -596,7 +598,7 @@ fn ended<N: Named>(
 }
 
 /// The receipts that a refusal shows.
-fn shown_by<N: Named>(
+fn show_receipts<N: Named>(
     tokens: &[Token],
     id: u64,
     epoch: u64,
@@ -617,9 +619,9 @@ fn shown_by<N: Named>(
             pivot,
             writer,
         } => [
-            party_receipt(tokens, id, epoch, *reader),
-            party_receipt(tokens, id, epoch, *pivot),
-            party_receipt(tokens, id, epoch, *writer),
+            show_party(tokens, id, epoch, *reader),
+            show_party(tokens, id, epoch, *pivot),
+            show_party(tokens, id, epoch, *writer),
         ],
         Refusal::EpochFull => [receipt_at(tokens, id, epoch, count), None, None],
         _ => [None, None, None],
@@ -627,12 +629,7 @@ fn shown_by<N: Named>(
 }
 
 /// The receipt of a party of a dangerous triple; none of the transaction that is refused.
-fn party_receipt<N: Named>(
-    tokens: &[Token],
-    id: u64,
-    epoch: u64,
-    party: Party,
-) -> Option<Receipt<N>>
+fn show_party<N: Named>(tokens: &[Token], id: u64, epoch: u64, party: Party) -> Option<Receipt<N>>
     requires { AreReceipts (N.shelf id) epoch tokens.now }
     ensures { result ≡ party_receipt tokens.now id epoch party }
 {

@@ -73,7 +73,7 @@ impl<N: Named> History<N> {
         }
         Ok(
             self.book
-                .record_shown(&self.shelf, receipt, self.id, self.epoch),
+                .find_record(&self.shelf, receipt, self.id, self.epoch),
         )
     }
 }

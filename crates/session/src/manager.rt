@@ -17,7 +17,7 @@ use crate::receipts::Receipt;
 use crate::sessions::Session;
 use crate::shelf::{Shelf, Token};
 use crate::tickets::{CommitFault, Txn, Unclosed};
-use commit::satisfied;
+use commit::require_satisfied;
 use definitions::Definitions;
 use std::alloc::Global;
 use std::sync::{Arc, Mutex, Wait};
@@ -62,7 +62,7 @@ impl<N: Named> Manager<N> {
         ensures refused { IfErr result (λ refusal. refusal ≢ NoMemory → satisfied definitions ≡ Err refusal) }
     {
         let view = definitions.load(alloc)?;
-        let view = satisfied(view)?;
+        let view = require_satisfied(view)?;
         let shared = match Arc::new(alloc, shelf) {
             Ok(shared) => shared,
             Err(_) => return Err(Refusal::NoMemory),

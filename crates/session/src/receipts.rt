@@ -54,7 +54,7 @@ impl<N: Named> Receipt<N> {
     }
 
     /// A receipt equal to this one. It takes no memory.
-    pub fn again(&self) -> Receipt<N>
+    pub fn copy(&self) -> Receipt<N>
         ensures { result ≡ self.now }
     {
         Receipt::new(self.id, self.epoch, self.number, self.token.again())

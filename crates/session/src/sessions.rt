@@ -37,7 +37,7 @@ impl<N: Named> Session<N> {
         }
     }
 
-    pub(crate) fn sees(&mut self, number: u64)
+    pub(crate) fn note_seen(&mut self, number: u64)
         ensures { self.new ≡ record self.old { seen = number } }
     {
         self.seen = number;

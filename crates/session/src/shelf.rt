@@ -53,7 +53,7 @@ impl Shelf {
     }
 
     /// Tokens of one index show one item.
-    pub(crate) fn agrees(&self, a: &Token, b: &Token)
+    pub(crate) fn recall_agreement(&self, a: &Token, b: &Token)
         requires a { Shows self.now a.now }
         requires b { Shows self.now b.now }
         requires same { a.now.index ≡ b.now.index }

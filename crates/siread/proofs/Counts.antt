@@ -5,18 +5,18 @@ use Rattle.std.specs.List.{IsDistinct, AllByRecursion}
 use Rattle.std.specs.Map.{lookup, keys_of, values_of}
 use Rattle.std.proofs.lemmas.Bool.{and_right, both_ways, cases_Bool}
 use Rattle.std.proofs.lemmas.List.{map-append}
+use Rattle.std.proofs.lemmas.List.Elements.{Contains-append_left, Contains-append_right}
 use Rattle.value.specs.declared.values.Value.{Value}
-use Rattle.value.specs.declared.values.Value.TheVariants.{Null}
 use Rattle.siread.specs.declared.keys.Family.{Family}
 use Rattle.siread.specs.declared.keys.Family.TheVariants.{Rows, Column, Table}
 use Rattle.siread.specs.declared.keys.LockKey.{LockKey}
 use Rattle.siread.specs.declared.keys.LockKey.TheVariants.{Row as OneRow, Column as InColumn, Table as WholeTable}
 use Rattle.siread.specs.Keys.{same_key, same_value}
 use Rattle.siread.specs.Families.{HasEachOnce, ValueReaders, family_of, readers_in, readers_of, same_family, total, value_of}
-use Rattle.siread.specs.Locks.{Locks, in_family, readers_at}
+use Rattle.siread.specs.Locks.{Locks, readers_at}
 use Rattle.siread.proofs.KeyOrder.{same_family-true, same_family-refl, same_parts, same_value-true, same_value-refl}
 use Rattle.siread.proofs.Greatest.{in_first, in_others}
-use Rattle.siread.proofs.Members.{in_head, in_tail, in_cases, not_in_nil}
+use Rattle.siread.proofs.Members.{in_head, in_tail, in_map}
 
 -- a test that tells all apart is the same from both sides
 turned : {X : Type 0} (same : X → X → Bool) → ((a b : X) → same a b ≡ true → a ≡ b) → ((a : X) → same a a ≡ true) → (a b : X) → same a b ≡ same b a
@@ -106,24 +106,6 @@ total_both : (xs ys : List ℕ) → total (xs ++ ys) ≡ total xs + total ys
 total_both [] ys = omega arith
 total_both (x ∷ xs) ys = let rest = total_both xs ys in omega (arith, rest)
 
-in_before : {X : Type 0} (xs ys : List X) (x : X) → Contains xs x → Contains (xs ++ ys) x
-in_before [] ys x h = absurd (not_in_nil x h)
-in_before (y ∷ xs) ys x h = elim (in_cases y xs x h) [
-  | inl here ↦ subst (λ z. Contains (z ∷ (xs ++ ys)) x) (sym here) (in_head x (xs ++ ys))
-  | inr there ↦ in_tail y (xs ++ ys) x (in_before xs ys x there)
-]
-
-in_after : {X : Type 0} (xs ys : List X) (y : X) → Contains ys y → Contains (xs ++ ys) y
-in_after [] ys y h = h
-in_after (x ∷ xs) ys y h = in_tail x (xs ++ ys) y (in_after xs ys y h)
-
-in_map : {X Y : Type 0} (f : X → Y) (xs : List X) (x : X) → Contains xs x → Contains (map f xs) (f x)
-in_map f [] x h = absurd (not_in_nil x h)
-in_map f (y ∷ xs) x h = elim (in_cases y xs x h) [
-  | inl here ↦ subst (λ z. Contains (f z ∷ map f xs) (f x)) (sym here) (in_head (f x) (map f xs))
-  | inr there ↦ in_tail (f y) (map f xs) (f x) (in_map f xs x there)
-]
-
 apart_map : {X Y : Type 0} (eq : X → X → Bool) (eq' : Y → Y → Bool) (f : X → Y) → ((a b : X) → eq a b ≡ false → eq' (f a) (f b) ≡ false)
     → (x : X) (xs : List X) → AllByRecursion (λ y. eq x y ≡ false) xs → AllByRecursion (λ z. eq' (f x) z ≡ false) (map f xs)
 apart_map eq eq' f h x [] a = tt
@@ -188,10 +170,10 @@ once_in (e ∷ es) d once =
 pub all_listed : (es : Locks) (key : LockKey) → readers_at es key ≢ [] → Contains (keys_in es) key
 all_listed [] key some = absurd (some refl)
 all_listed (e ∷ es) key some = elim (cases_Bool (same_family (family_of key) e.0)) [
-  | inl same ↦ in_before (keys_under e.0 e.1) (keys_in es) key
+  | inl same ↦ Contains-append_left (keys_under e.0 e.1) (keys_in es) key
       (subst (λ family. Contains (keys_under family e.1) key) (same_family-true (family_of key) e.0 same)
       (listed_under key e.1 (λ none. some (ap (λ readers. readers_of readers (value_of key)) (in_first e es (family_of key) same) ∙ none))))
-  | inr apart ↦ in_after (keys_under e.0 e.1) (keys_in es) key
+  | inr apart ↦ Contains-append_right (keys_under e.0 e.1) (keys_in es) key
       (all_listed es key (λ none. some (ap (λ readers. readers_of readers (value_of key)) (in_others e es (family_of key) apart) ∙ none)))
 ]
 

@@ -1,12 +1,11 @@
 -- The greatest of the last readers that stand in the families is the greatest reader of a key that is touched.
-use Rattle.std.proofs.Common.{◌≡◌, ◌≢◌, ℕ, zero, suc, ◌+◌, ◌<◌, ◌≤◌, Bool, true, false, cond, List, [], ◌∷◌, ◌++◌, Option, Some, None, length, max, inl, inr, ◌⊎◌, refl, sym, ap, ◌∙◌, subst, arith, eq-eqb}
-use Rattle.std.specs.Prelude.{Contains, ◌||◌, ◌&&◌, ◌-◌, ◌==◌, slice_get, unwrap_or}
-use Rattle.std.specs.List.{list_any, AllByRecursion, IsDistinct}
+use Rattle.std.proofs.Common.{◌≡◌, ℕ, zero, suc, ◌+◌, ◌≤◌, Bool, true, false, cond, List, [], ◌∷◌, ◌++◌, Option, Some, None, length, max, inl, inr, ◌⊎◌, refl, sym, ap, ◌∙◌, subst, arith}
+use Rattle.std.specs.Prelude.{Contains, ◌||◌, ◌-◌, ◌==◌, slice_get, unwrap_or}
+use Rattle.std.specs.List.{AllByRecursion, IsDistinct}
 use Rattle.std.specs.Map.{lookup, keys_of}
 use Rattle.std.proofs.lemmas.Bool.{and_from, and_parts, cases_Bool, cases_lt, or_cases, or_left, or_right}
 use Rattle.std.proofs.Math.Bool.{or-false}
 use Rattle.std.proofs.lemmas.List.Folds.{list_any-append}
-use Rattle.value.specs.declared.values.Value.{Value}
 use Rattle.value.specs.declared.values.Value.TheVariants.{Null}
 use Rattle.table.specs.declared.rows.Change.{Change}
 use Rattle.table.specs.Rows.{RowValues, value_in}
@@ -16,7 +15,7 @@ use Rattle.siread.specs.declared.keys.Family.TheVariants.{Rows, Column, Table}
 use Rattle.siread.specs.declared.keys.LockKey.{LockKey}
 use Rattle.siread.specs.declared.keys.LockKey.TheVariants.{Row as OneRow, Column as InColumn, Table as WholeTable}
 use Rattle.siread.specs.Keys.{holds, place_of, same_value, touches}
-use Rattle.siread.specs.Families.{ValueReaders, family_of, last_in, last_over, last_under, readers_of, same_family, value_of}
+use Rattle.siread.specs.Families.{ValueReaders, family_of, last_in, last_over, readers_of, same_family, value_of}
 use Rattle.siread.specs.Readers.{IsAscending, last_of}
 use Rattle.siread.specs.Locks.{AreAscending, IsGreatestReader, Locks, Reads, in_family, last_touched, readers_at, touch}
 use Rattle.siread.proofs.KeyOrder.{same_family-true, same_family-refl, same_value-true, same_value-refl}
@@ -213,13 +212,7 @@ module _ (change : Change) where
     ];
   }
 
--- no change touches a key, and one change more
-pub greatest_none : (reads : Reads) → IsGreatestReader reads [] 0
-greatest_none reads = record {
-  all = λ key reader touched m. let no : ⊥ = cc in absurd no;
-  found = inl refl;
-}
-
+-- one change more
 pub greatest_more : (reads : Reads) (done : List Change) (change : Change) (m n : ℕ) → IsGreatestReader reads done m → IsGreatestReader reads (change ∷ []) n
     → IsGreatestReader reads (done ++ change ∷ []) (max n m)
 greatest_more reads done change m n before one =

@@ -1,5 +1,5 @@
 -- The order of keys tells all keys apart, and says that two are equal where `same_key` does.
-use Rattle.std.proofs.Common.{◌≡◌, ℕ, Bool, true, false, refl, sym, ap, ◌∙◌, subst, inl, inr, eqb-true, eq-eqb}
+use Rattle.std.proofs.Common.{◌≡◌, ℕ, true, refl, sym, ap, ◌∙◌, subst, inl, inr, eqb-true, eq-eqb}
 use Rattle.std.specs.Prelude.{◌&&◌, ◌==◌}
 use Rattle.std.specs.Ordering.{is_eq, nat_cmp, ordering_then}
 use Rattle.std.specs.declared.cmp.Ordering.{Ordering}
@@ -7,6 +7,7 @@ use Rattle.std.specs.declared.cmp.Ordering.TheVariants.{Less, Equal, Greater}
 use Rattle.std.specs.Cmp.{unsigned_tied}
 use Rattle.std.proofs.lemmas.Bool.{and_parts, and_from, cases_Bool, both_ways}
 use Rattle.std.proofs.lemmas.Cmp.{tied_itself}
+use Rattle.std.proofs.Math.Bool.{and_assoc, and-true}
 use Rattle.value.specs.declared.values.Value.{Value}
 use Rattle.value.specs.ValueOrder.{value_cmp}
 use Rattle.value.specs.contracts.values.ValueOrd.TheImpl.{cmp-value as value_order}
@@ -111,22 +112,14 @@ same_family-refl (Rows t) = eq-eqb t t refl
 same_family-refl (Column t c) = and_from (t == t) (c == c) (eq-eqb t t refl) (eq-eqb c c refl)
 same_family-refl (Table t) = eq-eqb t t refl
 
-and_nested : (a b c : Bool) → (a && (b && c)) ≡ ((a && b) && c)
-and_nested true b c = refl
-and_nested false b c = refl
-
-and_last : (a : Bool) → a ≡ (a && true)
-and_last true = refl
-and_last false = refl
-
 -- two keys are the same where they are of one family, under one value
 pub same_parts : (a b : LockKey) → same_key a b ≡ (same_family (family_of a) (family_of b) && same_value (value_of a) (value_of b))
 same_parts (OneRow a) (OneRow b) = refl
 same_parts (OneRow a) (InColumn u d w) = refl
 same_parts (OneRow a) (WholeTable u) = refl
 same_parts (InColumn t c v) (OneRow b) = refl
-same_parts (InColumn t c v) (InColumn u d w) = and_nested (t == u) (c == d) (same_value v w)
+same_parts (InColumn t c v) (InColumn u d w) = sym (and_assoc (t == u) (c == d) (same_value v w))
 same_parts (InColumn t c v) (WholeTable u) = refl
 same_parts (WholeTable t) (OneRow b) = refl
 same_parts (WholeTable t) (InColumn u d w) = refl
-same_parts (WholeTable t) (WholeTable u) = and_last (t == u)
+same_parts (WholeTable t) (WholeTable u) = sym (and-true (t == u))

@@ -11,9 +11,9 @@ use Rattle.siread.specs.contracts.keys.FamilyOrd.TheImpl.{cmp-value as family_or
 use Rattle.siread.specs.Keys.{same_key, same_value}
 use Rattle.siread.specs.Families.{ValueReaders, changed_value, family_of, is_no_entry, readers_of, same_family, value_of}
 use Rattle.siread.specs.Readers.{is_none}
-use Rattle.siread.specs.Locks.{Locks, Reads, changed_at, in_family, readers_at}
+use Rattle.siread.specs.Locks.{Reads, changed_at, in_family, readers_at}
 use Rattle.siread.proofs.Entries.{changed_by, found_by}
-use Rattle.siread.proofs.KeyOrder.{is_eq-family, is_eq-value, same_family-true, same_key-true, same_key-refl, same_parts, same_value-true, same_value-refl}
+use Rattle.siread.proofs.KeyOrder.{is_eq-family, is_eq-value, same_family-true, same_key-true, same_parts, same_value-true, same_value-refl}
 
 -- the readers of one family
 abbrev Readers : Type 0

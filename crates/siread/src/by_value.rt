@@ -1,6 +1,6 @@
 //! The readers of one family of keys.
 
-ghost use Rattle.std.specs.Prelude.{◌≡◌, [], true, nat_lt, filter, length, not, IsOkUnless, OnOk, OnErr};
+ghost use Rattle.std.specs.Prelude.{◌≡◌, [], true, nat_lt, filter, not, IsOkUnless, OnOk, OnErr};
 ghost use Rattle.siread.specs.Families.{above_each, changed_value, is_no_entry, no_readers, readers_of, IsValueCount};
 ghost use Rattle.siread.specs.Readers.{is_none, last_of, left_out, with_last};
 ghost use Rattle.value.specs.declared.refusals.Refusal.TheVariants.{NoMemory};
@@ -69,7 +69,7 @@ impl ByValue {
                 Ok(())
             }
             None => {
-                let readers = Readers::one(alloc, number)?;
+                let readers = Readers::from_one(alloc, number)?;
                 self.readers.insert(value.copy()?, readers)?;
                 Ok(())
             }
@@ -80,7 +80,7 @@ impl ByValue {
     pub fn take(&mut self, number: u64, value: &Value)
         ensures { readers_of self.new ≡ changed_value value.now (left_out number) (readers_of self.old) }
     {
-        if self.is_left_by(number, value) {
+        if self.take_from(number, value) {
             self.forget(value);
         }
     }
@@ -118,7 +118,7 @@ impl ByValue {
     }
 
     /// A reader of a value taken out, and whether the value then has none.
-    fn is_left_by(&mut self, number: u64, value: &Value) -> bool
+    fn take_from(&mut self, number: u64, value: &Value) -> bool
         ensures taken { readers_of self.new ≡ changed_value value.now (left_out number) (readers_of self.old) }
         ensures left { result ≡ true → readers_of self.new value.now ≡ [] }
     {

@@ -24,6 +24,3 @@ mod readers;
 
 pub use keys::{LockKey, Place, is_same, touches};
 pub use locks::LockTable;
-
-#[cfg(test)]
-mod tests;

@@ -24,7 +24,7 @@ impl Model for Readers {
 
 impl Readers {
     /// One reader. NoMemory is the only error.
-    pub fn one(alloc: Global, number: u64) -> Result<Readers, Refusal>
+    pub fn from_one(alloc: Global, number: u64) -> Result<Readers, Refusal>
         ensures only_memory { IsOkUnless result NoMemory }
         ensures one { IfOk result (λ readers. readers ≡ number ∷ []) }
     {

@@ -1,5 +1,5 @@
 -- What is answered and written so far, and whatever answers the events that are left.
-use Rattle.std.proofs.Common.{◌≡◌, ◌∙◌, ℕ, List, [], ◌∷◌, ◌++◌, Option, refl, sym, ap, subst, append_assoc, append-nil, ◌<◌, ◌+◌, length, drop, suc, add-one, drop-cons, get_or}
+use Rattle.std.proofs.Common.{◌≡◌, ◌∙◌, ℕ, List, [], ◌∷◌, ◌++◌, Option, refl, sym, ap, subst, append_assoc, append-nil, ◌+◌}
 use Rattle.std.specs.Prelude.{OnOk, Result, Ok, Err}
 use Rattle.std.specs.Io.KnownBytes.{Appends}
 use Rattle.std.proofs.KnownBytes.{Appends-nil, Appends-trans}
@@ -9,7 +9,7 @@ use Rattle.commit.specs.Events.{EngineState, IsAnswered, after}
 use Rattle.commit.specs.Runs.{AreAnswers, led_to}
 use Rattle.report.specs.Report.{answer_line}
 use Rattle.running.specs.Lines.{lines}
-use Rattle.skewguard.specs.Lines.{ending, report}
+use Rattle.skewguard.specs.Lines.{ending}
 use Rattle.skewguard.specs.Writing.{PrintsAnswer, PrintsAnswers, PrintsRun}
 
 -- the answers so far are written, and with answers to the events that are left they answer all
@@ -75,7 +75,3 @@ pub written_on_ok : {T E : Type 0} (r : Result T E) (before : EngineState) (step
     → OnOk r (PrintsAnswer before step left old new)
 written_on_ok (Ok x) before step answer left old new answered leaves written = record { answer = answer; answered = answered; leaves = leaves; written = written }
 written_on_ok (Err e) before step answer left old new answered leaves written = tt
-
--- the items from a place on are the one there and those behind it
-pub drop_item : {X : Type 0} (xs : List X) (i : ℕ) (x : X) → i < length xs → x ≡ get_or xs i x → drop i xs ≡ x ∷ drop (i + 1) xs
-drop_item xs i x h is = rw (add-one, drop-cons xs i x) (ap (λ y. y ∷ drop (suc i) xs) (sym is))

@@ -1,5 +1,5 @@
 -- What is printed of a run from the beginning of a script is its report.
-use Rattle.std.proofs.Common.{◌≡◌, ℕ, true, List, Option, Result, Ok, Err, refl, subst}
+use Rattle.std.proofs.Common.{ℕ, List, Option, Result, Ok, Err, refl, subst}
 use Rattle.std.specs.Prelude.{OnOk, IfErr}
 use Rattle.std.specs.Io.KnownBytes.{Appends}
 use Rattle.statement_syntax.specs.declared.statements.Step.{Step}
@@ -7,8 +7,8 @@ use Rattle.commit.specs.Events.{EngineState}
 use Rattle.commit.specs.Runs.{AreAnswers, beginning, led_to}
 use Rattle.running.specs.declared.faults.ProgramFault.{ProgramFault}
 use Rattle.skewguard.specs.Lines.{report}
-use Rattle.running.specs.Texts.{IsFirstFault, IsInTheRun, IsRun, is_before_the_run}
-use Rattle.running.proofs.Late.{late_faults, nothing_before as nothing_before_late}
+use Rattle.running.specs.Texts.{IsFirstFault, IsInTheRun, IsRun}
+use Rattle.running.proofs.Late.{late_faults}
 use Rattle.skewguard.specs.Replay.{IsBeginning, WritesReport}
 use Rattle.skewguard.specs.Writing.{PrintsRun}
 
@@ -36,6 +36,3 @@ module _ (defs script : List ℕ) (limit : ℕ) (engine : EngineState) (steps : 
 
   pub first_fault : {A : Type 0} (printed : Result A ProgramFault) → IfErr printed IsInTheRun → IfErr printed (IsFirstFault defs script)
   first_fault printed h = late_faults defs script run printed h
-
-pub nothing_before : {A : Type 0} (P : Type 0) (printed : Result A ProgramFault) → IfErr printed IsInTheRun → IfErr printed (λ fault. is_before_the_run fault ≡ true → P)
-nothing_before P printed h = nothing_before_late P printed h

@@ -1,10 +1,8 @@
 use crate::files::{ReadFault, read_all};
 use crate::replay::replay_into;
 use running::ProgramFault;
-use std::alloc::Global;
 use std::io;
 use std::io::{ErrorKind, Read, Write};
-use std::process::Abort;
 use std::test::Fail;
 
 const DEFS: &str = "CREATE TABLE T (ID INTEGER PRIMARY KEY); INSERT INTO T VALUES (7);";

@@ -44,13 +44,13 @@ where
     let words: Vec<String> = match env::args(rt) {
         Ok(args) => match args.collect(alloc) {
             Ok(words) => words,
-            Err(_) => return no_memory(err),
+            Err(_) => return report_no_memory(err),
         },
-        Err(_) => return no_memory(err),
+        Err(_) => return report_no_memory(err),
     };
-    let command = match command(alloc) {
+    let command = match make_command(alloc) {
         Ok(command) => command,
-        Err(_) => return no_memory(err),
+        Err(_) => return report_no_memory(err),
     };
     match command.try_get_matches_from(words.as_slice()) {
         Ok(matches) => run_matches(rt, &matches, out, err),
@@ -64,7 +64,7 @@ where
 }
 
 /// Says that there was no memory for the words of the command line, and gives the status to end with.
-fn no_memory<E: Write>(err: &mut E) -> u8
+fn report_no_memory<E: Write>(err: &mut E) -> u8
     ensures { result ≤ 3 }
 {
     let _ = err.write_all(b"REFUSED 1 - NO MEMORY\n");
@@ -72,14 +72,14 @@ fn no_memory<E: Write>(err: &mut E) -> u8
 }
 
 /// The words that the program takes.
-fn command<'a>(alloc: Global) -> Result<Command<'a>, AllocError> {
-    let replay = with_texts(
+fn make_command<'a>(alloc: Global) -> Result<Command<'a>, AllocError> {
+    let replay = add_text_words(
         alloc,
         Command::new(alloc, "replay").about(
             "Replays a script on definitions and prints the reply to each event",
         ),
     )?;
-    let threads = with_texts(
+    let threads = add_text_words(
         alloc,
         Command::new(alloc, "threads").about(
             "Runs each session of a script on a thread and prints the replies by session",
@@ -93,7 +93,7 @@ fn command<'a>(alloc: Global) -> Result<Command<'a>, AllocError> {
 }
 
 /// The command with the words that name the two texts, and the limit.
-fn with_texts<'a>(alloc: Global, command: Command<'a>) -> Result<Command<'a>, AllocError> {
+fn add_text_words<'a>(alloc: Global, command: Command<'a>) -> Result<Command<'a>, AllocError> {
     let defs = Arg::new(alloc, "DEFS").required(true).help(
         "A file of definitions: tables, assertions and the rows to begin with",
     );
@@ -162,18 +162,18 @@ where
     let alloc = rt.alloc();
     let defs = match read(rt, defs) {
         Ok(defs) => defs,
-        Err(fault) => return unread(alloc, "DEFS", fault, err),
+        Err(fault) => return report_unread(alloc, "DEFS", fault, err),
     };
     let script = match read(rt, script) {
         Ok(script) => script,
-        Err(fault) => return unread(alloc, "SCRIPT", fault, err),
+        Err(fault) => return report_unread(alloc, "SCRIPT", fault, err),
     };
     let run = if threads {
         run_threads(rt, defs.as_slice(), script.as_slice(), limit, out)
     } else {
         replay_into(alloc, defs.as_slice(), script.as_slice(), limit, out)
     };
-    status(alloc, run, out, err)
+    end_with_status(alloc, run, out, err)
 }
 
 /// Runs each session of a script on a thread, which no gate holds.
@@ -199,7 +199,7 @@ where
 
 /// The status to end with. A fault is said in one line on `err`; one of the writer is not, nor a session without a
 /// thread, of which a line of the report says it.
-fn status<W: Write, E: Write>(
+fn end_with_status<W: Write, E: Write>(
     alloc: Global,
     run: Result<(), ProgramFault>,
     out: &mut W,
@@ -209,8 +209,8 @@ fn status<W: Write, E: Write>(
 {
     match run {
         Ok(()) => RUN,
-        Err(ProgramFault::Defs(refusal)) => refused(alloc, "DEFS", &refusal, err),
-        Err(ProgramFault::Script(refusal)) => refused(alloc, "SCRIPT", &refusal, err),
+        Err(ProgramFault::Defs(refusal)) => report_refused(alloc, "DEFS", &refusal, err),
+        Err(ProgramFault::Script(refusal)) => report_refused(alloc, "SCRIPT", &refusal, err),
         Err(ProgramFault::Stopped) => {
             let _ = out.flush();
             let _ = err.write_all(b"SCRIPT: STOPPED 1 - NO MEMORY\n");
@@ -229,11 +229,11 @@ fn read<R: Files + AllocGlobal>(rt: &R, path: &str) -> Result<Vec<u8>, ReadFault
 }
 
 /// Says that a file was not read, and gives the status to end with.
-fn unread<E: Write>(alloc: Global, name: &str, fault: ReadFault, err: &mut E) -> u8
+fn report_unread<E: Write>(alloc: Global, name: &str, fault: ReadFault, err: &mut E) -> u8
     ensures { result ≤ 3 }
 {
     match fault {
-        ReadFault::NoMemory => refused(alloc, name, &Refusal::NoMemory, err),
+        ReadFault::NoMemory => report_refused(alloc, name, &Refusal::NoMemory, err),
         ReadFault::Unreadable => {
             let _ = err.write_all(name.as_bytes());
             let _ = err.write_all(b": UNREADABLE\n");
@@ -243,11 +243,11 @@ fn unread<E: Write>(alloc: Global, name: &str, fault: ReadFault, err: &mut E) ->
 }
 
 /// Says why a text was refused, and gives the status to end with.
-fn refused<E: Write>(alloc: Global, name: &str, refusal: &Refusal, err: &mut E) -> u8
+fn report_refused<E: Write>(alloc: Global, name: &str, refusal: &Refusal, err: &mut E) -> u8
     ensures { result ≤ 3 }
 {
     let mut line = Report::new(alloc);
-    if line.refusal(name, refusal).is_ok() {
+    if line.add_refusal(name, refusal).is_ok() {
         let _ = err.write_all(line.as_bytes());
     } else {
         let _ = err.write_all(name.as_bytes());

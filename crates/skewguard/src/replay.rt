@@ -6,7 +6,7 @@ ghost use Rattle.value.specs.declared.refusals.Refusal.TheVariants.{NoMemory, To
 ghost use Rattle.alone.specs.Alone.{IsSound};
 ghost use Rattle.commit.specs.Runs.{beginning};
 ghost use Rattle.report.specs.Report.{answer_line};
-ghost use Rattle.running.specs.Texts.{HasFewSessions, HasManySessions, IsFirstFault, IsInTheRun, is_before_the_run, most_sessions};
+ghost use Rattle.running.specs.Texts.{HasFewSessions, HasManySessions, IsFirstFault, IsInTheRun, is_before_the_run};
 ghost use Rattle.skewguard.specs.Lines.{ending, left_line, left_lines};
 ghost use Rattle.skewguard.specs.Replay.{IsBeginning, WritesReport};
 ghost use Rattle.skewguard.specs.Writing.{PrintsAnswer, PrintsAnswers, PrintsRun};
@@ -15,7 +15,7 @@ use answer::Answer;
 use commit::{Engine, Seat, admit, has_few_sessions};
 use delta::View;
 use report::Report;
-use running::{MOST_SESSIONS, ProgramFault, close, flush, read_texts, write_all};
+use running::{MOST_SESSIONS, ProgramFault, add_closing_part, flush, read_texts, write_all};
 use sqlite_items::Items;
 use statement_syntax::Step;
 use std::alloc::{AllocError, Global};
@@ -36,7 +36,7 @@ use value::Refusal;
 /// refused; `Script` of [`Refusal::TooManySessions`] where the script has more than 256 sessions. After each of
 /// these the writer is as it was. Then [`ProgramFault::Stopped`] where there is no memory for the lines of an
 /// answer, or at the end of the run; and [`ProgramFault::Output`] at the first fault of the writer.
-#[tactic(auto, using(crate::proofs::Reporting::reports, crate::proofs::Reporting::first_fault, crate::proofs::Reporting::nothing_before))]
+#[tactic(auto, using(crate::proofs::Reporting::reports, crate::proofs::Reporting::first_fault, running::proofs::Late::nothing_before))]
 pub fn replay_into<W: Write>(
     alloc: Global,
     defs: &[u8],
@@ -46,11 +46,12 @@ pub fn replay_into<W: Write>(
 ) -> Result<(), ProgramFault>
     requires some { 1 ≤ max_commits }
     requires within { max_commits ≤ 4294967295 }
-    ensures written { OnOk result (WritesReport defs.now script.now max_commits (W.contents out.old) (W.contents out.new)) }
+    ensures written { OnOk result
+        (WritesReport defs.now script.now max_commits (W.contents out.old) (W.contents out.new)) }
     ensures refused { IfErr result (IsFirstFault defs.now script.now) }
     ensures nothing { IfErr result (λ fault. is_before_the_run fault ≡ true → out.new ≡ out.old) }
 {
-    let (mut engine, steps) = begun(alloc, defs, script, max_commits)?;
+    let (mut engine, steps) = begin_run(alloc, defs, script, max_commits)?;
     let printed = print_run(alloc, &mut engine, steps.as_slice(), out);
     let_go(engine);
     let_go(steps);
@@ -58,7 +59,7 @@ pub fn replay_into<W: Write>(
 }
 
 /// The engine before the first event, and the events.
-fn begun(
+fn begin_run(
     alloc: Global,
     defs: &[u8],
     script: &[u8],
@@ -74,14 +75,14 @@ fn begun(
         Ok(view) => view,
         Err(refusal) => return Err(ProgramFault::Defs(refusal)),
     };
-    match seated(alloc, limit, view, steps.as_slice()) {
+    match seat_sessions(alloc, limit, view, steps.as_slice()) {
         Ok(engine) => Ok((engine, steps)),
         Err(refusal) => Err(ProgramFault::Script(refusal)),
     }
 }
 
 /// The engine before the first of some events, if they are of 256 sessions or fewer.
-fn seated(alloc: Global, limit: u64, view: View, steps: &[Step]) -> Result<Engine, Refusal>
+fn seat_sessions(alloc: Global, limit: u64, view: View, steps: &[Step]) -> Result<Engine, Refusal>
     requires sound { IsSound view.declared view.state }
     requires within { limit ≤ 4294967295 }
     ensures begun { IfOk result (λ engine. engine ≡ beginning limit view steps.now) }
@@ -98,6 +99,7 @@ fn seated(alloc: Global, limit: u64, view: View, steps: &[Step]) -> Result<Engin
     Ok(engine)
 }
 
+/// Lets a value go. Its type is a parameter here, so that the caller's proof does not go over its fields.
 fn let_go<T: Drop>(_value: T) {}
 
 /// Runs the events one after the other, and writes what each is answered, and then what they leave.
@@ -124,7 +126,8 @@ fn print_answers<W: Write>(
     lines: &mut Report,
     out: &mut W,
 ) -> Result<(), ProgramFault>
-    ensures written { OnOk result (PrintsAnswers engine.old steps.now engine.new (W.contents out.old) (W.contents out.new)) }
+    ensures written { OnOk result
+        (PrintsAnswers engine.old steps.now engine.new (W.contents out.old) (W.contents out.new)) }
     ensures late { IfErr result IsInTheRun }
 {
     for step in steps {
@@ -140,7 +143,8 @@ fn print_answer<W: Write>(
     lines: &mut Report,
     out: &mut W,
 ) -> Result<(), ProgramFault>
-    ensures written { OnOk result (PrintsAnswer engine.old step.now engine.new (W.contents out.old) (W.contents out.new)) }
+    ensures written { OnOk result
+        (PrintsAnswer engine.old step.now engine.new (W.contents out.old) (W.contents out.new)) }
     ensures late { IfErr result IsInTheRun }
 {
     let answer = engine.answer(step);
@@ -156,11 +160,12 @@ fn write_answer<W: Write>(
     lines: &mut Report,
     out: &mut W,
 ) -> Result<(), ProgramFault>
-    ensures written { OnOk result (Appends (W.contents out.old) (W.contents out.new) (answer_line step.now answer.now)) }
+    ensures written { OnOk result
+        (Appends (W.contents out.old) (W.contents out.new) (answer_line step.now answer.now)) }
     ensures late { IfErr result IsInTheRun }
 {
     lines.clear();
-    if lines.answer(step, answer).is_err() {
+    if lines.add_answer(step, answer).is_err() {
         return Err(ProgramFault::Stopped);
     }
     write_all(lines.as_bytes(), out)
@@ -177,7 +182,7 @@ fn print_ending<W: Write>(
     ensures late { IfErr result IsInTheRun }
 {
     lines.clear();
-    if end(alloc, engine, lines).is_err() {
+    if add_end(alloc, engine, lines).is_err() {
         return Err(ProgramFault::Stopped);
     }
     write_all(lines.as_bytes(), out)?;
@@ -185,11 +190,11 @@ fn print_ending<W: Write>(
 }
 
 /// Adds what stands behind the answers.
-fn end(alloc: Global, engine: &Engine, lines: &mut Report) -> Result<(), AllocError>
+fn add_end(alloc: Global, engine: &Engine, lines: &mut Report) -> Result<(), AllocError>
     ensures { OnOk result (lines.new ≡ lines.old ++ ending engine.now) }
 {
     leave_open(engine.seats(), lines)?;
-    close(alloc, engine.core(), lines)
+    add_closing_part(alloc, engine.core(), lines)
 }
 
 /// Adds a line for each transaction that is open.
@@ -206,7 +211,7 @@ fn leave_seat(seat: &Seat, lines: &mut Report) -> Result<(), AllocError>
     ensures { OnOk result (lines.new ≡ lines.old ++ left_line seat.now.session seat.now.txn) }
 {
     if seat.txn.is_some() {
-        lines.left_open(&seat.session)?;
+        lines.add_left_open(&seat.session)?;
     }
     Ok(())
 }

@@ -1,29 +1,27 @@
 //! What is written behind an assertion.
 
-ghost use Rattle.std.specs.Prelude.{Some};
-ghost use Rattle.statement_syntax.specs.SchemaGrammar as grammar;
 ghost use Rattle.statement_syntax.specs.SchemaReaders as reader;
 ghost use Rattle.token.specs.declared.kinds.Kind.TheVariants as k;
 ghost use Rattle.reading.specs.Reading as rd;
 ghost use Rattle.leaf_parser.specs.Reads.{Reads};
 
-use crate::statements::when_;
+use crate::statements::parse_check_time;
 use leaf_parser::{Cursor, Stop};
 use statement_syntax::{Attributes, Mode};
 use token::Kind;
 
 /// `INITIALLY (DEFERRED | IMMEDIATE)`
 #[tactic(auto, unfolding(statement_syntax::specs::SchemaReaders::initially))]
-fn initially(cursor: &mut Cursor<'_>) -> Result<Mode, Stop>
+fn parse_initially(cursor: &mut Cursor<'_>) -> Result<Mode, Stop>
     ensures { Reads (reader.initially cursor.old) result cursor.new }
 {
     cursor.expect(Kind::Initially)?;
-    when_(cursor)
+    parse_check_time(cursor)
 }
 
 /// `[NOT] DEFERRABLE`
 #[tactic(auto, unfolding(statement_syntax::specs::SchemaReaders::deferrable))]
-fn deferrable(cursor: &mut Cursor<'_>) -> Result<bool, Stop>
+fn parse_deferrable(cursor: &mut Cursor<'_>) -> Result<bool, Stop>
     ensures { Reads (reader.deferrable cursor.old) result cursor.new }
 {
     match cursor.peek() {
@@ -42,32 +40,32 @@ fn deferrable(cursor: &mut Cursor<'_>) -> Result<bool, Stop>
 
 /// `[ [NOT] DEFERRABLE ]`
 #[tactic(auto, unfolding(statement_syntax::specs::SchemaReaders::may_defer))]
-fn may_defer(cursor: &mut Cursor<'_>) -> Result<Option<bool>, Stop>
+fn parse_may_defer(cursor: &mut Cursor<'_>) -> Result<Option<bool>, Stop>
     ensures { Reads (reader.may_defer cursor.old) result cursor.new }
 {
     match cursor.peek() {
-        Kind::Deferrable | Kind::Not => Ok(Some(deferrable(cursor)?)),
+        Kind::Deferrable | Kind::Not => Ok(Some(parse_deferrable(cursor)?)),
         _ => Ok(None),
     }
 }
 
 /// `[ INITIALLY (DEFERRED | IMMEDIATE) ]`
-fn may_begin(cursor: &mut Cursor<'_>) -> Result<Option<Mode>, Stop>
+fn parse_may_begin(cursor: &mut Cursor<'_>) -> Result<Option<Mode>, Stop>
     ensures { Reads (rd.optional k.Initially reader.initially cursor.old) result cursor.new }
 {
     if !cursor.is(Kind::Initially) {
         return Ok(None);
     }
-    Ok(Some(initially(cursor)?))
+    Ok(Some(parse_initially(cursor)?))
 }
 
 /// `when [defer]`
 #[tactic(auto, unfolding(statement_syntax::specs::SchemaReaders::initially_first))]
-fn initially_first(cursor: &mut Cursor<'_>) -> Result<Attributes, Stop>
+fn parse_initially_first(cursor: &mut Cursor<'_>) -> Result<Attributes, Stop>
     ensures { Reads (reader.initially_first cursor.old) result cursor.new }
 {
-    let mode = initially(cursor)?;
-    let deferrable = may_defer(cursor)?;
+    let mode = parse_initially(cursor)?;
+    let deferrable = parse_may_defer(cursor)?;
     Ok(Attributes {
         initially: Some(mode),
         deferrable,
@@ -76,11 +74,11 @@ fn initially_first(cursor: &mut Cursor<'_>) -> Result<Attributes, Stop>
 
 /// `defer [when]`
 #[tactic(auto, unfolding(statement_syntax::specs::SchemaReaders::deferrable_first))]
-fn deferrable_first(cursor: &mut Cursor<'_>) -> Result<Attributes, Stop>
+fn parse_deferrable_first(cursor: &mut Cursor<'_>) -> Result<Attributes, Stop>
     ensures { Reads (reader.deferrable_first cursor.old) result cursor.new }
 {
-    let may = deferrable(cursor)?;
-    let initially = may_begin(cursor)?;
+    let may = parse_deferrable(cursor)?;
+    let initially = parse_may_begin(cursor)?;
     Ok(Attributes {
         initially,
         deferrable: Some(may),
@@ -88,13 +86,13 @@ fn deferrable_first(cursor: &mut Cursor<'_>) -> Result<Attributes, Stop>
 }
 
 /// `[ when [defer] | defer [when] ]`
-#[tactic(auto, unfolding(statement_syntax::specs::SchemaReaders::attrs))]
-pub fn attributes(cursor: &mut Cursor<'_>) -> Result<Attributes, Stop>
-    ensures { Reads (reader.attrs cursor.old) result cursor.new }
+#[tactic(auto, unfolding(statement_syntax::specs::SchemaReaders::attributes))]
+pub fn parse_attributes(cursor: &mut Cursor<'_>) -> Result<Attributes, Stop>
+    ensures { Reads (reader.attributes cursor.old) result cursor.new }
 {
     match cursor.peek() {
-        Kind::Initially => initially_first(cursor),
-        Kind::Deferrable | Kind::Not => deferrable_first(cursor),
+        Kind::Initially => parse_initially_first(cursor),
+        Kind::Deferrable | Kind::Not => parse_deferrable_first(cursor),
         _ => Ok(Attributes {
             initially: None,
             deferrable: None,

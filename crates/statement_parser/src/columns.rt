@@ -8,7 +8,9 @@ ghost use Rattle.token.specs.declared.kinds.Kind.TheVariants as k;
 ghost use Rattle.reading.specs.Reading as rd;
 ghost use Rattle.leaf_parser.specs.Reads.{Reads};
 
-use leaf_parser::{Cursor, Part, Piece, Stop, name, parens, parens_list, value_of};
+use leaf_parser::{
+    Cursor, Part, Piece, Stop, parse_name, parse_parens, parse_parens_list, value_of,
+};
 use sqlite_items::Items;
 use statement_syntax::{ColumnDefinition, Marks};
 use std::alloc::Global;
@@ -57,7 +59,7 @@ impl Part for Width {
 
 /// `INTEGER | INT | VARCHAR "(" number ")"`
 #[tactic(auto, unfolding(statement_syntax::specs::SchemaReaders::column_type))]
-fn column_type(cursor: &mut Cursor<'_>, depth: usize) -> Result<ColType, Stop>
+fn parse_column_type(cursor: &mut Cursor<'_>, depth: usize) -> Result<ColType, Stop>
     ensures { Reads (reader.column_type depth cursor.old) result cursor.new }
 {
     match cursor.peek() {
@@ -71,14 +73,14 @@ fn column_type(cursor: &mut Cursor<'_>, depth: usize) -> Result<ColType, Stop>
         }
         Kind::Varchar => {
             cursor.take(Kind::Varchar);
-            parens(&Width, cursor, depth)
+            parse_parens(&Width, cursor, depth)
         }
         _ => Err(Stop::Syntax),
     }
 }
 
 /// `[PRIMARY KEY]`, behind NOT NULL.
-fn marks_after_null(cursor: &mut Cursor<'_>) -> Result<Marks, Stop>
+fn parse_marks_after_null(cursor: &mut Cursor<'_>) -> Result<Marks, Stop>
     ensures { Reads
         (rd.◌<$>◌ (λ key. grammar.marks_of true (grammar.written key)) (rd.optional k.Primary reader.primary_key)
         cursor.old) result cursor.new }
@@ -98,7 +100,7 @@ fn marks_after_null(cursor: &mut Cursor<'_>) -> Result<Marks, Stop>
 }
 
 /// `[NOT NULL]`, behind PRIMARY KEY.
-fn marks_after_key(cursor: &mut Cursor<'_>) -> Result<Marks, Stop>
+fn parse_marks_after_key(cursor: &mut Cursor<'_>) -> Result<Marks, Stop>
     ensures { Reads
         (rd.◌<$>◌ (λ other. grammar.marks_of (grammar.written other) true) (rd.optional k.Not reader.not_null)
         cursor.old) result cursor.new }
@@ -119,19 +121,19 @@ fn marks_after_key(cursor: &mut Cursor<'_>) -> Result<Marks, Stop>
 
 /// `[ NOT NULL [PRIMARY KEY] | PRIMARY KEY [NOT NULL] ]`
 #[tactic(auto, unfolding(statement_syntax::specs::SchemaReaders::marks))]
-fn marks(cursor: &mut Cursor<'_>) -> Result<Marks, Stop>
+fn parse_marks(cursor: &mut Cursor<'_>) -> Result<Marks, Stop>
     ensures { Reads (reader.marks cursor.old) result cursor.new }
 {
     match cursor.peek() {
         Kind::Not => {
             cursor.expect(Kind::Not)?;
             cursor.expect(Kind::Null)?;
-            marks_after_null(cursor)
+            parse_marks_after_null(cursor)
         }
         Kind::Primary => {
             cursor.expect(Kind::Primary)?;
             cursor.expect(Kind::Key)?;
-            marks_after_key(cursor)
+            parse_marks_after_key(cursor)
         }
         _ => Ok(Marks {
             not_null: false,
@@ -158,15 +160,15 @@ impl Part for Column {
 
     #[tactic(auto, unfolding(statement_syntax::specs::SchemaReaders::col))]
     fn parse(&self, cursor: &mut Cursor<'_>) -> Result<ColumnDefinition, Stop> {
-        let name = name(self.alloc, cursor)?;
-        let kind = column_type(cursor, self.depth)?;
-        let marks = marks(cursor)?;
+        let name = parse_name(self.alloc, cursor)?;
+        let kind = parse_column_type(cursor, self.depth)?;
+        let marks = parse_marks(cursor)?;
         Ok(ColumnDefinition { name, kind, marks })
     }
 }
 
 /// `"(" col { "," col } ")"`
-pub fn parens_columns(
+pub fn parse_parens_columns(
     alloc: Global,
     cursor: &mut Cursor<'_>,
     depth: usize,
@@ -177,5 +179,5 @@ pub fn parens_columns(
         alloc,
         depth: depth.saturating_sub(1),
     };
-    parens_list(alloc, &column, cursor, depth)
+    parse_parens_list(alloc, &column, cursor, depth)
 }

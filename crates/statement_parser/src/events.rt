@@ -5,14 +5,14 @@ ghost use Rattle.token.specs.declared.kinds.Kind.TheVariants as k;
 ghost use Rattle.reading.specs.Reading as rd;
 ghost use Rattle.leaf_parser.specs.Reads.{Reads};
 
-use crate::statements::stmt;
+use crate::statements::parse_statement;
 use leaf_parser::{Cursor, Stop};
 use statement_syntax::Event;
 use std::alloc::Global;
 use token::Kind;
 
 /// `[WORK]`, behind COMMIT.
-fn commit(cursor: &mut Cursor<'_>) -> Result<Event, Stop>
+fn parse_commit(cursor: &mut Cursor<'_>) -> Result<Event, Stop>
     ensures { Reads (rd.◌<$>◌ (λ _. Event.Commit) (rd.optional k.Work (rd.expect k.Work)) cursor.old) result
         cursor.new }
 {
@@ -23,7 +23,7 @@ fn commit(cursor: &mut Cursor<'_>) -> Result<Event, Stop>
 }
 
 /// `[WORK]`, behind ROLLBACK.
-fn rollback(cursor: &mut Cursor<'_>) -> Result<Event, Stop>
+fn parse_rollback(cursor: &mut Cursor<'_>) -> Result<Event, Stop>
     ensures { Reads (rd.◌<$>◌ (λ _. Event.Rollback) (rd.optional k.Work (rd.expect k.Work)) cursor.old) result
         cursor.new }
 {
@@ -34,9 +34,9 @@ fn rollback(cursor: &mut Cursor<'_>) -> Result<Event, Stop>
 }
 
 /// `BEGIN | COMMIT [WORK] | ROLLBACK [WORK] | stmt`
-#[tactic(auto, unfolding(statement_syntax::specs::Readers::event_))]
-pub fn event_(alloc: Global, cursor: &mut Cursor<'_>, depth: usize) -> Result<Event, Stop>
-    ensures { Reads (reader.event_ depth cursor.old) result cursor.new }
+#[tactic(auto, unfolding(statement_syntax::specs::Readers::one_event))]
+pub fn parse_event(alloc: Global, cursor: &mut Cursor<'_>, depth: usize) -> Result<Event, Stop>
+    ensures { Reads (reader.one_event depth cursor.old) result cursor.new }
 {
     match cursor.peek() {
         Kind::Begin => {
@@ -45,12 +45,12 @@ pub fn event_(alloc: Global, cursor: &mut Cursor<'_>, depth: usize) -> Result<Ev
         }
         Kind::Commit => {
             cursor.take(Kind::Commit);
-            commit(cursor)
+            parse_commit(cursor)
         }
         Kind::Rollback => {
             cursor.take(Kind::Rollback);
-            rollback(cursor)
+            parse_rollback(cursor)
         }
-        _ => Ok(Event::Run(stmt(alloc, cursor, depth)?)),
+        _ => Ok(Event::Run(parse_statement(alloc, cursor, depth)?)),
     }
 }

@@ -6,7 +6,9 @@ ghost use Rattle.token.specs.declared.kinds.Kind.TheVariants as k;
 ghost use Rattle.reading.specs.Reading as rd;
 ghost use Rattle.leaf_parser.specs.Reads.{Reads};
 
-use leaf_parser::{Cursor, NamePart, Part, Stop, name, parens_list, signed_number, text};
+use leaf_parser::{
+    Cursor, NamePart, Part, Stop, parse_name, parse_parens_list, parse_signed_number, parse_text,
+};
 use sqlite_items::Items;
 use statement_syntax::Insert;
 use std::alloc::Global;
@@ -14,10 +16,10 @@ use token::Kind;
 use value::{Text, Value};
 
 /// A number, whose sign is read.
-fn number(cursor: &mut Cursor<'_>, is_negative: bool) -> Result<Value, Stop>
+fn parse_number(cursor: &mut Cursor<'_>, is_negative: bool) -> Result<Value, Stop>
     ensures { Reads (rd.◌<$>◌ (grammar.number_of is_negative) (rd.expect k.Number) cursor.old) result cursor.new }
 {
-    Ok(Value::Int(signed_number(cursor, is_negative)?))
+    Ok(Value::Int(parse_signed_number(cursor, is_negative)?))
 }
 
 /// `NULL | text | [sign] number`
@@ -40,15 +42,15 @@ impl Part for Constant {
                 cursor.take(Kind::Null);
                 Ok(Value::Null)
             }
-            Kind::Text => Ok(Value::Text(text(self.0, cursor)?)),
-            Kind::Number => number(cursor, false),
+            Kind::Text => Ok(Value::Text(parse_text(self.0, cursor)?)),
+            Kind::Number => parse_number(cursor, false),
             Kind::Plus => {
                 cursor.take(Kind::Plus);
-                number(cursor, false)
+                parse_number(cursor, false)
             }
             Kind::Minus => {
                 cursor.take(Kind::Minus);
-                number(cursor, true)
+                parse_number(cursor, true)
             }
             _ => Err(Stop::Syntax),
         }
@@ -57,7 +59,7 @@ impl Part for Constant {
 
 /// `[ "(" name { "," name } ")" ]`
 #[tactic(auto, unfolding(statement_syntax::specs::Readers::columns))]
-fn columns(
+fn parse_columns(
     alloc: Global,
     cursor: &mut Cursor<'_>,
     depth: usize,
@@ -67,20 +69,20 @@ fn columns(
     if !cursor.is(Kind::Open) {
         return Ok(None);
     }
-    Ok(Some(parens_list(alloc, &NamePart(alloc), cursor, depth)?))
+    Ok(Some(parse_parens_list(alloc, &NamePart(alloc), cursor, depth)?))
 }
 
 /// `INSERT INTO name [ "(" name { "," name } ")" ] VALUES "(" const { "," const } ")"`
 #[tactic(auto, unfolding(statement_syntax::specs::Readers::insert))]
-pub fn insert(alloc: Global, cursor: &mut Cursor<'_>, depth: usize) -> Result<Insert, Stop>
+pub fn parse_insert(alloc: Global, cursor: &mut Cursor<'_>, depth: usize) -> Result<Insert, Stop>
     ensures { Reads (reader.insert depth cursor.old) result cursor.new }
 {
     cursor.expect(Kind::Insert)?;
     cursor.expect(Kind::Into)?;
-    let table = name(alloc, cursor)?;
-    let columns = columns(alloc, cursor, depth)?;
+    let table = parse_name(alloc, cursor)?;
+    let columns = parse_columns(alloc, cursor, depth)?;
     cursor.expect(Kind::Values)?;
-    let values = parens_list(alloc, &Constant(alloc), cursor, depth)?;
+    let values = parse_parens_list(alloc, &Constant(alloc), cursor, depth)?;
     Ok(Insert {
         table,
         columns,

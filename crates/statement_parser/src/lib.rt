@@ -13,7 +13,7 @@
 //! goes on by the kind of the next token, a comma, or the first word of a definition, or a name for a
 //! step of a script.
 //!
-//! [`definitions`], [`event_`] and [`script`] are for the layer that reads whole texts: none of them
+//! [`parse_definitions`], [`parse_event`] and [`parse_script`] are for the layer that reads whole texts: none of them
 //! asks whether anything stands behind what it has read.
 #![tactic(auto)]
 
@@ -25,6 +25,6 @@ mod schemas;
 mod scripts;
 mod statements;
 
-pub use events::event_;
-pub use schemas::definitions;
-pub use scripts::script;
+pub use events::parse_event;
+pub use schemas::parse_definitions;
+pub use scripts::parse_script;

@@ -1,17 +1,18 @@
 //! Definitions.
 
-ghost use Rattle.std.specs.Prelude.{◌≡◌, ◌-◌};
+ghost use Rattle.std.specs.Prelude.{◌-◌};
 ghost use Rattle.syntax.specs.Readers as condition;
 ghost use Rattle.statement_syntax.specs.SchemaReaders as reader;
-ghost use Rattle.token.specs.declared.kinds.Kind.TheVariants as k;
 ghost use Rattle.reading.specs.Reading as rd;
 ghost use Rattle.leaf_parser.specs.Reads.{Reads};
 
-use crate::attributes::attributes;
-use crate::columns::parens_columns;
-use crate::inserts::insert;
-use condition_parser::cond_at;
-use leaf_parser::{Cursor, Part, Repeated, Stop, followed, many, name, parens, stopped};
+use crate::attributes::parse_attributes;
+use crate::columns::parse_parens_columns;
+use crate::inserts::parse_insert;
+use condition_parser::parse_condition;
+use leaf_parser::{
+    Cursor, Part, Repeated, Stop, drop_and_stop, expect_after, parse_many, parse_name, parse_parens,
+};
 use sqlite_items::{Boxed, Items};
 use statement_syntax::Definition;
 use std::alloc::Global;
@@ -20,12 +21,12 @@ use token::Kind;
 
 /// `TABLE name "(" col { "," col } ")"`
 #[tactic(auto, unfolding(statement_syntax::specs::SchemaReaders::table))]
-fn table(alloc: Global, cursor: &mut Cursor<'_>, depth: usize) -> Result<Definition, Stop>
+fn parse_table(alloc: Global, cursor: &mut Cursor<'_>, depth: usize) -> Result<Definition, Stop>
     ensures { Reads (reader.table depth cursor.old) result cursor.new }
 {
     cursor.expect(Kind::Table)?;
-    let name = name(alloc, cursor)?;
-    let columns = parens_columns(alloc, cursor, depth)?;
+    let name = parse_name(alloc, cursor)?;
+    let columns = parse_parens_columns(alloc, cursor, depth)?;
     Ok(Definition::Table { name, columns })
 }
 
@@ -46,12 +47,12 @@ impl Part for Checked {
     ghost reader = { λ c. condition.cond_at c.depth };
 
     fn parse(&self, cursor: &mut Cursor<'_>) -> Result<Boxed<Condition>, Stop> {
-        cond_at(self.alloc, cursor, self.depth)
+        parse_condition(self.alloc, cursor, self.depth)
     }
 }
 
 /// `"(" cond ")"`
-fn parens_condition(
+fn parse_parens_condition(
     alloc: Global,
     cursor: &mut Cursor<'_>,
     depth: usize,
@@ -62,51 +63,55 @@ fn parens_condition(
         alloc,
         depth: depth.saturating_sub(1),
     };
-    parens(&checked, cursor, depth)
+    parse_parens(&checked, cursor, depth)
 }
 
 /// `ASSERTION name CHECK "(" cond ")" [attrs]`
 #[tactic(auto, unfolding(statement_syntax::specs::SchemaReaders::assertion))]
-fn assertion(alloc: Global, cursor: &mut Cursor<'_>, depth: usize) -> Result<Definition, Stop>
+fn parse_assertion(alloc: Global, cursor: &mut Cursor<'_>, depth: usize) -> Result<Definition, Stop>
     ensures { Reads (reader.assertion depth cursor.old) result cursor.new }
 {
     cursor.expect(Kind::Assertion)?;
-    let name = name(alloc, cursor)?;
+    let name = parse_name(alloc, cursor)?;
     cursor.expect(Kind::Check)?;
-    let condition = parens_condition(alloc, cursor, depth)?;
-    match attributes(cursor) {
+    let condition = parse_parens_condition(alloc, cursor, depth)?;
+    match parse_attributes(cursor) {
         Ok(attributes) => Ok(Definition::Assertion {
             name,
             condition: condition.into_inner(),
             attributes,
         }),
-        Err(stop) => Err(stopped(stop, (name, condition))),
+        Err(stop) => Err(drop_and_stop(stop, (name, condition))),
     }
 }
 
 /// What follows CREATE.
 #[tactic(auto, unfolding(statement_syntax::specs::SchemaReaders::created))]
-fn created(alloc: Global, cursor: &mut Cursor<'_>, depth: usize) -> Result<Definition, Stop>
+fn parse_created(alloc: Global, cursor: &mut Cursor<'_>, depth: usize) -> Result<Definition, Stop>
     ensures { Reads (reader.created depth cursor.old) result cursor.new }
 {
     match cursor.peek() {
-        Kind::Table => table(alloc, cursor, depth),
-        Kind::Assertion => assertion(alloc, cursor, depth),
+        Kind::Table => parse_table(alloc, cursor, depth),
+        Kind::Assertion => parse_assertion(alloc, cursor, depth),
         _ => Err(Stop::Syntax),
     }
 }
 
 /// `CREATE TABLE .. | CREATE ASSERTION .. | INSERT ..`
-#[tactic(auto, unfolding(statement_syntax::specs::SchemaReaders::def))]
-fn definition(alloc: Global, cursor: &mut Cursor<'_>, depth: usize) -> Result<Definition, Stop>
-    ensures { Reads (reader.def depth cursor.old) result cursor.new }
+#[tactic(auto, unfolding(statement_syntax::specs::SchemaReaders::definition))]
+fn parse_definition(
+    alloc: Global,
+    cursor: &mut Cursor<'_>,
+    depth: usize,
+) -> Result<Definition, Stop>
+    ensures { Reads (reader.definition depth cursor.old) result cursor.new }
 {
     match cursor.peek() {
         Kind::Create => {
             cursor.take(Kind::Create);
-            created(alloc, cursor, depth)
+            parse_created(alloc, cursor, depth)
         }
-        _ => Ok(Definition::Insert(insert(alloc, cursor, depth)?)),
+        _ => Ok(Definition::Insert(parse_insert(alloc, cursor, depth)?)),
     }
 }
 
@@ -124,19 +129,19 @@ impl Part for EndedDefinition {
 
     ghost ready = { λ _. Unit {0} };
 
-    ghost reader = { λ d. reader.ended_def d.depth };
+    ghost reader = { λ d. reader.ended_definition d.depth };
 
-    #[tactic(auto, unfolding(statement_syntax::specs::SchemaReaders::ended_def))]
+    #[tactic(auto, unfolding(statement_syntax::specs::SchemaReaders::ended_definition))]
     fn parse(&self, cursor: &mut Cursor<'_>) -> Result<Definition, Stop> {
-        let found = definition(self.alloc, cursor, self.depth)?;
-        followed(cursor, Kind::Semicolon, found)
+        let found = parse_definition(self.alloc, cursor, self.depth)?;
+        expect_after(cursor, Kind::Semicolon, found)
     }
 }
 
 impl Repeated for EndedDefinition {
     ghost use Rattle.statement_syntax.specs.SchemaReaders as reader;
 
-    ghost begins = { reader.starts_def };
+    ghost begins = { reader.starts_definition };
 
     fn begins(&self, kind: Kind) -> bool {
         matches!(kind, Kind::Create | Kind::Insert)
@@ -144,13 +149,13 @@ impl Repeated for EndedDefinition {
 }
 
 /// `{ def ";" }`
-#[tactic(auto, unfolding(statement_syntax::specs::SchemaReaders::defs))]
-pub fn definitions(
+#[tactic(auto, unfolding(statement_syntax::specs::SchemaReaders::definitions))]
+pub fn parse_definitions(
     alloc: Global,
     cursor: &mut Cursor<'_>,
     depth: usize,
 ) -> Result<Items<Definition>, Stop>
-    ensures { Reads (reader.defs depth cursor.old) result cursor.new }
+    ensures { Reads (reader.definitions depth cursor.old) result cursor.new }
 {
-    many(&EndedDefinition { alloc, depth }, cursor, Items::new(alloc))
+    parse_many(&EndedDefinition { alloc, depth }, cursor, Items::new(alloc))
 }

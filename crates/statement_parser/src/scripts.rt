@@ -1,12 +1,10 @@
 //! Scripts.
 
-ghost use Rattle.std.specs.Prelude.{◌≡◌};
 ghost use Rattle.statement_syntax.specs.SchemaReaders as reader;
-ghost use Rattle.reading.specs.Reading as rd;
 ghost use Rattle.leaf_parser.specs.Reads.{Reads};
 
-use crate::events::event_;
-use leaf_parser::{Cursor, Part, Repeated, Stop, followed, many, name};
+use crate::events::parse_event;
+use leaf_parser::{Cursor, Part, Repeated, Stop, expect_after, parse_many, parse_name};
 use sqlite_items::Items;
 use statement_syntax::Step;
 use std::alloc::Global;
@@ -30,10 +28,10 @@ impl Part for StepPart {
 
     #[tactic(auto, unfolding(statement_syntax::specs::SchemaReaders::step))]
     fn parse(&self, cursor: &mut Cursor<'_>) -> Result<Step, Stop> {
-        let session = name(self.alloc, cursor)?;
+        let session = parse_name(self.alloc, cursor)?;
         cursor.expect(Kind::Colon)?;
-        let event = event_(self.alloc, cursor, self.depth)?;
-        followed(cursor, Kind::Semicolon, Step { session, event })
+        let event = parse_event(self.alloc, cursor, self.depth)?;
+        expect_after(cursor, Kind::Semicolon, Step { session, event })
     }
 }
 
@@ -49,8 +47,12 @@ impl Repeated for StepPart {
 
 /// `{ name ":" event ";" }`
 #[tactic(auto, unfolding(statement_syntax::specs::SchemaReaders::script))]
-pub fn script(alloc: Global, cursor: &mut Cursor<'_>, depth: usize) -> Result<Items<Step>, Stop>
+pub fn parse_script(
+    alloc: Global,
+    cursor: &mut Cursor<'_>,
+    depth: usize,
+) -> Result<Items<Step>, Stop>
     ensures { Reads (reader.script depth cursor.old) result cursor.new }
 {
-    many(&StepPart { alloc, depth }, cursor, Items::new(alloc))
+    parse_many(&StepPart { alloc, depth }, cursor, Items::new(alloc))
 }

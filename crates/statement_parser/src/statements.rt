@@ -1,12 +1,11 @@
 //! Statements.
 
 ghost use Rattle.statement_syntax.specs.Readers as reader;
-ghost use Rattle.reading.specs.Reading as rd;
 ghost use Rattle.leaf_parser.specs.Reads.{Reads};
 
-use crate::inserts::insert;
-use condition_parser::{cond_at, expr_at};
-use leaf_parser::{Cursor, NamePart, Part, Stop, list, name, stopped};
+use crate::inserts::parse_insert;
+use condition_parser::{parse_condition, parse_expression};
+use leaf_parser::{Cursor, NamePart, Part, Stop, drop_and_stop, parse_list, parse_name};
 use sqlite_items::Boxed;
 use statement_syntax::{Assigned, Assignment, Mode, Statement, Which};
 use std::alloc::Global;
@@ -14,9 +13,9 @@ use syntax::Condition;
 use token::Kind;
 
 /// `DEFERRED | IMMEDIATE`
-#[tactic(auto, unfolding(statement_syntax::specs::Readers::when_))]
-pub fn when_(cursor: &mut Cursor<'_>) -> Result<Mode, Stop>
-    ensures { Reads (reader.when_ cursor.old) result cursor.new }
+#[tactic(auto, unfolding(statement_syntax::specs::Readers::check_time))]
+pub fn parse_check_time(cursor: &mut Cursor<'_>) -> Result<Mode, Stop>
+    ensures { Reads (reader.check_time cursor.old) result cursor.new }
 {
     match cursor.peek() {
         Kind::Deferred => {
@@ -33,7 +32,7 @@ pub fn when_(cursor: &mut Cursor<'_>) -> Result<Mode, Stop>
 
 /// `ALL | name { "," name }`
 #[tactic(auto, unfolding(statement_syntax::specs::Readers::constraints))]
-fn constraints(alloc: Global, cursor: &mut Cursor<'_>) -> Result<Which, Stop>
+fn parse_constraints(alloc: Global, cursor: &mut Cursor<'_>) -> Result<Which, Stop>
     ensures { Reads (reader.constraints cursor.old) result cursor.new }
 {
     match cursor.peek() {
@@ -41,13 +40,13 @@ fn constraints(alloc: Global, cursor: &mut Cursor<'_>) -> Result<Which, Stop>
             cursor.take(Kind::All);
             Ok(Which::All)
         }
-        _ => Ok(Which::Names(list(alloc, &NamePart(alloc), cursor)?)),
+        _ => Ok(Which::Names(parse_list(alloc, &NamePart(alloc), cursor)?)),
     }
 }
 
 /// `"*" | name { "," name }`
 #[tactic(auto, unfolding(statement_syntax::specs::Readers::selected))]
-fn selected(alloc: Global, cursor: &mut Cursor<'_>) -> Result<Which, Stop>
+fn parse_selected(alloc: Global, cursor: &mut Cursor<'_>) -> Result<Which, Stop>
     ensures { Reads (reader.selected cursor.old) result cursor.new }
 {
     match cursor.peek() {
@@ -55,51 +54,51 @@ fn selected(alloc: Global, cursor: &mut Cursor<'_>) -> Result<Which, Stop>
             cursor.take(Kind::Star);
             Ok(Which::All)
         }
-        _ => Ok(Which::Names(list(alloc, &NamePart(alloc), cursor)?)),
+        _ => Ok(Which::Names(parse_list(alloc, &NamePart(alloc), cursor)?)),
     }
 }
 
 /// `SET CONSTRAINTS (ALL | name { "," name }) (DEFERRED | IMMEDIATE)`
 #[tactic(auto, unfolding(statement_syntax::specs::Readers::set_constraints))]
-fn set_constraints(alloc: Global, cursor: &mut Cursor<'_>) -> Result<Statement, Stop>
+fn parse_set_constraints(alloc: Global, cursor: &mut Cursor<'_>) -> Result<Statement, Stop>
     ensures { Reads (reader.set_constraints cursor.old) result cursor.new }
 {
     cursor.expect(Kind::Set)?;
     cursor.expect(Kind::Constraints)?;
-    let assertions = constraints(alloc, cursor)?;
-    let mode = when_(cursor)?;
+    let assertions = parse_constraints(alloc, cursor)?;
+    let mode = parse_check_time(cursor)?;
     Ok(Statement::SetConstraints { assertions, mode })
 }
 
 /// `VERDICT name`
 #[tactic(auto, unfolding(statement_syntax::specs::Readers::verdict))]
-fn verdict(alloc: Global, cursor: &mut Cursor<'_>) -> Result<Statement, Stop>
+fn parse_verdict(alloc: Global, cursor: &mut Cursor<'_>) -> Result<Statement, Stop>
     ensures { Reads (reader.verdict cursor.old) result cursor.new }
 {
     cursor.expect(Kind::Verdict)?;
-    let name = name(alloc, cursor)?;
+    let name = parse_name(alloc, cursor)?;
     Ok(Statement::Verdict(name))
 }
 
 /// `[WHERE cond]`
-#[tactic(auto, unfolding(statement_syntax::specs::Readers::where_))]
-fn where_(
+#[tactic(auto, unfolding(statement_syntax::specs::Readers::where_clause))]
+fn parse_where(
     alloc: Global,
     cursor: &mut Cursor<'_>,
     depth: usize,
 ) -> Result<Option<Boxed<Condition>>, Stop>
-    ensures { Reads (reader.where_ depth cursor.old) result cursor.new }
+    ensures { Reads (reader.where_clause depth cursor.old) result cursor.new }
 {
     if !cursor.is(Kind::Where) {
         return Ok(None);
     }
     cursor.expect(Kind::Where)?;
-    Ok(Some(cond_at(alloc, cursor, depth)?))
+    Ok(Some(parse_condition(alloc, cursor, depth)?))
 }
 
 /// `NULL | expr`
 #[tactic(auto, unfolding(statement_syntax::specs::Readers::assigned))]
-fn assigned(alloc: Global, cursor: &mut Cursor<'_>, depth: usize) -> Result<Assigned, Stop>
+fn parse_assigned(alloc: Global, cursor: &mut Cursor<'_>, depth: usize) -> Result<Assigned, Stop>
     ensures { Reads (reader.assigned depth cursor.old) result cursor.new }
 {
     match cursor.peek() {
@@ -107,7 +106,7 @@ fn assigned(alloc: Global, cursor: &mut Cursor<'_>, depth: usize) -> Result<Assi
             cursor.take(Kind::Null);
             Ok(Assigned::Null)
         }
-        _ => Ok(Assigned::To(expr_at(alloc, cursor, depth)?)),
+        _ => Ok(Assigned::To(parse_expression(alloc, cursor, depth)?)),
     }
 }
 
@@ -129,53 +128,53 @@ impl Part for Assigning {
 
     #[tactic(auto, unfolding(statement_syntax::specs::Readers::assignment))]
     fn parse(&self, cursor: &mut Cursor<'_>) -> Result<Assignment, Stop> {
-        let column = name(self.alloc, cursor)?;
+        let column = parse_name(self.alloc, cursor)?;
         cursor.expect(Kind::Equal)?;
-        let value = assigned(self.alloc, cursor, self.depth)?;
+        let value = parse_assigned(self.alloc, cursor, self.depth)?;
         Ok(Assignment { column, value })
     }
 }
 
 /// `UPDATE name SET set { "," set } [WHERE cond]`
 #[tactic(auto, unfolding(statement_syntax::specs::Readers::update))]
-fn update(alloc: Global, cursor: &mut Cursor<'_>, depth: usize) -> Result<Statement, Stop>
+fn parse_update(alloc: Global, cursor: &mut Cursor<'_>, depth: usize) -> Result<Statement, Stop>
     ensures { Reads (reader.update depth cursor.old) result cursor.new }
 {
     cursor.expect(Kind::Update)?;
-    let table = name(alloc, cursor)?;
+    let table = parse_name(alloc, cursor)?;
     cursor.expect(Kind::Set)?;
-    let sets = match list(alloc, &Assigning { alloc, depth }, cursor) {
+    let sets = match parse_list(alloc, &Assigning { alloc, depth }, cursor) {
         Ok(sets) => sets,
-        Err(stop) => return Err(stopped(stop, table)),
+        Err(stop) => return Err(drop_and_stop(stop, table)),
     };
-    match where_(alloc, cursor, depth) {
+    match parse_where(alloc, cursor, depth) {
         Ok(keeps) => Ok(Statement::Update { table, sets, keeps }),
-        Err(stop) => Err(stopped(stop, (table, sets))),
+        Err(stop) => Err(drop_and_stop(stop, (table, sets))),
     }
 }
 
 /// `DELETE FROM name [WHERE cond]`
 #[tactic(auto, unfolding(statement_syntax::specs::Readers::delete))]
-fn delete(alloc: Global, cursor: &mut Cursor<'_>, depth: usize) -> Result<Statement, Stop>
+fn parse_delete(alloc: Global, cursor: &mut Cursor<'_>, depth: usize) -> Result<Statement, Stop>
     ensures { Reads (reader.delete depth cursor.old) result cursor.new }
 {
     cursor.expect(Kind::Delete)?;
     cursor.expect(Kind::From)?;
-    let table = name(alloc, cursor)?;
-    let keeps = where_(alloc, cursor, depth)?;
+    let table = parse_name(alloc, cursor)?;
+    let keeps = parse_where(alloc, cursor, depth)?;
     Ok(Statement::Delete { table, keeps })
 }
 
 /// `SELECT ("*" | name { "," name }) FROM name [WHERE cond]`
 #[tactic(auto, unfolding(statement_syntax::specs::Readers::select))]
-fn select(alloc: Global, cursor: &mut Cursor<'_>, depth: usize) -> Result<Statement, Stop>
+fn parse_select(alloc: Global, cursor: &mut Cursor<'_>, depth: usize) -> Result<Statement, Stop>
     ensures { Reads (reader.select depth cursor.old) result cursor.new }
 {
     cursor.expect(Kind::Select)?;
-    let columns = selected(alloc, cursor)?;
+    let columns = parse_selected(alloc, cursor)?;
     cursor.expect(Kind::From)?;
-    let table = name(alloc, cursor)?;
-    let keeps = where_(alloc, cursor, depth)?;
+    let table = parse_name(alloc, cursor)?;
+    let keeps = parse_where(alloc, cursor, depth)?;
     Ok(Statement::Select {
         columns,
         table,
@@ -184,17 +183,21 @@ fn select(alloc: Global, cursor: &mut Cursor<'_>, depth: usize) -> Result<Statem
 }
 
 /// A statement.
-#[tactic(auto, unfolding(statement_syntax::specs::Readers::stmt))]
-pub fn stmt(alloc: Global, cursor: &mut Cursor<'_>, depth: usize) -> Result<Statement, Stop>
-    ensures { Reads (reader.stmt depth cursor.old) result cursor.new }
+#[tactic(auto, unfolding(statement_syntax::specs::Readers::statement))]
+pub fn parse_statement(
+    alloc: Global,
+    cursor: &mut Cursor<'_>,
+    depth: usize,
+) -> Result<Statement, Stop>
+    ensures { Reads (reader.statement depth cursor.old) result cursor.new }
 {
     match cursor.peek() {
-        Kind::Insert => Ok(Statement::Insert(insert(alloc, cursor, depth)?)),
-        Kind::Update => update(alloc, cursor, depth),
-        Kind::Delete => delete(alloc, cursor, depth),
-        Kind::Select => select(alloc, cursor, depth),
-        Kind::Set => set_constraints(alloc, cursor),
-        Kind::Verdict => verdict(alloc, cursor),
+        Kind::Insert => Ok(Statement::Insert(parse_insert(alloc, cursor, depth)?)),
+        Kind::Update => parse_update(alloc, cursor, depth),
+        Kind::Delete => parse_delete(alloc, cursor, depth),
+        Kind::Select => parse_select(alloc, cursor, depth),
+        Kind::Set => parse_set_constraints(alloc, cursor),
+        Kind::Verdict => parse_verdict(alloc, cursor),
         _ => Err(Stop::Syntax),
     }
 }

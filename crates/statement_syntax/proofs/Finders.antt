@@ -52,16 +52,16 @@ constant_f m = record { finds = go m }
     go m w rest x (inl (inr h)) small = pick r.constant_by k.Plus m refl (seq_f m k.Plus (map_f m (st.number_of false) (finds_expect rank m k.Number))) w rest x h small
     go m w rest x (inr h) small = pick r.constant_by k.Minus m refl (seq_f m k.Minus (map_f m (st.number_of true) (finds_expect rank m k.Number))) w rest x h small
 
-pub when_f : (m : ℕ) → Finds rank m st.when_ r.when_
-unfolding st.when_ r.when_
+pub when_f : (m : ℕ) → Finds rank m st.check_time r.check_time
+unfolding st.check_time r.check_time
 when_f m = record { finds = go m }
   where
-    go : (m : ℕ) (w rest : Lexemes) (x : Mode) → lang.◌∪◌ (lang.◌>>◌ (lang.token k.Deferred) (lang.pure mode.Deferred)) (lang.◌>>◌ (lang.token k.Immediate) (lang.pure mode.Immediate)) w x → rank (kind_at rest) ≤ m → Accepts (by_kind r.when_by (w ++ rest)) x rest
-    go m w rest x (inl h) small = pick r.when_by k.Deferred m refl (seq_f m k.Deferred (finds_pure rank m mode.Deferred)) w rest x h small
-    go m w rest x (inr h) small = pick r.when_by k.Immediate m refl (seq_f m k.Immediate (finds_pure rank m mode.Immediate)) w rest x h small
+    go : (m : ℕ) (w rest : Lexemes) (x : Mode) → lang.◌∪◌ (lang.◌>>◌ (lang.token k.Deferred) (lang.pure mode.Deferred)) (lang.◌>>◌ (lang.token k.Immediate) (lang.pure mode.Immediate)) w x → rank (kind_at rest) ≤ m → Accepts (by_kind r.check_time_by (w ++ rest)) x rest
+    go m w rest x (inl h) small = pick r.check_time_by k.Deferred m refl (seq_f m k.Deferred (finds_pure rank m mode.Deferred)) w rest x h small
+    go m w rest x (inr h) small = pick r.check_time_by k.Immediate m refl (seq_f m k.Immediate (finds_pure rank m mode.Immediate)) w rest x h small
 
-when_opens : (P : Kind → Type 0) → P k.Deferred → P k.Immediate → Opens st.when_ P
-unfolding st.when_
+when_opens : (P : Kind → Type 0) → P k.Deferred → P k.Immediate → Opens st.check_time P
+unfolding st.check_time
 when_opens P deferred immediate = opens_either P (opens_token P k.Deferred deferred) (opens_token P k.Immediate immediate)
 
 constraints_f : Finds rank 3 st.constraints r.constraints
@@ -109,12 +109,12 @@ unfolding st.verdict r.verdict
 verdict_f = seq_f 0 k.Verdict (map_f 0 s.Verdict (name_f 0))
 
 module _ (n l : ℕ) where
-  where_f : Finds rank 0 (st.where_ (g.nested l)) (r.where_ n)
-  unfolding st.where_ r.where_
+  where_f : Finds rank 0 (st.where_clause (g.nested l)) (r.where_clause n)
+  unfolding st.where_clause r.where_clause
   where_f = optional_f 0 k.Where (omega arith) (opens_token (λ next. next ≡ k.Where) k.Where refl) (seq_f 0 k.Where (lower 0 4 (omega arith) (cond_at_f n l)))
 
-  where_follows : Follows 3 0 (st.where_ (g.nested l))
-  unfolding st.where_
+  where_follows : Follows 3 0 (st.where_clause (g.nested l))
+  unfolding st.where_clause
   where_follows = optional_follows 3 0 k.Where (omega arith) (omega arith) (opens_token (λ next. next ≡ k.Where) k.Where refl)
 
   assigned_f : Finds rank 4 (st.assigned (g.nested l)) (r.assigned n)
@@ -145,45 +145,45 @@ module _ (n l : ℕ) where
   select_f = seq_f 0 k.Select (then_f 0 0 (lower 0 3 (omega arith) selected_f) (λ w which h. seq_f 0 k.From (named 0 (λ table. map_f 0 (s.Select which table) where_f)))
       (λ which. follows_opens 0 0 (opens_token (λ kind. rank kind ≤ 0) k.From (omega arith))))
 
-  stmt_f : Finds rank 0 (st.stmt (g.nested l)) (r.stmt n)
-  unfolding st.stmt r.stmt st.update st.delete st.select st.set_constraints st.verdict
+  stmt_f : Finds rank 0 (st.statement (g.nested l)) (r.statement n)
+  unfolding st.statement r.statement st.update st.delete st.select st.set_constraints st.verdict
   stmt_f = record { finds = go }
     where
       go : (w rest : Lexemes) (x : Statement)
           → lang.◌∪◌ (lang.◌∪◌ (lang.◌∪◌ (lang.◌∪◌ (lang.◌∪◌ (lang.◌<$>◌ s.Insert st.insert) (st.update (g.nested l))) (st.delete (g.nested l))) (st.select (g.nested l))) st.set_constraints) st.verdict w x
-          → rank (kind_at rest) ≤ 0 → Accepts (by_kind (r.stmt_by n) (w ++ rest)) x rest
+          → rank (kind_at rest) ≤ 0 → Accepts (by_kind (r.statement_by n) (w ++ rest)) x rest
       go w rest x (inl (inl (inl (inl (inl h))))) small =
-          let P : Kind → Type 0 = Goes (r.stmt_by n) (rd.◌<$>◌ s.Insert (r.insert n)) in
-          route (r.stmt_by n) 0 (map_f 0 s.Insert (insert_f n)) (opens_then P (insert_opens P refl)) w rest x h small
-      go w rest x (inl (inl (inl (inl (inr h))))) small = pick (r.stmt_by n) k.Update 0 refl update_f w rest x h small
-      go w rest x (inl (inl (inl (inr h)))) small = pick (r.stmt_by n) k.Delete 0 refl delete_f w rest x h small
-      go w rest x (inl (inl (inr h))) small = pick (r.stmt_by n) k.Select 0 refl select_f w rest x h small
-      go w rest x (inl (inr h)) small = pick (r.stmt_by n) k.Set 0 refl set_constraints_f w rest x h small
-      go w rest x (inr h) small = pick (r.stmt_by n) k.Verdict 0 refl verdict_f w rest x h small
+          let P : Kind → Type 0 = Goes (r.statement_by n) (rd.◌<$>◌ s.Insert (r.insert n)) in
+          route (r.statement_by n) 0 (map_f 0 s.Insert (insert_f n)) (opens_then P (insert_opens P refl)) w rest x h small
+      go w rest x (inl (inl (inl (inl (inr h))))) small = pick (r.statement_by n) k.Update 0 refl update_f w rest x h small
+      go w rest x (inl (inl (inl (inr h)))) small = pick (r.statement_by n) k.Delete 0 refl delete_f w rest x h small
+      go w rest x (inl (inl (inr h))) small = pick (r.statement_by n) k.Select 0 refl select_f w rest x h small
+      go w rest x (inl (inr h)) small = pick (r.statement_by n) k.Set 0 refl set_constraints_f w rest x h small
+      go w rest x (inr h) small = pick (r.statement_by n) k.Verdict 0 refl verdict_f w rest x h small
 
-  stmt_opens : (P : Kind → Type 0) → P k.Insert → P k.Update → P k.Delete → P k.Select → P k.Set → P k.Verdict → Opens (st.stmt (g.nested l)) P
-  unfolding st.stmt st.update st.delete st.select st.set_constraints st.verdict
+  stmt_opens : (P : Kind → Type 0) → P k.Insert → P k.Update → P k.Delete → P k.Select → P k.Set → P k.Verdict → Opens (st.statement (g.nested l)) P
+  unfolding st.statement st.update st.delete st.select st.set_constraints st.verdict
   stmt_opens P insert update delete select set verdict =
       opens_either P (opens_either P (opens_either P (opens_either P (opens_either P (opens_then P (insert_opens P insert)) (opens_token P k.Update update)) (opens_token P k.Delete delete)) (opens_token P k.Select select)) (opens_token P k.Set set)) (opens_token P k.Verdict verdict)
 
   work_f : Finds rank 0 (lang.optional (lang.token k.Work)) (rd.optional k.Work (rd.expect k.Work))
   work_f = optional_f 0 k.Work (omega arith) (opens_kind (λ next. next ≡ k.Work) k.Work refl) (finds_expect rank 0 k.Work)
 
-  pub event_f : Finds rank 0 (st.event_ (g.nested l)) (r.event_ n)
-  unfolding st.event_ r.event_
+  pub event_f : Finds rank 0 (st.one_event (g.nested l)) (r.one_event n)
+  unfolding st.one_event r.one_event
   event_f = record { finds = go }
     where
       go : (w rest : Lexemes) (x : Event)
           → lang.◌∪◌ (lang.◌∪◌ (lang.◌∪◌ (lang.◌>>◌ (lang.token k.Begin) (lang.pure event.Begin)) (lang.◌>>◌ (lang.token k.Commit) (lang.◌<$>◌ (λ _. event.Commit) (lang.optional (lang.token k.Work)))))
-          (lang.◌>>◌ (lang.token k.Rollback) (lang.◌<$>◌ (λ _. event.Rollback) (lang.optional (lang.token k.Work))))) (lang.◌<$>◌ event.Run (st.stmt (g.nested l))) w x
+          (lang.◌>>◌ (lang.token k.Rollback) (lang.◌<$>◌ (λ _. event.Rollback) (lang.optional (lang.token k.Work))))) (lang.◌<$>◌ event.Run (st.statement (g.nested l))) w x
           → rank (kind_at rest) ≤ 0 → Accepts (by_kind (r.event_by n) (w ++ rest)) x rest
       go w rest x (inl (inl (inl h))) small = pick (r.event_by n) k.Begin 0 refl (seq_f 0 k.Begin (finds_pure rank 0 event.Begin)) w rest x h small
       go w rest x (inl (inl (inr h))) small = pick (r.event_by n) k.Commit 0 refl (seq_f 0 k.Commit (map_f 0 (λ _. event.Commit) work_f)) w rest x h small
       go w rest x (inl (inr h)) small = pick (r.event_by n) k.Rollback 0 refl (seq_f 0 k.Rollback (map_f 0 (λ _. event.Rollback) work_f)) w rest x h small
       go w rest x (inr h) small =
-          let P : Kind → Type 0 = Goes (r.event_by n) (rd.◌<$>◌ event.Run (r.stmt n)) in
+          let P : Kind → Type 0 = Goes (r.event_by n) (rd.◌<$>◌ event.Run (r.statement n)) in
           route (r.event_by n) 0 (map_f 0 event.Run stmt_f) (opens_then P (stmt_opens P refl refl refl refl refl refl)) w rest x h small
 
 -- the public call's reader
-pub exact_events : Exact st.events r.event_
+pub exact_events : Exact st.events r.one_event
 exact_events = record { sound = λ n. event_s n (n + 2) (omega arith); finds = λ n l. event_f n l }

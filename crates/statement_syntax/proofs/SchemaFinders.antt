@@ -122,7 +122,7 @@ may_defer_f = record { finds = go }
 may_defer_follows : Follows 7 0 (lang.optional dg.deferrable)
 may_defer_follows = follows_either 7 0 (follows_pure 7 0 None (omega arith)) (follows_opens 7 0 (opens_then (λ kind. rank kind ≤ 7) (deferrable_opens (λ kind. rank kind ≤ 7) (omega arith) (omega arith))))
 
-no_attrs : (kind : Kind) → rank kind ≤ 0 → r.attrs_by kind ≡ rd.pure (dg.attributes_of None None)
+no_attrs : (kind : Kind) → rank kind ≤ 0 → r.attributes_by kind ≡ rd.pure (dg.attributes_of None None)
 no_attrs k.Initially small = absurd (omega arith)
 no_attrs k.Deferrable small = absurd (omega arith)
 no_attrs k.Not small = absurd (omega arith)
@@ -138,21 +138,21 @@ deferrable_first_f =
     then_f 1 0 (deferrable_f 1) (λ w may h. map_f 0 (λ mode. dg.attributes_of mode (Some may)) (optional_f 0 k.Initially (omega arith) (initially_opens (λ next. next ≡ k.Initially) refl) (initially_f 0)))
     (λ may. follows_map 1 0 (λ mode. dg.attributes_of mode (Some may)) (optional_follows 1 0 k.Initially (omega arith) (omega arith) (initially_opens (λ next. next ≡ k.Initially) refl)))
 
-attrs_f : Finds rank 0 dg.attrs r.attrs
-unfolding dg.attrs r.attrs
+attrs_f : Finds rank 0 dg.attributes r.attributes
+unfolding dg.attributes r.attributes
 attrs_f = record { finds = go }
   where
     go : (w rest : Lexemes) (x : Attributes)
         → lang.◌∪◌ (lang.◌∪◌ (lang.pure (dg.attributes_of None None)) (lang.◌>>=◌ dg.initially (λ mode. lang.◌<$>◌ (dg.attributes_of (Some mode)) (lang.optional dg.deferrable)))) (lang.◌>>=◌ dg.deferrable (λ may. lang.◌<$>◌ (λ mode. dg.attributes_of mode (Some may)) (lang.optional dg.initially))) w x
-        → rank (kind_at rest) ≤ 0 → Accepts (by_kind r.attrs_by (w ++ rest)) x rest
+        → rank (kind_at rest) ≤ 0 → Accepts (by_kind r.attributes_by (w ++ rest)) x rest
     go w rest x (inl (inl h)) small =
-        subst (λ t. Accepts (by_kind r.attrs_by (t ++ rest)) x rest) (sym h.0)
+        subst (λ t. Accepts (by_kind r.attributes_by (t ++ rest)) x rest) (sym h.0)
         (subst (λ p. Accepts (p rest) x rest) (sym (no_attrs (kind_at rest) small)) ((finds_pure rank 0 (dg.attributes_of None None)).finds [] rest x (refl, h.1) small))
-    go w rest x (inl (inr h)) small = route r.attrs_by 0 initially_first_f (opens_then (Goes r.attrs_by r.initially_first) (initially_opens (Goes r.attrs_by r.initially_first) refl)) w rest x h small
-    go w rest x (inr h) small = route r.attrs_by 0 deferrable_first_f (opens_then (Goes r.attrs_by r.deferrable_first) (deferrable_opens (Goes r.attrs_by r.deferrable_first) refl refl)) w rest x h small
+    go w rest x (inl (inr h)) small = route r.attributes_by 0 initially_first_f (opens_then (Goes r.attributes_by r.initially_first) (initially_opens (Goes r.attributes_by r.initially_first) refl)) w rest x h small
+    go w rest x (inr h) small = route r.attributes_by 0 deferrable_first_f (opens_then (Goes r.attributes_by r.deferrable_first) (deferrable_opens (Goes r.attributes_by r.deferrable_first) refl refl)) w rest x h small
 
-attrs_follows : Follows 7 0 dg.attrs
-unfolding dg.attrs
+attrs_follows : Follows 7 0 dg.attributes
+unfolding dg.attributes
 attrs_follows = follows_either 7 0 (follows_either 7 0 (follows_pure 7 0 (dg.attributes_of None None) (omega arith)) (follows_opens 7 0 (opens_then (λ kind. rank kind ≤ 7) (initially_opens (λ kind. rank kind ≤ 7) (omega arith)))))
     (follows_opens 7 0 (opens_then (λ kind. rank kind ≤ 7) (deferrable_opens (λ kind. rank kind ≤ 7) (omega arith) (omega arith))))
 
@@ -174,19 +174,19 @@ module _ (n l : ℕ) where
   unfolding r.created
   created_assertion = record { finds = λ w rest x h small. pick (r.created_by n) k.Assertion 0 refl assertion_f w rest x h small }
 
-  def_f : Finds rank 0 (dg.def (g.nested l)) (r.def n)
-  unfolding dg.def dg.table dg.assertion r.def
+  def_f : Finds rank 0 (dg.definition (g.nested l)) (r.definition n)
+  unfolding dg.definition dg.table dg.assertion r.definition
   def_f = record { finds = go }
     where
-      go : (w rest : Lexemes) (x : Definition) → lang.◌∪◌ (lang.◌∪◌ (lang.◌>>◌ (lang.token k.Create) table_in) (lang.◌>>◌ (lang.token k.Create) (assertion_in (g.nested l)))) (lang.◌<$>◌ d.Insert st.insert) w x → rank (kind_at rest) ≤ 0 → Accepts (by_kind (r.def_by n) (w ++ rest)) x rest
-      go w rest x (inl (inl h)) small = pick (r.def_by n) k.Create 0 refl (seq_f 0 k.Create created_table) w rest x h small
-      go w rest x (inl (inr h)) small = pick (r.def_by n) k.Create 0 refl (seq_f 0 k.Create created_assertion) w rest x h small
+      go : (w rest : Lexemes) (x : Definition) → lang.◌∪◌ (lang.◌∪◌ (lang.◌>>◌ (lang.token k.Create) table_in) (lang.◌>>◌ (lang.token k.Create) (assertion_in (g.nested l)))) (lang.◌<$>◌ d.Insert st.insert) w x → rank (kind_at rest) ≤ 0 → Accepts (by_kind (r.definition_by n) (w ++ rest)) x rest
+      go w rest x (inl (inl h)) small = pick (r.definition_by n) k.Create 0 refl (seq_f 0 k.Create created_table) w rest x h small
+      go w rest x (inl (inr h)) small = pick (r.definition_by n) k.Create 0 refl (seq_f 0 k.Create created_assertion) w rest x h small
       go w rest x (inr h) small =
-          let P : Kind → Type 0 = Goes (r.def_by n) (rd.◌<$>◌ d.Insert (sr.insert n)) in
-          route (r.def_by n) 0 (map_f 0 d.Insert (insert_f n)) (opens_then P (insert_opens P refl)) w rest x h small
+          let P : Kind → Type 0 = Goes (r.definition_by n) (rd.◌<$>◌ d.Insert (sr.insert n)) in
+          route (r.definition_by n) 0 (map_f 0 d.Insert (insert_f n)) (opens_then P (insert_opens P refl)) w rest x h small
 
-  ended_def_f : Finds rank 1 (dg.ended_def (g.nested l)) (r.ended_def n)
-  unfolding dg.ended_def r.ended_def
+  ended_def_f : Finds rank 1 (dg.ended_definition (g.nested l)) (r.ended_definition n)
+  unfolding dg.ended_definition r.ended_definition
   ended_def_f = then_f 0 1 def_f (λ w x h. seq_f 1 k.Semicolon (finds_pure rank 1 x)) (λ x. follows_opens 0 1 (opens_token (λ kind. rank kind ≤ 0) k.Semicolon (omega arith)))
 
   -- an opening of the first part opens the whole
@@ -196,33 +196,33 @@ module _ (n l : ℕ) where
       let p = o s.front h.tree s.first in
       record { token = p.token; more = p.more ++ s.back; is = s.cut ∙ ap (λ t. t ++ s.back) p.is; passes = p.passes }
 
-  insert_opening : (w : Lexemes) (x : Rattle.statement_syntax.specs.declared.statements.Insert.Insert) → st.insert w x → Opening r.starts_def st.insert w
+  insert_opening : (w : Lexemes) (x : Rattle.statement_syntax.specs.declared.statements.Insert.Insert) → st.insert w x → Opening r.starts_definition st.insert w
   unfolding st.insert
-  insert_opening w x h = token_opening r.starts_def k.Insert _ refl w x h
+  insert_opening w x h = token_opening r.starts_definition k.Insert _ refl w x h
 
-  def_opening : (w : Lexemes) (x : Definition) → dg.def (g.nested l) w x → Opening r.starts_def (dg.def (g.nested l)) w
-  unfolding dg.def dg.table dg.assertion
-  def_opening w x (inl (inl h)) = let o = token_opening r.starts_def k.Create (λ _. table_in) refl w x h in record { token = o.token; more = o.more; is = o.is; passes = o.passes }
-  def_opening w x (inl (inr h)) = let o = token_opening r.starts_def k.Create (λ _. assertion_in (g.nested l)) refl w x h in record { token = o.token; more = o.more; is = o.is; passes = o.passes }
-  def_opening w x (inr h) = let o = opening_then r.starts_def st.insert (λ a. lang.pure (d.Insert a)) insert_opening w x h in record { token = o.token; more = o.more; is = o.is; passes = o.passes }
+  def_opening : (w : Lexemes) (x : Definition) → dg.definition (g.nested l) w x → Opening r.starts_definition (dg.definition (g.nested l)) w
+  unfolding dg.definition dg.table dg.assertion
+  def_opening w x (inl (inl h)) = let o = token_opening r.starts_definition k.Create (λ _. table_in) refl w x h in record { token = o.token; more = o.more; is = o.is; passes = o.passes }
+  def_opening w x (inl (inr h)) = let o = token_opening r.starts_definition k.Create (λ _. assertion_in (g.nested l)) refl w x h in record { token = o.token; more = o.more; is = o.is; passes = o.passes }
+  def_opening w x (inr h) = let o = opening_then r.starts_definition st.insert (λ a. lang.pure (d.Insert a)) insert_opening w x h in record { token = o.token; more = o.more; is = o.is; passes = o.passes }
 
-  def_loop : Loops rank 1 0 r.starts_def (dg.ended_def (g.nested l))
-  unfolding dg.ended_def
-  def_loop = record { opening = opening_then r.starts_def (dg.def (g.nested l)) _ def_opening; binds = binds; stops = stops; below = omega arith }
+  def_loop : Loops rank 1 0 r.starts_definition (dg.ended_definition (g.nested l))
+  unfolding dg.ended_definition
+  def_loop = record { opening = opening_then r.starts_definition (dg.definition (g.nested l)) _ def_opening; binds = binds; stops = stops; below = omega arith }
     where
-      binds : (kind : Kind) → r.starts_def kind ≡ true → rank kind ≤ 1
+      binds : (kind : Kind) → r.starts_definition kind ≡ true → rank kind ≤ 1
       binds k.Create is = omega arith
       binds k.Insert is = omega arith
       binds _ is = absurd (cc)
 
-      stops : (kind : Kind) → rank kind ≤ 0 → r.starts_def kind ≡ false
+      stops : (kind : Kind) → rank kind ≤ 0 → r.starts_definition kind ≡ false
       stops k.Create small = absurd (omega arith)
       stops k.Insert small = absurd (omega arith)
       stops _ small = refl
 
-  defs_f : Finds rank 0 (dg.defs (g.nested l)) (r.defs n)
-  unfolding dg.defs r.defs
-  defs_f = all_f 1 0 r.starts_def def_loop ended_def_f []
+  defs_f : Finds rank 0 (dg.definitions (g.nested l)) (r.definitions n)
+  unfolding dg.definitions r.definitions
+  defs_f = all_f 1 0 r.starts_definition def_loop ended_def_f []
 
   step_f : Finds rank 4 (dg.step (g.nested l)) (r.step n)
   unfolding dg.step r.step
@@ -248,7 +248,7 @@ module _ (n l : ℕ) where
   script_f = all_f 4 0 r.starts_step step_loop step_f []
 
 -- the public calls' readers
-pub exact_schemas : Exact dg.schemas r.defs
+pub exact_schemas : Exact dg.schemas r.definitions
 exact_schemas = record { sound = λ n. defs_s n (n + 2) (omega arith); finds = λ n l. defs_f n l }
 
 pub exact_scripts : Exact dg.scripts r.script

@@ -14,7 +14,6 @@ use Rattle.syntax.specs.declared.wants.Found.{Found}
 use Rattle.syntax.specs.Grammar as g
 use Rattle.syntax.specs.Readers as q
 use Rattle.statement_syntax.specs.Grammar as st
-use Rattle.statement_syntax.specs.Readers as sr
 use Rattle.statement_syntax.specs.SchemaGrammar as dg
 use Rattle.statement_syntax.specs.SchemaReaders as r
 use Rattle.reading.specs.Reading as rd
@@ -102,24 +101,24 @@ may_defer_s : (n : ℕ) → Sound n n (lang.optional dg.deferrable) r.may_defer
 unfolding r.may_defer
 may_defer_s n = sound_by_kind n n (lang.optional dg.deferrable) r.may_defer_by (may_defer_by_s n)
 
-no_attrs : (n : ℕ) → Sound n n dg.attrs (r.attrs_by k.End)
-unfolding dg.attrs
+no_attrs : (n : ℕ) → Sound n n dg.attributes (r.attributes_by k.End)
+unfolding dg.attributes
 no_attrs n = weak (λ w a h. inl (inl h)) (sound_pure n (dg.attributes_of None None))
 
-deferrable_first_s : (n : ℕ) → Sound n n dg.attrs r.deferrable_first
-unfolding dg.attrs r.deferrable_first
+deferrable_first_s : (n : ℕ) → Sound n n dg.attributes r.deferrable_first
+unfolding dg.attributes r.deferrable_first
 deferrable_first_s n = weak (λ w a h. inr h) (then_s (deferrable_s n) (λ w may h. map_s (λ mode. dg.attributes_of mode (Some may)) (optional_s k.Initially (initially_s n))))
 
-attrs_by_s : (n : ℕ) (kind : Kind) → Sound n n dg.attrs (r.attrs_by kind)
-unfolding dg.attrs r.initially_first
+attrs_by_s : (n : ℕ) (kind : Kind) → Sound n n dg.attributes (r.attributes_by kind)
+unfolding dg.attributes r.initially_first
 attrs_by_s n k.Initially = weak (λ w a h. inl (inr h)) (then_s (initially_s n) (λ w mode h. map_s (dg.attributes_of (Some mode)) (may_defer_s n)))
 attrs_by_s n k.Deferrable = deferrable_first_s n
 attrs_by_s n k.Not = deferrable_first_s n
 attrs_by_s n _ = no_attrs n
 
-attrs_s : (n : ℕ) → Sound n n dg.attrs r.attrs
-unfolding r.attrs
-attrs_s n = sound_by_kind n n dg.attrs r.attrs_by (attrs_by_s n)
+attrs_s : (n : ℕ) → Sound n n dg.attributes r.attributes
+unfolding r.attributes
+attrs_s n = sound_by_kind n n dg.attributes r.attributes_by (attrs_by_s n)
 
 abbrev pub table_in : Language Definition
 table_in = Then (lang.token k.Table) (λ _. lang.◌>>=◌ g.name (λ name. lang.◌<$>◌ (d.Table name) (lang.parens (lang.list dg.col))))
@@ -132,7 +131,7 @@ unfolding r.table
 table_s n = seq_s k.Table refl (then_s (name_s n) (λ w name h. map_s (d.Table name) (sound_parens n (lang.list dg.col) (list (r.col (n - 1))) (some_list dg.col (col_s 0).begins) (λ m is. list_s (col_inside n m is)))))
 
 abbrev pub assertion_in : Language Found → Language Definition
-assertion_in inner = Then (lang.token k.Assertion) (λ _. lang.◌>>=◌ g.name (λ name. lang.◌>>◌ (lang.token k.Check) (lang.◌>>=◌ (lang.parens (g.inner_cond inner)) (λ c. lang.◌<$>◌ (d.Assertion name c) dg.attrs))))
+assertion_in inner = Then (lang.token k.Assertion) (λ _. lang.◌>>=◌ g.name (λ name. lang.◌>>◌ (lang.token k.Check) (lang.◌>>=◌ (lang.parens (g.inner_cond inner)) (λ c. lang.◌<$>◌ (d.Assertion name c) dg.attributes))))
 
 module _ (n l : ℕ) (below : n + 1 < l) where
   cond_inside : (m : ℕ) → n ≡ suc m → Sound m m (g.conditions l) (q.cond_at (n - 1))
@@ -153,22 +152,22 @@ module _ (n l : ℕ) (below : n + 1 < l) where
   created_by_s k.Assertion = weak (λ w a h. inr h) assertion_s
   created_by_s _ = sound_refuse n n created_in (weak {L = created_in} (λ w a h. inl h) (table_s n)).begins
 
-  create_into : (w : Lexemes) (x : Definition) → Then (lang.token k.Create) (λ _. created_in) w x → dg.def (g.nested l) w x
-  unfolding dg.def dg.table dg.assertion
-  create_into = token_either k.Create table_in (assertion_in (g.nested l)) (dg.def (g.nested l)) (λ w x h. inl (inl h)) (λ w x h. inl (inr h))
+  create_into : (w : Lexemes) (x : Definition) → Then (lang.token k.Create) (λ _. created_in) w x → dg.definition (g.nested l) w x
+  unfolding dg.definition dg.table dg.assertion
+  create_into = token_either k.Create table_in (assertion_in (g.nested l)) (dg.definition (g.nested l)) (λ w x h. inl (inl h)) (λ w x h. inl (inr h))
 
-  insertion_s : Sound n n (dg.def (g.nested l)) (r.def_by n k.Insert)
-  unfolding dg.def
+  insertion_s : Sound n n (dg.definition (g.nested l)) (r.definition_by n k.Insert)
+  unfolding dg.definition
   insertion_s = weak (λ w a h. inr h) (map_s d.Insert (insert_s n))
 
-  def_by_s : (kind : Kind) → Sound n n (dg.def (g.nested l)) (r.def_by n kind)
+  def_by_s : (kind : Kind) → Sound n n (dg.definition (g.nested l)) (r.definition_by n kind)
   unfolding r.created
   def_by_s k.Create = weak create_into (seq_s k.Create refl (sound_by_kind n n created_in (r.created_by n) created_by_s))
   def_by_s _ = insertion_s
 
-  ended_def_s : Sound n n (dg.ended_def (g.nested l)) (r.ended_def n)
-  unfolding dg.ended_def r.ended_def r.def
-  ended_def_s = then_s (sound_by_kind n n (dg.def (g.nested l)) (r.def_by n) def_by_s) (λ w x h. seq_s k.Semicolon refl (sound_pure n x))
+  ended_def_s : Sound n n (dg.ended_definition (g.nested l)) (r.ended_definition n)
+  unfolding dg.ended_definition r.ended_definition r.definition
+  ended_def_s = then_s (sound_by_kind n n (dg.definition (g.nested l)) (r.definition_by n) def_by_s) (λ w x h. seq_s k.Semicolon refl (sound_pure n x))
 
   second_some : {A B : Type 0} (K : Language A) (kind : Kind) (M : A → Language B) (w : Lexemes) (b : B) → Then K (λ a. Then (lang.token kind) (λ _. M a)) w b → 1 ≤ length w
   second_some K kind M w b h =
@@ -177,13 +176,13 @@ module _ (n l : ℕ) (below : n + 1 < l) where
       let e = ap length s.cut in
       omega (arith, e, length-append s.front s.back)
 
-  def_some : (w : Lexemes) (x : Definition) → dg.ended_def (g.nested l) w x → 1 ≤ length w
-  unfolding dg.ended_def
-  def_some w x h = second_some (dg.def (g.nested l)) k.Semicolon (λ y. lang.pure y) w x h
+  def_some : (w : Lexemes) (x : Definition) → dg.ended_definition (g.nested l) w x → 1 ≤ length w
+  unfolding dg.ended_definition
+  def_some w x h = second_some (dg.definition (g.nested l)) k.Semicolon (λ y. lang.pure y) w x h
 
-  pub defs_s : Sound n n (dg.defs (g.nested l)) (r.defs n)
-  unfolding dg.defs r.defs
-  defs_s = all_s r.starts_def ended_def_s def_some refl []
+  pub defs_s : Sound n n (dg.definitions (g.nested l)) (r.definitions n)
+  unfolding dg.definitions r.definitions
+  defs_s = all_s r.starts_definition ended_def_s def_some refl []
 
   step_s : Sound n n (dg.step (g.nested l)) (r.step n)
   unfolding dg.step r.step
@@ -191,7 +190,7 @@ module _ (n l : ℕ) (below : n + 1 < l) where
 
   step_some : (w : Lexemes) (x : Step) → dg.step (g.nested l) w x → 1 ≤ length w
   unfolding dg.step
-  step_some w x h = second_some g.name k.Colon (λ session. lang.◌>>=◌ (st.event_ (g.nested l)) (λ event. lang.◌>>◌ (lang.token k.Semicolon) (lang.pure (dg.step_of session event)))) w x h
+  step_some w x h = second_some g.name k.Colon (λ session. lang.◌>>=◌ (st.one_event (g.nested l)) (λ event. lang.◌>>◌ (lang.token k.Semicolon) (lang.pure (dg.step_of session event)))) w x h
 
   pub script_s : Sound n n (dg.script (g.nested l)) (r.script n)
   unfolding dg.script r.script

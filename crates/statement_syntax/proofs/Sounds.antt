@@ -38,19 +38,19 @@ constant_s : (n : ℕ) → Sound n n st.constant r.constant
 unfolding r.constant
 constant_s n = sound_by_kind n n st.constant r.constant_by (constant_by_s n)
 
-deferred_s : (n : ℕ) → Sound n n st.when_ (r.when_by k.Deferred)
-unfolding st.when_
+deferred_s : (n : ℕ) → Sound n n st.check_time (r.check_time_by k.Deferred)
+unfolding st.check_time
 deferred_s n = weak (λ w a h. inl h) (seq_s k.Deferred refl (sound_pure n mode.Deferred))
 
-when_by_s : (n : ℕ) (kind : Kind) → Sound n n st.when_ (r.when_by kind)
-unfolding st.when_
+when_by_s : (n : ℕ) (kind : Kind) → Sound n n st.check_time (r.check_time_by kind)
+unfolding st.check_time
 when_by_s n k.Deferred = deferred_s n
 when_by_s n k.Immediate = weak (λ w a h. inr h) (seq_s k.Immediate refl (sound_pure n mode.Immediate))
-when_by_s n _ = sound_refuse n n st.when_ (deferred_s n).begins
+when_by_s n _ = sound_refuse n n st.check_time (deferred_s n).begins
 
-pub when_s : (n : ℕ) → Sound n n st.when_ r.when_
-unfolding r.when_
-when_s n = sound_by_kind n n st.when_ r.when_by (when_by_s n)
+pub when_s : (n : ℕ) → Sound n n st.check_time r.check_time
+unfolding r.check_time
+when_s n = sound_by_kind n n st.check_time r.check_time_by (when_by_s n)
 
 named_constraints : (n : ℕ) → Sound n n st.constraints (r.constraints_by k.End)
 unfolding st.constraints
@@ -97,8 +97,8 @@ unfolding st.verdict r.verdict
 verdict_s n = seq_s k.Verdict refl (map_s s.Verdict (name_s n))
 
 module _ (n l : ℕ) (below : n + 1 < l) where
-  where_s : Sound n n (st.where_ (g.nested l)) (r.where_ n)
-  unfolding st.where_ r.where_
+  where_s : Sound n n (st.where_clause (g.nested l)) (r.where_clause n)
+  unfolding st.where_clause r.where_clause
   where_s = optional_s k.Where (seq_s k.Where refl (cond_at_s n l below))
 
   assigned_expr : Sound n n (st.assigned (g.nested l)) (r.assigned_by n k.End)
@@ -126,35 +126,35 @@ module _ (n l : ℕ) (below : n + 1 < l) where
   unfolding st.select r.select
   select_s = seq_s k.Select refl (then_s (selected_s n) (λ w which h. seq_s k.From refl (then_s (name_s n) (λ w table h. map_s (s.Select which table) where_s))))
 
-  insertion_s : Sound n n (st.stmt (g.nested l)) (r.stmt_by n k.Insert)
-  unfolding st.stmt
+  insertion_s : Sound n n (st.statement (g.nested l)) (r.statement_by n k.Insert)
+  unfolding st.statement
   insertion_s = weak (λ w a h. inl (inl (inl (inl (inl h))))) (map_s s.Insert (insert_s n))
 
-  stmt_by_s : (kind : Kind) → Sound n n (st.stmt (g.nested l)) (r.stmt_by n kind)
-  unfolding st.stmt
+  stmt_by_s : (kind : Kind) → Sound n n (st.statement (g.nested l)) (r.statement_by n kind)
+  unfolding st.statement
   stmt_by_s k.Insert = insertion_s
   stmt_by_s k.Update = weak (λ w a h. inl (inl (inl (inl (inr h))))) update_s
   stmt_by_s k.Delete = weak (λ w a h. inl (inl (inl (inr h)))) delete_s
   stmt_by_s k.Select = weak (λ w a h. inl (inl (inr h))) select_s
   stmt_by_s k.Set = weak (λ w a h. inl (inr h)) (set_constraints_s n)
   stmt_by_s k.Verdict = weak (λ w a h. inr h) (verdict_s n)
-  stmt_by_s _ = sound_refuse n n (st.stmt (g.nested l)) insertion_s.begins
+  stmt_by_s _ = sound_refuse n n (st.statement (g.nested l)) insertion_s.begins
 
-  stmt_s : Sound n n (st.stmt (g.nested l)) (r.stmt n)
-  unfolding r.stmt
-  stmt_s = sound_by_kind n n (st.stmt (g.nested l)) (r.stmt_by n) stmt_by_s
+  stmt_s : Sound n n (st.statement (g.nested l)) (r.statement n)
+  unfolding r.statement
+  stmt_s = sound_by_kind n n (st.statement (g.nested l)) (r.statement_by n) stmt_by_s
 
-  run_s : Sound n n (st.event_ (g.nested l)) (r.event_by n k.End)
-  unfolding st.event_
+  run_s : Sound n n (st.one_event (g.nested l)) (r.event_by n k.End)
+  unfolding st.one_event
   run_s = weak (λ w a h. inr h) (map_s event.Run stmt_s)
 
-  event_by_s : (kind : Kind) → Sound n n (st.event_ (g.nested l)) (r.event_by n kind)
-  unfolding st.event_
+  event_by_s : (kind : Kind) → Sound n n (st.one_event (g.nested l)) (r.event_by n kind)
+  unfolding st.one_event
   event_by_s k.Begin = weak (λ w a h. inl (inl (inl h))) (seq_s k.Begin refl (sound_pure n event.Begin))
   event_by_s k.Commit = weak (λ w a h. inl (inl (inr h))) (seq_s k.Commit refl (map_s (λ _. event.Commit) (optional_s k.Work (tok_s k.Work refl))))
   event_by_s k.Rollback = weak (λ w a h. inl (inr h)) (seq_s k.Rollback refl (map_s (λ _. event.Rollback) (optional_s k.Work (tok_s k.Work refl))))
   event_by_s _ = run_s
 
-  pub event_s : Sound n n (st.event_ (g.nested l)) (r.event_ n)
-  unfolding r.event_
-  event_s = sound_by_kind n n (st.event_ (g.nested l)) (r.event_by n) event_by_s
+  pub event_s : Sound n n (st.one_event (g.nested l)) (r.one_event n)
+  unfolding r.one_event
+  event_s = sound_by_kind n n (st.one_event (g.nested l)) (r.event_by n) event_by_s

@@ -46,8 +46,8 @@ insert =
     columns >>= (λ columns. token k.Values >> (insert_of table columns <$> parens (list constant))))))
 
 -- DEFERRED | IMMEDIATE
-unfoldable pub when_ : Language Mode
-when_ = (token k.Deferred >> pure mode.Deferred) ∪ (token k.Immediate >> pure mode.Immediate)
+unfoldable pub check_time : Language Mode
+check_time = (token k.Deferred >> pure mode.Deferred) ∪ (token k.Immediate >> pure mode.Immediate)
 
 -- ALL | name { "," name }
 unfoldable pub constraints : Language Which
@@ -59,7 +59,8 @@ selected = (token k.Star >> pure which.All) ∪ (which.Names <$> list name)
 
 -- SET CONSTRAINTS ( ALL | name { "," name } ) ( DEFERRED | IMMEDIATE )
 unfoldable pub set_constraints : Language Statement
-set_constraints = token k.Set >> (token k.Constraints >> (constraints >>= (λ which. s.SetConstraints which <$> when_)))
+set_constraints =
+    token k.Set >> (token k.Constraints >> (constraints >>= (λ which. s.SetConstraints which <$> check_time)))
 
 -- VERDICT name
 unfoldable pub verdict : Language Statement
@@ -70,8 +71,8 @@ assignment_of column value = record { column = column; value = value }
 
 module _ (inner : Language Found) where
   -- [WHERE cond]
-  unfoldable pub where_ : Language (Option Condition)
-  where_ = optional (token k.Where >> inner_cond inner)
+  unfoldable pub where_clause : Language (Option Condition)
+  where_clause = optional (token k.Where >> inner_cond inner)
 
   -- NULL | expr
   unfoldable pub assigned : Language Assigned
@@ -85,30 +86,31 @@ module _ (inner : Language Found) where
   unfoldable pub update : Language Statement
   update =
       token k.Update >> (name >>= (λ table.
-      token k.Set >> (list assignment >>= (λ sets. s.Update table sets <$> where_))))
+      token k.Set >> (list assignment >>= (λ sets. s.Update table sets <$> where_clause))))
 
   -- DELETE FROM name [WHERE cond]
   unfoldable pub delete : Language Statement
-  delete = token k.Delete >> (token k.From >> (name >>= (λ table. s.Delete table <$> where_)))
+  delete = token k.Delete >> (token k.From >> (name >>= (λ table. s.Delete table <$> where_clause)))
 
   -- SELECT ( "*" | name { "," name } ) FROM name [WHERE cond]
   unfoldable pub select : Language Statement
   select =
-      token k.Select >> (selected >>= (λ which. token k.From >> (name >>= (λ table. s.Select which table <$> where_))))
+      token k.Select >> (selected >>= (λ which.
+      token k.From >> (name >>= (λ table. s.Select which table <$> where_clause))))
 
-  unfoldable pub stmt : Language Statement
-  stmt = (s.Insert <$> insert) ∪ update ∪ delete ∪ select ∪ set_constraints ∪ verdict
+  unfoldable pub statement : Language Statement
+  statement = (s.Insert <$> insert) ∪ update ∪ delete ∪ select ∪ set_constraints ∪ verdict
 
   -- BEGIN | COMMIT [WORK] | ROLLBACK [WORK] | stmt
-  unfoldable pub event_ : Language Event
-  event_ =
+  unfoldable pub one_event : Language Event
+  one_event =
       (token k.Begin >> pure event.Begin)
       ∪ (token k.Commit >> ((λ _. event.Commit) <$> optional (token k.Work)))
       ∪ (token k.Rollback >> ((λ _. event.Rollback) <$> optional (token k.Work)))
-      ∪ (event.Run <$> stmt)
+      ∪ (event.Run <$> statement)
 
 abbrev pub events : ℕ → Language Event
-events n = event_ (nested n)
+events n = one_event (nested n)
 
 -- an event, whose parentheses nest as deep as they like
 abbrev pub IsEvent : Language Event

@@ -32,13 +32,13 @@ constant_by _ = refuse
 unfoldable pub constant : Reader Value
 constant = by_kind constant_by
 
-abbrev pub when_by : Kind → Reader Mode
-when_by k.Deferred = expect k.Deferred >> pure mode.Deferred
-when_by k.Immediate = expect k.Immediate >> pure mode.Immediate
-when_by _ = refuse
+abbrev pub check_time_by : Kind → Reader Mode
+check_time_by k.Deferred = expect k.Deferred >> pure mode.Deferred
+check_time_by k.Immediate = expect k.Immediate >> pure mode.Immediate
+check_time_by _ = refuse
 
-unfoldable pub when_ : Reader Mode
-when_ = by_kind when_by
+unfoldable pub check_time : Reader Mode
+check_time = by_kind check_time_by
 
 abbrev pub constraints_by : Kind → Reader Which
 constraints_by k.All = expect k.All >> pure which.All
@@ -56,7 +56,7 @@ selected = by_kind selected_by
 
 unfoldable pub set_constraints : Reader Statement
 set_constraints =
-    expect k.Set >> (expect k.Constraints >> (constraints >>= (λ which. s.SetConstraints which <$> when_)))
+    expect k.Set >> (expect k.Constraints >> (constraints >>= (λ which. s.SetConstraints which <$> check_time)))
 
 unfoldable pub verdict : Reader Statement
 verdict = expect k.Verdict >> (s.Verdict <$> name)
@@ -71,8 +71,8 @@ module _ (n : ℕ) where
       expect k.Insert >> (expect k.Into >> (name >>= (λ table.
       columns >>= (λ columns. expect k.Values >> (insert_of table columns <$> parens n (list constant))))))
 
-  unfoldable pub where_ : Reader (Option Condition)
-  where_ = optional k.Where (expect k.Where >> cond_at n)
+  unfoldable pub where_clause : Reader (Option Condition)
+  where_clause = optional k.Where (expect k.Where >> cond_at n)
 
   abbrev pub assigned_by : Kind → Reader Assigned
   assigned_by k.Null = expect k.Null >> pure to.Null
@@ -87,33 +87,33 @@ module _ (n : ℕ) where
   unfoldable pub update : Reader Statement
   update =
       expect k.Update >> (name >>= (λ table.
-      expect k.Set >> (list assignment >>= (λ sets. s.Update table sets <$> where_))))
+      expect k.Set >> (list assignment >>= (λ sets. s.Update table sets <$> where_clause))))
 
   unfoldable pub delete : Reader Statement
-  delete = expect k.Delete >> (expect k.From >> (name >>= (λ table. s.Delete table <$> where_)))
+  delete = expect k.Delete >> (expect k.From >> (name >>= (λ table. s.Delete table <$> where_clause)))
 
   unfoldable pub select : Reader Statement
   select =
       expect k.Select >> (selected >>= (λ which.
-      expect k.From >> (name >>= (λ table. s.Select which table <$> where_))))
+      expect k.From >> (name >>= (λ table. s.Select which table <$> where_clause))))
 
-  abbrev pub stmt_by : Kind → Reader Statement
-  stmt_by k.Insert = s.Insert <$> insert
-  stmt_by k.Update = update
-  stmt_by k.Delete = delete
-  stmt_by k.Select = select
-  stmt_by k.Set = set_constraints
-  stmt_by k.Verdict = verdict
-  stmt_by _ = refuse
+  abbrev pub statement_by : Kind → Reader Statement
+  statement_by k.Insert = s.Insert <$> insert
+  statement_by k.Update = update
+  statement_by k.Delete = delete
+  statement_by k.Select = select
+  statement_by k.Set = set_constraints
+  statement_by k.Verdict = verdict
+  statement_by _ = refuse
 
-  unfoldable pub stmt : Reader Statement
-  stmt = by_kind stmt_by
+  unfoldable pub statement : Reader Statement
+  statement = by_kind statement_by
 
   abbrev pub event_by : Kind → Reader Event
   event_by k.Begin = expect k.Begin >> pure event.Begin
   event_by k.Commit = expect k.Commit >> ((λ _. event.Commit) <$> optional k.Work (expect k.Work))
   event_by k.Rollback = expect k.Rollback >> ((λ _. event.Rollback) <$> optional k.Work (expect k.Work))
-  event_by _ = event.Run <$> stmt
+  event_by _ = event.Run <$> statement
 
-  unfoldable pub event_ : Reader Event
-  event_ = by_kind event_by
+  unfoldable pub one_event : Reader Event
+  one_event = by_kind event_by

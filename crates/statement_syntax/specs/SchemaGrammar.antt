@@ -14,7 +14,7 @@ use Rattle.statement_syntax.specs.declared.statements.Event.{Event}
 use Rattle.statement_syntax.specs.declared.statements.Insert.{Insert}
 use Rattle.syntax.specs.declared.wants.Found.{Found}
 use Rattle.syntax.specs.Grammar.{digits_value, name, inner_cond, nested}
-use Rattle.statement_syntax.specs.Grammar.{insert, when_, event_}
+use Rattle.statement_syntax.specs.Grammar.{insert, check_time, one_event}
 use Rattle.reading.specs.Language.{Lexeme, Language, ◌>>=◌, ◌>>◌, ◌<$>◌, ◌∪◌, pure, token, token_where, optional, list, parens, Behind, Some_level}
 
 -- a number from 1 to 255
@@ -58,7 +58,7 @@ col = name >>= (λ name. column_type >>= (λ kind. column_definition name kind <
 
 -- when: INITIALLY ( DEFERRED | IMMEDIATE )
 unfoldable pub initially : Language Mode
-initially = token k.Initially >> when_
+initially = token k.Initially >> check_time
 
 -- defer: [NOT] DEFERRABLE
 unfoldable pub deferrable : Language Bool
@@ -68,8 +68,8 @@ abbrev pub attributes_of : Option Mode → Option Bool → Attributes
 attributes_of initially deferrable = record { initially = initially; deferrable = deferrable }
 
 -- [ when [defer] | defer [when] ]
-unfoldable pub attrs : Language Attributes
-attrs =
+unfoldable pub attributes : Language Attributes
+attributes =
     pure (attributes_of None None) ∪ (initially >>= (λ mode. attributes_of (Some mode) <$> optional deferrable))
     ∪ (deferrable >>= (λ may. (λ mode. attributes_of mode (Some may)) <$> optional initially))
 
@@ -85,31 +85,31 @@ module _ (inner : Language Found) where
   unfoldable pub assertion : Language Definition
   assertion =
       token k.Create >> (token k.Assertion >> (name >>= (λ name.
-      token k.Check >> (parens (inner_cond inner) >>= (λ c. d.Assertion name c <$> attrs)))))
+      token k.Check >> (parens (inner_cond inner) >>= (λ c. d.Assertion name c <$> attributes)))))
 
-  unfoldable pub def : Language Definition
-  def = table ∪ assertion ∪ (d.Insert <$> insert)
+  unfoldable pub definition : Language Definition
+  definition = table ∪ assertion ∪ (d.Insert <$> insert)
 
   -- def ";"
-  unfoldable pub ended_def : Language Definition
-  ended_def = def >>= (λ x. token k.Semicolon >> pure x)
+  unfoldable pub ended_definition : Language Definition
+  ended_definition = definition >>= (λ x. token k.Semicolon >> pure x)
 
   -- { def ";" }
-  unfoldable pub defs : Language (List Definition)
-  defs = Behind [] ended_def
+  unfoldable pub definitions : Language (List Definition)
+  definitions = Behind [] ended_definition
 
   -- name ":" event ";"
   unfoldable pub step : Language Step
   step =
       name >>= (λ session.
-      token k.Colon >> (event_ inner >>= (λ event. token k.Semicolon >> pure (step_of session event))))
+      token k.Colon >> (one_event inner >>= (λ event. token k.Semicolon >> pure (step_of session event))))
 
   -- { name ":" event ";" }
   unfoldable pub script : Language (List Step)
   script = Behind [] step
 
 abbrev pub schemas : ℕ → Language (List Definition)
-schemas n = defs (nested n)
+schemas n = definitions (nested n)
 
 abbrev pub scripts : ℕ → Language (List Step)
 scripts n = script (nested n)

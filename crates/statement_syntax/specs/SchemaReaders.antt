@@ -14,7 +14,7 @@ use Rattle.statement_syntax.specs.declared.statements.Step.{Step}
 use Rattle.statement_syntax.specs.declared.statements.Insert.{Insert}
 use Rattle.syntax.specs.Readers.{name, cond_at}
 use Rattle.statement_syntax.specs.SchemaGrammar.{is_width, varchar_of, written, marks_of, column_definition, attributes_of, step_of}
-use Rattle.statement_syntax.specs.Readers.{insert, when_, event_}
+use Rattle.statement_syntax.specs.Readers.{insert, check_time, one_event}
 use Rattle.reading.specs.Language.{Lexeme}
 use Rattle.reading.specs.Reading.{Reader, ◌>>=◌, ◌>>◌, ◌<$>◌, pure, refuse, by_kind, expect, expect_where, optional, list, all, parens}
 
@@ -33,7 +33,7 @@ unfoldable pub marks : Reader Marks
 marks = by_kind marks_by
 
 unfoldable pub initially : Reader Mode
-initially = expect k.Initially >> when_
+initially = expect k.Initially >> check_time
 
 abbrev pub deferrable_by : Kind → Reader Bool
 deferrable_by k.Deferrable = expect k.Deferrable >> pure true
@@ -58,19 +58,19 @@ initially_first = initially >>= (λ mode. attributes_of (Some mode) <$> may_defe
 unfoldable pub deferrable_first : Reader Attributes
 deferrable_first = deferrable >>= (λ may. (λ mode. attributes_of mode (Some may)) <$> optional k.Initially initially)
 
-abbrev pub attrs_by : Kind → Reader Attributes
-attrs_by k.Initially = initially_first
-attrs_by k.Deferrable = deferrable_first
-attrs_by k.Not = deferrable_first
-attrs_by _ = pure (attributes_of None None)
+abbrev pub attributes_by : Kind → Reader Attributes
+attributes_by k.Initially = initially_first
+attributes_by k.Deferrable = deferrable_first
+attributes_by k.Not = deferrable_first
+attributes_by _ = pure (attributes_of None None)
 
-unfoldable pub attrs : Reader Attributes
-attrs = by_kind attrs_by
+unfoldable pub attributes : Reader Attributes
+attributes = by_kind attributes_by
 
-abbrev pub starts_def : Kind → Bool
-starts_def k.Create = true
-starts_def k.Insert = true
-starts_def _ = false
+abbrev pub starts_definition : Kind → Bool
+starts_definition k.Create = true
+starts_definition k.Insert = true
+starts_definition _ = false
 
 abbrev pub starts_step : Kind → Bool
 starts_step k.Name = true
@@ -98,7 +98,7 @@ module _ (n : ℕ) where
   unfoldable pub assertion : Reader Definition
   assertion =
       expect k.Assertion >> (name >>= (λ name.
-      expect k.Check >> (parens n (cond_at (n - 1)) >>= (λ c. d.Assertion name c <$> attrs))))
+      expect k.Check >> (parens n (cond_at (n - 1)) >>= (λ c. d.Assertion name c <$> attributes))))
 
   abbrev pub created_by : Kind → Reader Definition
   created_by k.Table = table
@@ -108,23 +108,23 @@ module _ (n : ℕ) where
   unfoldable pub created : Reader Definition
   created = by_kind created_by
 
-  abbrev pub def_by : Kind → Reader Definition
-  def_by k.Create = expect k.Create >> created
-  def_by _ = d.Insert <$> insert n
+  abbrev pub definition_by : Kind → Reader Definition
+  definition_by k.Create = expect k.Create >> created
+  definition_by _ = d.Insert <$> insert n
 
-  unfoldable pub def : Reader Definition
-  def = by_kind def_by
+  unfoldable pub definition : Reader Definition
+  definition = by_kind definition_by
 
-  unfoldable pub ended_def : Reader Definition
-  ended_def = def >>= (λ x. expect k.Semicolon >> pure x)
+  unfoldable pub ended_definition : Reader Definition
+  ended_definition = definition >>= (λ x. expect k.Semicolon >> pure x)
 
-  unfoldable pub defs : Reader (List Definition)
-  defs = all starts_def ended_def []
+  unfoldable pub definitions : Reader (List Definition)
+  definitions = all starts_definition ended_definition []
 
   unfoldable pub step : Reader Step
   step =
       name >>= (λ session.
-      expect k.Colon >> (event_ n >>= (λ event. expect k.Semicolon >> pure (step_of session event))))
+      expect k.Colon >> (one_event n >>= (λ event. expect k.Semicolon >> pure (step_of session event))))
 
   unfoldable pub script : Reader (List Step)
   script = all starts_step step []

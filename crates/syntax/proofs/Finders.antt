@@ -29,7 +29,7 @@ use Rattle.reading.proofs.Loops.{finds_parens, finds_expect, finds_after, Loops,
 use Rattle.syntax.proofs.Sounds.{counted_in, cond_at_s}
 use Rattle.reading.proofs.Whole.{Exact}
 use Rattle.reading.proofs.Short.{mapping, mapped, regroup, regroup_left, then_into}
-use Rattle.reading.proofs.Parts.{optional_f, optional_follows, list_f, parens_into, map_parens, behind}
+use Rattle.reading.proofs.Parts.{optional_f, optional_follows, list_f, parens_into, map_parens}
 use Rattle.reading.proofs.Follow.{rank, Opens, opens_then, opens_token, opens_either, Follows, follows_opens, follows_pure, follows_either, follows_then, follows_map, follows_behind, token_opening, then_f, map_f, seq_f, few, lower, all_f, pick, Goes, route}
 
 -- ---- what has no parentheses in it
@@ -679,12 +679,12 @@ module _ (n : ℕ) (inner : Language Found) (reader : Want → Reader Found)
           let P : Kind → Type 0 = Goes (r.selected_by n reader) (rd.◌<$>◌ which.One (r.expr n reader)) in
           route (r.selected_by n reader) 0 (map_f 0 which.One (lower 0 7 (omega arith) expr_f)) (opens_then P (expr_opens P (record { other = (record { text = refl; name = refl; open_ = refl; count = refl; sum = refl; min = refl; max = refl }); number = refl; plus = refl; minus = refl }))) w rest x h small
 
-  where_f : Finds rank 2 (g.where_ inner) (r.where_ n reader)
-  unfolding g.where_ r.where_
+  where_f : Finds rank 2 (g.where_clause inner) (r.where_clause n reader)
+  unfolding g.where_clause r.where_clause
   where_f = optional_f 2 k.Where (omega arith) (opens_token (λ next. next ≡ k.Where) k.Where refl) (seq_f 2 k.Where (lower 2 4 (omega arith) condition_f))
 
-  where_follows : Follows 3 2 (g.where_ inner)
-  unfolding g.where_
+  where_follows : Follows 3 2 (g.where_clause inner)
+  unfolding g.where_clause
   where_follows = optional_follows 3 2 k.Where (omega arith) (omega arith) (opens_token (λ next. next ≡ k.Where) k.Where refl)
 
   having_f : Finds rank 0 (g.having inner) (r.having n reader)

@@ -595,8 +595,8 @@ module _ (n : ℕ) (inner : Language Found) (reader : Want → Reader Found) (so
   unfolding r.selected
   selected_s = sound_by_kind n n (g.selected inner) (r.selected_by n reader) selected_by_s
 
-  where_s : Sound n n (g.where_ inner) (r.where_ n reader)
-  unfolding g.where_ r.where_
+  where_s : Sound n n (g.where_clause inner) (r.where_clause n reader)
+  unfolding g.where_clause r.where_clause
   where_s = optional_s k.Where (seq_s k.Where refl condition_s)
 
   having_s : Sound n n (g.having inner) (r.having n reader)
@@ -683,14 +683,14 @@ some_cond inner =
     (some_expr inner))))))
 
 pub some_query : (inner : Language Found) → Begins (g.query inner) []
-unfolding g.query g.query_from g.query_rest g.where_ g.group_by g.having g.correlation_name g.selected
+unfolding g.query g.query_from g.query_rest g.where_clause g.group_by g.having g.correlation_name g.selected
 some_query inner =
     begins_first (lang.token k.Select) (λ _. lang.◌>>=◌ (g.selected inner) (λ list. lang.◌>>◌ (lang.token k.From) (g.query_from inner list))) [] (λ v x h.
     begins_first (g.selected inner) (λ list. lang.◌>>◌ (lang.token k.From) (g.query_from inner list)) [] (λ v list h.
     begins_first (lang.token k.From) (λ _. g.query_from inner list) [] (λ v x h.
     begins_first g.name (λ table. lang.◌>>=◌ g.correlation_name (g.query_rest inner list table)) [] (λ v table h.
     begins_first g.correlation_name (g.query_rest inner list table) [] (λ v other h.
-    begins_first (g.where_ inner) (λ keeps. lang.◌>>=◌ g.group_by (λ group. lang.◌<$>◌ (g.query_of list table other keeps group) (g.having inner))) [] (λ v keeps h.
+    begins_first (g.where_clause inner) (λ keeps. lang.◌>>=◌ g.group_by (λ group. lang.◌<$>◌ (g.query_of list table other keeps group) (g.having inner))) [] (λ v keeps h.
     begins_first g.group_by (λ group. lang.◌<$>◌ (g.query_of list table other keeps group) (g.having inner)) [] (λ v group h.
     ([], _, mapping (g.query_of list table other keeps group) (g.having inner) [] None (inl (refl, refl)))) ([], None, inl (refl, refl))) ([], None, inl (refl, refl))) ([], None, inl (inl (refl, refl)))) (name_s 0).begins) (tok_s {n = 0} k.From refl).begins)
     (into_begins (Then (lang.token k.Star) (λ _. lang.pure which.Star)) (g.selected inner) (λ w x h. inl h) (seq_s k.Star refl (sound_pure 0 which.Star)).begins)) (tok_s {n = 0} k.Select refl).begins

@@ -252,8 +252,8 @@ module _ (inner : Language Found) where
   selected = (token k.Star >> pure which.Star) ∪ (which.One <$> expr)
 
   -- [WHERE cond]
-  unfoldable pub where_ : Language (Option Condition)
-  where_ = optional (token k.Where >> cond)
+  unfoldable pub where_clause : Language (Option Condition)
+  where_clause = optional (token k.Where >> cond)
 
   -- [HAVING cond]
   unfoldable pub having : Language (Option Condition)
@@ -262,7 +262,7 @@ module _ (inner : Language Found) where
   -- [WHERE cond] [GROUP BY colref] [HAVING cond]
   unfoldable pub query_rest : SelectList → List ℕ → Option (List ℕ) → Language Query
   query_rest list table other =
-      where_ >>= (λ keeps. group_by >>= (λ group. query_of list table other keeps group <$> having))
+      where_clause >>= (λ keeps. group_by >>= (λ group. query_of list table other keeps group <$> having))
 
   -- name [ [AS] name ] [WHERE cond] [GROUP BY colref] [HAVING cond]
   unfoldable pub query_from : SelectList → Language Query

@@ -122,10 +122,6 @@ abbrev pub is_or : Kind → Bool
 is_or k.Or = true
 is_or _ = false
 
-abbrev pub is_not : Kind → Bool
-is_not k.Not = true
-is_not _ = false
-
 -- what makes a condition of an expression begins so
 abbrev pub begins_comparison : Kind → Bool
 begins_comparison k.Equal = true
@@ -343,15 +339,15 @@ module _ (depth : ℕ) (inner : Want → Reader Found) where
   unfoldable pub selected : Reader SelectList
   selected = by_kind selected_by
 
-  unfoldable pub where_ : Reader (Option Condition)
-  where_ = optional k.Where (expect k.Where >> condition)
+  unfoldable pub where_clause : Reader (Option Condition)
+  where_clause = optional k.Where (expect k.Where >> condition)
 
   unfoldable pub having : Reader (Option Condition)
   having = optional k.Having (expect k.Having >> condition)
 
   unfoldable pub query_rest : SelectList → List ℕ → Option (List ℕ) → Reader Query
   query_rest list table other =
-      where_ >>= (λ keeps. group_by >>= (λ group. query_of list table other keeps group <$> having))
+      where_clause >>= (λ keeps. group_by >>= (λ group. query_of list table other keeps group <$> having))
 
   unfoldable pub query_from : SelectList → Reader Query
   query_from list = name >>= (λ table. correlation_name >>= query_rest list table)

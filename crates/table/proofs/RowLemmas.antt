@@ -1,7 +1,9 @@
 -- What the tests of a row find out.
 use Rattle.std.proofs.Common.{◌≡◌, ◌≤◌, ℕ, Bool, true, false, List, [], ◌∷◌, length, Option, Some, None, refl, arith}
 use Rattle.std.proofs.lemmas.Bool.Decides.{nat_tests}
-use Rattle.std.specs.Prelude.{◌^◌, ◌&&◌, nat_le, unsigned_abs, if◌then◌else◌}
+use Rattle.std.specs.Prelude.{◌^◌, nat_le, unsigned_abs, if◌then◌else◌}
+use Rattle.std.proofs.lemmas.Bool.{and_parts}
+use Rattle.std.specs.Option.{option_or}
 use Rattle.value.specs.declared.values.Value.{Value}
 use Rattle.value.specs.declared.values.Value.TheVariants.{Null, Int, Text}
 use Rattle.value.specs.declared.values.ColType.{ColType}
@@ -9,25 +11,14 @@ use Rattle.value.specs.declared.values.ColType.TheVariants.{Integer, Varchar}
 use Rattle.value.specs.declared.refusals.Refusal.{Refusal}
 use Rattle.table.specs.declared.schemas.Column.{Column}
 use Rattle.table.specs.Rows.{RowValues, FitsText, FitsColumn, FitsColumns}
-use Rattle.table.specs.Faults.{is_typed, are_typed, text_fault, fault_in, first_of, row_fault, row_refusal}
-
--- a row that fits has a value for each column
-pub length-FitsColumns : (cs : List Column) (vs : RowValues) → FitsColumns cs vs → length vs ≡ length cs
-length-FitsColumns [] [] f = refl
-length-FitsColumns [] (v ∷ vs) f = absurd f
-length-FitsColumns (c ∷ cs) [] f = absurd f
-length-FitsColumns (c ∷ cs) (v ∷ vs) f = omega (arith, length-FitsColumns cs vs f.1)
-
-and_true : (a b : Bool) → a && b ≡ true → (a ≡ true) × (b ≡ true)
-and_true true b h = (refl, h)
-and_true false b h = cc
+use Rattle.table.specs.Faults.{is_typed, are_typed, text_fault, fault_in, row_fault}
 
 -- values of another number are none of the types
 pub are_typed-length : (cs : List Column) (vs : RowValues) → are_typed cs vs ≡ true → length vs ≡ length cs
 are_typed-length [] [] h = refl
 are_typed-length [] (v ∷ vs) h = cc
 are_typed-length (c ∷ cs) [] h = cc
-are_typed-length (c ∷ cs) (v ∷ vs) h = omega (arith, are_typed-length cs vs (and_true (is_typed c.kind v) (are_typed cs vs) h).1)
+are_typed-length (c ∷ cs) (v ∷ vs) h = omega (arith, are_typed-length cs vs (and_parts (is_typed c.kind v) (are_typed cs vs) h).1)
 
 -- no fault where a test has failed
 no_fault : (b : Bool) (refusal : Refusal) → (if b then None else Some refusal) ≡ None → b ≡ true
@@ -35,9 +26,9 @@ no_fault true r h = refl
 no_fault false r h = cc
 
 -- a first of two faults that is none is none of both
-first_of-none : (a b : Option Refusal) → first_of a b ≡ None → (a ≡ None) × (b ≡ None)
-first_of-none None b h = (refl, h)
-first_of-none (Some r) b h = cc
+option_or-none : (a b : Option Refusal) → option_or a b ≡ None → (a ≡ None) × (b ≡ None)
+option_or-none None b h = (refl, h)
+option_or-none (Some r) b h = cc
 
 le_from : (m n : ℕ) → nat_le m n ≡ true → m ≤ n
 le_from m n h = grind (arith, nat_tests)
@@ -62,15 +53,6 @@ FitsColumns-of [] [] t h = tt
 FitsColumns-of [] (v ∷ vs) t h = cc
 FitsColumns-of (c ∷ cs) [] t h = cc
 FitsColumns-of (c ∷ cs) (v ∷ vs) t h =
-    let typed = and_true (is_typed c.kind v) (are_typed cs vs) t in
-    let faultless = first_of-none (fault_in c v) (row_fault cs vs) h in
+    let typed = and_parts (is_typed c.kind v) (are_typed cs vs) t in
+    let faultless = option_or-none (fault_in c v) (row_fault cs vs) h in
     (value_fits c v typed.0 faultless.0, FitsColumns-of cs vs typed.1 faultless.1)
-
--- so does a row that is not refused
-pub FitsColumns-admitted : (cs : List Column) (vs : RowValues) → row_refusal cs vs ≡ None → FitsColumns cs vs
-FitsColumns-admitted cs vs h =
-    let case : (b : Bool) → are_typed cs vs ≡ b → FitsColumns cs vs = λ b. elim b as (λ b. are_typed cs vs ≡ b → FitsColumns cs vs) [
-      | true ↦ λ t. FitsColumns-of cs vs t (rw t at h)
-      | false ↦ λ t. let e = rw t at h in cc
-    ]
-    in case (are_typed cs vs) refl

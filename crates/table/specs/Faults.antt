@@ -1,5 +1,6 @@
 -- What is wrong with the values of an INSERT, in the order in which it is answered.
 use Rattle.std.specs.Prelude.{ℕ, ◌^◌, Bool, true, false, ◌&&◌, nat_le, List, [], ◌∷◌, length, Option, Some, None, unsigned_abs, if◌then◌else◌}
+use Rattle.std.specs.Option.{option_or}
 use Rattle.value.specs.declared.values.Value.{Value}
 use Rattle.value.specs.declared.values.Value.TheVariants.{Null, Int, Text}
 use Rattle.value.specs.declared.values.ColType.{ColType}
@@ -38,16 +39,11 @@ fault_in column (Int n) =
     if nat_le (unsigned_abs n) (10 ^ 15) then None else Some (OutOfRange column.name excess.Number)
 fault_in column (Text bytes) = text_fault column.name column.kind bytes
 
--- the first of two faults
-abbrev pub first_of : Option Refusal → Option Refusal → Option Refusal
-first_of None other = other
-first_of (Some refusal) other = Some refusal
-
 -- the first of a row's faults, by columns in the table's order
 abbrev pub row_fault : List Column → RowValues → Option Refusal
 row_fault [] values = None
 row_fault (column ∷ columns) [] = None
-row_fault (column ∷ columns) (v ∷ values) = first_of (fault_in column v) (row_fault columns values)
+row_fault (column ∷ columns) (v ∷ values) = option_or (fault_in column v) (row_fault columns values)
 
 -- why a row is refused: for its types, and else for its first fault
 abbrev pub row_refusal : List Column → RowValues → Option Refusal

@@ -20,8 +20,6 @@ pub struct Column {
     pub kind: ColType,
     /// Whether it takes NULL.
     pub nullable: bool,
-    /// Whether it was declared the key. A `Schema` says itself which column is its key.
-    pub is_key: bool,
 }
 
 impl Column {
@@ -89,7 +87,6 @@ impl Column {
             name: self.name.copy()?,
             kind: self.kind,
             nullable: self.nullable,
-            is_key: self.is_key,
         })
     }
 }

@@ -1,5 +1,5 @@
 -- How many scripts there are, and how they are made from the last step to the first and back.
-use Rattle.std.proofs.Common.{◌≡◌, ◌≤◌, ◌<◌, List, [], ◌∷◌, ◌++◌, length, reverse, sym, ap, ◌∙◌, subst, append_assoc}
+use Rattle.std.proofs.Common.{◌≡◌, ◌≤◌, ◌<◌, List, [], ◌∷◌, ◌++◌, length, reverse, sym, ap, ◌∙◌, subst}
 use Rattle.std.proofs.lemmas.List.{length-map, reverse-append, reverse-reverse}
 use Rattle.statement_syntax.specs.declared.statements.Step.{Step}
 use Rattle.commit.specs.Runs.{all_seated}
@@ -14,10 +14,6 @@ few steps scripts are within = subst (λ n. n ≤ most_sessions) (ap length are 
 
 pub many : (steps : List Step) (scripts : List Script) → scripts ≡ grouped steps → most_sessions < length scripts → HasManySessions steps
 many steps scripts are above = subst (λ n. most_sessions < n) (ap length are ∙ length-map (all_seated [] steps) (script_for steps)) above
-
--- what is left, and the last item
-pub turn_step : {A : Type 0} (turned rest items : List A) (item : A) → items ≡ rest ++ item ∷ [] → (turned ++ item ∷ []) ++ reverse rest ≡ turned ++ reverse items
-turn_step turned rest items item e = append_assoc turned (item ∷ []) (reverse rest) ∙ ap (λ t. turned ++ t) (sym (reverse-append rest (item ∷ [])) ∙ ap reverse (sym e))
 
 -- the scripts so far, and the steps that are left, the last of them first
 pub group_step : (scripts new : List Script) (rest items : List Step) (item : Step) → items ≡ rest ++ item ∷ [] → new ≡ added scripts item

@@ -1,5 +1,5 @@
 -- What is opened, and what is then written, is the report that the contract has.
-use Rattle.std.proofs.Common.{◌≡◌, ℕ, Bool, true, false, List, Option, Result, Ok, Err, refl, sym, ap, ◌∙◌, subst, inl}
+use Rattle.std.proofs.Common.{◌≡◌, ℕ, Bool, true, false, List, Option, Result, Ok, Err, ap, ◌∙◌, subst, inl}
 use Rattle.std.specs.Prelude.{◌≢◌, OnOk, IfErr}
 use Rattle.std.specs.Io.KnownBytes.{Appends}
 use Rattle.value.specs.Results.{and_then}

@@ -8,7 +8,7 @@ ghost use Rattle.running.specs.Texts.{HasFewSessions, HasManySessions, IsFirstFa
 ghost use Rattle.threads.specs.Grouping.{grouped};
 ghost use Rattle.threads.specs.Grouped.{AreOpened, IsAdmitted, WritesGrouped};
 
-use crate::grouping::grouped;
+use crate::grouping::group_by_session;
 use crate::printing::print_report;
 use commit::has_few_sessions;
 use definitions::Definitions;
@@ -67,7 +67,7 @@ where
     ensures refused { IfErr result (λ fault. fault ≢ NoThread → IsFirstFault defs.now script.now fault) }
     ensures nothing { IfErr result (λ fault. is_before_the_run fault ≡ true → out.new ≡ out.old) }
 {
-    let (manager, scripts) = opened::<N, R>(rt, alloc, shelf, id, defs, script, max_commits)?;
+    let (manager, scripts) = open_manager::<N, R>(rt, alloc, shelf, id, defs, script, max_commits)?;
     let answered = match run_sessions(rt, alloc, &manager, scripts.as_slice(), gate) {
         Ok(answered) => answered,
         Err(refusal) => return Err(ProgramFault::Script(refusal)),
@@ -88,7 +88,7 @@ where
 
 /// The manager of what the definitions define, and the scripts of the sessions.
 #[tactic(auto, using(crate::proofs::Reporting::are_opened))]
-fn opened<N: Named, R: Wait>(
+fn open_manager<N: Named, R: Wait>(
     rt: &R,
     alloc: Global,
     shelf: Shelf,
@@ -106,11 +106,11 @@ fn opened<N: Named, R: Wait>(
     ensures before { IfErr result (λ fault. is_before_the_run fault ≡ true) }
 {
     let (definitions, steps) = read_texts(alloc, defs, script)?;
-    let manager = match managed(rt, alloc, shelf, id, definitions.as_slice(), max_commits) {
+    let manager = match manage(rt, alloc, shelf, id, definitions.as_slice(), max_commits) {
         Ok(manager) => manager,
         Err(refusal) => return Err(ProgramFault::Defs(refusal)),
     };
-    match few_scripts(alloc, steps) {
+    match require_few_scripts(alloc, steps) {
         Ok(scripts) => Ok((manager, scripts)),
         Err(refusal) => Err(ProgramFault::Script(refusal)),
     }
@@ -118,7 +118,7 @@ fn opened<N: Named, R: Wait>(
 
 /// A manager of what these definitions define, if no assertion is false on the rows that they begin with.
 #[tactic(auto, using(crate::proofs::Reporting::is_admitted))]
-fn managed<N: Named, R: Wait>(
+fn manage<N: Named, R: Wait>(
     rt: &R,
     alloc: Global,
     shelf: Shelf,
@@ -151,7 +151,7 @@ fn limits_of(max_commits: u64) -> Limits
 
 /// The scripts of the sessions, if they are 256 or fewer.
 #[tactic(auto, using(crate::proofs::Collecting::few, crate::proofs::Collecting::many))]
-fn few_scripts(alloc: Global, steps: Items<Step>) -> Result<Vec<Script>, Refusal>
+fn require_few_scripts(alloc: Global, steps: Items<Step>) -> Result<Vec<Script>, Refusal>
     ensures grouped { IfOk result (λ scripts. scripts.items ≡ grouped steps) }
     ensures few { IfOk result (λ _. HasFewSessions steps) }
     ensures refused { IfErr result (λ refusal.
@@ -161,8 +161,9 @@ fn few_scripts(alloc: Global, steps: Items<Step>) -> Result<Vec<Script>, Refusal
         let_go(steps);
         return Err(Refusal::TooManySessions);
     }
-    let scripts = grouped(alloc, steps)?;
+    let scripts = group_by_session(alloc, steps)?;
     Ok(scripts)
 }
 
+/// Lets a value go. Its type is a parameter here, so that the caller's proof does not go over its fields.
 fn let_go<T: Drop>(_value: T) {}

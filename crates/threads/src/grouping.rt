@@ -14,11 +14,11 @@ use workers::Script;
 /// A script for each session of some steps, in the order of their first steps, with the steps of that session in
 /// their order. NoMemory is the only error.
 #[tactic(auto, using(crate::proofs::Collecting::group_step, crate::proofs::Collecting::group_start))]
-pub fn grouped(alloc: Global, steps: Items<Step>) -> Result<Vec<Script>, Refusal>
+pub fn group_by_session(alloc: Global, steps: Items<Step>) -> Result<Vec<Script>, Refusal>
     ensures only_memory { IsOkUnless result NoMemory }
     ensures grouped { IfOk result (λ scripts. scripts.items ≡ grouped steps) }
 {
-    let mut left = turned(alloc, steps)?;
+    let mut left = reverse(alloc, steps)?;
     let mut scripts = Vec::new(alloc);
     'group: while let Some(step) = left.pop() {
         add_step(alloc, &mut scripts, step)?;
@@ -27,8 +27,8 @@ pub fn grouped(alloc: Global, steps: Items<Step>) -> Result<Vec<Script>, Refusal
 }
 
 /// The steps from the last to the first.
-#[tactic(auto, using(crate::proofs::Collecting::turn_step))]
-fn turned(alloc: Global, mut steps: Items<Step>) -> Result<Items<Step>, Refusal>
+#[tactic(auto, using(value::proofs::Lists::turn_step))]
+fn reverse(alloc: Global, mut steps: Items<Step>) -> Result<Items<Step>, Refusal>
     ensures only_memory { IsOkUnless result NoMemory }
     ensures turned { IfOk result (λ turned. turned ≡ reverse steps) }
 {
@@ -74,17 +74,17 @@ fn first_step(alloc: Global, step: Step) -> Result<Script, Refusal>
 {
     let name = match step.session.copy() {
         Ok(name) => name,
-        Err(_) => return Err(no_memory(step)),
+        Err(_) => return Err(drop_for_no_memory(step)),
     };
     let mut steps = Items::new(alloc);
     match steps.push(step) {
         Ok(()) => Ok(Script { name, steps }),
-        Err(failed) => Err(no_memory(failed)),
+        Err(failed) => Err(drop_for_no_memory(failed)),
     }
 }
 
 /// Lets go of what there was no memory for. (A function of its own, since its type hides how large that is.)
-fn no_memory<T: Drop>(_left: T) -> Refusal
+fn drop_for_no_memory<T: Drop>(_left: T) -> Refusal
     ensures { result ≡ NoMemory }
 {
     Refusal::NoMemory

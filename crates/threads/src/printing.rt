@@ -10,7 +10,7 @@ ghost use Rattle.threads.specs.Grouped.{PrintsGrouped, all_lines, all_ran, ended
 use answer::Answer;
 use commit::Core;
 use report::Report;
-use running::{ProgramFault, close, flush, write_all};
+use running::{ProgramFault, add_closing_part, flush, write_all};
 use session::{History, Named};
 use statement_syntax::Step;
 use std::alloc::{AllocError, Global};
@@ -33,14 +33,15 @@ pub fn print_report<N: Named, W: Write>(
     answered: &[ScriptAnswers],
     out: &mut W,
 ) -> Result<(), ProgramFault>
-    ensures written { OnOk result (PrintsGrouped scripts.now answered.now true (W.contents out.old) (W.contents out.new)) }
+    ensures written { OnOk result
+        (PrintsGrouped scripts.now answered.now true (W.contents out.old) (W.contents out.new)) }
     ensures no_thread { IfErr result (λ fault. fault ≡ NoThread
         → PrintsGrouped scripts.now answered.now false (W.contents out.old) (W.contents out.new)) }
     ensures late { IfErr result (λ fault. fault ≢ NoThread → IsInTheRun fault) }
 {
     history.is_serializable();
     print_lines(alloc, history.core(), scripts, answered, out)?;
-    if all_ran(answered) {
+    if have_all_run(answered) {
         Ok(())
     } else {
         Err(ProgramFault::NoThread)
@@ -48,7 +49,7 @@ pub fn print_report<N: Named, W: Write>(
 }
 
 /// Whether each script was run.
-fn all_ran(answered: &[ScriptAnswers]) -> bool
+fn have_all_run(answered: &[ScriptAnswers]) -> bool
     ensures { result ≡ all_ran answered.now }
 {
     answered.iter().all(|script| script.ran)
@@ -83,7 +84,7 @@ fn add_report(
     ensures { OnOk result (lines.new ≡ lines.old ++ grouped_report scripts.now answered.now core.now) }
 {
     add_scripts(scripts, answered, lines)?;
-    close(alloc, core, lines)
+    add_closing_part(alloc, core, lines)
 }
 
 /// Adds the lines of each script.
@@ -117,7 +118,7 @@ fn add_end(session: &Text, rolled_back: bool, lines: &mut Report) -> Result<(), 
     ensures { OnOk result (lines.new ≡ lines.old ++ ended_line rolled_back session.now) }
 {
     if rolled_back {
-        lines.left_open(session)?;
+        lines.add_left_open(session)?;
     }
     Ok(())
 }
@@ -130,7 +131,7 @@ fn add_answers(steps: &[Step], answers: &[Answer], report: &mut Report) -> Resul
         let Some((answer, others)) = left.split_first() else {
             return Ok(());
         };
-        report.answer(step, answer)?;
+        report.add_answer(step, answer)?;
         left = others;
     }
     Ok(())

@@ -23,7 +23,7 @@
 //! other answer is right. So a bad token is never the reader's mood: it is a place at which the
 //! rules let no token stand.
 //!
-//! [`tokens`] gives all tokens of a text, in their order and apart from one another. It refuses no
+//! [`read_tokens`] gives all tokens of a text, in their order and apart from one another. It refuses no
 //! text: a bad token is its last one, of kind `Bad`, since whether a text is refused at that token
 //! or before it is for the grammar to say. What the bytes of a token stand for is a function of the
 //! bytes alone: [`number_value`], [`name_bytes`] and [`text_bytes`].
@@ -37,7 +37,7 @@ mod spans;
 mod words;
 
 pub use kinds::Kind;
-pub use nexts::{next_token, tokens};
+pub use nexts::{next_token, read_tokens};
 pub use readings::{name_bytes, text_bytes};
 pub use spans::Token;
 pub use words::number_value;

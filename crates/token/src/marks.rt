@@ -21,7 +21,7 @@ fn find_mark(marks: &[(&[u8], Kind)], text: &[u8]) -> Option<Front>
 }
 
 /// A mark of one byte, with which no other mark begins.
-fn single(kind: Kind) -> Option<Front>
+fn one_byte(kind: Kind) -> Option<Front>
     ensures { result ≡ Some (record { kind = kind; len = 1 }) }
 {
     Some(Front { kind, len: 1 })
@@ -29,23 +29,23 @@ fn single(kind: Kind) -> Option<Front>
 
 /// The longest mark at the front, by its first byte.
 #[tactic(auto, using(crate::proofs::FirstBytes::no_mark), unfolding(crate::specs::Lexer::mark))]
-pub fn mark(text: &[u8]) -> Option<Front>
+pub fn read_mark(text: &[u8]) -> Option<Front>
     ensures { result ≡ spec.mark text.now }
 {
     let [first, ..] = text else {
         return None;
     };
     match *first {
-        b',' => single(Kind::Comma),
-        b'=' => single(Kind::Equal),
-        b'(' => single(Kind::Open),
-        b')' => single(Kind::Close),
-        b'.' => single(Kind::Dot),
-        b';' => single(Kind::Semicolon),
-        b':' => single(Kind::Colon),
-        b'*' => single(Kind::Star),
-        b'+' => single(Kind::Plus),
-        b'-' => single(Kind::Minus),
+        b',' => one_byte(Kind::Comma),
+        b'=' => one_byte(Kind::Equal),
+        b'(' => one_byte(Kind::Open),
+        b')' => one_byte(Kind::Close),
+        b'.' => one_byte(Kind::Dot),
+        b';' => one_byte(Kind::Semicolon),
+        b':' => one_byte(Kind::Colon),
+        b'*' => one_byte(Kind::Star),
+        b'+' => one_byte(Kind::Plus),
+        b'-' => one_byte(Kind::Minus),
         b'<' | b'>' => find_mark(&MARKS, text),
         _ => None,
     }

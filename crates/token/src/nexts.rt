@@ -9,9 +9,9 @@ ghost use Rattle.value.specs.declared.refusals.Refusal.{Refusal};
 ghost use Rattle.token.specs.declared.spans.Token.{Token};
 
 use crate::kinds::Kind;
-use crate::marks::mark;
+use crate::marks::read_mark;
 use crate::spans::Token;
-use crate::words::{Front, number, quoted, word};
+use crate::words::{Front, read_number, read_text, read_word};
 use std::alloc::Global;
 use value::Refusal;
 
@@ -41,20 +41,20 @@ fn gap_len(text: &[u8]) -> usize
 
 /// The token at the front, where no blank or comment is, or `None` for a bad one.
 #[tactic(auto, using(crate::proofs::Within::front_none), unfolding(crate::specs::Lexer::front))]
-fn front(text: &[u8]) -> Option<Front>
+fn read_front(text: &[u8]) -> Option<Front>
     ensures { result ≡ spec.front text.now }
 {
     let [first, ..] = text else {
         return None;
     };
     if first.is_ascii_alphabetic() {
-        word(text)
+        read_word(text)
     } else if first.is_ascii_digit() {
-        number(text)
+        read_number(text)
     } else if *first == b'\'' {
-        quoted(text)
+        read_text(text)
     } else {
-        mark(text)
+        read_mark(text)
     }
 }
 
@@ -63,7 +63,7 @@ fn token_at(text: &[u8], start: usize) -> Token
     ensures value { result ≡ spec.token_at text.now start (spec.front (drop start text.now)) }
     ensures within { (start < result.end) × (result.end ≤ length text.now) }
 {
-    match front(&text[start..]) {
+    match read_front(&text[start..]) {
         None => Token {
             kind: Kind::Bad,
             start,
@@ -94,7 +94,7 @@ fn token_from(text: &[u8], from: usize) -> Option<Token>
 }
 
 /// A bad token is refused where it stands.
-fn told(found: Option<Token>) -> Result<Option<Token>, Refusal>
+fn refuse_bad(found: Option<Token>) -> Result<Option<Token>, Refusal>
     ensures { result ≡ spec.answer found }
 {
     match found {
@@ -118,14 +118,14 @@ pub fn next_token(text: &[u8], from: usize) -> Result<Option<Token>, Refusal>
     ensures rules { Tells text.now from result }
     ensures only { (other : Result (Option Token) Refusal) → Tells text.now from other → other ≡ result }
 {
-    told(token_from(text, from))
+    refuse_bad(token_from(text, from))
 }
 
 /// All tokens of a text, in their order.
 ///
 /// A bad token is the last one: its kind is `Bad`, and it has all that is left of the text. The only
 /// refusal is `NoMemory`.
-pub fn tokens(alloc: Global, text: &[u8]) -> Result<Vec<Token>, Refusal>
+pub fn read_tokens(alloc: Global, text: &[u8]) -> Result<Vec<Token>, Refusal>
     ensures only_memory { IsOkUnless result NoMemory }
     // As a function of the text.
     ensures all { IfOk result (λ found. found.items ≡ spec.tokens_of text.now) }

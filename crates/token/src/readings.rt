@@ -22,7 +22,7 @@ pub fn name_bytes(alloc: Global, spelling: &[u8]) -> Result<Vec<u8>, Refusal>
     Ok(name)
 }
 
-fn inner<'a>(spelling: &'a [u8]) -> &'a [u8]
+fn strip_quotes<'a>(spelling: &'a [u8]) -> &'a [u8]
     ensures { result.now ≡ between_quotes spelling.now }
 {
     if spelling.len() < 2 {
@@ -55,5 +55,5 @@ pub fn text_bytes(alloc: Global, spelling: &[u8]) -> Result<Vec<u8>, Refusal>
     ensures value { IfOk result (λ text. text.items ≡ undoubled false (between_quotes spelling.now)) }
     ensures inside { (inside : Text) → spelling.now ≡ in_quotes inside → IfOk result (λ text. text.items ≡ inside) }
 {
-    undouble(alloc, inner(spelling))
+    undouble(alloc, strip_quotes(spelling))
 }

@@ -4,6 +4,7 @@ ghost use Rattle.std.specs.Prelude.{◌≡◌, ◌≤◌, ◌==◌, false, lengt
 ghost use Rattle.std.specs.Str.{bytes_eq};
 ghost use Rattle.std.specs.Char.{to_ascii_uppercase};
 ghost use Rattle.std.specs.List.{prefix_len, list_all, zip};
+ghost use Rattle.value.specs.Texts.{is_plain_byte};
 ghost use Rattle.token.specs.Bytes as byte;
 ghost use Rattle.token.specs.Spellings as spelling;
 ghost use Rattle.token.specs.Lexer as spec;
@@ -44,7 +45,7 @@ fn digits_len(text: &[u8]) -> usize
     text.iter().take_while(|b| b.is_ascii_digit()).count()
 }
 
-fn all_alike(word: &[u8], upper: &[u8]) -> bool
+fn is_alike(word: &[u8], upper: &[u8]) -> bool
     ensures { result ≡ list_all (λ p. to_ascii_uppercase p.0 == p.1) (zip word.now upper.now) }
 {
     word.iter()
@@ -56,7 +57,7 @@ fn all_alike(word: &[u8], upper: &[u8]) -> bool
 fn is_spelled(word: &[u8], upper: &[u8]) -> bool
     ensures { result ≡ bytes_eq (byte.name_of word.now) upper.now }
 {
-    word.len() == upper.len() && all_alike(word, upper)
+    word.len() == upper.len() && is_alike(word, upper)
 }
 
 fn find_word(words: &[(&[u8], Kind)], word: &[u8]) -> Kind
@@ -91,7 +92,7 @@ fn word_kind(word: &[u8]) -> Kind
 }
 
 /// The word at the front, which begins with a letter.
-pub fn word(text: &[u8]) -> Option<Front>
+pub fn read_word(text: &[u8]) -> Option<Front>
     ensures { result ≡ spec.word text.now }
 {
     let len = word_len(text);
@@ -121,7 +122,7 @@ pub fn number_value(digits: &[u8]) -> Option<u64>
 }
 
 /// The number at the front, which begins with a digit.
-pub fn number(text: &[u8]) -> Option<Front>
+pub fn read_number(text: &[u8]) -> Option<Front>
     ensures { result ≡ spec.number text.now }
 {
     let len = digits_len(text);
@@ -134,7 +135,7 @@ pub fn number(text: &[u8]) -> Option<Front>
 
 /// How many bytes there are up to and with the closing quote.
 #[tactic(auto, unfolding(crate::specs::Lexer::closing))]
-fn closing(text: &[u8]) -> Option<usize>
+fn find_closing(text: &[u8]) -> Option<usize>
     ensures value { result ≡ spec.closing false text.now }
     ensures within { IfSome result (λ len. len ≤ length text.now) }
 {
@@ -145,25 +146,25 @@ fn closing(text: &[u8]) -> Option<usize>
             closed = !closed;
         } else if closed {
             return Some(at);
-        } else if !is_printable(*b) {
+        } else if !is_plain_byte(*b) {
             return None;
         }
     }
     if closed { Some(text.len()) } else { None }
 }
 
-fn is_printable(b: u8) -> bool
-    ensures { result ≡ byte.is_printable b }
+fn is_plain_byte(b: u8) -> bool
+    ensures { result ≡ is_plain_byte b }
 {
     b' ' <= b && b <= b'~'
 }
 
 /// The text in quotes at the front, which begins with a quote.
-pub fn quoted(text: &[u8]) -> Option<Front>
+pub fn read_text(text: &[u8]) -> Option<Front>
     requires { 1 ≤ length text.now }
     ensures { result ≡ spec.quoted text.now }
 {
-    let len = closing(&text[1..])?;
+    let len = find_closing(&text[1..])?;
     Some(Front {
         kind: Kind::Text,
         len: len + 1,

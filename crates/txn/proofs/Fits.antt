@@ -1,5 +1,5 @@
 -- The new rows of a net change fit their tables.
-use Rattle.std.proofs.Common.{◌≡◌, ℕ, List, [], ◌∷◌, Option, Some, None, refl, sym, ap, subst}
+use Rattle.std.proofs.Common.{◌≡◌, ℕ, List, Option, Some, None, sym, ap, subst}
 use Rattle.std.specs.Prelude.{All, Contains}
 use Rattle.std.proofs.lemmas.List.Elements.{All-from_recursion}
 use Rattle.value.specs.declared.values.Value.{Value}
@@ -8,8 +8,7 @@ use Rattle.value.specs.Ordered.{HoldsOf}
 use Rattle.table.specs.declared.rows.Change.{Change}
 use Rattle.table.specs.Rows.{FitsColumns, Layout, RowValues, row_at, value_in}
 use Rattle.assertion.specs.Meaning.{State, key_of, rows_of}
-use Rattle.siread.specs.Keys.{place_of}
-use Rattle.alone.specs.States.{net_change, row_in}
+use Rattle.alone.specs.States.{net_change}
 use Rattle.alone.proofs.Lists.{each_from}
 use Rattle.alone.proofs.Nets.{at_in, net_exact}
 use Rattle.delta.specs.Views.{AreTables, IsFitting, layout_at}

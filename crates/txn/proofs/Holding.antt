@@ -18,7 +18,7 @@ use Rattle.net.specs.Nets.{DifferAt}
 use Rattle.txn.specs.declared.steps.Done.{Done}
 use Rattle.txn.specs.Held.{IsHeld}
 use Rattle.txn.specs.Steps.{IsDone, IsOf, left_by, rows_left, standing}
-use Rattle.txn.specs.Transactions.{OpenTransaction, own_view, run_of, standing_of, step_of, with_statement}
+use Rattle.txn.specs.Transactions.{OpenTransaction, run_of, standing_of, step_of, with_statement}
 use Rattle.txn.proofs.Putting.{differ_both}
 
 -- runs may be run in two parts

@@ -1,7 +1,7 @@
 -- Modes are of as many assertions as there are.
 use Rattle.std.proofs.Common.{◌≡◌, ℕ, suc, Bool, List, [], ◌∷◌, length, refl, ap, arith}
 use Rattle.assertion.specs.declared.assertions.Assertion.{Assertion}
-use Rattle.modes.specs.Modes.{Immediates, initial_modes, modes_with}
+use Rattle.modes.specs.Modes.{Immediates, modes_with}
 
 pub set_long : (names : List (List ℕ)) (immediate : Bool) (assertions : List Assertion) (modes : Immediates) → length modes ≡ length assertions
     → length (modes_with names immediate assertions modes) ≡ length assertions
@@ -9,7 +9,3 @@ set_long names immediate [] [] e = refl
 set_long names immediate [] (m ∷ modes) e = refl
 set_long names immediate (a ∷ assertions) [] e = absurd (omega (arith, e))
 set_long names immediate (a ∷ assertions) (m ∷ modes) e = ap suc (set_long names immediate assertions modes (omega (arith, e)))
-
-pub initial_long : (assertions : List Assertion) → length (initial_modes assertions) ≡ length assertions
-initial_long [] = refl
-initial_long (a ∷ assertions) = ap suc (initial_long assertions)

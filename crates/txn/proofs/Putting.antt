@@ -1,5 +1,5 @@
 -- What changes that are put in leave of a state.
-use Rattle.std.proofs.Common.{◌≡◌, ◌⊎◌, ℕ, true, List, [], ◌∷◌, Option, Some, None, Ok, Err, map, filter, refl, sym, ap, ◌∙◌, subst, inl, inr}
+use Rattle.std.proofs.Common.{◌≡◌, ℕ, true, List, ◌∷◌, Option, Some, None, Ok, map, refl, sym, ap, ◌∙◌, subst, inl, inr}
 use Rattle.std.specs.Prelude.{Contains, unwrap_or}
 use Rattle.value.specs.declared.refusals.Refusal.{Refusal}
 use Rattle.table.specs.declared.rows.Change.{Change}
@@ -16,7 +16,7 @@ use Rattle.answer.specs.declared.answers.Reply.{Reply}
 use Rattle.answer.specs.declared.answers.Reply.TheVariants.{ModesSet}
 use Rattle.alone.specs.Alone.{Standing, effected, modes_step, unless_violated}
 use Rattle.alone.specs.Checks.{checks_read, violation}
-use Rattle.alone.specs.States.{row_in, change_between, net_change, IsState}
+use Rattle.alone.specs.States.{change_between, net_change, IsState}
 use Rattle.alone.specs.Statements.{Effect}
 use Rattle.alone.proofs.Members.{in_map}
 use Rattle.alone.proofs.Nets.{net_all}

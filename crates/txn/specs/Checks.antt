@@ -1,5 +1,5 @@
 -- What a look at one assertion finds.
-use Rattle.std.specs.Prelude.{Bool, true, false, List, Option, Some, None}
+use Rattle.std.specs.Prelude.{Bool, true, false, List, Option, None}
 use Rattle.value.specs.declared.refusals.Refusal.{Refusal}
 use Rattle.table.specs.Rows.{Layout}
 use Rattle.assertion.specs.declared.assertions.Assertion.{Assertion}
@@ -10,8 +10,3 @@ use Rattle.alone.specs.Checks.{refusal_at}
 abbrev pub refused_at : List Layout → Assertion → Bool → State → Option Refusal
 refused_at layouts a true state = refusal_at a.name (least_bad_of layouts a.form state) None
 refused_at layouts a false state = None
-
--- the first of two refusals
-abbrev pub or_else : Option Refusal → Option Refusal → Option Refusal
-or_else None rest = rest
-or_else (Some refusal) rest = Some refusal

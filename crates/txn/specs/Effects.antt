@@ -20,7 +20,8 @@ pub record ArePutIn (layouts : List Layout) (changes : List Change) (state : Sta
 abbrev pub update_of : Shown → Update → Result Effect Refusal
 update_of own u =
     update_effect (columns_of u.table (layouts_in own.declared)) u.table (key_of u.table (layouts_in own.declared))
-    u.sets (found_rows own.state u.table u.kept)
+    u.sets (found_rows own.state u.table u.filter)
 
 abbrev pub delete_of : Shown → Delete → Effect
-delete_of own d = delete_effect d.table (key_of d.table (layouts_in own.declared)) (found_rows own.state d.table d.kept)
+delete_of own d =
+    delete_effect d.table (key_of d.table (layouts_in own.declared)) (found_rows own.state d.table d.filter)

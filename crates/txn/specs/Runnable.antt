@@ -1,6 +1,6 @@
 -- What is known of a statement with its names found: its table is one of those that there are, its conditions are
 -- evaluated without overflow, and an UPDATE leaves the key.
-use Rattle.std.specs.Prelude.{◌≡◌, ◌≢◌, ◌<◌, ℕ, false, [], All, IsTrue, length}
+use Rattle.std.specs.Prelude.{◌≡◌, ◌≢◌, ◌<◌, false, [], All, IsTrue, length}
 use Rattle.value.specs.declared.refusals.Refusal.TheVariants.{NoMemory}
 use Rattle.cond.specs.Bounds.{is_bounded}
 use Rattle.assertion.specs.Declarations.{Declared, layouts_in}
@@ -15,17 +15,17 @@ use Rattle.alone.specs.Statements.{sets_key}
 
 pub record IsRunnableUpdate (declared : Declared) (update : Update) : Type 0 where
   pub table_in : update.table < length declared.tables
-  pub bounded : IsTrue (is_bounded [] update.kept)
+  pub bounded : IsTrue (is_bounded [] update.filter)
   pub bounded_sets : All IsBoundedSetting update.sets
   pub keyless : sets_key (key_of update.table (layouts_in declared)) update.sets ≡ false
 
 pub record IsRunnableDelete (declared : Declared) (delete : Delete) : Type 0 where
   pub table_in : delete.table < length declared.tables
-  pub bounded : IsTrue (is_bounded [] delete.kept)
+  pub bounded : IsTrue (is_bounded [] delete.filter)
 
 pub record IsRunnableSelect (declared : Declared) (select : Select) : Type 0 where
   pub table_in : select.table < length declared.tables
-  pub bounded : IsTrue (is_bounded [] select.kept)
+  pub bounded : IsTrue (is_bounded [] select.filter)
 
 abbrev pub IsRunnable : Declared → Resolved → Type 0
 IsRunnable declared (resolved.Refused refusal) = refusal ≢ NoMemory

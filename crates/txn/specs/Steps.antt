@@ -70,10 +70,10 @@ insert_step own modes new =
 
 abbrev pub update_step : Shown → Immediates → Update → Step
 update_step own modes u =
-    effected own.declared (standing own modes) (where_key u.table (key_of u.table (layouts_in own.declared)) u.kept)
+    effected own.declared (standing own modes) (where_key u.table (key_of u.table (layouts_in own.declared)) u.filter)
     (update_of own u)
 
 abbrev pub delete_step : Shown → Immediates → Delete → Step
 delete_step own modes d =
-    effected own.declared (standing own modes) (where_key d.table (key_of d.table (layouts_in own.declared)) d.kept)
+    effected own.declared (standing own modes) (where_key d.table (key_of d.table (layouts_in own.declared)) d.filter)
     (Ok (delete_of own d))

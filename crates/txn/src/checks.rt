@@ -18,7 +18,7 @@ use value::{Refusal, Text};
 
 /// The refusal by the first assertion, of those that are meant, that is false on a view, with the least root at
 /// which it is. What is unknown is not false. NoMemory is the only error.
-pub fn violation(view: &View, meant: &[bool]) -> Result<Option<Refusal>, Refusal>
+pub fn find_violation(view: &View, meant: &[bool]) -> Result<Option<Refusal>, Refusal>
     requires { length meant.now ≡ length view.now.declared.assertions }
     ensures only_memory { IsOkUnless result NoMemory }
     ensures named { IfOk result (HoldsOf (λ refusal. refusal ≢ NoMemory)) }
@@ -28,7 +28,7 @@ pub fn violation(view: &View, meant: &[bool]) -> Result<Option<Refusal>, Refusal
         view.now.state) }
 {
     for place in 0..meant.len() {
-        if let Some(refusal) = refused_at(view, meant[place], place)? {
+        if let Some(refusal) = find_violation_at(view, meant[place], place)? {
             return Ok(Some(refusal));
         }
     }
@@ -36,7 +36,7 @@ pub fn violation(view: &View, meant: &[bool]) -> Result<Option<Refusal>, Refusal
 }
 
 /// The refusal by one assertion, if it is meant and false.
-fn refused_at(view: &View, meant: bool, place: usize) -> Result<Option<Refusal>, Refusal>
+fn find_violation_at(view: &View, meant: bool, place: usize) -> Result<Option<Refusal>, Refusal>
     requires { place < length view.now.declared.assertions }
     ensures only_memory { IsOkUnless result NoMemory }
     ensures named { IfOk result (HoldsOf (λ refusal. refusal ≢ NoMemory)) }
@@ -55,7 +55,7 @@ fn refused_at(view: &View, meant: bool, place: usize) -> Result<Option<Refusal>,
 }
 
 /// The place of the first assertion of a name. It takes no memory.
-pub fn place_named(assertions: &[Assertion], name: &Text) -> Option<usize>
+pub fn find_assertion(assertions: &[Assertion], name: &Text) -> Option<usize>
     ensures within { IfSome result (λ place. place < length assertions.now) }
     ensures found { IfSome result (λ place. (a : AnyAssertion)
         → assertion_of name.now assertions.now ≡ Some (slice_index_or assertions.now place a)) }
@@ -70,10 +70,10 @@ pub fn place_named(assertions: &[Assertion], name: &Text) -> Option<usize>
 }
 
 /// The truth of the assertion of a name on a view; none where no assertion has it. It takes no memory.
-pub fn truth_on(view: &View, name: &Text) -> Option<Truth>
+pub fn verdict_on(view: &View, name: &Text) -> Option<Truth>
     ensures { result ≡ truth_of view.now (assertion_of name.now view.now.declared.assertions) }
 {
-    match place_named(view.assertions(), name) {
+    match find_assertion(view.assertions(), name) {
         Some(place) => {
             // Both clauses speak of the item at the place, and an index names one.
             let _ = &view.assertions()[place];
@@ -84,7 +84,7 @@ pub fn truth_on(view: &View, name: &Text) -> Option<Truth>
 }
 
 /// The names of the assertions that are false on a view, in the order of their creation. NoMemory is the only error.
-pub fn false_names(alloc: Global, view: &View) -> Result<Vec<Text>, Refusal>
+pub fn list_false(alloc: Global, view: &View) -> Result<Vec<Text>, Refusal>
     ensures only_memory { IsOkUnless result NoMemory }
     ensures names { IfOk result (λ names. names.items ≡ false_names view.now) }
 {

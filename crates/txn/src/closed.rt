@@ -35,7 +35,7 @@ pub struct Closed {
     pub(crate) run: usize,
 }
 
-/// What is kept of a transaction that is committed: its statements, what it has read, and its net change.
+/// What stays of a transaction that is committed: its statements, what it has read, and its net change.
 #[derive(Drop)]
 pub struct Parts {
     pub trace: Vec<Resolved>,
@@ -89,6 +89,7 @@ impl Closed {
         ensures net { result.now ≡ (outcome_of self.now).changes }
         ensures fit { All (IsFitting (layouts_in self.now.declared)) result.now }
     {
+        // (that the rows of a view fit its tables is a clause of its catalog)
         let _ = self.own.catalog();
         self.changes.as_slice()
     }
@@ -151,7 +152,7 @@ impl Closed {
         }
     }
 
-    /// What is kept of it when it is committed. It takes no memory.
+    /// What stays of it when it is committed. It takes no memory.
     pub fn into_parts(self) -> Parts
         ensures trace { result.trace.items ≡ self.trace }
         ensures reads { result.reads.items ≡ keys_of self }

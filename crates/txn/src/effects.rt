@@ -35,7 +35,7 @@ pub fn insert_effect(alloc: Global, view: &View, new: &NewRow) -> Result<Effect,
     ensures put_in { IfOk result (λ effect.
         ArePutIn (layouts_in view.now.declared) effect.changes.items view.now.state) }
 {
-    has_table(view, new.table);
+    recall_table(view, new.table);
     let change = insertion(
         table_name(view, new.table),
         new.table,
@@ -60,14 +60,14 @@ pub fn update_effect(alloc: Global, view: &View, update: &Update) -> Result<Effe
     ensures put_in { IfOk result (λ effect.
         ArePutIn (layouts_in view.now.declared) effect.changes.items view.now.state) }
 {
-    has_table(view, update.table);
+    recall_table(view, update.table);
     let changes = renewals(
         alloc,
         update.table,
         view.schema(update.table),
         view.rows(update.table),
         update.sets.as_slice(),
-        &update.kept,
+        &update.filter,
     )?;
     Ok(Effect {
         reply: Reply::Updated(changes.len() as u64),
@@ -84,13 +84,13 @@ pub fn delete_effect(alloc: Global, view: &View, delete: &Delete) -> Result<Effe
     ensures put_in { IfOk result (λ effect.
         ArePutIn (layouts_in view.now.declared) effect.changes.items view.now.state) }
 {
-    has_table(view, delete.table);
+    recall_table(view, delete.table);
     let changes = removals(
         alloc,
         delete.table,
         view.schema(delete.table).key(),
         view.rows(delete.table),
-        &delete.kept,
+        &delete.filter,
     )?;
     Ok(Effect {
         reply: Reply::Deleted(changes.len() as u64),
@@ -98,8 +98,9 @@ pub fn delete_effect(alloc: Global, view: &View, delete: &Delete) -> Result<Effe
     })
 }
 
-/// There are rows for each table of the catalog, and the state is in key order.
-pub fn has_table(view: &View, table: usize)
+/// There are rows for each table of the catalog, and the state is in key order: a clause of the view's catalog, brought
+/// to where a table is looked up.
+pub fn recall_table(view: &View, table: usize)
     requires { table < length view.now.declared.tables }
     ensures within { table < length view.now.state }
     ensures state { IsState (layouts_in view.now.declared) view.now.state }
@@ -107,8 +108,8 @@ pub fn has_table(view: &View, table: usize)
     let _ = view.catalog();
 }
 
-/// The rows of a view are a state: those of each table are in key order.
-pub fn in_order(view: &View)
+/// The rows of a view are a state, those of each table in key order: the same clause.
+pub fn recall_order(view: &View)
     ensures { IsState (layouts_in view.now.declared) view.now.state }
 {
     let _ = view.catalog();

@@ -20,8 +20,8 @@
 //!   [`Closed::into_parts`] hands out what is kept of it when it is committed, and [`Closed::reopen`] opens it again.
 //!   Where memory runs out, [`Unclosed`] gives it back as it was.
 //! - [`Txn::abandon`] ends it, and nothing is kept but its own view.
-//! - [`violation`] is the refusal by the first assertion that is false, of those that are meant: also for tables that
-//!   a transaction is to begin on.
+//! - [`find_violation`] is the refusal by the first assertion that is false, of those that are meant: also for tables
+//!   that a transaction is to begin on.
 //!
 //! **Why each reply is that from scratch.** Of a transaction, contracts show five things: what is declared, its
 //! ticket and snapshot, the state that it began on, and its trace. They name no own view and no modes that are kept,
@@ -53,9 +53,6 @@ mod resolutions;
 mod steps;
 mod txns;
 
-pub use checks::{truth_on, violation};
+pub use checks::{find_violation, verdict_on};
 pub use closed::{Closed, Parts, Unclosed};
 pub use txns::Txn;
-
-#[cfg(test)]
-mod tests;

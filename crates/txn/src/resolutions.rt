@@ -1,19 +1,18 @@
 //! Statements with their names found.
 
-ghost use Rattle.std.specs.Prelude.{◌≡◌, ◌≢◌, IfOk, IfErr, IsOkUnless, Err};
+ghost use Rattle.std.specs.Prelude.{◌≡◌, ◌≢◌, IfOk, IsOkUnless, Err};
 ghost use Rattle.value.specs.declared.refusals.Refusal.TheVariants.{NoMemory};
 ghost use Rattle.alone.specs.Resolve.{resolved};
 ghost use Rattle.alone.specs.declared.statements.Resolved.TheVariants as forms;
 ghost use Rattle.txn.specs.Runnable.{IsRunnable};
 
-use alone::{Resolved, updates};
+use alone::{Resolved, updates_leave_the_key};
 use assertcheck::{check_delete, check_insert, check_select, check_update};
 use delta::View;
 use modes::settable_names;
-use sqlite_items::Items;
-use statement_syntax::{Mode, Statement};
+use statement_syntax::Statement;
 use std::alloc::Global;
-use value::{Refusal, Text};
+use value::Refusal;
 
 /// A statement with its names found among the tables and assertions of a view; one that has a fault of names,
 /// shape, types or width, or that sets a mode that may not be set, is that refusal. NoMemory is the only error.
@@ -22,12 +21,12 @@ pub fn resolve(alloc: Global, view: &View, statement: &Statement) -> Result<Reso
     ensures resolved { IfOk result (λ made. made ≡ resolved view.now.declared statement.now) }
     ensures runnable { IfOk result (λ made. IsRunnable view.now.declared made) }
 {
-    updates();
+    updates_leave_the_key();
     let catalog = view.catalog();
     match statement {
         Statement::Insert(insert) => match check_insert(alloc, catalog, insert) {
             Ok(new) => Ok(Resolved::Insert(new)),
-            Err(refusal) => refused(refusal),
+            Err(refusal) => resolve_refused(refusal),
         },
         Statement::Update { table, sets, keeps } => match check_update(
             alloc,
@@ -37,11 +36,11 @@ pub fn resolve(alloc: Global, view: &View, statement: &Statement) -> Result<Reso
             keeps,
         ) {
             Ok(update) => Ok(Resolved::Update(update)),
-            Err(refusal) => refused(refusal),
+            Err(refusal) => resolve_refused(refusal),
         },
         Statement::Delete { table, keeps } => match check_delete(alloc, catalog, table, keeps) {
             Ok(delete) => Ok(Resolved::Delete(delete)),
-            Err(refusal) => refused(refusal),
+            Err(refusal) => resolve_refused(refusal),
         },
         Statement::Select {
             columns,
@@ -49,12 +48,12 @@ pub fn resolve(alloc: Global, view: &View, statement: &Statement) -> Result<Reso
             keeps,
         } => match check_select(alloc, catalog, columns, table, keeps) {
             Ok(select) => Ok(Resolved::Select(select)),
-            Err(refusal) => refused(refusal),
+            Err(refusal) => resolve_refused(refusal),
         },
         Statement::SetConstraints { assertions, mode } => {
             match settable_names(alloc, view.assertions(), assertions) {
                 Ok(names) => Ok(Resolved::SetModes { names, mode: *mode }),
-                Err(refusal) => refused(refusal),
+                Err(refusal) => resolve_refused(refusal),
             }
         }
         Statement::Verdict(name) => Ok(Resolved::Verdict(name.copy()?)),
@@ -62,7 +61,7 @@ pub fn resolve(alloc: Global, view: &View, statement: &Statement) -> Result<Reso
 }
 
 /// A refused statement is just its refusal; memory running out is no refusal of it.
-fn refused(refusal: Refusal) -> Result<Resolved, Refusal>
+fn resolve_refused(refusal: Refusal) -> Result<Resolved, Refusal>
     ensures only_memory { IsOkUnless result NoMemory }
     ensures refused { IfOk result (λ made. (made ≡ forms.Refused refusal) × (refusal ≢ NoMemory)) }
 {

@@ -19,8 +19,10 @@ ghost use Rattle.txn.specs.Effects.{ArePutIn};
 ghost use Rattle.txn.specs.Runnable.{IsRunnable, IsRunnableDelete, IsRunnableSelect, IsRunnableUpdate};
 ghost use Rattle.txn.specs.Steps.{ArePut, IsDone, IsKnown, IsLeft, IsOf, delete_step, insert_step, left_by, shown_effect, standing, update_step};
 
-use crate::checks::{place_named, violation};
-use crate::effects::{Effect, delete_effect, has_table, in_order, insert_effect, update_effect};
+use crate::checks::{find_assertion, find_violation};
+use crate::effects::{
+    Effect, delete_effect, insert_effect, recall_order, recall_table, update_effect,
+};
 use alone::Resolved;
 use answer::Reply;
 use assertcheck::{Delete, NewRow, Select, Update};
@@ -76,20 +78,20 @@ pub fn step(
         (map place_of done.changes.items)) }
 {
     match statement {
-        Resolved::Refused(refusal) => Ok(refused(refusal.copy()?, Vec::new(alloc))),
-        Resolved::Insert(new) => insert(alloc, own, modes, new),
-        Resolved::Update(update) => change(alloc, own, modes, update),
-        Resolved::Delete(delete) => take_out(alloc, own, modes, delete),
-        Resolved::Select(select) => list(alloc, own, select),
+        Resolved::Refused(refusal) => Ok(refuse_with(refusal.copy()?, Vec::new(alloc))),
+        Resolved::Insert(new) => run_insert(alloc, own, modes, new),
+        Resolved::Update(update) => run_update(alloc, own, modes, update),
+        Resolved::Delete(delete) => run_delete(alloc, own, modes, delete),
+        Resolved::Select(select) => run_select(alloc, own, select),
         Resolved::SetModes { names, mode } => {
-            set_modes(alloc, start, own, modes, touched, names.as_slice(), *mode)
+            run_set_constraints(alloc, start, own, modes, touched, names.as_slice(), *mode)
         }
-        Resolved::Verdict(name) => verdict(alloc, own, name),
+        Resolved::Verdict(name) => run_verdict(alloc, own, name),
     }
 }
 
 /// It was answered, and nothing has changed.
-fn replied(reply: Reply, reads: Vec<LockKey>) -> Done
+fn answer_with(reply: Reply, reads: Vec<LockKey>) -> Done
     ensures reply { result.reply ≡ Ok reply }
     ensures same { (result.view ≡ None) × (result.modes ≡ None) × (result.changes.items ≡ []) }
     ensures reads { result.reads.items ≡ reads.items }
@@ -104,7 +106,7 @@ fn replied(reply: Reply, reads: Vec<LockKey>) -> Done
 }
 
 /// It was refused, and nothing has changed.
-fn refused(refusal: Refusal, reads: Vec<LockKey>) -> Done
+fn refuse_with(refusal: Refusal, reads: Vec<LockKey>) -> Done
     ensures reply { result.reply ≡ Err refusal }
     ensures same { (result.view ≡ None) × (result.modes ≡ None) × (result.changes.items ≡ []) }
     ensures reads { result.reads.items ≡ reads.items }
@@ -119,7 +121,7 @@ fn refused(refusal: Refusal, reads: Vec<LockKey>) -> Done
 }
 
 /// The same, of a refusal that may be that no memory was left, which is an error.
-fn refused_unless_memory(refusal: Refusal, reads: Vec<LockKey>) -> Result<Done, Refusal>
+fn refuse_unless_memory(refusal: Refusal, reads: Vec<LockKey>) -> Result<Done, Refusal>
     ensures only_memory { IsOkUnless result NoMemory }
     ensures known { IfOk result IsKnown }
     ensures reply { IfOk result (λ done. done.reply ≡ Err refusal) }
@@ -128,12 +130,12 @@ fn refused_unless_memory(refusal: Refusal, reads: Vec<LockKey>) -> Result<Done, 
 {
     match refusal {
         Refusal::NoMemory => Err(Refusal::NoMemory),
-        refusal => Ok(refused(refusal, reads)),
+        refusal => Ok(refuse_with(refusal, reads)),
     }
 }
 
 /// One key.
-fn only(alloc: Global, key: LockKey) -> Result<Vec<LockKey>, Refusal>
+fn list_one(alloc: Global, key: LockKey) -> Result<Vec<LockKey>, Refusal>
     ensures only_memory { IsOkUnless result NoMemory }
     ensures only { IfOk result (λ keys. keys.items ≡ key ∷ []) }
 {
@@ -143,7 +145,7 @@ fn only(alloc: Global, key: LockKey) -> Result<Vec<LockKey>, Refusal>
 }
 
 /// INSERT, which reads the row of its key.
-fn insert(alloc: Global, own: &View, modes: &Modes, new: &NewRow) -> Result<Done, Refusal>
+fn run_insert(alloc: Global, own: &View, modes: &Modes, new: &NewRow) -> Result<Done, Refusal>
     requires table_in { new.now.table < length own.now.declared.tables }
     requires modes { length modes.now ≡ length own.now.declared.assertions }
     ensures only_memory { IsOkUnless result NoMemory }
@@ -154,15 +156,15 @@ fn insert(alloc: Global, own: &View, modes: &Modes, new: &NewRow) -> Result<Done
         DifferAt (layouts_in own.now.declared) own.now.state (left_by (standing own.now modes.now) done).view
         (map place_of done.changes.items)) }
 {
-    let reads = only(alloc, LockKey::Row(place_in(own, new)?))?;
+    let reads = list_one(alloc, LockKey::Row(place_in(own, new)?))?;
     match insert_effect(alloc, own, new) {
         Ok(effect) => put_in(own, modes, reads, effect),
-        Err(refusal) => refused_unless_memory(refusal, reads),
+        Err(refusal) => refuse_unless_memory(refusal, reads),
     }
 }
 
 /// UPDATE, which reads what its condition names.
-fn change(alloc: Global, own: &View, modes: &Modes, update: &Update) -> Result<Done, Refusal>
+fn run_update(alloc: Global, own: &View, modes: &Modes, update: &Update) -> Result<Done, Refusal>
     requires runnable { IsRunnableUpdate own.now.declared update.now }
     requires modes { length modes.now ≡ length own.now.declared.assertions }
     ensures only_memory { IsOkUnless result NoMemory }
@@ -173,15 +175,15 @@ fn change(alloc: Global, own: &View, modes: &Modes, update: &Update) -> Result<D
         DifferAt (layouts_in own.now.declared) own.now.state (left_by (standing own.now modes.now) done).view
         (map place_of done.changes.items)) }
 {
-    let reads = only(alloc, read_key(own, update.table, &update.kept)?)?;
+    let reads = list_one(alloc, read_key(own, update.table, &update.filter)?)?;
     match update_effect(alloc, own, update) {
         Ok(effect) => put_in(own, modes, reads, effect),
-        Err(refusal) => refused_unless_memory(refusal, reads),
+        Err(refusal) => refuse_unless_memory(refusal, reads),
     }
 }
 
 /// DELETE, which reads what its condition names.
-fn take_out(alloc: Global, own: &View, modes: &Modes, delete: &Delete) -> Result<Done, Refusal>
+fn run_delete(alloc: Global, own: &View, modes: &Modes, delete: &Delete) -> Result<Done, Refusal>
     requires runnable { IsRunnableDelete own.now.declared delete.now }
     requires modes { length modes.now ≡ length own.now.declared.assertions }
     ensures only_memory { IsOkUnless result NoMemory }
@@ -192,18 +194,19 @@ fn take_out(alloc: Global, own: &View, modes: &Modes, delete: &Delete) -> Result
         DifferAt (layouts_in own.now.declared) own.now.state (left_by (standing own.now modes.now) done).view
         (map place_of done.changes.items)) }
 {
-    let reads = only(alloc, read_key(own, delete.table, &delete.kept)?)?;
+    let reads = list_one(alloc, read_key(own, delete.table, &delete.filter)?)?;
     put_in(own, modes, reads, delete_effect(alloc, own, delete)?)
 }
 
 /// The key under which a condition on a table reads.
-fn read_key(own: &View, table: usize, kept: &Cond) -> Result<LockKey, Refusal>
+fn read_key(own: &View, table: usize, filter: &Cond) -> Result<LockKey, Refusal>
     requires table_in { table < length own.now.declared.tables }
     ensures only_memory { IsOkUnless result NoMemory }
-    ensures key { IfOk result (λ key. key ≡ where_key table (key_of table (layouts_in own.now.declared)) kept.now) }
+    ensures key { IfOk result (λ key. key ≡ where_key table (key_of table (layouts_in own.now.declared)) filter.now) }
 {
+    // (that there are rows for each table is a clause of the catalog)
     let _ = own.catalog();
-    where_key(table, own.schema(table).key(), kept)
+    where_key(table, own.schema(table).key(), filter)
 }
 
 /// The place at which a new row is to stand.
@@ -212,6 +215,7 @@ fn place_in(own: &View, new: &NewRow) -> Result<Place, Refusal>
     ensures only_memory { IsOkUnless result NoMemory }
     ensures place { IfOk result (λ place. place ≡ place_in (layouts_in own.now.declared) new.now) }
 {
+    // (as above)
     let _ = own.catalog();
     let key = match new.row.values().get(own.schema(new.table).key()) {
         Some(key) => key.copy()?,
@@ -240,17 +244,17 @@ fn put_in(own: &View, modes: &Modes, reads: Vec<LockKey>, effect: Effect) -> Res
     let Effect { reply, changes } = effect;
     let alloc = *reads.allocator();
     let mut reads = reads;
-    in_order(own);
+    recall_order(own);
     let after = own.after(changes.as_slice())?;
     let real = real_changes(changes);
     let checked = checks_read(alloc, own, modes.as_slice(), real.as_slice())?;
     append(&mut reads, checked)?;
-    let violated = violation(&after, modes.as_slice())?;
-    Ok(rows_unless(violated, reply, after, real, reads))
+    let violated = find_violation(&after, modes.as_slice())?;
+    Ok(leave_rows_unless(violated, reply, after, real, reads))
 }
 
 /// These rows are left, unless an assertion is violated.
-fn rows_unless(
+fn leave_rows_unless(
     violated: Option<Refusal>,
     reply: Reply,
     after: View,
@@ -264,7 +268,7 @@ fn rows_unless(
     ensures reads { result.reads.items ≡ reads.items }
 {
     match violated {
-        Some(refusal) => refused(refusal, reads),
+        Some(refusal) => refuse_with(refusal, reads),
         None => Done {
             reply: Ok(reply),
             view: Some(after),
@@ -276,7 +280,7 @@ fn rows_unless(
 }
 
 /// These modes are set, unless an assertion is violated.
-fn modes_unless(violated: Option<Refusal>, modes: Modes, reads: Vec<LockKey>) -> Done
+fn leave_modes_unless(violated: Option<Refusal>, modes: Modes, reads: Vec<LockKey>) -> Done
     requires named { HoldsOf (λ refusal. refusal ≢ NoMemory) violated }
     ensures known { IsKnown result }
     ensures left { IsLeft violated ModesSet None (Some modes) result }
@@ -284,7 +288,7 @@ fn modes_unless(violated: Option<Refusal>, modes: Modes, reads: Vec<LockKey>) ->
     ensures reads { result.reads.items ≡ reads.items }
 {
     match violated {
-        Some(refusal) => refused(refusal, reads),
+        Some(refusal) => refuse_with(refusal, reads),
         None => Done {
             reply: Ok(Reply::ModesSet),
             view: None,
@@ -296,33 +300,33 @@ fn modes_unless(violated: Option<Refusal>, modes: Modes, reads: Vec<LockKey>) ->
 }
 
 /// SELECT: the listed values of the rows that its condition keeps, in key order.
-fn list(alloc: Global, own: &View, select: &Select) -> Result<Done, Refusal>
+fn run_select(alloc: Global, own: &View, select: &Select) -> Result<Done, Refusal>
     requires runnable { IsRunnableSelect own.now.declared select.now }
     ensures only_memory { IsOkUnless result NoMemory }
     ensures reply { IfOk result (λ done.
         done.reply
         ≡ Ok (replies.Rows
-        (selected_rows select.now.columns (found_rows own.now.state select.now.table select.now.kept)))) }
+        (selected_rows select.now.columns (found_rows own.now.state select.now.table select.now.filter)))) }
     ensures same { IfOk result (λ done. (done.view ≡ None) × (done.modes ≡ None) × (done.changes.items ≡ [])) }
     ensures reads { IfOk result (λ done.
         done.reads.items
-        ≡ where_key select.now.table (key_of select.now.table (layouts_in own.now.declared)) select.now.kept ∷ []) }
+        ≡ where_key select.now.table (key_of select.now.table (layouts_in own.now.declared)) select.now.filter ∷ []) }
 {
-    let reads = only(alloc, read_key(own, select.table, &select.kept)?)?;
-    has_table(own, select.table);
+    let reads = list_one(alloc, read_key(own, select.table, &select.filter)?)?;
+    recall_table(own, select.table);
     let rows = selected_rows(
         alloc,
         own,
         select.table,
         select.columns.as_slice(),
-        &select.kept,
+        &select.filter,
     )?;
-    Ok(replied(Reply::Rows(Items::from_vec(rows)), reads))
+    Ok(answer_with(Reply::Rows(Items::from_vec(rows)), reads))
 }
 
 /// SET CONSTRAINTS. IMMEDIATE checks the assertions that it names over the net change so far, and where one is
 /// false no mode changes.
-fn set_modes(
+fn run_set_constraints(
     alloc: Global,
     start: &View,
     own: &View,
@@ -344,18 +348,18 @@ fn set_modes(
 {
     match mode {
         Mode::Deferred => {
-            let after = modes_after(own, modes, names, Mode::Deferred)?;
-            Ok(modes_unless(None, after, Vec::new(alloc)))
+            let after = set_modes(own, modes, names, Mode::Deferred)?;
+            Ok(leave_modes_unless(None, after, Vec::new(alloc)))
         }
         Mode::Immediate => {
             let net = net_change(alloc, start, own, touched)?;
-            made_immediate(alloc, own, modes, names, net.as_slice())
+            set_immediate(alloc, own, modes, names, net.as_slice())
         }
     }
 }
 
 /// The modes after those of some assertions are set, by their names.
-fn modes_after(own: &View, modes: &Modes, names: &[Text], mode: Mode) -> Result<Modes, Refusal>
+fn set_modes(own: &View, modes: &Modes, names: &[Text], mode: Mode) -> Result<Modes, Refusal>
     requires modes { length modes.now ≡ length own.now.declared.assertions }
     ensures only_memory { IsOkUnless result NoMemory }
     ensures set { IfOk result (λ after.
@@ -367,7 +371,7 @@ fn modes_after(own: &View, modes: &Modes, names: &[Text], mode: Mode) -> Result<
 }
 
 /// SET CONSTRAINTS .. IMMEDIATE, where this is the net change so far.
-fn made_immediate(
+fn set_immediate(
     alloc: Global,
     own: &View,
     modes: &Modes,
@@ -386,13 +390,13 @@ fn made_immediate(
 {
     let meant = Modes::named_immediate(alloc, own.assertions(), names)?;
     let reads = checks_read(alloc, own, meant.as_slice(), net)?;
-    let violated = violation(own, meant.as_slice())?;
-    let after = modes_after(own, modes, names, Mode::Immediate)?;
-    Ok(modes_unless(violated, after, reads))
+    let violated = find_violation(own, meant.as_slice())?;
+    let after = set_modes(own, modes, names, Mode::Immediate)?;
+    Ok(leave_modes_unless(violated, after, reads))
 }
 
 /// VERDICT: the truth of the assertion of a name on the own view. It reads the tables that the assertion names.
-fn verdict(alloc: Global, own: &View, name: &Text) -> Result<Done, Refusal>
+fn run_verdict(alloc: Global, own: &View, name: &Text) -> Result<Done, Refusal>
     ensures only_memory { IsOkUnless result NoMemory }
     ensures known { IfOk result IsKnown }
     ensures done { IfOk result (λ done. (modes : Immediates)
@@ -401,12 +405,12 @@ fn verdict(alloc: Global, own: &View, name: &Text) -> Result<Done, Refusal>
         (standing own.now modes)) done) }
     ensures same { IfOk result (λ done. (done.view ≡ None) × (done.modes ≡ None) × (done.changes.items ≡ [])) }
 {
-    match place_named(own.assertions(), name) {
+    match find_assertion(own.assertions(), name) {
         Some(place) => {
             let reads = tables_read(alloc, &own.assertions()[place].form)?;
-            Ok(replied(Reply::Verdict(own.verdict(place)), reads))
+            Ok(answer_with(Reply::Verdict(own.verdict(place)), reads))
         }
-        None => Ok(refused(Refusal::UnknownName { name: name.copy()? }, Vec::new(alloc))),
+        None => Ok(refuse_with(Refusal::UnknownName { name: name.copy()? }, Vec::new(alloc))),
     }
 }
 

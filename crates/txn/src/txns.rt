@@ -10,11 +10,11 @@ ghost use Rattle.txn.specs.Held.{IsClosed};
 ghost use Rattle.txn.specs.Runnable.{IsRunnable};
 ghost use Rattle.txn.specs.Transactions.{begun, false_names, own_view, run_of, step_of, truth_of, with_statement};
 
-use crate::checks::{false_names, truth_on, violation};
+use crate::checks::{find_violation, list_false, verdict_on};
 use crate::closed::{Closed, Unclosed};
 use crate::resolutions::resolve;
 use crate::steps::{Done, append, step};
-use alone::{Resolved, runs};
+use alone::{Resolved, runs_are_joined};
 use answer::Reply;
 use delta::View;
 use modes::Modes;
@@ -157,7 +157,7 @@ impl Txn {
         ensures noted { IfErr result (λ refusal. refusal ≢ NoMemory → self.new ≡ with_statement self.old statement) }
         ensures same { IfErr result (λ refusal. refusal ≡ NoMemory → self.new ≡ self.old) }
     {
-        runs();
+        runs_are_joined();
         let done = match step(
             alloc,
             &self.start,
@@ -167,7 +167,7 @@ impl Txn {
             &statement,
         ) {
             Ok(done) => done,
-            Err(refusal) => return stopped(refusal, statement),
+            Err(refusal) => return drop_and_refuse(refusal, statement),
         };
         let Done {
             reply,
@@ -183,7 +183,7 @@ impl Txn {
             changes.as_slice(),
             reads,
         ) {
-            return stopped(refusal, (statement, reply, view, modes));
+            return drop_and_refuse(refusal, (statement, reply, view, modes));
         }
         settle(&mut self.own, view);
         settle_modes(&mut self.modes, modes);
@@ -196,7 +196,7 @@ impl Txn {
     pub fn verdict(&self, name: &Text) -> Option<Truth>
         ensures { result ≡ truth_of (own_view self.now) (assertion_of name.now self.now.declared.assertions) }
     {
-        truth_on(&self.own, name)
+        verdict_on(&self.own, name)
     }
 
     /// The names of the assertions that are false on the own view, in the order of their creation. It enters no
@@ -205,7 +205,7 @@ impl Txn {
         ensures only_memory { IsOkUnless result NoMemory }
         ensures names { IfOk result (λ names. names.items ≡ false_names (own_view self.now)) }
     {
-        let names = false_names(*self.trace.allocator(), &self.own)?;
+        let names = list_false(*self.trace.allocator(), &self.own)?;
         Ok(names)
     }
 
@@ -217,14 +217,14 @@ impl Txn {
         ensures only_memory { IfErr result (λ fault. fault.refusal ≡ NoMemory) }
         ensures back { IfErr result (λ fault. fault.txn ≡ self) }
     {
-        match self.closing() {
-            Ok(closing) => self.closed(closing),
+        match self.prepare_close() {
+            Ok(closing) => self.close_with(closing),
             Err(refusal) => Err(Unclosed { refusal, txn: self }),
         }
     }
 
     /// The transaction with what COMMIT is answered by.
-    fn closed(self, closing: Closing) -> Result<Closed, Unclosed>
+    fn close_with(self, closing: Closing) -> Result<Closed, Unclosed>
         requires { IsClosed self closing.changes.items closing.refused ((run_of self).reads ++ closing.checked.items) }
         ensures closed { IfOk result (λ closed. closed ≡ self) }
         ensures only_memory { IfErr result (λ fault. fault.refusal ≡ NoMemory) }
@@ -277,7 +277,7 @@ impl Txn {
     }
 
     /// What COMMIT is answered by.
-    fn closing(&self) -> Result<Closing, Refusal>
+    fn prepare_close(&self) -> Result<Closing, Refusal>
         ensures only_memory { IsOkUnless result NoMemory }
         ensures closed { IfOk result (λ closing.
             IsClosed self.now closing.changes.items closing.refused ((run_of self.now).reads
@@ -287,7 +287,7 @@ impl Txn {
         let changes = net_change(alloc, &self.start, &self.own, &self.touched)?;
         let meant = Modes::all_immediate(alloc, self.own.assertions())?;
         let checked = checks_read(alloc, &self.own, meant.as_slice(), changes.as_slice())?;
-        let refused = violation(&self.own, meant.as_slice())?;
+        let refused = find_violation(&self.own, meant.as_slice())?;
         Ok(Closing {
             changes,
             refused,
@@ -314,7 +314,7 @@ impl Txn {
 }
 
 /// Stopped by this, with what had been made.
-fn stopped<T: Drop>(refusal: Refusal, _made: T) -> Result<Reply, Refusal>
+fn drop_and_refuse<T: Drop>(refusal: Refusal, _made: T) -> Result<Reply, Refusal>
     ensures { result ≡ Err refusal }
 {
     Err(refusal)

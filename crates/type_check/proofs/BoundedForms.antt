@@ -4,8 +4,9 @@ use Rattle.std.specs.Prelude.{◌↔◌, ◌&&◌, IsTrue, All}
 use Rattle.std.specs.List.{list_all}
 use Rattle.std.proofs.lemmas.List.Elements.{All-nil, All-cons, All-head, All-tail}
 use Rattle.cond.specs.Bounds.{is_bounded}
-use Rattle.assertion.specs.declared.linked_queries.Linked.{Linked}
-use Rattle.assertion.specs.declared.plain_queries.Plain.{Plain}
+use Rattle.assertion.specs.declared.queries.Query.{Query}
+use Rattle.assertion.specs.declared.queries.Link.{Link}
+use Rattle.assertion.specs.declared.queries.Whole.{Whole}
 use Rattle.assertion.specs.declared.forms.Form.{Form}
 use Rattle.assertion.specs.declared.forms.Form.TheVariants.{ByRow, ByGroup, Single}
 use Rattle.assertion.specs.Bounded.{IsBounded}
@@ -30,9 +31,9 @@ both_each a p xs = (
 )
 
 exact : (form : Form) → IsTrue (is_bounded_form form) ↔ IsBounded form
-exact (ByRow table condition queries) = both_each _ (λ (q : Linked). is_bounded [] q.kept) queries
-exact (ByGroup table kept group having aggregates) = both _ _
-exact (Single condition queries) = both_each _ (λ (q : Plain). is_bounded [] q.kept) queries
+exact (ByRow table condition queries) = both_each _ (λ (q : Query Link). is_bounded [] q.filter) queries
+exact (ByGroup table restriction group having aggregates) = both _ _
+exact (Single condition queries) = both_each _ (λ (q : Query Whole). is_bounded [] q.filter) queries
 
 pub is_exact : (b : Bool) (form : Form) → b ≡ is_bounded_form form → IsTrue b ↔ IsBounded form
 is_exact b form e = subst (λ b. IsTrue b ↔ IsBounded form) (sym e) (exact form)

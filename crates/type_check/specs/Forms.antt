@@ -4,10 +4,11 @@ use Rattle.std.specs.Option.{option_map, option_and_then, option_to_list}
 use Rattle.table.specs.declared.schemas.Column.{Column}
 use Rattle.table.specs.Rows.{Layout}
 use Rattle.cond.specs.declared.conds.Cond.{Cond}
-use Rattle.assertion.specs.declared.linked_queries.Linked.{Linked}
-use Rattle.assertion.specs.declared.plain_queries.Plain.{Plain}
+use Rattle.assertion.specs.declared.queries.Query.{Query}
+use Rattle.assertion.specs.declared.queries.Link.{Link}
 use Rattle.assertion.specs.declared.forms.Form.{Form}
 use Rattle.assertion.specs.declared.forms.Form.TheVariants.{ByRow, ByGroup, Single}
+use Rattle.assertion.specs.Meaning.{link_column}
 use Rattle.type_check.specs.declared.data_types.DataType.{DataType}
 use Rattle.type_check.specs.Types.{column_type, are_comparable, aggregate_type, is_typed_condition}
 
@@ -29,19 +30,19 @@ key_type layouts table =
 abbrev pub group_columns : List Column → ℕ → List Column
 group_columns columns group = option_to_list (slice_get columns group)
 
--- what a subquery of its own gives, if its WHERE is typed
-abbrev pub plain_type : List Layout → Plain → Option DataType
-plain_type layouts q =
-    if is_typed_condition (columns_of layouts q.table) [] q.kept
+-- what a subquery gives, if its WHERE is typed
+abbrev pub query_type : {G : Type 0} → List Layout → Query G → Option DataType
+query_type layouts q =
+    if is_typed_condition (columns_of layouts q.table) [] q.filter
     then aggregate_type (columns_of layouts q.table) q.aggregate
     else None
 
--- what a subquery of a row gives, if its WHERE is typed and its link compares the key with a column of the key's type
-abbrev pub linked_type : List Layout → Option DataType → Linked → Option DataType
+-- what a subquery of a row gives, if its link compares the key with a column of the key's type
+abbrev pub linked_type : List Layout → Option DataType → Query Link → Option DataType
 linked_type layouts key q =
-    if is_typed_condition (columns_of layouts q.table) [] q.kept
-    && are_comparable key (column_type (columns_of layouts q.table) q.link)
-    then aggregate_type (columns_of layouts q.table) q.aggregate else None
+    if are_comparable key (column_type (columns_of layouts q.table) (link_column q.grouping))
+    then query_type layouts q
+    else None
 
 -- the types of a list, if each is there
 abbrev pub all_types : List (Option DataType) → Option (List DataType)
@@ -59,9 +60,9 @@ abbrev pub is_typed_form : List Layout → Form → Bool
 is_typed_form layouts (ByRow table condition queries) =
     is_typed_over (columns_of layouts table) (all_types (map (linked_type layouts (key_type layouts table)) queries))
     condition
-is_typed_form layouts (ByGroup table kept group having aggregates) =
-    is_typed_condition (columns_of layouts table) [] kept
+is_typed_form layouts (ByGroup table restriction group having aggregates) =
+    is_typed_condition (columns_of layouts table) [] restriction
     && is_typed_over (group_columns (columns_of layouts table) group)
     (all_types (map (aggregate_type (columns_of layouts table)) aggregates)) having
 is_typed_form layouts (Single condition queries) =
-    is_typed_over [] (all_types (map (plain_type layouts) queries)) condition
+    is_typed_over [] (all_types (map (query_type layouts) queries)) condition

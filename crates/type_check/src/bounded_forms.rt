@@ -4,11 +4,11 @@ ghost use Rattle.std.specs.Prelude.{◌≡◌, ◌↔◌, [], map, IfOk, IsOkUnl
 ghost use Rattle.std.specs.List.{list_all};
 ghost use Rattle.value.specs.declared.refusals.Refusal.TheVariants.{NoMemory};
 ghost use Rattle.cond.specs.Bounds.{is_bounded as is_bounded_of};
-ghost use Rattle.assertion.specs.Bounded.{IsBounded, linked_kinds as linked_kinds_of, plain_kinds as plain_kinds_of};
+ghost use Rattle.assertion.specs.Bounded.{IsBounded, query_kinds as query_kinds_of};
 ghost use Rattle.cond.specs.Kinds.{kind_of_aggregate};
 ghost use Rattle.type_check.specs.Widths.{is_bounded_form};
 
-use assertion::{Form, Linked, Plain, kind};
+use assertion::{Form, Query, kind};
 use cond::{SlotKind, is_bounded};
 use std::alloc::Global;
 use table::Aggregate;
@@ -31,42 +31,30 @@ pub fn form_is_bounded(alloc: Global, form: &Form) -> Result<bool, Refusal>
             ..
         } => {
             let queries = queries.as_slice();
-            let slots = linked_kinds(alloc, queries)?;
-            Ok(is_bounded(condition, &slots) && are_linked_bounded(queries))
+            let slots = query_kinds(alloc, queries)?;
+            Ok(is_bounded(condition, &slots) && are_bounded(queries))
         }
         Form::ByGroup {
-            kept,
+            filter,
             having,
             aggregates,
             ..
         } => {
             let slots = aggregate_kinds(alloc, aggregates.as_slice())?;
-            Ok(is_bounded(kept, &[]) && is_bounded(having, &slots))
+            Ok(is_bounded(filter, &[]) && is_bounded(having, &slots))
         }
         Form::Single { condition, queries } => {
             let queries = queries.as_slice();
-            let slots = plain_kinds(alloc, queries)?;
-            Ok(is_bounded(condition, &slots) && are_plain_bounded(queries))
+            let slots = query_kinds(alloc, queries)?;
+            Ok(is_bounded(condition, &slots) && are_bounded(queries))
         }
     }
 }
 
-/// The kinds of the slots that subqueries of a row fill.
-fn linked_kinds(alloc: Global, queries: &[Linked]) -> Result<Vec<SlotKind>, Refusal>
+/// The kinds of the slots that subqueries fill.
+fn query_kinds<G>(alloc: Global, queries: &[Query<G>]) -> Result<Vec<SlotKind>, Refusal>
     ensures only_memory { IsOkUnless result NoMemory }
-    ensures kinds { IfOk result (λ kinds. kinds.items ≡ linked_kinds_of queries.now) }
-{
-    let mut kinds = Vec::new(alloc);
-    for query in queries {
-        kinds.push(kind(query.aggregate))?;
-    }
-    Ok(kinds)
-}
-
-/// The kinds of the slots that subqueries of their own fill.
-fn plain_kinds(alloc: Global, queries: &[Plain]) -> Result<Vec<SlotKind>, Refusal>
-    ensures only_memory { IsOkUnless result NoMemory }
-    ensures kinds { IfOk result (λ kinds. kinds.items ≡ plain_kinds_of queries.now) }
+    ensures kinds { IfOk result (λ kinds. kinds.items ≡ query_kinds_of queries.now) }
 {
     let mut kinds = Vec::new(alloc);
     for query in queries {
@@ -87,16 +75,9 @@ fn aggregate_kinds(alloc: Global, aggregates: &[Aggregate]) -> Result<Vec<SlotKi
     Ok(kinds)
 }
 
-/// Whether the WHERE of each subquery of a row has only bounded expressions.
-fn are_linked_bounded(queries: &[Linked]) -> bool
-    ensures { result ≡ list_all (λ q. is_bounded_of [] q.kept) queries.now }
+/// Whether the WHERE of each subquery has only bounded expressions.
+fn are_bounded<G>(queries: &[Query<G>]) -> bool
+    ensures { result ≡ list_all (λ q. is_bounded_of [] q.filter) queries.now }
 {
-    queries.iter().all(|query| is_bounded(&query.kept, &[]))
-}
-
-/// Whether the WHERE of each subquery of its own has only bounded expressions.
-fn are_plain_bounded(queries: &[Plain]) -> bool
-    ensures { result ≡ list_all (λ q. is_bounded_of [] q.kept) queries.now }
-{
-    queries.iter().all(|query| is_bounded(&query.kept, &[]))
+    queries.iter().all(|query| is_bounded(&query.filter, &[]))
 }

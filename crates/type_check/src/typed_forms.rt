@@ -4,11 +4,11 @@ ghost use Rattle.std.specs.Prelude.{◌≡◌, map, IfOk, IsOkUnless};
 ghost use Rattle.value.specs.declared.refusals.Refusal.TheVariants.{NoMemory};
 ghost use Rattle.table.specs.Rows.{layouts_of};
 ghost use Rattle.type_check.specs.Types.{aggregate_type as aggregate_type_of};
-ghost use Rattle.type_check.specs.Forms.{all_types, columns_of as columns_of_layouts, group_columns as group_columns_of, is_typed_form, is_typed_over as is_typed_over_types, key_type as key_type_of, linked_type as linked_type_of, plain_type as plain_type_of};
+ghost use Rattle.type_check.specs.Forms.{all_types, columns_of as columns_of_layouts, group_columns as group_columns_of, is_typed_form, is_typed_over as is_typed_over_types, key_type as key_type_of, linked_type, query_type as query_type_of};
 
 use crate::data_types::{DataType, aggregate_type, are_comparable, column_type};
 use crate::typed_trees::is_well_typed;
-use assertion::{Form, Linked, Plain};
+use assertion::{Form, Link, Query, Whole};
 use cond::Cond;
 use sqlite_items::Items;
 use std::alloc::Global;
@@ -33,25 +33,25 @@ pub fn form_is_typed(alloc: Global, catalog: &Catalog, form: &Form) -> Result<bo
             queries,
         } => {
             let key = key_type(catalog, *table);
-            let slots = linked_types(alloc, catalog, key, queries.as_slice())?;
+            let slots = slot_types(alloc, &LinkedQueries { catalog, key }, queries.as_slice())?;
             Ok(is_typed_over(condition, columns_of(catalog, *table), &slots))
         }
         Form::ByGroup {
             table,
-            kept,
+            filter,
             group,
             having,
             aggregates,
         } => {
             let columns = columns_of(catalog, *table);
-            if !is_well_typed(kept, columns, &[]) {
+            if !is_well_typed(filter, columns, &[]) {
                 return Ok(false);
             }
-            let slots = aggregate_types(alloc, columns, aggregates.as_slice())?;
+            let slots = slot_types(alloc, &Aggregates { columns }, aggregates.as_slice())?;
             Ok(is_typed_over(having, group_columns(columns, *group), &slots))
         }
         Form::Single { condition, queries } => {
-            let slots = plain_types(alloc, catalog, queries.as_slice())?;
+            let slots = slot_types(alloc, &WholeQueries { catalog }, queries.as_slice())?;
             Ok(is_typed_over(condition, &[], &slots))
         }
     }
@@ -97,87 +97,102 @@ fn group_columns(columns: &[Column], group: usize) -> &[Column]
     }
 }
 
-/// The types of what subqueries of a row with a key of this type give; none where one is not typed.
-fn linked_types(
+/// What gives the type of each slot of a condition.
+trait SlotTypes {
+    ghost use Rattle.std.specs.Prelude.{Option};
+    ghost use Rattle.type_check.specs.declared.data_types.DataType.{DataType as AnyType};
+
+    type Slot;
+
+    ghost slot_type: { Self → Self.Slot → Option AnyType };
+
+    /// The type of what a slot gives, if it is typed.
+    fn slot_type(&self, slot: &Self::Slot) -> Option<DataType>
+        ensures { result ≡ slot_type self.now slot.now };
+}
+
+/// The types of what slots give; none where one is not typed.
+fn slot_types<T: SlotTypes>(
     alloc: Global,
-    catalog: &Catalog,
+    of: &T,
+    slots: &[T::Slot],
+) -> Result<Option<Items<DataType>>, Refusal>
+    ensures only_memory { IsOkUnless result NoMemory }
+    ensures types { IfOk result (λ types. types ≡ all_types (map (T.slot_type of.now) slots.now)) }
+{
+    let mut types = Vec::new(alloc);
+    for slot in slots {
+        let Some(found) = of.slot_type(slot) else {
+            return Ok(None);
+        };
+        types.push(found)?;
+    }
+    Ok(Some(Items::from_vec(types)))
+}
+
+/// The subqueries of a row with a key of this type.
+#[derive(Clone, Copy)]
+struct LinkedQueries<'a> {
+    catalog: &'a Catalog,
     key: Option<DataType>,
-    queries: &[Linked],
-) -> Result<Option<Items<DataType>>, Refusal>
-    ensures only_memory { IsOkUnless result NoMemory }
-    ensures types { IfOk result (λ types.
-        types ≡ all_types (map (linked_type_of (layouts_of catalog.now) key) queries.now)) }
-{
-    let mut types = Vec::new(alloc);
-    for query in queries {
-        let Some(found) = linked_type(catalog, key, query) else {
-            return Ok(None);
-        };
-        types.push(found)?;
-    }
-    Ok(Some(Items::from_vec(types)))
 }
 
-/// The type of what a subquery gives for a row with a key of this type, if the subquery is typed.
-fn linked_type(catalog: &Catalog, key: Option<DataType>, query: &Linked) -> Option<DataType>
-    ensures { result ≡ linked_type_of (layouts_of catalog.now) key query.now }
+impl<'a> SlotTypes for LinkedQueries<'a> {
+    type Slot = Query<Link>;
+
+    ghost slot_type = { λ s. linked_type (layouts_of s.catalog.now) s.key };
+
+    fn slot_type(&self, query: &Query<Link>) -> Option<DataType> {
+        let columns = columns_of(self.catalog, query.table);
+        let link = column_type(columns, query.grouping.column());
+        if are_comparable(self.key, link) {
+            query_type(self.catalog, query)
+        } else {
+            None
+        }
+    }
+}
+
+/// Subqueries of their own.
+#[derive(Clone, Copy)]
+struct WholeQueries<'a> {
+    catalog: &'a Catalog,
+}
+
+impl<'a> SlotTypes for WholeQueries<'a> {
+    type Slot = Query<Whole>;
+
+    ghost slot_type = { λ s. query_type_of (layouts_of s.catalog.now) };
+
+    fn slot_type(&self, query: &Query<Whole>) -> Option<DataType> {
+        query_type(self.catalog, query)
+    }
+}
+
+/// The set functions of rows of these columns.
+#[derive(Clone, Copy)]
+struct Aggregates<'a> {
+    columns: &'a [Column],
+}
+
+impl<'a> SlotTypes for Aggregates<'a> {
+    type Slot = Aggregate;
+
+    ghost slot_type = { λ s. aggregate_type_of s.columns.now };
+
+    fn slot_type(&self, aggregate: &Aggregate) -> Option<DataType> {
+        aggregate_type(self.columns, *aggregate)
+    }
+}
+
+/// The type of what a subquery gives, if its WHERE is typed.
+fn query_type<G>(catalog: &Catalog, query: &Query<G>) -> Option<DataType>
+    ensures { result ≡ query_type_of (layouts_of catalog.now) query.now }
 {
     let columns = columns_of(catalog, query.table);
-    let link = column_type(columns, query.link);
-    if is_well_typed(&query.kept, columns, &[]) && are_comparable(key, link) {
+    if is_well_typed(&query.filter, columns, &[]) {
         aggregate_type(columns, query.aggregate)
     } else {
         None
     }
-}
-
-/// The types of what subqueries of their own give; none where one is not typed.
-fn plain_types(
-    alloc: Global,
-    catalog: &Catalog,
-    queries: &[Plain],
-) -> Result<Option<Items<DataType>>, Refusal>
-    ensures only_memory { IsOkUnless result NoMemory }
-    ensures types { IfOk result (λ types.
-        types ≡ all_types (map (plain_type_of (layouts_of catalog.now)) queries.now)) }
-{
-    let mut types = Vec::new(alloc);
-    for query in queries {
-        let Some(found) = plain_type(catalog, query) else {
-            return Ok(None);
-        };
-        types.push(found)?;
-    }
-    Ok(Some(Items::from_vec(types)))
-}
-
-/// The type of what a subquery of its own gives, if the subquery is typed.
-fn plain_type(catalog: &Catalog, query: &Plain) -> Option<DataType>
-    ensures { result ≡ plain_type_of (layouts_of catalog.now) query.now }
-{
-    let columns = columns_of(catalog, query.table);
-    if is_well_typed(&query.kept, columns, &[]) {
-        aggregate_type(columns, query.aggregate)
-    } else {
-        None
-    }
-}
-
-/// The types of what set functions give over rows of these columns; none where one has none.
-fn aggregate_types(
-    alloc: Global,
-    columns: &[Column],
-    aggregates: &[Aggregate],
-) -> Result<Option<Items<DataType>>, Refusal>
-    ensures only_memory { IsOkUnless result NoMemory }
-    ensures types { IfOk result (λ types. types ≡ all_types (map (aggregate_type_of columns.now) aggregates.now)) }
-{
-    let mut types = Vec::new(alloc);
-    for aggregate in aggregates {
-        let Some(found) = aggregate_type(columns, *aggregate) else {
-            return Ok(None);
-        };
-        types.push(found)?;
-    }
-    Ok(Some(Items::from_vec(types)))
 }

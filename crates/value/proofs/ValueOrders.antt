@@ -1,6 +1,5 @@
 -- The order of values is total, and tells all values apart.
-use Rattle.std.proofs.Common.{◌≡◌, ◌↔◌, ◌⊎◌, inl, inr, ⊎_elim, refl, sym, ◌∙◌, ap}
-use Rattle.std.specs.Prelude.{IsNone}
+use Rattle.std.proofs.Common.{◌≡◌, ◌↔◌, refl, sym, ◌∙◌, ap}
 use Rattle.std.proofs.lemmas.Cmp.{tied_itself}
 use Rattle.std.specs.Ordering.{ordering_reverse}
 use Rattle.std.specs.Cmp.{IsTotalOrder}
@@ -8,7 +7,6 @@ use Rattle.std.specs.declared.cmp.Ordering.{Ordering}
 use Rattle.std.specs.declared.cmp.Ordering.TheVariants.{Equal}
 use Rattle.std.proofs.lemmas.Map.Lookups.{CmpEqualImpliesEq, exact_signed, exact_bytes}
 use Rattle.value.specs.ValueOrder.{value_cmp, root_cmp}
-use Rattle.value.specs.Comparisons.{known_cmp}
 use Rattle.value.specs.declared.values.Value.{Value}
 use Rattle.value.specs.declared.values.Value.TheVariants.{Null, Int, Text}
 use Rattle.value.specs.declared.values.Root.{Root}
@@ -73,13 +71,3 @@ value_cmp-equal v w = (value_exact v w, λ e. ap (value_cmp v) (sym e) ∙ tied_
 
 pub root_cmp-equal : (q r : Root) → (root_cmp q r ≡ Equal) ↔ (q ≡ r)
 root_cmp-equal q r = (root_exact q r, λ e. ap (root_cmp q) (sym e) ∙ tied_itself root_cmp_total q)
-
--- a comparison knows nothing exactly where a side is NULL
-pub known_cmp-null : (v w : Value) → IsNone (known_cmp v w) ↔ ((v ≡ Null) ⊎ (w ≡ Null))
-known_cmp-null Null w = (λ h. inl refl, λ h. refl)
-known_cmp-null (Int m) Null = (λ h. inr refl, λ h. refl)
-known_cmp-null (Text s) Null = (λ h. inr refl, λ h. refl)
-known_cmp-null (Int m) (Int n) = (λ h. cc, λ h. ⊎_elim (λ e. cc) (λ e. cc) h)
-known_cmp-null (Int m) (Text t) = (λ h. cc, λ h. ⊎_elim (λ e. cc) (λ e. cc) h)
-known_cmp-null (Text s) (Int n) = (λ h. cc, λ h. ⊎_elim (λ e. cc) (λ e. cc) h)
-known_cmp-null (Text s) (Text t) = (λ h. cc, λ h. ⊎_elim (λ e. cc) (λ e. cc) h)

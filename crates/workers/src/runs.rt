@@ -7,7 +7,7 @@ ghost use Rattle.workers.specs.Scripts.{AreAnswered, IsAnswered, unrun};
 
 use crate::gates::Gate;
 use crate::scripts::{Script, ScriptAnswers};
-use crate::steps::{Told, end, run_event};
+use crate::steps::{StepOutcome, end, run_event};
 use answer::Answer;
 use session::{Manager, Named, Txn};
 use sqlite_items::Items;
@@ -44,8 +44,8 @@ pub fn run_sessions<N: Named + Send + Sync, R: Threads + Wait + Sync, G: Gate + 
     ensures only_memory { IsOkUnless result NoMemory }
     ensures answered { IfOk result (λ answered. AreAnswered scripts.now answered.items) }
 {
-    let mut answered = unrun_all(alloc, scripts)?;
-    let mut rooms = rooms_for(alloc, scripts)?;
+    let mut answered = answer_all_unrun(alloc, scripts)?;
+    let mut rooms = make_rooms(alloc, scripts)?;
     // (the bounds again, since the answer to whether a thread may take the manager can't name them from inside)
     thread::scope(
         thread::scope_env(),
@@ -66,18 +66,18 @@ pub fn run_sessions<N: Named + Send + Sync, R: Threads + Wait + Sync, G: Gate + 
 }
 
 /// The answers of scripts that got no thread.
-fn unrun_all(alloc: Global, scripts: &[Script]) -> Result<Vec<ScriptAnswers>, Refusal>
+fn answer_all_unrun(alloc: Global, scripts: &[Script]) -> Result<Vec<ScriptAnswers>, Refusal>
     ensures only_memory { IsOkUnless result NoMemory }
     ensures unrun { IfOk result (λ answered. answered.items ≡ map unrun scripts.now) }
 {
     let mut answered = Vec::with_capacity(alloc, scripts.len())?;
     for script in scripts {
-        answered.push(unrun(alloc, script)?)?;
+        answered.push(answer_unrun(alloc, script)?)?;
     }
     Ok(answered)
 }
 
-fn unrun(alloc: Global, script: &Script) -> Result<ScriptAnswers, Refusal>
+fn answer_unrun(alloc: Global, script: &Script) -> Result<ScriptAnswers, Refusal>
     ensures only_memory { IsOkUnless result NoMemory }
     ensures unrun { IfOk result (λ answered. answered ≡ unrun script.now) }
 {
@@ -92,17 +92,17 @@ fn unrun(alloc: Global, script: &Script) -> Result<ScriptAnswers, Refusal>
 }
 
 /// Room for an answer to each step of each script.
-fn rooms_for(alloc: Global, scripts: &[Script]) -> Result<Vec<Room>, Refusal>
+fn make_rooms(alloc: Global, scripts: &[Script]) -> Result<Vec<Room>, Refusal>
     ensures { IsOkUnless result NoMemory }
 {
     let mut rooms = Vec::with_capacity(alloc, scripts.len())?;
     for script in scripts {
-        rooms.push(room_for(alloc, script.steps.len())?)?;
+        rooms.push(make_room(alloc, script.steps.len())?)?;
     }
     Ok(rooms)
 }
 
-fn room_for(alloc: Global, steps: usize) -> Result<Room, Refusal>
+fn make_room(alloc: Global, steps: usize) -> Result<Room, Refusal>
     ensures { IsOkUnless result NoMemory }
 {
     Ok(Room {
@@ -132,8 +132,8 @@ fn run_script<N: Named, R: Wait, G: Gate>(
     let mut open: Option<Txn<N>> = None;
     for (step, event) in script.steps.as_slice().iter().enumerate() {
         gate.before(at, step);
-        let told = run_event(rt, manager, &mut session, open, &event.event);
-        let Told { answer, txn: next } = told;
+        let outcome = run_event(rt, manager, &mut session, open, &event.event);
+        let StepOutcome { answer, txn: next } = outcome;
         open = next;
         let _ = room.answers.push(answer);
         gate.after(at, step);

@@ -12,15 +12,15 @@ use std::sync::Wait;
 use value::Refusal;
 
 /// What a step was answered, and the transaction that is open then, if one is.
-pub struct Told<N: Named> {
+pub struct StepOutcome<N: Named> {
     pub answer: Answer,
     pub txn: Option<Txn<N>>,
 }
 
-fn refused<N: Named>(refusal: Refusal, txn: Option<Txn<N>>) -> Told<N>
+fn answer_refused<N: Named>(refusal: Refusal, txn: Option<Txn<N>>) -> StepOutcome<N>
     ensures { (result.answer ≡ Refused refusal) × (result.txn ≡ txn) }
 {
-    Told {
+    StepOutcome {
         answer: Answer::Refused(refusal),
         txn,
     }
@@ -33,7 +33,7 @@ pub fn run_event<N: Named, R: Wait>(
     session: &mut Session<N>,
     txn: Option<Txn<N>>,
     event: &Event,
-) -> Told<N>
+) -> StepOutcome<N>
     ensures told { IsTold event.now session.old.seen txn result.answer result.txn }
     ensures seen { session.new ≡ record session.old { seen = seen_after result.answer session.old.seen } }
 {
@@ -51,45 +51,49 @@ fn begin<N: Named, R: Wait>(
     manager: &Manager<N>,
     session: &mut Session<N>,
     txn: Option<Txn<N>>,
-) -> Told<N>
+) -> StepOutcome<N>
     ensures told { IsTold Begin session.old.seen txn result.answer result.txn }
     ensures seen { session.new ≡ record session.old { seen = seen_after result.answer session.old.seen } }
 {
     match txn {
-        Some(txn) => refused(Refusal::TransactionOpen, Some(txn)),
+        Some(txn) => answer_refused(Refusal::TransactionOpen, Some(txn)),
         None => begin_new(rt, manager, session),
     }
 }
 
-fn begin_new<N: Named, R: Wait>(rt: &R, manager: &Manager<N>, session: &mut Session<N>) -> Told<N>
+fn begin_new<N: Named, R: Wait>(
+    rt: &R,
+    manager: &Manager<N>,
+    session: &mut Session<N>,
+) -> StepOutcome<N>
     ensures told { IsBegun session.old.seen result.answer result.txn }
     ensures seen { session.new ≡ record session.old { seen = seen_after result.answer session.old.seen } }
 {
     match manager.begin(rt, session) {
-        Ok(txn) => Told {
+        Ok(txn) => StepOutcome {
             answer: Answer::Begun(txn.snapshot()),
             txn: Some(txn),
         },
-        Err(refusal) => refused(refusal, None),
+        Err(refusal) => answer_refused(refusal, None),
     }
 }
 
 /// A statement, in the open transaction. It takes no lock.
-fn run<N: Named>(txn: Option<Txn<N>>, statement: &Statement) -> Told<N>
+fn run<N: Named>(txn: Option<Txn<N>>, statement: &Statement) -> StepOutcome<N>
     ensures told { (seen : ℕ) → IsTold (Run statement.now) seen txn result.answer result.txn }
     ensures seen { (seen : ℕ) → seen_after result.answer seen ≡ seen }
 {
     let Some(mut txn) = txn else {
-        return refused(Refusal::NoTransaction, None);
+        return answer_refused(Refusal::NoTransaction, None);
     };
     match txn.execute(statement) {
-        Ok(reply) => Told {
+        Ok(reply) => StepOutcome {
             answer: Answer::Replied(reply),
             txn: Some(txn),
         },
         // (an arm of its own, since the transaction is then as it was, and otherwise has noted the statement)
-        Err(Refusal::NoMemory) => refused(Refusal::NoMemory, Some(txn)),
-        Err(refusal) => refused(refusal, Some(txn)),
+        Err(Refusal::NoMemory) => answer_refused(Refusal::NoMemory, Some(txn)),
+        Err(refusal) => answer_refused(refusal, Some(txn)),
     }
 }
 
@@ -99,24 +103,24 @@ fn commit<N: Named, R: Wait>(
     manager: &Manager<N>,
     session: &mut Session<N>,
     txn: Option<Txn<N>>,
-) -> Told<N>
+) -> StepOutcome<N>
     ensures told { IsTold Commit session.old.seen txn result.answer result.txn }
     ensures seen { session.new ≡ record session.old { seen = seen_after result.answer session.old.seen } }
 {
     let Some(txn) = txn else {
-        return refused(Refusal::NoTransaction, None);
+        return answer_refused(Refusal::NoTransaction, None);
     };
     match manager.commit(rt, session, txn) {
-        Ok(receipt) => Told {
+        Ok(receipt) => StepOutcome {
             answer: Answer::Committed(receipt.number()),
             txn: None,
         },
-        Err(fault) => uncommitted(fault),
+        Err(fault) => answer_uncommitted(fault),
     }
 }
 
 /// The refusal of a COMMIT, with the transaction where it was given back.
-fn uncommitted<N: Named>(fault: CommitFault<N>) -> Told<N>
+fn answer_uncommitted<N: Named>(fault: CommitFault<N>) -> StepOutcome<N>
     ensures { (result.answer ≡ Refused fault.refusal) × (result.txn ≡ fault.txn) }
 {
     let CommitFault {
@@ -124,23 +128,23 @@ fn uncommitted<N: Named>(fault: CommitFault<N>) -> Told<N>
         txn,
         shown: _,
     } = fault;
-    refused(refusal, txn)
+    answer_refused(refusal, txn)
 }
 
 /// ROLLBACK.
-fn roll_back<N: Named, R: Wait>(rt: &R, manager: &Manager<N>, txn: Option<Txn<N>>) -> Told<N>
+fn roll_back<N: Named, R: Wait>(rt: &R, manager: &Manager<N>, txn: Option<Txn<N>>) -> StepOutcome<N>
     ensures told { (seen : ℕ) → IsTold Rollback seen txn result.answer result.txn }
     ensures seen { (seen : ℕ) → seen_after result.answer seen ≡ seen }
 {
     let Some(txn) = txn else {
-        return refused(Refusal::NoTransaction, None);
+        return answer_refused(Refusal::NoTransaction, None);
     };
     match manager.rollback(rt, txn) {
-        Ok(()) => Told {
+        Ok(()) => StepOutcome {
             answer: Answer::RolledBack,
             txn: None,
         },
-        Err((refusal, txn)) => refused(refusal, Some(txn)),
+        Err((refusal, txn)) => answer_refused(refusal, Some(txn)),
     }
 }
 
@@ -155,4 +159,5 @@ pub fn end<N: Named, R: Wait>(rt: &R, manager: &Manager<N>, txn: Option<Txn<N>>)
     true
 }
 
+/// Lets a value go. Its type is a parameter here, so that the caller's proof does not go over its fields.
 fn let_go<T: Drop>(_value: T) {}

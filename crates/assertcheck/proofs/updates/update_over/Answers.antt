@@ -5,5 +5,5 @@ use Rattle.assertcheck.proofs.updates.update_over.Goals as goal
 
 pub returns-clause-refused : goal.returns-clause-refused
 returns-clause-refused c = by_last (shown_source c.args.target) c.args.places.now c.args.sets.now c.args.condition.now
-    c.in_ok-settings.settings.items c.from_vec.result c.in_ok-kept.kept c.columns.result.now c.sound.result
-    (search rules) (search rules) c.sound.ensures.sound c.columns.ensures.value c.from_vec.ensures
+    c.in_ok-settings.settings.items c.from_vec.result c.in_ok-filter.filter c.columns.result.now c.require_sound.result
+    (search rules) (search rules) c.require_sound.ensures.sound c.columns.ensures.value c.from_vec.ensures

@@ -1,4 +1,4 @@
-use Rattle.assertion.specs.Meaning.{kept_rows}
+use Rattle.assertion.specs.Meaning.{filtered_rows}
 use Rattle.alone.specs.Statements.{removal}
 use Rattle.changes.proofs.Due.{removals_due, removals_fit}
 use Rattle.changes.proofs.Walks.{all_done}
@@ -6,10 +6,10 @@ use Rattle.changes.proofs.deletions.removals.Goals as goal
 
 pub returns-clause-due : goal.returns-clause-due
 returns-clause-due c = λ layouts state fit k r.
-    removals_due layouts state fit c.args.table c.args.key c.args.kept.now c.args.rows.now c.loop-row.made.items k r
-    (all_done (removal c.args.table c.args.key) (kept_rows c.args.kept.now c.args.rows.now) c.loop-row.made.items c.loop-row.row-iterator c.in-None.ensures.steps.0 c.loop-row.invariant)
+    removals_due layouts state fit c.args.table c.args.key c.args.filter.now c.args.rows.now c.loop-row.made.items k r
+    (all_done (removal c.args.table c.args.key) (filtered_rows c.args.filter.now c.args.rows.now) c.loop-row.made.items c.loop-row.row-iterator c.in-None.ensures.steps.0 c.loop-row.invariant)
 
 pub returns-clause-fit : goal.returns-clause-fit
 returns-clause-fit c =
-    removals_fit c.args.table c.args.key (kept_rows c.args.kept.now c.args.rows.now) c.loop-row.made.items
-    (all_done (removal c.args.table c.args.key) (kept_rows c.args.kept.now c.args.rows.now) c.loop-row.made.items c.loop-row.row-iterator c.in-None.ensures.steps.0 c.loop-row.invariant)
+    removals_fit c.args.table c.args.key (filtered_rows c.args.filter.now c.args.rows.now) c.loop-row.made.items
+    (all_done (removal c.args.table c.args.key) (filtered_rows c.args.filter.now c.args.rows.now) c.loop-row.made.items c.loop-row.row-iterator c.in-None.ensures.steps.0 c.loop-row.invariant)

@@ -1,7 +1,7 @@
-use Rattle.assertion.specs.Meaning.{kept_rows}
+use Rattle.assertion.specs.Meaning.{filtered_rows}
 use Rattle.alone.specs.Statements.{removal}
 use Rattle.changes.proofs.Walks.{IsMade}
 use Rattle.changes.proofs.deletions.removals.Given as goal
 
 abbrev pub invariant-loop-row : goal.invariant-loop-row
-invariant-loop-row l = IsMade (removal l.table l.key) (kept_rows l.kept l.rows) l.made.items l.row-iterator
+invariant-loop-row l = IsMade (removal l.table l.key) (filtered_rows l.filter l.rows) l.made.items l.row-iterator

@@ -1,7 +1,8 @@
 use Rattle.std.proofs.Common.{◌∙◌, ap, sym, subst}
+use Rattle.std.proofs.lemmas.Option.{slice_get_past}
 use Rattle.table.specs.Rows.{FitsColumn, FitsColumns}
 use Rattle.alone.specs.Statements.{given_fault, given_value}
-use Rattle.changes.proofs.Fitting.{there, not_there, in_row, faultless_fits, fits_set, set_nothing}
+use Rattle.changes.proofs.Fitting.{there, in_row, faultless_fits, fits_set, set_nothing}
 use Rattle.changes.proofs.updates.with_setting.Goals as goal
 
 pub with_value-requires : goal.with_value-requires
@@ -21,8 +22,8 @@ returns-in_ok-value-in-Some-clause-fits c =
 
 pub returns-in-None-clause-made : goal.returns-in-None-clause-made
 returns-in-None-clause-made c =
-    sym (set_nothing c.args.columns.now c.args.values.items c.args.setting.now.column (given_value c.args.old.now c.args.setting.now.value) (not_there c.args.columns.now c.args.setting.now.column c.in-None.ensures.lookup.3) c.requires.fits)
+    sym (set_nothing c.args.columns.now c.args.values.items c.args.setting.now.column (given_value c.args.old.now c.args.setting.now.value) (slice_get_past c.args.columns.now c.args.setting.now.column c.in-None.ensures.lookup.3) c.requires.fits)
 
 pub returns-in-None-clause-faultless : goal.returns-in-None-clause-faultless
 returns-in-None-clause-faultless c =
-    ap (λ o. given_fault o (given_value c.args.old.now c.args.setting.now.value)) (not_there c.args.columns.now c.args.setting.now.column c.in-None.ensures.lookup.3)
+    ap (λ o. given_fault o (given_value c.args.old.now c.args.setting.now.value)) (slice_get_past c.args.columns.now c.args.setting.now.column c.in-None.ensures.lookup.3)

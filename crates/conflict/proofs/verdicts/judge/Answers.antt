@@ -11,7 +11,7 @@ returns-then-place-reader c = λ commit e.
     let asked : Asked c.args.committed.now c.args.candidate.now commit
     = record { log = c.requires.log; next = c.requires.next; after_snapshot = c.requires.after_snapshot; is = e } in
     as_pivot c.args.committed.now c.args.candidate.now commit asked c.least_out-place.result c.greatest_in-reader.result
-    (c.numbers.ensures _ commit (is_next c.args.committed.now c.args.candidate.now commit asked)) c.in_default.ensures.none
+    (c.two_numbers_decide.ensures _ commit (is_next c.args.committed.now c.args.candidate.now commit asked)) c.in_default.ensures.none
     (record { least = c.least_out-place.ensures; greatest = c.greatest_in-reader.ensures c.args.committed.now (candidate_next c.args.committed.now c.args.candidate.now c.requires.log c.requires.next) c.requires.readers }) c.if-place-reader.true
 
 pub returns-in-None : goal.returns-in-None
@@ -19,7 +19,7 @@ returns-in-None c = λ commit e.
     let asked : Asked c.args.committed.now c.args.candidate.now commit
     = record { log = c.requires.log; next = c.requires.next; after_snapshot = c.requires.after_snapshot; is = e } in
     as_fine c.args.committed.now c.args.candidate.now commit asked c.least_out-place.result c.greatest_in-reader.result
-    (c.numbers.ensures _ commit (is_next c.args.committed.now c.args.candidate.now commit asked)) c.in_default.ensures.none
+    (c.two_numbers_decide.ensures _ commit (is_next c.args.committed.now c.args.candidate.now commit asked)) c.in_default.ensures.none
     (record { least = c.least_out-place.ensures; greatest = c.greatest_in-reader.ensures c.args.committed.now (candidate_next c.args.committed.now c.args.candidate.now c.requires.log c.requires.next) c.requires.readers }) c.if-place-reader.false c.in-None.ensures.none
 
 pub returns-in-Some-find_pivot : goal.returns-in-Some-find_pivot
@@ -27,6 +27,6 @@ returns-in-Some-find_pivot c = λ commit e.
     let asked : Asked c.args.committed.now c.args.candidate.now commit
     = record { log = c.requires.log; next = c.requires.next; after_snapshot = c.requires.after_snapshot; is = e } in
     as_reader c.args.committed.now c.args.candidate.now commit asked c.least_out-place.result c.greatest_in-reader.result
-    (c.numbers.ensures _ commit (is_next c.args.committed.now c.args.candidate.now commit asked)) c.in_default.ensures.none
+    (c.two_numbers_decide.ensures _ commit (is_next c.args.committed.now c.args.candidate.now commit asked)) c.in_default.ensures.none
     (record { least = c.least_out-place.ensures; greatest = c.greatest_in-reader.ensures c.args.committed.now (candidate_next c.args.committed.now c.args.candidate.now c.requires.log c.requires.next) c.requires.readers }) c.if-place-reader.false
     c.in-Some-find_pivot.pivot.now c.in-Some-find_pivot.writer c.in-Some-find_pivot.ensures.found c.in-Some-find_pivot.ensures.writer

@@ -1,5 +1,5 @@
 use Rattle.std.proofs.Common.{◌≡◌, take}
-use Rattle.delta.specs.Kept.{AreShort}
+use Rattle.delta.specs.Maintained.{AreShort}
 use Rattle.delta.proofs.versions.copy_tables.Given as goal
 
 -- the tables so far, which can be counted

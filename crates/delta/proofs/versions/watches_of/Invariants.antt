@@ -1,6 +1,6 @@
 use Rattle.std.proofs.Common.{map}
 use Rattle.std.specs.Arc.{arc_value}
-use Rattle.delta.specs.Kept.{AreWatched}
+use Rattle.delta.specs.Maintained.{AreWatched}
 use Rattle.delta.proofs.versions.watches_of.Given as goal
 
 -- the watches so far are right for the first assertions

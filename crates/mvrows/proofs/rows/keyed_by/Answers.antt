@@ -1,10 +1,11 @@
 use Rattle.std.proofs.Common.{◌≡◌, ◌<◌, ◌∙◌, ap, sym, subst, arith, length, Some}
+use Rattle.std.proofs.lemmas.List.{take_all}
 use Rattle.value.specs.Ordered.{put}
 use Rattle.value.specs.ValueOrder.{value_cmp}
 use Rattle.table.specs.Rows.{RowValues}
 use Rattle.pages.specs.Reach.{key_of, entry_of}
 use Rattle.mvrows.specs.Keyed.{rows_of, AreKeyed}
-use Rattle.mvrows.proofs.KeyedRows.{rows_more, keyed_more, take_whole, length-rows_of}
+use Rattle.mvrows.proofs.KeyedRows.{rows_more, keyed_more, length-rows_of}
 use Rattle.mvrows.proofs.rows.keyed_by.Goals as goal
 
 pub loop-at-preserved : goal.loop-at-preserved
@@ -22,4 +23,4 @@ loop-at-preserved c =
 
 pub returns-clause-rows : goal.returns-clause-rows
 returns-clause-rows c =
-    c.loop-at.invariant.rows ∙ take_whole c.loop-at.at (rows_of c.args.pages.now) (omega (arith, c.loop-at-test.false, c.len-at-end.ensures.count, length-rows_of c.args.pages.now))
+    c.loop-at.invariant.rows ∙ take_all c.loop-at.at (rows_of c.args.pages.now) (omega (arith, c.loop-at-test.false, c.len-at-end.ensures.count, length-rows_of c.args.pages.now))

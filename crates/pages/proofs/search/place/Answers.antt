@@ -1,12 +1,12 @@
-use Rattle.std.proofs.Common.{◌≡◌, ◌-◌, ◌+◌, ◌<◌, ◌/◌, ◌∙◌, ap, sym, subst, arith, inl, length, map, ℕ, slice_index_or, true, false}
+use Rattle.std.proofs.Common.{◌≡◌, ◌-◌, ◌+◌, ◌<◌, ◌/◌, ◌∙◌, ap, sym, subst, arith, inl, length, map, ℕ, true, false}
 use Rattle.std.proofs.lemmas.List.{length-map}
 use Rattle.std.specs.Arc.{arc_value}
 use Rattle.std.specs.Ordering.{is_gt}
 use Rattle.value.specs.ValueOrder.{value_cmp}
 use Rattle.pages.specs.Reach.{IsGreatest}
-use Rattle.pages.specs.Levels.{Tree, entries_at}
-use Rattle.pages.proofs.Orders.{index_map}
-use Rattle.pages.proofs.Trees.{found, changed, passed_node, reached_node, entries_at-is, here_or_last}
+use Rattle.pages.specs.Levels.{entries_at}
+use Rattle.pages.proofs.Orders.{shared_there}
+use Rattle.pages.proofs.Trees.{found, changed, passed_node, reached_node, greatest_at, here_or_last}
 use Rattle.pages.proofs.search.place.Goals as goal
 
 pub loop-low-preserved-then-is_gt : goal.loop-low-preserved-then-is_gt
@@ -14,17 +14,14 @@ loop-low-preserved-then-is_gt g c =
     let ts = map arc_value c.args.nodes.now in
     let middle : ℕ = c.loop-low.low + (c.loop-low.high - c.loop-low.low) / 2 in
     let within : middle < length c.args.nodes.now = omega (arith, c.loop-low-test.true, c.loop-low.invariant.within) in
-    let within_all : middle < length ts = omega (arith, within, length-map c.args.nodes.now arc_value) in
-    let node : c.deref.result.now ≡ slice_index_or ts middle c.deref.result.now =
-    c.deref.ensures ∙ ap arc_value c.index-nodes-middle.is ∙ sym (index_map arc_value c.args.nodes.now middle c.index-nodes-middle.result) ∙ ap (slice_index_or ts middle) (sym c.deref.ensures) in
-    let there : c.deref.result.now.1 ≡ entries_at ts middle = ap (λ (t : Tree g.row.V.Denot). t.1) node ∙ sym (entries_at-is ts middle c.deref.result.now within_all) in
+    let node = shared_there c.args.nodes.now middle c.index-nodes-middle.result c.deref.result.now within c.index-nodes-middle.is c.deref.ensures in
     let greatest : IsGreatest c.deref-in-loop-low.result.now.0 (entries_at ts middle) =
-    subst (IsGreatest c.deref-in-loop-low.result.now.0) there (subst (λ k. IsGreatest k c.deref.result.now.1) (ap (λ e. e.0) (sym c.deref-in-loop-low.ensures)) c.greatest.ensures) in
+    greatest_at c.deref-in-loop-low.result.now.0 ts middle c.deref.result.now node (subst (λ k. IsGreatest k c.deref.result.now.1) (ap (λ e. e.0) (sym c.deref-in-loop-low.ensures)) c.greatest.ensures) in
     let high : is_gt (value_cmp c.args.key.now c.deref-in-loop-low.result.now.0) ≡ true = ap is_gt (sym c.order.ensures.value) ∙ sym c.is_gt.ensures ∙ c.if-is_gt.true in
     record {
       order = omega (arith, c.loop-low-test.true);
       within = c.loop-low.invariant.within;
-      before = passed_node c.args.key.now c.deref-in-loop-low.result.now.0 ts middle within_all c.requires.order greatest high;
+      before = passed_node c.args.key.now c.deref-in-loop-low.result.now.0 ts middle node.within c.requires.order greatest high;
       reached = c.loop-low.invariant.reached;
     }
 
@@ -33,12 +30,9 @@ loop-low-preserved g c =
     let ts = map arc_value c.args.nodes.now in
     let middle : ℕ = c.loop-low.low + (c.loop-low.high - c.loop-low.low) / 2 in
     let within : middle < length c.args.nodes.now = omega (arith, c.loop-low-test.true, c.loop-low.invariant.within) in
-    let within_all : middle < length ts = omega (arith, within, length-map c.args.nodes.now arc_value) in
-    let node : c.deref.result.now ≡ slice_index_or ts middle c.deref.result.now =
-    c.deref.ensures ∙ ap arc_value c.index-nodes-middle.is ∙ sym (index_map arc_value c.args.nodes.now middle c.index-nodes-middle.result) ∙ ap (slice_index_or ts middle) (sym c.deref.ensures) in
-    let there : c.deref.result.now.1 ≡ entries_at ts middle = ap (λ (t : Tree g.row.V.Denot). t.1) node ∙ sym (entries_at-is ts middle c.deref.result.now within_all) in
+    let node = shared_there c.args.nodes.now middle c.index-nodes-middle.result c.deref.result.now within c.index-nodes-middle.is c.deref.ensures in
     let greatest : IsGreatest c.deref-in-loop-low.result.now.0 (entries_at ts middle) =
-    subst (IsGreatest c.deref-in-loop-low.result.now.0) there (subst (λ k. IsGreatest k c.deref.result.now.1) (ap (λ e. e.0) (sym c.deref-in-loop-low.ensures)) c.greatest.ensures) in
+    greatest_at c.deref-in-loop-low.result.now.0 ts middle c.deref.result.now node (subst (λ k. IsGreatest k c.deref.result.now.1) (ap (λ e. e.0) (sym c.deref-in-loop-low.ensures)) c.greatest.ensures) in
     let low : is_gt (value_cmp c.args.key.now c.deref-in-loop-low.result.now.0) ≡ false = ap is_gt (sym c.order.ensures.value) ∙ sym c.is_gt.ensures ∙ c.if-is_gt.false in
     record {
       order = omega arith;
@@ -47,18 +41,14 @@ loop-low-preserved g c =
       reached = inl (reached_node c.args.key.now c.deref-in-loop-low.result.now.0 (entries_at ts middle) greatest low);
     }
 
-pub returns-clause-found : goal.returns-clause-found
-returns-clause-found g c =
+pub returns : goal.returns
+returns g c =
     let ts = map arc_value c.args.nodes.now in
     let end : c.loop-low.low ≡ c.loop-low.high = omega (arith, c.loop-low-test.false, c.loop-low.invariant.order) in
     let within : c.loop-low.low < length ts = omega (arith, end, c.loop-low.invariant.within, length-map c.args.nodes.now arc_value) in
-    found c.args.key.now ts c.loop-low.low within c.loop-low.invariant.before
-    (here_or_last c.args.key.now c.loop-low.low c.loop-low.high c.args.nodes.now end c.loop-low.invariant.reached)
-
-pub returns-clause-changed : goal.returns-clause-changed
-returns-clause-changed g c =
-    let ts = map arc_value c.args.nodes.now in
-    let end : c.loop-low.low ≡ c.loop-low.high = omega (arith, c.loop-low-test.false, c.loop-low.invariant.order) in
-    let within : c.loop-low.low < length ts = omega (arith, end, c.loop-low.invariant.within, length-map c.args.nodes.now arc_value) in
-    changed c.args.key.now ts c.loop-low.low within c.loop-low.invariant.before
-    (here_or_last c.args.key.now c.loop-low.low c.loop-low.high c.args.nodes.now end c.loop-low.invariant.reached)
+    let last = here_or_last c.args.key.now c.loop-low.low c.loop-low.high c.args.nodes.now end c.loop-low.invariant.reached in
+    record {
+      within = omega (arith, end, c.loop-low.invariant.within);
+      found = found c.args.key.now ts c.loop-low.low within c.loop-low.invariant.before last;
+      changed = changed c.args.key.now ts c.loop-low.low within c.loop-low.invariant.before last;
+    }

@@ -19,23 +19,23 @@ loop-low-preserved-in-Less g c =
       behind = above_entry c.args.key.now (map arc_value c.args.page.now) middle c.deref.result.now there.within there.is c.requires (sym c.order.ensures.value ∙ c.in-Less.is);
     }
 
-pub returns-in-Equal-clause-found : goal.returns-in-Equal-clause-found
-returns-in-Equal-clause-found g c =
+pub returns-in-Equal : goal.returns-in-Equal
+returns-in-Equal g c =
     let middle : ℕ = c.loop-low.low + (c.loop-low.high - c.loop-low.low) / 2 in
     let within : middle < length c.args.page.now = omega (arith, c.loop-low-test.true, c.loop-low.invariant.within) in
     let there = shared_there c.args.page.now middle c.index-page-middle.result c.deref.result.now within c.index-page-middle.is c.deref.ensures in
-    at_entry c.args.key.now (map arc_value c.args.page.now) middle c.deref.result.now there.within there.is c.requires (sym c.order.ensures.value ∙ c.in-Equal.is)
-    ∙ sym (get_is (map arc_value c.args.page.now) middle c.deref.result.now there.within there.is)
-
-pub returns-in-Equal-clause-put : goal.returns-in-Equal-clause-put
-returns-in-Equal-clause-put g c =
-    let middle : ℕ = c.loop-low.low + (c.loop-low.high - c.loop-low.low) / 2 in
-    let within : middle < length c.args.page.now = omega (arith, c.loop-low-test.true, c.loop-low.invariant.within) in
-    let there = shared_there c.args.page.now middle c.index-page-middle.result c.deref.result.now within c.index-page-middle.is c.deref.ensures in
+    let equal = sym c.order.ensures.value ∙ c.in-Equal.is in
     record {
-      order = omega arith;
-      within = omega (arith, there.within);
-      changed = put_entry c.args.key.now (map arc_value c.args.page.now) middle c.deref.result.now there.within there.is c.requires (sym c.order.ensures.value ∙ c.in-Equal.is);
+      within = within;
+      found = at_entry c.args.key.now (map arc_value c.args.page.now) middle c.deref.result.now there.within there.is c.requires equal
+          ∙ sym (get_is (map arc_value c.args.page.now) middle c.deref.result.now there.within there.is);
+      put = record {
+        order = omega arith;
+        within = omega (arith, there.within);
+        changed = put_entry c.args.key.now (map arc_value c.args.page.now) middle c.deref.result.now there.within there.is c.requires equal;
+      };
+      none = tt;
+      beside = tt;
     }
 
 pub loop-low-preserved : goal.loop-low-preserved
@@ -50,18 +50,18 @@ loop-low-preserved g c =
       behind = c.loop-low.invariant.behind;
     }
 
-pub returns-clause-none : goal.returns-clause-none
-returns-clause-none g c =
+pub returns : goal.returns
+returns g c =
     let end : c.loop-low.high ≡ c.loop-low.low = omega (arith, c.loop-low-test.false, c.loop-low.invariant.order) in
-    at_none c.args.key.now (map arc_value c.args.page.now) c.loop-low.low c.loop-low.invariant.before
-    (subst (λ (n : ℕ). AreAbove value_cmp key_of c.args.key.now (drop n (map arc_value c.args.page.now))) end c.loop-low.invariant.behind)
-
-pub returns-clause-beside : goal.returns-clause-beside
-returns-clause-beside g c =
-    let end : c.loop-low.high ≡ c.loop-low.low = omega (arith, c.loop-low-test.false, c.loop-low.invariant.order) in
+    let above = subst (λ (n : ℕ). AreAbove value_cmp key_of c.args.key.now (drop n (map arc_value c.args.page.now))) end c.loop-low.invariant.behind in
     record {
-      order = omega arith;
-      within = omega (arith, end, c.loop-low.invariant.within, length-map c.args.page.now arc_value);
-      changed = put_none c.args.key.now (map arc_value c.args.page.now) c.loop-low.low c.loop-low.invariant.before
-          (subst (λ (n : ℕ). AreAbove value_cmp key_of c.args.key.now (drop n (map arc_value c.args.page.now))) end c.loop-low.invariant.behind);
+      within = tt;
+      found = tt;
+      put = tt;
+      none = at_none c.args.key.now (map arc_value c.args.page.now) c.loop-low.low c.loop-low.invariant.before above;
+      beside = record {
+        order = omega arith;
+        within = omega (arith, end, c.loop-low.invariant.within, length-map c.args.page.now arc_value);
+        changed = put_none c.args.key.now (map arc_value c.args.page.now) c.loop-low.low c.loop-low.invariant.before above;
+      };
     }

@@ -7,10 +7,10 @@ use Rattle.parse.proofs.Telling.{told_at, told_found, told_only, told_refused}
 use Rattle.parse.proofs.calls.parse_schema.Goals as goal
 
 pub returns-clause-found : goal.returns-clause-found
-returns-clause-found c = told_found g.schemas r.defs exact_schemas 64 _ _ _ (told_at (whole (r.defs 64)) c.args.text.now _ _ _ _ (c.deref.ensures.value ∙ c.in_ok-tokens.ensures.all) c.schema_of.ensures)
+returns-clause-found c = told_found g.schemas r.definitions exact_schemas 64 _ _ _ (told_at (whole (r.definitions 64)) c.args.text.now _ _ _ _ (c.deref.ensures.value ∙ c.in_ok-tokens.ensures.all) c.schema_of.ensures)
 
 pub returns-clause-only : goal.returns-clause-only
-returns-clause-only c = told_only g.schemas r.defs exact_schemas 64 _ _ _ (told_at (whole (r.defs 64)) c.args.text.now _ _ _ _ (c.deref.ensures.value ∙ c.in_ok-tokens.ensures.all) c.schema_of.ensures)
+returns-clause-only c = told_only g.schemas r.definitions exact_schemas 64 _ _ _ (told_at (whole (r.definitions 64)) c.args.text.now _ _ _ _ (c.deref.ensures.value ∙ c.in_ok-tokens.ensures.all) c.schema_of.ensures)
 
 pub returns-clause-refused : goal.returns-clause-refused
-returns-clause-refused c = told_refused g.schemas r.defs exact_schemas 64 _ _ _ (told_at (whole (r.defs 64)) c.args.text.now _ _ _ _ (c.deref.ensures.value ∙ c.in_ok-tokens.ensures.all) c.schema_of.ensures)
+returns-clause-refused c = told_refused g.schemas r.definitions exact_schemas 64 _ _ _ (told_at (whole (r.definitions 64)) c.args.text.now _ _ _ _ (c.deref.ensures.value ∙ c.in_ok-tokens.ensures.all) c.schema_of.ensures)

@@ -4,6 +4,6 @@ use Rattle.reads.proofs.checks.push_tables.Given as goal
 
 -- what was pushed and what is to come is the whole
 abbrev pub invariant-loop-query : goal.invariant-loop-query
-invariant-loop-query l =
-    l.keys.items ++ map (λ q. WholeTable q.table) (drop l.query-index l.queries)
-    ≡ l.initial.keys.items ++ map (λ q. WholeTable q.table) l.queries
+invariant-loop-query g l =
+    l.keys.items ++ map WholeTable (map (λ q. q.table) (drop l.query-index l.queries))
+    ≡ l.initial.keys.items ++ map WholeTable (map (λ q. q.table) l.queries)

@@ -1,22 +1,21 @@
 use Rattle.std.proofs.Common.{◌∷◌, [], sym, ap, get_or}
 use Rattle.std.specs.Prelude.{◌&&◌, length}
 use Rattle.cond.specs.Eval.{keeps}
-use Rattle.roots.specs.Answers.{queries_of}
 use Rattle.roots.specs.Bad.{answers}
-use Rattle.roots.specs.Summaries.{members, summaries_of}
+use Rattle.roots.specs.Summaries.{members, summaries_of, queries_of}
 use Rattle.roots.proofs.BadLemmas.{no-row, some-row}
-use Rattle.roots.proofs.KeptLemmas.{totals-at}
+use Rattle.roots.proofs.MaintainedLemmas.{totals-at}
 use Rattle.roots.proofs.bad_roots.group_passes.Goals as goal
 
 pub returns-then-count_of-eq0-clause-bad : goal.returns-then-count_of-eq0-clause-bad
-returns-then-count_of-eq0-clause-bad c = λ state summary kept.
+returns-then-count_of-eq0-clause-bad c = λ state summary totals.
     let s = get_or (summaries_of c.args.form.now) 0 summary in
-    let totals = totals-at state (summaries_of c.args.form.now) (length (summaries_of c.args.form.now)) c.args.kept.now 0 c.index-kept-0.result kept c.requires.some c.index-kept-0.is summary in
-    ap (λ b. b && keeps (c.args.group.now ∷ []) (answers state (queries_of c.args.form.now) c.args.group.now) c.args.having.now) (sym (no-row c.count_of.result (length (members state s c.args.group.now)) c.if-count_of-eq0.true (c.count_of.ensures (members state s) totals)))
+    let right = totals-at state (summaries_of c.args.form.now) (length (summaries_of c.args.form.now)) c.args.totals.now 0 c.index-totals-0.result totals c.requires.some c.index-totals-0.is summary in
+    ap (λ b. b && keeps (c.args.group.now ∷ []) (answers state (queries_of c.args.form.now) c.args.group.now) c.args.having.now) (sym (no-row c.count_of.result (length (members state s c.args.group.now)) c.if-count_of-eq0.true (c.count_of.ensures (members state s) right)))
 
 pub returns-clause-bad : goal.returns-clause-bad
-returns-clause-bad c = λ state summary kept.
+returns-clause-bad c = λ state summary totals.
     let s = get_or (summaries_of c.args.form.now) 0 summary in
-    let totals = totals-at state (summaries_of c.args.form.now) (length (summaries_of c.args.form.now)) c.args.kept.now 0 c.index-kept-0.result kept c.requires.some c.index-kept-0.is summary in
-    rw (some-row c.count_of.result (length (members state s c.args.group.now)) c.if-count_of-eq0.false (c.count_of.ensures (members state s) totals), ← c.in_ok-row.ensures.row, ← c.in_ok-slots.ensures.values state kept)
+    let right = totals-at state (summaries_of c.args.form.now) (length (summaries_of c.args.form.now)) c.args.totals.now 0 c.index-totals-0.result totals c.requires.some c.index-totals-0.is summary in
+    rw (some-row c.count_of.result (length (members state s c.args.group.now)) c.if-count_of-eq0.false (c.count_of.ensures (members state s) right), ← c.in_ok-row.ensures.row, ← c.in_ok-slots.ensures.values state totals)
     c.keeps.ensures.value

@@ -4,7 +4,7 @@ use Rattle.std.proofs.lemmas.Result.{IfOk-weaker}
 use Rattle.value.specs.declared.values.Root.{Root}
 use Rattle.assertion.specs.Candidates.{candidates}
 use Rattle.roots.specs.Bad.{AreUpdated}
-use Rattle.roots.specs.Kept.{IsSmallRoot}
+use Rattle.roots.specs.Maintained.{IsSmallRoot}
 use Rattle.roots.proofs.UpdateLemmas.{AreBad-after, candidates_small}
 use Rattle.roots.proofs.updates.bad_after.Goals as goal
 

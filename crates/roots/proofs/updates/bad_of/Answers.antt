@@ -3,7 +3,7 @@ use Rattle.std.specs.Prelude.{All}
 use Rattle.std.proofs.lemmas.Result.{IfOk-weaker}
 use Rattle.value.specs.declared.values.Root.{Root}
 use Rattle.roots.specs.Bad.{AreUpdated}
-use Rattle.roots.specs.Kept.{IsSmallRoot}
+use Rattle.roots.specs.Maintained.{IsSmallRoot}
 use Rattle.roots.proofs.LoadedLemmas.{AreBad-named, named-small}
 use Rattle.roots.proofs.updates.bad_of.Goals as goal
 

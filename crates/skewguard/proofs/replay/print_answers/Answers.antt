@@ -1,6 +1,7 @@
 use Rattle.std.proofs.Common.{◌+◌, arith, drop, subst}
 use Rattle.std.proofs.lemmas.List.{drop_all}
-use Rattle.skewguard.proofs.Printing.{IsPrinted, drop_item, ends, goes_on}
+use Rattle.value.proofs.Lists.{drop_item}
+use Rattle.skewguard.proofs.Printing.{IsPrinted, ends, goes_on}
 use Rattle.skewguard.proofs.replay.print_answers.Goals as goal
 
 pub loop-step-preserved : goal.loop-step-preserved

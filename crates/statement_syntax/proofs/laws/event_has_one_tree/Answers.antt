@@ -5,4 +5,4 @@ use Rattle.reading.proofs.Whole as whole
 use Rattle.statement_syntax.proofs.laws.event_has_one_tree.Goals as goal
 
 pub returns : goal.returns
-returns c = λ ts a b h k. whole.one_tree g.events r.event_ exact_events ts a b h k
+returns c = λ ts a b h k. whole.one_tree g.events r.one_event exact_events ts a b h k

@@ -1,7 +1,6 @@
-use Rattle.std.proofs.Common.{◌≡◌, List, map, ap, sym, refl, ◌∙◌, subst, ◌++◌, ◌∷◌, []}
+use Rattle.std.proofs.Common.{◌≡◌, List, map, ap, sym, refl, ◌∙◌, subst, ◌++◌, ◌∷◌}
 use Rattle.table.specs.declared.rows.Change.{Change}
 use Rattle.assertion.specs.Declarations.{layouts_in}
-use Rattle.assertion.specs.Meaning.{State}
 use Rattle.assertion.specs.Roots.{AreChangesOf, state_after_all}
 use Rattle.modes.specs.Modes.{immediate_ones}
 use Rattle.alone.specs.Checks.{checks_read}
@@ -18,33 +17,33 @@ use Rattle.txn.proofs.steps.put_in.Goals as goal
 pub after-requires-clause-are : goal.after-requires-clause-are
 after-requires-clause-are c =
     subst (λ changes. AreChangesOf (layouts_in c.args.own.now.declared) changes c.args.own.now.state) (sym c.as_slice.ensures.value)
-    (due_changes (layouts_in c.args.own.now.declared) c.args.own.now.state c.in_order.ensures c.args.effect.changes.items c.requires.changes.due)
+    (due_changes (layouts_in c.args.own.now.declared) c.args.own.now.state c.recall_order.ensures c.args.effect.changes.items c.requires.changes.due)
 
-after_is : (c : goal.After-rows_unless) → c.in_ok-after.after.state ≡ state_after_all (layouts_in c.args.own.now.declared) c.args.effect.changes.items c.args.own.now.state
+after_is : (c : goal.After-leave_rows_unless) → c.in_ok-after.after.state ≡ state_after_all (layouts_in c.args.own.now.declared) c.args.effect.changes.items c.args.own.now.state
 after_is c =
     ap (λ (s : Shown). s.state) c.in_ok-after.ensures.changed
     ∙ ap (λ (changes : List Change). state_after_all (layouts_in c.args.own.now.declared) changes c.args.own.now.state) c.as_slice.ensures.value
 
 -- what stays of the changes is the net change of the statement
-net_is : (c : goal.After-rows_unless) → c.real_changes-real.result.items ≡ net_change (layouts_in c.args.own.now.declared) c.args.own.now.state (state_after_all (layouts_in c.args.own.now.declared) c.args.effect.changes.items c.args.own.now.state)
-net_is c = c.real_changes-real.ensures.real ∙ net_is_real (layouts_in c.args.own.now.declared) c.args.own.now.state c.in_order.ensures c.args.effect.changes.items c.requires.changes.due
+net_is : (c : goal.After-leave_rows_unless) → c.real_changes-real.result.items ≡ net_change (layouts_in c.args.own.now.declared) c.args.own.now.state (state_after_all (layouts_in c.args.own.now.declared) c.args.effect.changes.items c.args.own.now.state)
+net_is c = c.real_changes-real.ensures.real ∙ net_is_real (layouts_in c.args.own.now.declared) c.args.own.now.state c.recall_order.ensures c.args.effect.changes.items c.requires.changes.due
 
 pub returns-clause-done : goal.returns-clause-done
 returns-clause-done c = λ read is.
-    rows_done c.args.own.now c.args.modes.now read (record { reply = c.args.effect.reply; changes = c.args.effect.changes.items }) c.in_ok-after.after _ c.in_ok-violated.violated c.rows_unless.result
+    rows_done c.args.own.now c.args.modes.now read (record { reply = c.args.effect.reply; changes = c.args.effect.changes.items }) c.in_ok-after.after _ c.in_ok-violated.violated c.leave_rows_unless.result
     (after_is c)
     refl
     (rw (c.as_slice-4.ensures, c.in_ok-after.ensures.changed, c.as_slice.ensures.value) at c.in_ok-violated.ensures.first)
-    (c.rows_unless.ensures.reads ∙ c.in_ok-append.ensures.both ∙ ap (λ xs. xs ++ c.in_ok-checked.checked.items) is
+    (c.leave_rows_unless.ensures.reads ∙ c.in_ok-append.ensures.both ∙ ap (λ xs. xs ++ c.in_ok-checked.checked.items) is
     ∙ ap (λ ks. read ∷ ks) ((rw (c.as_slice-2.ensures, c.as_slice-3.ensures.value) at c.in_ok-checked.ensures.keys)
     ∙ ap (checks_read (immediate_ones c.args.modes.now c.args.own.now.declared.assertions)) (net_is c)))
-    c.rows_unless.ensures.left
+    c.leave_rows_unless.ensures.left
 
 pub returns-clause-changes : goal.returns-clause-changes
 returns-clause-changes c =
-    rows_differ c.args.own.now c.args.modes.now c.real_changes-real.result.items c.rows_unless.result.changes.items c.in_ok-after.after c.args.effect.reply c.in_ok-violated.violated c.rows_unless.result
+    rows_differ c.args.own.now c.args.modes.now c.real_changes-real.result.items c.leave_rows_unless.result.changes.items c.in_ok-after.after c.args.effect.reply c.in_ok-violated.violated c.leave_rows_unless.result
     (subst (λ changes. DifferAt (layouts_in c.args.own.now.declared) c.args.own.now.state c.in_ok-after.after.state (map place_of changes)) (sym (net_is c ∙ ap (net_change (layouts_in c.args.own.now.declared) c.args.own.now.state) (sym (after_is c))))
-    (differ_net (layouts_in c.args.own.now.declared) c.args.own.now.state c.in_ok-after.after.state c.in_order.ensures
+    (differ_net (layouts_in c.args.own.now.declared) c.args.own.now.state c.in_ok-after.after.state c.recall_order.ensures
     (subst (IsState (layouts_in c.args.own.now.declared)) (sym (after_is c))
-    (all_fit (layouts_in c.args.own.now.declared) c.args.effect.changes.items c.args.own.now.state c.in_order.ensures (each_from (IsPut (layouts_in c.args.own.now.declared)) c.args.effect.changes.items c.requires.changes.due.puts)))))
-    c.rows_unless.ensures.left c.rows_unless.ensures.changes
+    (all_fit (layouts_in c.args.own.now.declared) c.args.effect.changes.items c.args.own.now.state c.recall_order.ensures (each_from (IsPut (layouts_in c.args.own.now.declared)) c.args.effect.changes.items c.requires.changes.due.puts)))))
+    c.leave_rows_unless.ensures.left c.leave_rows_unless.ensures.changes

@@ -18,7 +18,7 @@ invariant_of-self-2 c =
     let there : c.self.inside.prepared ≡ Some p = sym c.take.ensures.value ∙ c.in-Some.is in
     let ready = kept_ready now c.self.inside.newest c.self.inside.places.items c.self.inside.order.items (readers_at c.self.inside.locks) Room p c.self.inside.prepared there c.self.invariant in
     let number : c.len.result + 1 ≡ length c.self.inside.records.items + 1 = ap (λ n. n + 1) (c.len.ensures ∙ c.self.inside.records.ok.0) in
-    let keys : c.reads.result.now ≡ keys_of p.closed = c.reads.ensures ∙ ap keys_of c.given_up-closed.ensures in
+    let keys : c.reads.result.now ≡ keys_of p.closed = c.reads.ensures ∙ ap keys_of c.give_up-closed.ensures in
     let low : AreBelow (c.len.result + 1) (reads_kept now) =
     subst (λ n. AreBelow n (reads_kept now)) (sym number)
     (reads_below c.self.inside.records.items (length c.self.inside.records.items + 1) (least_held (length c.self.inside.records.items) c.self.inside.live.snapshots)

@@ -44,8 +44,8 @@ returns-in-Fine-clause-judged c = λ session.
       changes = c.changes-changes.ensures.net;
     }))))
 
-pub write_conflict-requires-clause-within : goal.write_conflict-requires-clause-within
-write_conflict-requires-clause-within c =
+pub refuse_for_writer-requires-clause-within : goal.refuse_for_writer-requires-clause-within
+refuse_for_writer-requires-clause-within c =
     let now = idle_core c.self.inside.limit c.self.inside.loaded c.self.inside.records.items c.self.inside.refused.items c.self.inside.live in
     let is : now ≡ c.args.self.now = idle_view now c.args.self.now c.self.inside.prepared c.self.view_is c.requires.idle in
     let at = c.in-WriteConflict.ensures (record_of now [] c.args.closed.now) (record {
@@ -56,8 +56,8 @@ write_conflict-requires-clause-within c =
     }) in
     subst (λ (changes : List Change). c.in-WriteConflict.row < length changes) (sym c.changes-changes.ensures.net) at.within
 
-pub write_conflict-requires-clause-tables : goal.write_conflict-requires-clause-tables
-write_conflict-requires-clause-tables c =
+pub refuse_for_writer-requires-clause-tables : goal.refuse_for_writer-requires-clause-tables
+refuse_for_writer-requires-clause-tables c =
     let now = idle_core c.self.inside.limit c.self.inside.loaded c.self.inside.records.items c.self.inside.refused.items c.self.inside.live in
     let is : now ≡ c.args.self.now = idle_view now c.args.self.now c.self.inside.prepared c.self.view_is c.requires.idle in
     let live = subst (λ (s : CoreState). IsLive s c.args.closed.now) (sym is) c.requires.live in
@@ -86,8 +86,8 @@ pub returns-in-Dangerous-clause-judged : goal.returns-in-Dangerous-clause-judged
 returns-in-Dangerous-clause-judged c = λ session.
     let now = idle_core c.self.inside.limit c.self.inside.loaded c.self.inside.records.items c.self.inside.refused.items c.self.inside.live in
     let is : now ≡ c.args.self.now = idle_view now c.args.self.now c.self.inside.prepared c.self.view_is c.requires.idle in
-    subst (λ (s : CoreState). IsJudgment s (record_of s session c.args.closed.now) (Refused c.dangerous.result)) is
-    (judged_danger now session c.args.closed.now c.in-Dangerous.danger c.dangerous.result c.dangerous.ensures
+    subst (λ (s : CoreState). IsJudgment s (record_of s session c.args.closed.now) (Refused c.refuse_for_triple.result)) is
+    (judged_danger now session c.args.closed.now c.in-Dangerous.danger c.refuse_for_triple.result c.refuse_for_triple.ensures
     (subst (λ records. IsVerdict (reverse records) (record_of now session c.args.closed.now) (Dangerous c.in-Dangerous.danger)) c.as_slice-records.ensures.value
     (c.in-Dangerous.ensures (record_of now session c.args.closed.now) (record {
       number = ap (λ (records : List Record). length records + 1) c.as_slice-records.ensures.value;

@@ -11,7 +11,7 @@ invariant_of-self-2 c =
     let now = idle_core c.self.inside.limit c.self.inside.loaded c.self.inside.records.items c.self.inside.refused.items c.self.inside.live in
     let Room : Type 0 = (vec_len c.self.inside.records < vec_capacity c.self.inside.records) × (vec_len c.self.inside.places < vec_capacity c.self.inside.places) × (vec_len c.self.inside.order < vec_capacity c.self.inside.order) in
     kept_left now c.self.inside.newest c.self.inside.places.items c.self.inside.order.items (readers_at c.self.inside.locks) Room _
-    c.self.inside.prepared c.args.closed.ticket c.forget.new.live c.note.new.refused.items _ (readers_at c.forget.new.locks)
+    c.self.inside.prepared c.args.closed.ticket c.forget.new.live c.note_refused.new.refused.items _ (readers_at c.forget.new.locks)
     (is_idle now c.args.self.now c.self.inside.prepared c.self.view_is c.requires.idle)
     (c.forget.ensures.live ∙ ap (λ ticket. without ticket c.self.inside.live) c.ticket.ensures)
     (c.len-newest.ensures ∙ c.self.inside.records.ok.0) c.forget.ensures.locks c.self.invariant

@@ -1,5 +1,5 @@
 use Rattle.delta.proofs.TableLemmas.{good_order, good_small, new_small, old_small}
-use Rattle.delta.proofs.WatchLemmas.{kept_after}
+use Rattle.delta.proofs.WatchLemmas.{maintained_after}
 use Rattle.delta.proofs.watches.Watch.after.Goals as goal
 
 pub totals_after-requires-clause-old_small : goal.totals_after-requires-clause-old_small
@@ -17,23 +17,23 @@ bad_after-requires-clause-old_small c = old_small c.args.schemas.now c.args.chan
 pub bad_after-requires-clause-new_small : goal.bad_after-requires-clause-new_small
 bad_after-requires-clause-new_small c = new_small c.args.schemas.now c.args.change.now c.requires.before.step.fits
 
-pub bad_after-requires-clause-kept : goal.bad_after-requires-clause-kept
-bad_after-requires-clause-kept c =
-    rw c.deref-2.ensures.value (kept_after c.args.schemas.now c.args.form.now c.args.change.now c.args.tables.now c.args.self.now c.in_ok-totals.totals.items c.requires.before (rw c.deref.ensures.value at c.in_ok-totals.ensures.kept))
+pub bad_after-requires-clause-totals : goal.bad_after-requires-clause-totals
+bad_after-requires-clause-totals c =
+    rw c.deref-2.ensures.value (maintained_after c.args.schemas.now c.args.form.now c.args.change.now c.args.tables.now c.args.self.now c.in_ok-totals.totals.items c.requires.before (rw c.deref.ensures.value at c.in_ok-totals.ensures.totals))
 
-pub truth_of-requires-clause-kept : goal.truth_of-requires-clause-kept
-truth_of-requires-clause-kept c = record {
+pub truth_of-requires-clause-totals : goal.truth_of-requires-clause-totals
+truth_of-requires-clause-totals c = record {
   state = c.args.tables.now;
   small = good_small c.args.schemas.now c.args.tables.now c.requires.before.step.good_after;
-  kept = rw c.deref-3.ensures.value (kept_after c.args.schemas.now c.args.form.now c.args.change.now c.args.tables.now c.args.self.now c.in_ok-totals.totals.items c.requires.before (rw c.deref.ensures.value at c.in_ok-totals.ensures.kept));
+  totals = rw c.deref-3.ensures.value (maintained_after c.args.schemas.now c.args.form.now c.args.change.now c.args.tables.now c.args.self.now c.in_ok-totals.totals.items c.requires.before (rw c.deref.ensures.value at c.in_ok-totals.ensures.totals));
 }
 
 pub returns-clause-watched : goal.returns-clause-watched
 returns-clause-watched c =
-    let kept = kept_after c.args.schemas.now c.args.form.now c.args.change.now c.args.tables.now c.args.self.now c.in_ok-totals.totals.items c.requires.before (rw c.deref.ensures.value at c.in_ok-totals.ensures.kept) in
+    let totals = maintained_after c.args.schemas.now c.args.form.now c.args.change.now c.args.tables.now c.args.self.now c.in_ok-totals.totals.items c.requires.before (rw c.deref.ensures.value at c.in_ok-totals.ensures.totals) in
     let bad = c.in_ok-bad.ensures.bad c.requires.before.before (good_order c.args.schemas.now c.requires.before.before c.requires.before.step.good) c.requires.before.step.is c.requires.before.step.changed c.requires.before.watched.bad in
     record {
-      kept = kept;
+      totals = totals;
       bad = bad;
-      truth = c.in_ok-truth.ensures.truth c.args.schemas.now c.args.tables.now (good_order c.args.schemas.now c.args.tables.now c.requires.before.step.good_after) (rw c.deref-3.ensures.value kept) bad;
+      truth = c.in_ok-truth.ensures.truth c.args.schemas.now c.args.tables.now (good_order c.args.schemas.now c.args.tables.now c.requires.before.step.good_after) (rw c.deref-3.ensures.value totals) bad;
     }

@@ -1,4 +1,4 @@
-use Rattle.std.proofs.Common.{◌≡◌, ◌∙◌, ap, sym, subst, arith, List, Option}
+use Rattle.std.proofs.Common.{◌≡◌, ◌∙◌, ap, sym, subst, arith, rules, List, Option}
 use Rattle.value.specs.Ordered.{put, IsAscending}
 use Rattle.value.specs.ValueOrder.{value_cmp}
 use Rattle.value.specs.declared.values.Value.{Value}
@@ -20,8 +20,8 @@ invariant_of-result c =
     c.in_ok-pages.ensures.changed ∙ ap (λ (r : Option RowValues). put value_cmp key_of k (entry_of k r) keyed) c.in_ok-new.ensures.equal in
     subst (AreKeyed column) (sym made) (keyed-put column k new keyed c.requires.keyed c.in_ok-keyed.ensures.keyed)
 
-pub returns-clause-changed : goal.returns-clause-changed
-returns-clause-changed c =
+pub returns : goal.returns
+returns c =
     let k = c.args.change.now.key in
     let column = c.args.key_column in
     let new = c.args.change.now.new in
@@ -30,31 +30,10 @@ returns-clause-changed c =
     c.in_ok-pages.ensures.changed ∙ ap (λ (r : Option RowValues). put value_cmp key_of k (entry_of k r) keyed) c.in_ok-new.ensures.equal in
     let changed : rows_of c.in_ok-pages.pages ≡ put_row column k new c.args.self.now =
     ap rows_of made ∙ put-rows column k new keyed c.in_ok-keyed.ensures.keyed ∙ ap (put_row column k new) (c.in_ok-keyed.ensures.rows ∙ c.self.view_is) in
-    changed
-
-pub returns-clause-ordered : goal.returns-clause-ordered
-returns-clause-ordered c =
-    let k = c.args.change.now.key in
-    let column = c.args.key_column in
-    let new = c.args.change.now.new in
-    let keyed : List (Value × RowValues) = c.in_ok-keyed.keyed in
-    let made : c.in_ok-pages.pages ≡ put value_cmp key_of k (entry_of k new) keyed =
-    c.in_ok-pages.ensures.changed ∙ ap (λ (r : Option RowValues). put value_cmp key_of k (entry_of k r) keyed) c.in_ok-new.ensures.equal in
-    let changed : rows_of c.in_ok-pages.pages ≡ put_row column k new c.args.self.now =
-    ap rows_of made ∙ put-rows column k new keyed c.in_ok-keyed.ensures.keyed ∙ ap (put_row column k new) (c.in_ok-keyed.ensures.rows ∙ c.self.view_is) in
-    subst (IsAscending value_cmp (value_in column)) (sym changed) (IsAscending-put value_cmp_total (value_in column) k new c.args.self.now c.requires.keyed c.requires.ordered)
-
-pub returns-clause-others : goal.returns-clause-others
-returns-clause-others c = λ other.
-    let k = c.args.change.now.key in
-    let column = c.args.key_column in
-    let new = c.args.change.now.new in
-    let keyed : List (Value × RowValues) = c.in_ok-keyed.keyed in
-    let made : c.in_ok-pages.pages ≡ put value_cmp key_of k (entry_of k new) keyed =
-    c.in_ok-pages.ensures.changed ∙ ap (λ (r : Option RowValues). put value_cmp key_of k (entry_of k r) keyed) c.in_ok-new.ensures.equal in
-    let changed : rows_of c.in_ok-pages.pages ≡ put_row column k new c.args.self.now =
-    ap rows_of made ∙ put-rows column k new keyed c.in_ok-keyed.ensures.keyed ∙ ap (put_row column k new) (c.in_ok-keyed.ensures.rows ∙ c.self.view_is) in
-    ap (row_at column other) changed ∙ at-put value_cmp_total (value_in column) k new c.args.self.now c.requires.keyed c.requires.ordered other
-
-pub returns-clause-short : goal.returns-clause-short
-returns-clause-short c = omega (arith, c.in_ok-pages.ensures.short, length-rows_of c.in_ok-pages.pages)
+    record {
+      only_memory = search rules;
+      changed = changed;
+      ordered = subst (IsAscending value_cmp (value_in column)) (sym changed) (IsAscending-put value_cmp_total (value_in column) k new c.args.self.now c.requires.keyed c.requires.ordered);
+      others = λ other. ap (row_at column other) changed ∙ at-put value_cmp_total (value_in column) k new c.args.self.now c.requires.keyed c.requires.ordered other;
+      short = omega (arith, c.in_ok-pages.ensures.short, length-rows_of c.in_ok-pages.pages);
+    }

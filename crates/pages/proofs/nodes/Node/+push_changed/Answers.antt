@@ -23,30 +23,8 @@ push_page-requires-clause-order g t c =
     subst AreInOrder (sym (c.in_ok-page-in-Leaf.ensures.changed ∙ ap (λ (cs : List (Arc (Value × g.row.V.Denot) Global)). put value_cmp key_of c.args.key.now new (map arc_value cs)) c.deref.ensures.value))
     (IsAscending-put value_cmp_total key_of c.args.key.now new page c.requires order)
 
-pub push_nodes-requires-clause-most : goal.push_nodes-requires-clause-most
-push_nodes-requires-clause-most g t c =
-    let new = option_map arc_value c.args.new.now in
-    let nodes : List (Arc (Tree g.row.V.Denot) Global) = c.in-Inner.nodes.items in
-    let below : AreBelow (map arc_value nodes) = subst IsWhole c.in-Inner.is c.self.invariant.1 in
-    let made = descends c.args.key.now new nodes c.deref-in-Inner.result.now c.deref-in-Inner-2.result.now c.deref-in-Inner-4.result.now c.place-place.result c.index.result.now c.deref-in-Inner-3.result.now
-    (map arc_value c.in_ok-made-in-Inner.made.items) (map arc_value c.push_changed.new.out.items) (map arc_value c.push_shared.new.made.items)
-    c.deref-in-Inner.ensures.value c.deref-in-Inner-2.ensures.value c.deref-in-Inner-4.ensures.value c.place-place.ensures.within c.place-place.ensures.changed
-    c.in_ok-made-in-Inner.ensures.nodes c.index.ensures c.deref-in-Inner-3.ensures c.in_ok-push_changed-in-Inner.ensures.changed c.in_ok-push_shared-in-Inner.ensures.pushed below in
-    omega (arith, made.few, length-map c.push_shared.new.made.items arc_value)
-
-pub push_nodes-requires-clause-level : goal.push_nodes-requires-clause-level
-push_nodes-requires-clause-level g t c =
-    let new = option_map arc_value c.args.new.now in
-    let nodes : List (Arc (Tree g.row.V.Denot) Global) = c.in-Inner.nodes.items in
-    let below : AreBelow (map arc_value nodes) = subst IsWhole c.in-Inner.is c.self.invariant.1 in
-    let made = descends c.args.key.now new nodes c.deref-in-Inner.result.now c.deref-in-Inner-2.result.now c.deref-in-Inner-4.result.now c.place-place.result c.index.result.now c.deref-in-Inner-3.result.now
-    (map arc_value c.in_ok-made-in-Inner.made.items) (map arc_value c.push_changed.new.out.items) (map arc_value c.push_shared.new.made.items)
-    c.deref-in-Inner.ensures.value c.deref-in-Inner-2.ensures.value c.deref-in-Inner-4.ensures.value c.place-place.ensures.within c.place-place.ensures.changed
-    c.in_ok-made-in-Inner.ensures.nodes c.index.ensures c.deref-in-Inner-3.ensures c.in_ok-push_changed-in-Inner.ensures.changed c.in_ok-push_shared-in-Inner.ensures.pushed below in
-    own_height (highest (map arc_value nodes)) (map arc_value c.push_shared.new.made.items) made.level
-
-pub push_nodes-requires-clause-order : goal.push_nodes-requires-clause-order
-push_nodes-requires-clause-order g t c =
+pub push_nodes-requires : goal.push_nodes-requires
+push_nodes-requires g t c =
     let new = option_map arc_value c.args.new.now in
     let nodes : List (Arc (Tree g.row.V.Denot) Global) = c.in-Inner.nodes.items in
     let below : AreBelow (map arc_value nodes) = subst IsWhole c.in-Inner.is c.self.invariant.1 in
@@ -55,7 +33,11 @@ push_nodes-requires-clause-order g t c =
     c.deref-in-Inner.ensures.value c.deref-in-Inner-2.ensures.value c.deref-in-Inner-4.ensures.value c.place-place.ensures.within c.place-place.ensures.changed
     c.in_ok-made-in-Inner.ensures.nodes c.index.ensures c.deref-in-Inner-3.ensures c.in_ok-push_changed-in-Inner.ensures.changed c.in_ok-push_shared-in-Inner.ensures.pushed below in
     let order : AreInOrder (entries_of (map arc_value nodes)) = subst (λ s. AreInOrder (seen s).1) c.in-Inner.is c.self.invariant.0.order in
-    subst AreInOrder (sym made.items) (IsAscending-put value_cmp_total key_of c.args.key.now new (entries_of (map arc_value nodes)) c.requires order)
+    record {
+      most = omega (arith, made.few, length-map c.push_shared.new.made.items arc_value);
+      level = own_height (highest (map arc_value nodes)) (map arc_value c.push_shared.new.made.items) made.level;
+      order = subst AreInOrder (sym made.items) (IsAscending-put value_cmp_total key_of c.args.key.now new (entries_of (map arc_value nodes)) c.requires order);
+    }
 
 pub returns-in_ok-push_shared-in-Inner-clause-changed :
     goal.returns-in_ok-push_shared-in-Inner-clause-changed

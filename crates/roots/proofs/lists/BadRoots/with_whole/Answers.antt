@@ -1,9 +1,9 @@
-use Rattle.roots.proofs.ListedLemmas.{whole-put, whole-kept}
+use Rattle.roots.proofs.ListedLemmas.{whole-put, whole-there}
 use Rattle.roots.proofs.lists.BadRoots.with_whole.Goals as goal
 
 pub invariant_of-result : goal.invariant_of-result
 invariant_of-result c = record {
-  by_itself = rw c.the_whole.ensures (whole-kept c.args.is_in);
+  by_itself = rw c.the_whole.ensures (whole-there c.args.is_in);
   under = rw c.in_ok-copy.ensures.equal c.self.invariant.under;
 }
 

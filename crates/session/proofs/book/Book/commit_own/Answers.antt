@@ -10,8 +10,8 @@ use Rattle.session.proofs.Tokens.{book_committed, receipts_of}
 use Rattle.session.proofs.Committing.{back_ticketed, refused_book, refused_reason, refused_told}
 use Rattle.session.proofs.book.Book.commit_own.Goals as goal
 
-pub not_committed-requires : goal.not_committed-requires
-not_committed-requires g c =
+pub refuse_commit-requires : goal.refuse_commit-requires
+refuse_commit-requires g c =
     let closed : Ticketed = record { inner = c.closed.inside.inner; ticket = c.closed.inside.ticket } in (
       lit< tt,
       (
@@ -38,13 +38,13 @@ returns-in-Err-clause-refused g c =
     let declared : closed.inner.declared ≡ c.self.inside.core.declared =
     ap (λ (t : Ticketed). t.inner.declared) c.closed.view_is ∙ (c.requires.live.declared_is ∙ ap (λ (s : BookState). s.core.declared) (sym c.self.view_is)) in
     let count : c.count-count.result ≡ length c.self.inside.core.records = c.count-count.ensures.count ∙ ap (λ (s : BookState). length s.core.records) (sym c.self.view_is) in
-    let shown : c.not_committed.result.shown ≡ shown_unless c.in-Err.fault.txn (shown_for book c.in-Err.fault.refusal) =
-    c.not_committed.ensures.shown
+    let shown : c.refuse_commit.result.shown ≡ shown_unless c.in-Err.fault.txn (shown_for book c.in-Err.fault.refusal) =
+    c.refuse_commit.ensures.shown
     ∙ (ap (λ (ts : List Token). shown_unless c.in-Err.fault.txn (shown_among ts c.self.inside.id c.self.inside.epoch c.count-count.result c.in-Err.fault.refusal)) (c.as_slice.ensures.value ∙ c.in-Err.ensures.same)
     ∙ ap (λ (n : ℕ). shown_unless c.in-Err.fault.txn (shown_among c.self.inside.tokens.items c.self.inside.id c.self.inside.epoch n c.in-Err.fault.refusal)) count) in
     refused_told _ _ book c.self.invariant log c.args.session.now.name closed declared c.in-Err.fault.refusal c.in-Err.fault.txn c.append.new.core c.in-Err.ensures.refused
-    c.args.self.now c.self.view_is c.args.closed c.closed.view_is c.not_committed.result.refusal c.not_committed.ensures.refusal c.not_committed.result.txn c.not_committed.ensures.txn
-    c.not_committed.result.shown shown
+    c.args.self.now c.self.view_is c.args.closed c.closed.view_is c.refuse_commit.result.refusal c.refuse_commit.ensures.refusal c.refuse_commit.result.txn c.refuse_commit.ensures.txn
+    c.refuse_commit.result.shown shown
     _ (ap (λ (ts : List Token). record { core = c.append.new.core; id = c.self.inside.id; epoch = c.self.inside.epoch; tokens = ts; handed = c.self.inside.handed; most = c.self.inside.most }) c.in-Err.ensures.same)
 
 pub returns-in-Err-clause-reason : goal.returns-in-Err-clause-reason
@@ -55,15 +55,15 @@ returns-in-Err-clause-reason g c =
     let declared : closed.inner.declared ≡ c.self.inside.core.declared =
     ap (λ (t : Ticketed). t.inner.declared) c.closed.view_is ∙ (c.requires.live.declared_is ∙ ap (λ (s : BookState). s.core.declared) (sym c.self.view_is)) in
     let count : c.count-count.result ≡ length c.self.inside.core.records = c.count-count.ensures.count ∙ ap (λ (s : BookState). length s.core.records) (sym c.self.view_is) in
-    let shown : c.not_committed.result.shown ≡ shown_unless c.in-Err.fault.txn (shown_for book c.in-Err.fault.refusal) =
-    c.not_committed.ensures.shown
+    let shown : c.refuse_commit.result.shown ≡ shown_unless c.in-Err.fault.txn (shown_for book c.in-Err.fault.refusal) =
+    c.refuse_commit.ensures.shown
     ∙ (ap (λ (ts : List Token). shown_unless c.in-Err.fault.txn (shown_among ts c.self.inside.id c.self.inside.epoch c.count-count.result c.in-Err.fault.refusal)) (c.as_slice.ensures.value ∙ c.in-Err.ensures.same)
     ∙ ap (λ (n : ℕ). shown_unless c.in-Err.fault.txn (shown_among c.self.inside.tokens.items c.self.inside.id c.self.inside.epoch n c.in-Err.fault.refusal)) count) in
     let id : c.self.inside.id ≡ c.args.id = ap (λ (s : BookState). s.id) c.self.view_is ∙ c.requires.id in
     let reason = refused_reason _ _ book c.self.invariant log c.args.session.now.name closed declared c.in-Err.fault.refusal c.in-Err.fault.txn c.append.new.core c.in-Err.ensures.refused in
-    subst (λ (n : ℕ). IsReason (g.N.Named.limits n).commits c.args.session.now.name c.args.closed.inner c.not_committed.result.refusal c.not_committed.result.shown) id
-    (subst (λ (x : Ticketed). IsReason (g.N.Named.limits c.self.inside.id).commits c.args.session.now.name x.inner c.not_committed.result.refusal c.not_committed.result.shown) c.closed.view_is
-    (subst (λ (r : Refusal). IsReason (g.N.Named.limits c.self.inside.id).commits c.args.session.now.name closed.inner r c.not_committed.result.shown) (sym c.not_committed.ensures.refusal)
+    subst (λ (n : ℕ). IsReason (g.N.Named.limits n).commits c.args.session.now.name c.args.closed.inner c.refuse_commit.result.refusal c.refuse_commit.result.shown) id
+    (subst (λ (x : Ticketed). IsReason (g.N.Named.limits c.self.inside.id).commits c.args.session.now.name x.inner c.refuse_commit.result.refusal c.refuse_commit.result.shown) c.closed.view_is
+    (subst (λ (r : Refusal). IsReason (g.N.Named.limits c.self.inside.id).commits c.args.session.now.name closed.inner r c.refuse_commit.result.shown) (sym c.refuse_commit.ensures.refusal)
     (subst (λ (s : List (Option ReceiptState)). IsReason (g.N.Named.limits c.self.inside.id).commits c.args.session.now.name closed.inner c.in-Err.fault.refusal s) (sym shown) reason)))
 
 pub invariant_of-self-2 : goal.invariant_of-self-2

@@ -10,12 +10,12 @@ use Rattle.session.proofs.book.Book.standing.Goals as goal
 pub returns-then-self-id : goal.returns-then-self-id
 returns-then-self-id g c =
     let view = c.args.loaded.now.value.view in
-    let is : c.truth_on.result ≡ truth_of view (assertion_of c.args.name.now view.declared.assertions) =
-    rw (ap (λ i. i.view) c.item.ensures) at c.truth_on.ensures in
+    let is : c.verdict_on.result ≡ truth_of view (assertion_of c.args.name.now view.declared.assertions) =
+    rw (ap (λ i. i.view) c.item.ensures) at c.verdict_on.ensures in
     rw is (stands view.declared view.state c.args.name.now c.requires.good)
 
 pub returns : goal.returns
 returns g c =
-    let same : c.self.inside.core.declared ≡ c.args.loaded.now.value.view.declared = ap (λ (b : BookState). b.core.declared) c.self.view_is ∙ c.begins_on.ensures in
+    let same : c.self.inside.core.declared ≡ c.args.loaded.now.value.view.declared = ap (λ (b : BookState). b.core.declared) c.self.view_is ∙ c.recall_loaded.ensures in
     subst (λ (d : Declared). IsStanding (assertion_of c.args.name.now d.assertions) c.verdict.result) same
     (stands_newest c.self.inside.core c.args.name.now c.is_log.ensures c.is_serializable.ensures c.verdict.result c.verdict.ensures)

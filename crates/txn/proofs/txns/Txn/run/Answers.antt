@@ -2,7 +2,7 @@ use Rattle.std.proofs.Common.{ap, sym, ◌≡◌, ◌∙◌, subst, Ok, Err}
 use Rattle.std.specs.Prelude.{IfOk, IfErr, ◌≢◌}
 use Rattle.value.specs.declared.refusals.Refusal.TheVariants.{NoMemory}
 use Rattle.alone.specs.Alone.{Step}
-use Rattle.txn.specs.Transactions.{OpenTransaction, step_of}
+use Rattle.txn.specs.Transactions.{step_of}
 use Rattle.txn.specs.contracts.txns.Txn as txn
 use Rattle.txn.proofs.Holding.{held_after, never, reply_err, reply_ok, step_is}
 use Rattle.txn.proofs.txns.Txn.run.Goals as goal
@@ -11,7 +11,7 @@ pub invariant_of-self-2 : goal.invariant_of-self-2
 invariant_of-self-2 c =
     rw (c.settle.ensures, c.settle_modes.ensures, c.push_reserved.ensures.items, c.make_room.ensures.trace)
     (held_after (txn.the_view c.self.inside)
-    c.self.inside.own c.self.inside.modes c.self.inside.touched c.make_room.new.touched c.self.inside.reads.items c.make_room.new.reads.items c.args.statement c.in-Ok.done c.runs.ensures c.self.invariant
+    c.self.inside.own c.self.inside.modes c.self.inside.touched c.make_room.new.touched c.self.inside.reads.items c.make_room.new.reads.items c.args.statement c.in-Ok.done c.runs_are_joined.ensures c.self.invariant
     c.in-Ok.ensures.done c.in-Ok.ensures.of c.in-Ok.ensures.changes c.make_room.ensures.kept (rw (c.as_slice.ensures.value) at c.in_default.ensures.added) c.in_default.ensures.read)
 
 pub returns-clause-replied : goal.returns-clause-replied

@@ -1,5 +1,0 @@
-use Rattle.alone.proofs.Keyless.{checked_keyless}
-use Rattle.alone.proofs.laws.updates.Goals as goal
-
-pub returns : goal.returns
-returns c = checked_keyless

@@ -1,6 +1,0 @@
-use Rattle.std.proofs.Common.{◌≡◌, take}
-use Rattle.assertion.proofs.linked_queries.copy_linked.Given as goal
-
--- the copies so far are the queries so far
-abbrev pub invariant-loop-query : goal.invariant-loop-query
-invariant-loop-query l = l.made.items ≡ take l.query-index l.queries

@@ -1,0 +1,73 @@
+//! Subqueries.
+
+ghost use Rattle.std.specs.Prelude.{◌≡◌, IfOk, IsOkUnless};
+ghost use Rattle.value.specs.declared.refusals.Refusal.TheVariants.{NoMemory};
+ghost use Rattle.assertion.specs.Meaning.{link_column};
+
+use cond::Cond;
+use sqlite_items::Items;
+use std::alloc::Global;
+use table::Aggregate;
+use value::Refusal;
+
+/// A subquery, `(SELECT aggregate FROM table WHERE filter)`: over the rows of a table that a condition keeps, or over
+/// those of them that its grouping gives. EXISTS is one of COUNT(*).
+#[derive(Debug, Drop)]
+pub struct Query<G> {
+    pub table: usize,
+    pub filter: Cond,
+    pub grouping: G,
+    pub aggregate: Aggregate,
+}
+
+/// The rows that are linked to a row, `WHERE link = key`.
+#[derive(Clone, Copy, Debug)]
+pub enum Link {
+    /// The column that holds the row's key.
+    Column(usize),
+}
+
+impl Link {
+    /// The column that holds the row's key.
+    pub fn column(self) -> usize
+        ensures { result ≡ link_column self }
+    {
+        match self {
+            Link::Column(column) => column,
+        }
+    }
+}
+
+/// All rows, of a subquery of its own.
+#[derive(Clone, Copy, Debug)]
+pub struct Whole;
+
+impl<G: Copy> Query<G> {
+    /// A subquery equal to this one.
+    pub fn copy(&self, alloc: Global) -> Result<Query<G>, Refusal>
+        ensures only_memory { IsOkUnless result NoMemory }
+        ensures equal { IfOk result (λ copy. copy ≡ self.now) }
+    {
+        Ok(Query {
+            table: self.table,
+            filter: self.filter.copy(alloc)?,
+            grouping: self.grouping,
+            aggregate: self.aggregate,
+        })
+    }
+}
+
+/// Subqueries equal to these.
+pub fn copy_queries<G: Copy + Drop>(
+    alloc: Global,
+    queries: &[Query<G>],
+) -> Result<Items<Query<G>>, Refusal>
+    ensures only_memory { IsOkUnless result NoMemory }
+    ensures equal { IfOk result (λ copy. copy ≡ queries.now) }
+{
+    let mut made = Vec::new(alloc);
+    for query in queries {
+        made.push(query.copy(alloc)?)?;
+    }
+    Ok(Items::from_vec(made))
+}

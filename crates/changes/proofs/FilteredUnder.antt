@@ -1,0 +1,79 @@
+-- The rows that a condition keeps are under the key that it sets equal to a literal.
+use Rattle.std.proofs.Common.{◌≡◌, ℕ, Bool, true, false, cond, List, [], ◌∷◌, Option, Some, None, append-nil, refl, sym, ◌∙◌, ap, subst}
+use Rattle.std.specs.Prelude.{All, option_to_list}
+use Rattle.std.specs.declared.cmp.Ordering.{Ordering}
+use Rattle.std.specs.declared.cmp.Ordering.TheVariants.{Less, Equal, Greater}
+use Rattle.std.proofs.lemmas.List.Elements.{All-nil, All-cons}
+use Rattle.std.proofs.lemmas.Cmp.{tied_itself}
+use Rattle.value.specs.declared.values.Value.{Value}
+use Rattle.value.specs.ValueOrder.{value_cmp}
+use Rattle.value.specs.Ordered.{AreAbove, HoldsOf, IsAscending, by_order}
+use Rattle.value.proofs.OrderedLists.{All-at, AreAbove-below, AreAbove-tied}
+use Rattle.value.proofs.ValueOrders.{value_cmp_total}
+use Rattle.table.specs.Rows.{RowValues, value_in, row_at}
+use Rattle.cond.specs.declared.conds.Cond.{Cond}
+use Rattle.cond.specs.Eval.{keeps}
+use Rattle.assertion.specs.Meaning.{filtered_rows}
+use Rattle.siread.specs.Keys.{is_under, same_value}
+use Rattle.alone.specs.Reads.{Equality, first_on, first_equality, key_from, top_parts}
+use Rattle.siread.proofs.KeyOrder.{same_value-true}
+use Rattle.alone.proofs.Wheres.{where_under}
+use Rattle.changes.specs.Lookups.{looked_at}
+use Rattle.changes.proofs.Walks.{not_filtered}
+
+apart : (c : Ordering) → c ≡ Less → c ≡ Equal → ⊥
+apart c e f = cc
+
+over : (c : Ordering) → c ≡ Greater → c ≡ Equal → ⊥
+over c e f = cc
+
+-- if a restriction row has a value in its key
+module _ (restriction : Cond) (key : ℕ) (v : Value) (only : (row : RowValues) → keeps row [] restriction ≡ true → value_in key row ≡ v) where
+  level : (row : RowValues) → value_in key row ≡ v → value_cmp v (value_in key row) ≡ Equal
+  level row e = subst (λ w. value_cmp v w ≡ Equal) (sym e) (tied_itself value_cmp_total v)
+
+  -- then one with another isn't restriction
+  off : (row : RowValues) → ((value_cmp v (value_in key row) ≡ Equal) → ⊥) → keeps row [] restriction ≡ false
+  off row other = go (keeps row [] restriction) refl
+    where
+      go : (b : Bool) → keeps row [] restriction ≡ b → keeps row [] restriction ≡ false
+      go true e = absurd (other (level row (only row e)))
+      go false e = e
+
+  none_above : (rows : List RowValues) → AreAbove value_cmp (value_in key) v rows → filtered_rows restriction rows ≡ []
+  none_above [] a = refl
+  none_above (row ∷ rows) a = not_filtered restriction row rows (off row (λ e. apart (value_cmp v (value_in key row)) a.0 e)) ∙ none_above rows a.1
+
+  -- and so the row under that key is the only one that can be
+  pub filtered_under : (rows : List RowValues) → IsAscending value_cmp (value_in key) rows → filtered_rows restriction (option_to_list (row_at key v rows)) ≡ filtered_rows restriction rows
+  filtered_under [] s = refl
+  filtered_under (row ∷ rows) s = go (value_cmp v (value_in key row)) refl (filtered_under rows s.1)
+    where
+      go : (c : Ordering) → value_cmp v (value_in key row) ≡ c → filtered_rows restriction (option_to_list (row_at key v rows)) ≡ filtered_rows restriction rows → filtered_rows restriction (option_to_list (by_order c None (Some row) (row_at key v rows))) ≡ filtered_rows restriction (row ∷ rows)
+      go Less e h =
+          sym (not_filtered restriction row rows (off row (λ f. apart (value_cmp v (value_in key row)) e f))
+          ∙ none_above rows (AreAbove-below value_cmp_total (value_in key) v (value_in key row) rows e s.0))
+      go Equal e h =
+          let none : filtered_rows restriction rows ≡ [] = none_above rows (AreAbove-tied value_cmp_total (value_in key) (value_in key row) v rows e s.0) in
+          sym (ap (λ (rs : List RowValues). cond (keeps row [] restriction) (row ∷ rs) rs) none)
+      go Greater e h = h ∙ sym (not_filtered restriction row rows (off row (λ f. over (value_cmp v (value_in key row)) e f)))
+
+-- a row that is restriction has in a column the literal of an equality on it
+pub filtered_on : (restriction : Cond) (column : ℕ) (equality : Equality) → first_on column (top_parts restriction) ≡ Some equality
+    → (row : RowValues) → keeps row [] restriction ≡ true → value_in column row ≡ equality.value
+filtered_on restriction column equality is row keep =
+    let under : same_value equality.value (value_in column row) ≡ true
+    = subst (λ (o : Option Equality). is_under (key_from 0 o (first_equality (top_parts restriction))) (record { table = 0; key = value_in column row }) row ≡ true) is (where_under 0 column restriction row keep) in
+    sym (same_value-true equality.value (value_in column row) under)
+
+-- what all rows have the one under a key has
+pub all_under : (P : RowValues → Type 0) (key : ℕ) (v : Value) (rows : List RowValues) → All P rows → All P (option_to_list (row_at key v rows))
+all_under P key v rows all = go (row_at key v rows) (All-at value_cmp (value_in key) P v rows all)
+  where
+    go : (o : Option RowValues) → HoldsOf P o → All P (option_to_list o)
+    go None h = All-nil P
+    go (Some row) h = All-cons P row [] h (All-nil P)
+
+-- so the rows that are looked at are that one
+pub one_looked : (o : Option RowValues) (key : ℕ) (v : Value) (rows : List RowValues) → o ≡ row_at key v rows → looked_at o None ≡ option_to_list (row_at key v rows)
+one_looked o key v rows e = append-nil (option_to_list o) ∙ ap (λ (x : Option RowValues). option_to_list x) e

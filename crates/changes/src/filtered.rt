@@ -1,0 +1,84 @@
+//! The rows that a WHERE keeps.
+
+ghost use Rattle.std.specs.Prelude.{◌≡◌, [], All, IsTrue};
+ghost use Rattle.std.specs.Iterator.{YieldsFirstRef, item_count};
+ghost use Rattle.value.specs.Ordered.{IsAscending};
+ghost use Rattle.value.specs.ValueOrder.{value_cmp};
+ghost use Rattle.table.specs.Rows.{value_in};
+ghost use Rattle.cond.specs.Bounds.{IsSmallRow, is_bounded};
+ghost use Rattle.assertion.specs.Meaning.{filtered_rows};
+
+use crate::lookups::{Looked, look_through};
+use cond::{Cond, passes};
+use mvrows::Rows;
+use std::alloc::Global;
+use std::marker::Model;
+use table::Row;
+
+/// The rows that a condition keeps and that are still to come, in key order. It takes no memory.
+#[derive(Drop)]
+pub struct FilteredRows<'a> {
+    alloc: Global,
+    filter: &'a Cond,
+    looked: Looked<'a>,
+}
+
+impl<'a> Model for FilteredRows<'a> {
+    ghost use Rattle.std.specs.Prelude.{[], All, IsTrue, List};
+    ghost use Rattle.table.specs.Rows.{RowValues};
+    ghost use Rattle.cond.specs.Bounds.{IsSmallRow, is_bounded};
+    ghost use Rattle.assertion.specs.Meaning.{filtered_rows};
+
+    ghost Value = { List RowValues };
+
+    ghost view = { λ left. filtered_rows left.filter.now left.looked };
+
+    ghost invariant = { λ left. IsTrue (is_bounded [] left.filter.now) × All IsSmallRow left.looked };
+}
+
+/// Of the rows of a table those that a condition keeps, in key order. The keys are in the column at `key`. Where the
+/// condition wants a key, no other row is looked at. It takes no memory.
+pub fn filtered_rows<'a>(
+    alloc: Global,
+    rows: &'a Rows,
+    key: usize,
+    filter: &'a Cond,
+) -> FilteredRows<'a>
+    requires bounded { IsTrue (is_bounded [] filter.now) }
+    requires small { All IsSmallRow rows.now }
+    requires ordered { IsAscending value_cmp (value_in key) rows.now }
+    ensures { result ≡ filtered_rows filter.now rows.now }
+{
+    FilteredRows {
+        alloc,
+        filter,
+        looked: look_through(rows, key, filter),
+    }
+}
+
+impl<'a> Iterator for FilteredRows<'a> {
+    type Item = &'a Row;
+
+    ghost next_gives = { YieldsFirstRef (λ left. left) };
+
+    ghost remaining = { item_count (λ left. left) };
+
+    fn next(&mut self) -> Option<&'a Row> {
+        next_filtered(self.alloc, self.filter, &mut self.looked)
+    }
+}
+
+/// The next of these rows that the condition keeps.
+fn next_filtered<'a>(alloc: Global, filter: &Cond, looked: &mut Looked<'a>) -> Option<&'a Row>
+    requires bounded { IsTrue (is_bounded [] filter.now) }
+    requires small { All IsSmallRow looked.old }
+    ensures next { YieldsFirstRef (λ left. filtered_rows filter.now left) looked.old result looked.new }
+    ensures small { All IsSmallRow looked.new }
+{
+    while let Some(row) = looked.next() {
+        if passes(alloc, filter, row) {
+            return Some(row);
+        }
+    }
+    None
+}

@@ -1,9 +1,0 @@
-use Rattle.std.proofs.Common.{◌≡◌, drop}
-use Rattle.name_check.specs.Shown.{shown}
-use Rattle.form_check.specs.Links.{kept_parts}
-use Rattle.value.specs.Results.{behind}
-use Rattle.form_check.proofs.links.Link.kept_parts.Given as goal
-
--- the conditions made so far with those of the rest are all
-abbrev pub invariant-loop-part : goal.invariant-loop-part
-invariant-loop-part l = behind l.made.items (kept_parts (shown l.self.child) (shown l.self.root) (drop l.part-index l.parts)) ≡ kept_parts (shown l.self.child) (shown l.self.root) l.parts

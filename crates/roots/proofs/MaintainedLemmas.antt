@@ -1,0 +1,56 @@
+-- The maintained totals follow a change.
+use Rattle.std.proofs.Common.{◌≡◌, ◌≢◌, ℕ, ◌+◌, ◌<◌, true, false, List, [], ◌∷◌, ◌++◌, Option, Some, None, length, get_or, sym, ◌∙◌, ap, subst, arith, length-append}
+use Rattle.std.specs.Prelude.{◌==◌}
+use Rattle.std.proofs.lemmas.Bool.Decides.{nat_tests}
+use Rattle.value.proofs.Lists.{each_more}
+use Rattle.table.specs.declared.rows.Change.{Change}
+use Rattle.table.specs.Rows.{RowValues, Layout, row_at}
+use Rattle.assertion.specs.declared.queries.Query.{Query}
+use Rattle.assertion.specs.Meaning.{State, rows_of, key_of}
+use Rattle.assertion.specs.Roots.{IsChangeOf, state_after}
+use Rattle.assertion.proofs.KeptTruth.{rows-changed, rows-same}
+use Rattle.groups.specs.Answers.{value_for}
+use Rattle.groups.specs.Members.{member_of, members_of}
+use Rattle.groups.specs.Totals.{Entries, AreTotalsOf, AreWithin, IsChange}
+use Rattle.groups.proofs.EntryLemmas.{AreTotalsOf-along}
+use Rattle.groups.proofs.RowLemmas.{members_change, members_within}
+use Rattle.roots.specs.declared.grouped.Grouping.{Grouping}
+use Rattle.roots.specs.Summaries.{place, members}
+use Rattle.roots.specs.Maintained.{AreSoFar, IsSmallState}
+
+test_true : (a b : ℕ) → a ≡ b → (a == b) ≡ true
+test_true a b e = grind (arith, nat_tests)
+
+test_false : (a b : ℕ) → a ≢ b → (a == b) ≡ false
+test_false a b e = grind (arith, nat_tests)
+
+-- groups of tables within bounds are within bounds
+pub members-within : (state : State) (s : Query Grouping) → IsSmallState state → AreWithin (members state s)
+members-within state s k = members_within (place s) s.aggregate (rows_of s.table state) (k.short s.table) (k.small s.table)
+
+module _ (layouts : List Layout) (change : Change) (state : State) (is : IsChangeOf layouts change state) where
+  -- the groups of the changed table change by the old and the new row
+  pub members-changed : (s : Query Grouping) → s.table ≡ change.table
+      → IsChange (member_of (place s) (value_for s.aggregate) change.new) (member_of (place s) (value_for s.aggregate) change.old) (members state s) (members (state_after layouts change state) s)
+  members-changed s e =
+      let t : ℕ = s.table in
+      let old : row_at (key_of t layouts) change.key (rows_of t state) ≡ change.old = subst (λ n. row_at (key_of n layouts) change.key (rows_of n state) ≡ change.old) (sym e) is.stands in
+      subst (λ (o : Option RowValues). IsChange (member_of (place s) (value_for s.aggregate) change.new) (member_of (place s) (value_for s.aggregate) o) (members state s) (members (state_after layouts change state) s)) old
+      (subst (λ (rows : List RowValues). IsChange (member_of (place s) (value_for s.aggregate) change.new) (member_of (place s) (value_for s.aggregate) (row_at (key_of t layouts) change.key (rows_of t state))) (members state s) (members_of (place s) (value_for s.aggregate) rows))
+      (sym (rows-changed layouts change state is t (test_true t change.table e)))
+      (members_change (place s) (value_for s.aggregate) (key_of t layouts) change.key change.new (rows_of t state)))
+
+  -- those of another table stay
+  pub totals-same : (s : Query Grouping) (es : Entries) → s.table ≢ change.table → AreTotalsOf (members state s) es → AreTotalsOf (members (state_after layouts change state) s) es
+  totals-same s es e k = AreTotalsOf-along (members state s) (members (state_after layouts change state) s) es (λ v. ap (λ rows. members_of (place s) (value_for s.aggregate) rows v) (rows-same layouts change state s.table (test_false s.table change.table e))) k
+
+-- one more of the maintained totals
+pub AreSoFar-more : (state : State) (summaries : List (Query Grouping)) (n : ℕ) (totals more : List Entries) (es : Entries) → more ≡ totals ++ es ∷ [] → ((d : Query Grouping) → AreTotalsOf (members state (get_or summaries n d)) es) → AreSoFar state summaries n totals → AreSoFar state summaries (n + 1) more
+AreSoFar-more state summaries n totals more es e t k = record {
+  long = ap length e ∙ length-append totals (es ∷ []) ∙ ap (λ m. m + 1) k.long;
+  right = each_more (λ (s : Query Grouping) (es : Entries). AreTotalsOf (members state s) es) summaries n totals more es e k.long t k.right;
+}
+
+-- the maintained totals at a place
+pub totals-at : (state : State) (summaries : List (Query Grouping)) (n : ℕ) (totals : List Entries) (i : ℕ) (es : Entries) → AreSoFar state summaries n totals → i < n → es ≡ get_or totals i es → (d : Query Grouping) → AreTotalsOf (members state (get_or summaries i d)) es
+totals-at state summaries n totals i es k h f d = subst (λ (x : Entries). AreTotalsOf (members state (get_or summaries i d)) x) (sym f) (k.right i h d es)

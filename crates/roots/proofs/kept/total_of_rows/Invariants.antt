@@ -1,7 +1,0 @@
-use Rattle.roots.specs.Shown.{shown}
-use Rattle.roots.proofs.LoadedLemmas.{AreDone}
-use Rattle.roots.proofs.kept.total_of_rows.Given as goal
-
--- the totals so far are those of the rows that are done
-abbrev pub invariant-loop-row : goal.invariant-loop-row
-invariant-loop-row l = AreDone (shown l.summary) l.rows l.row-iterator l.made

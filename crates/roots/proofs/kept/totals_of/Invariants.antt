@@ -1,7 +1,0 @@
-use Rattle.roots.specs.Kept.{AreSoFar}
-use Rattle.roots.specs.Summaries.{summaries_of}
-use Rattle.roots.proofs.kept.totals_of.Given as goal
-
--- the totals so far are those of the first summaries
-abbrev pub invariant-loop-index : goal.invariant-loop-index
-invariant-loop-index l = AreSoFar l.tables (summaries_of l.form) l.index l.made.items

@@ -1,0 +1,24 @@
+use Rattle.std.proofs.Common.{arith, subst}
+use Rattle.assertion.specs.declared.queries.Query.{Query}
+use Rattle.groups.specs.Totals.{AreTotalsOf}
+use Rattle.roots.specs.Maintained.{AreSoFar}
+use Rattle.roots.specs.declared.grouped.Grouping.{Grouping}
+use Rattle.roots.specs.Shown.{shown}
+use Rattle.roots.specs.Summaries.{members, summaries_of}
+use Rattle.roots.proofs.BoundLemmas.{summary-bounded}
+use Rattle.roots.proofs.ItemLemmas.{item_has}
+use Rattle.roots.proofs.MaintainedLemmas.{AreSoFar-more}
+use Rattle.roots.proofs.maintained.totals_of.Goals as goal
+
+pub total_of-requires-clause-bounded : goal.total_of-requires-clause-bounded
+total_of-requires-clause-bounded c = summary-bounded c.args.form.now c.requires.bounded c.loop-index.index (shown c.summary_of-summary.result) (omega (arith, c.loop-index-test.true, c.summary_count-index-end.ensures)) c.summary_of-summary.ensures
+
+pub loop-index-preserved : goal.loop-index-preserved
+loop-index-preserved c =
+    AreSoFar-more c.args.tables.now (summaries_of c.args.form.now) c.loop-index.index c.loop-index.made.items c.push.new.self.items c.in_ok-total_of.field-0 c.in_ok-push.ensures.items
+    (item_has (λ (s : Query Grouping). AreTotalsOf (members c.args.tables.now s) c.in_ok-total_of.field-0) (summaries_of c.args.form.now) c.loop-index.index (shown c.summary_of-summary.result) (omega (arith, c.loop-index-test.true, c.summary_count-index-end.ensures)) c.summary_of-summary.ensures
+    c.in_ok-total_of.ensures.totals)
+    c.loop-index.invariant
+
+pub returns-clause-totals : goal.returns-clause-totals
+returns-clause-totals c = subst (λ n. AreSoFar c.args.tables.now (summaries_of c.args.form.now) n c.loop-index.made.items) (omega (arith, c.loop-index-test.false, c.loop-index.auto.index-end, c.summary_count-index-end.ensures)) c.loop-index.invariant

@@ -1,0 +1,41 @@
+-- The maintained totals of a form, and the bounds of the tables that they are of.
+use Rattle.std.specs.Prelude.{◌≡◌, ℕ, ◌<◌, ◌≤◌, ◌^◌, List, length, All, slice_index_or}
+use Rattle.value.specs.declared.values.Root.{Root}
+use Rattle.value.specs.declared.values.Root.TheVariants.{All as Whole, Of}
+use Rattle.cond.specs.Bounds.{IsSmallRow}
+use Rattle.cond.specs.Slots.{magnitude}
+use Rattle.assertion.specs.declared.queries.Query.{Query}
+use Rattle.assertion.specs.declared.forms.Form.{Form}
+use Rattle.assertion.specs.declared.forms.Form.TheVariants.{ByRow, ByGroup, Single}
+use Rattle.assertion.specs.Meaning.{State, rows_of}
+use Rattle.groups.specs.Totals.{Entries, AreTotalsOf}
+use Rattle.roots.specs.declared.grouped.Grouping.{Grouping}
+use Rattle.roots.specs.Summaries.{members, summaries_of}
+
+-- the first n of the maintained totals are those of the first n summaries
+pub record AreSoFar (state : State) (summaries : List (Query Grouping)) (n : ℕ) (totals : List Entries) : Type 0 where
+  pub long : length totals ≡ n
+  pub right : (i : ℕ) → i < n → (s : Query Grouping) (e : Entries)
+      → AreTotalsOf (members state (slice_index_or summaries i s)) (slice_index_or totals i e)
+
+-- the maintained totals are those of the form's summaries on these tables, in order
+abbrev pub AreMaintained : State → Form → List Entries → Type 0
+AreMaintained state form totals = AreSoFar state (summaries_of form) (length (summaries_of form)) totals
+
+-- no number of a row is larger than a column's, and the rows of a table are fewer than 2^63
+pub record IsSmallState (state : State) : Type 0 where
+  pub small : (table : ℕ) → All IsSmallRow (rows_of table state)
+  pub short : (table : ℕ) → length (rows_of table state) < 2 ^ 63
+
+-- the maintained totals are those of some tables within bounds
+pub record AreOfTables (form : Form) (entries : List Entries) : Type 0 where
+  pub state : State
+  pub small : IsSmallState state
+  pub totals : AreMaintained state form entries
+
+-- a root that is a group is no larger a number than a column's
+abbrev pub IsSmallRoot : Form → Root → Type 0
+IsSmallRoot (ByRow table condition queries) root = Unit {0}
+IsSmallRoot (ByGroup table restriction group having aggregates) Whole = Unit {0}
+IsSmallRoot (ByGroup table restriction group having aggregates) (Of v) = magnitude v ≤ 10 ^ 15
+IsSmallRoot (Single condition queries) root = Unit {0}

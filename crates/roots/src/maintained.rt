@@ -1,0 +1,134 @@
+//! The maintained totals of a form, of tables and after a change.
+
+ghost use Rattle.std.specs.Prelude.{◌≡◌, ◌<◌, ◌^◌, ◌++◌, ◌∷◌, [], All, List, length, IfOk, IsOkUnless};
+ghost use Rattle.value.specs.declared.refusals.Refusal.TheVariants.{NoMemory};
+ghost use Rattle.value.specs.Ordered.{HoldsOf};
+ghost use Rattle.table.specs.Rows.{Layout, RowValues};
+ghost use Rattle.cond.specs.Bounds.{IsSmallRow};
+ghost use Rattle.assertion.specs.Bounded.{IsBounded, IsBoundedOver};
+ghost use Rattle.assertion.specs.Meaning.{State};
+ghost use Rattle.assertion.specs.Roots.{IsChangeOf, state_after};
+ghost use Rattle.groups.specs.Totals.{AreTotalsOf, AreWithin};
+ghost use Rattle.roots.specs.Maintained.{AreMaintained, IsSmallState};
+ghost use Rattle.roots.specs.Shown.{shown};
+ghost use Rattle.roots.specs.Summaries.{members, row_members, summaries_of};
+
+use crate::grouped::{Summary, member, member_of_row};
+use crate::summaries::{summary_count, summary_of};
+use assertion::Form;
+use groups::Totals;
+use mvrows::Rows;
+use std::alloc::Global;
+use table::{Change, Row};
+use value::Refusal;
+
+/// The totals to keep for a form on these tables. Each is made in one pass over the rows of its table.
+pub fn totals_of(alloc: Global, form: &Form, tables: &[Rows]) -> Result<Vec<Totals>, Refusal>
+    requires bounded { IsBounded form.now }
+    requires small { IsSmallState tables.now }
+    ensures only_memory { IsOkUnless result NoMemory }
+    ensures totals { IfOk result (λ totals. AreMaintained tables.now form.now totals.items) }
+{
+    let mut made = Vec::new(alloc);
+    for index in 0..summary_count(form) {
+        let summary = summary_of(form, index);
+        made.push(total_of(alloc, summary, tables)?)?;
+    }
+    Ok(made)
+}
+
+/// The totals of one summary.
+fn total_of(alloc: Global, summary: Summary, tables: &[Rows]) -> Result<Totals, Refusal>
+    requires bounded { IsBoundedOver [] summary.filter.now }
+    requires small { IsSmallState tables.now }
+    ensures only_memory { IsOkUnless result NoMemory }
+    ensures totals { IfOk result (AreTotalsOf (members tables.now (shown summary.entry))) }
+{
+    match tables.get(summary.table) {
+        Some(rows) => total_of_rows(alloc, summary, rows),
+        None => Ok(Totals::new(alloc)),
+    }
+}
+
+/// The totals of one summary over these rows.
+fn total_of_rows(alloc: Global, summary: Summary, rows: &Rows) -> Result<Totals, Refusal>
+    requires bounded { IsBoundedOver [] summary.filter.now }
+    requires small { All IsSmallRow rows.now }
+    requires short { length rows.now < 2 ^ 63 }
+    ensures only_memory { IsOkUnless result NoMemory }
+    ensures totals { IfOk result (AreTotalsOf (row_members (shown summary.entry) rows.now)) }
+{
+    let mut made = Totals::new(alloc);
+    for row in rows.iter() {
+        made = total_with(alloc, summary, &made, row)?;
+    }
+    Ok(made)
+}
+
+/// The totals of one summary with one row more.
+fn total_with(
+    alloc: Global,
+    summary: Summary,
+    totals: &Totals,
+    row: &Row,
+) -> Result<Totals, Refusal>
+    requires bounded { IsBoundedOver [] summary.filter.now }
+    requires small { IsSmallRow row.now }
+    ensures only_memory { IsOkUnless result NoMemory }
+    ensures totals { IfOk result (λ made. (rows : List RowValues)
+        → AreWithin (row_members (shown summary.entry) (rows ++ row.now ∷ []))
+        → AreTotalsOf (row_members (shown summary.entry) rows) totals.now
+        → AreTotalsOf (row_members (shown summary.entry) (rows ++ row.now ∷ [])) made) }
+{
+    let add = member_of_row(alloc, summary, row)?;
+    totals.with(&add, &None)
+}
+
+/// The totals to keep after a change: those of the tables with it, where the old ones are those of the tables before.
+pub fn totals_after(
+    alloc: Global,
+    form: &Form,
+    totals: &[Totals],
+    change: &Change,
+) -> Result<Vec<Totals>, Refusal>
+    requires bounded { IsBounded form.now }
+    requires old_small { HoldsOf IsSmallRow change.now.old }
+    requires new_small { HoldsOf IsSmallRow change.now.new }
+    requires long { length totals.now ≡ length (summaries_of form.now) }
+    ensures only_memory { IsOkUnless result NoMemory }
+    ensures totals { IfOk result (λ made. (layouts : List Layout) (state : State)
+        → IsChangeOf layouts change.now state → IsSmallState (state_after layouts change.now state)
+        → AreMaintained state form.now totals.now
+        → AreMaintained (state_after layouts change.now state) form.now made.items) }
+{
+    let mut made = Vec::new(alloc);
+    for index in 0..summary_count(form) {
+        let summary = summary_of(form, index);
+        made.push(total_after(alloc, summary, &totals[index], change)?)?;
+    }
+    Ok(made)
+}
+
+/// The totals of one summary after a change.
+fn total_after(
+    alloc: Global,
+    summary: Summary,
+    totals: &Totals,
+    change: &Change,
+) -> Result<Totals, Refusal>
+    requires bounded { IsBoundedOver [] summary.filter.now }
+    requires old_small { HoldsOf IsSmallRow change.now.old }
+    requires new_small { HoldsOf IsSmallRow change.now.new }
+    ensures only_memory { IsOkUnless result NoMemory }
+    ensures totals { IfOk result (λ made. (layouts : List Layout) (state : State)
+        → IsChangeOf layouts change.now state → IsSmallState (state_after layouts change.now state)
+        → AreTotalsOf (members state (shown summary.entry)) totals.now
+        → AreTotalsOf (members (state_after layouts change.now state) (shown summary.entry)) made) }
+{
+    if summary.table != change.table {
+        return totals.copy();
+    }
+    let remove = member(alloc, summary, &change.old)?;
+    let add = member(alloc, summary, &change.new)?;
+    totals.with(&add, &remove)
+}

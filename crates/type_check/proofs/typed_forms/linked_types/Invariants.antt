@@ -1,9 +1,0 @@
-use Rattle.std.proofs.Common.{◌≡◌, drop, map}
-use Rattle.type_check.specs.Forms.{all_types, linked_type}
-use Rattle.table.specs.Rows.{layouts_of}
-use Rattle.type_check.proofs.TypeLists.{behind}
-use Rattle.type_check.proofs.typed_forms.linked_types.Given as goal
-
--- the types so far, with those of the rest behind them
-abbrev pub invariant-loop-query : goal.invariant-loop-query
-invariant-loop-query l = behind l.types.items (all_types (map (linked_type (layouts_of l.catalog) l.key) (drop l.query-index l.queries))) ≡ all_types (map (linked_type (layouts_of l.catalog) l.key) l.queries)
