@@ -70,7 +70,7 @@ impl<N: Named> Sessions<N> {
             }
             Err(refusal) => Answer::Refused(refusal),
         };
-        let noted = self.lines.answer(step, &answer);
+        let noted = self.lines.add_answer(step, &answer);
         let_go(answer);
         noted?;
         Ok(())
@@ -80,7 +80,7 @@ impl<N: Named> Sessions<N> {
     pub fn leave_open(&mut self) -> Result<(), Fail> {
         for seat in self.seats.as_slice() {
             if seat.txn.is_some() {
-                self.lines.left_open(seat.session.name())?;
+                self.lines.add_left_open(seat.session.name())?;
             }
         }
         Ok(())
@@ -226,7 +226,7 @@ fn keep_shown<N: Named>(
 ) -> Result<(), Fail> {
     for shown in shown {
         if let Some(receipt) = shown {
-            receipts.push(receipt.again())?;
+            receipts.push(receipt.copy())?;
         }
     }
     Ok(())

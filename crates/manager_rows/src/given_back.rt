@@ -43,7 +43,7 @@ fn by_an_engine(rt: HostRuntime) -> Result<(), Fail> {
     let mut lines = Report::new(rt.alloc());
     for step in steps.as_slice() {
         let answer = answer_again(rt.alloc(), &mut engine, step)?;
-        lines.answer(step, &answer)?;
+        lines.add_answer(step, &answer)?;
     }
     assert_eq!(rt; lines.as_bytes(), ANSWERS.as_bytes());
     ended(&rt, engine.core());

@@ -208,7 +208,7 @@ fn close(alloc: Global, core: &Core, lines: &mut Report) -> Result<(), Fail> {
     for place in 0..newest.assertions().len() {
         truths.push(newest.verdict(place))?;
     }
-    lines.close(
+    lines.add_closing_part(
         core.records(),
         core.serial_order(),
         core.refused(),

@@ -121,7 +121,7 @@ fn reopens<N: Named, R: Abort>(rt: &R, closed: Closed<N>) {
 }
 
 fn leaves<N: Named, R: Abort>(rt: &R, history: &History<N>, receipt: &Receipt<N>, cover: &Text) {
-    let again = receipt.again();
+    let again = receipt.copy();
     assert_eq!(rt; again.number(), 1);
     assert!(rt; matches!(history.record(&again), Ok(record) if record.number == 1));
     let core = history.core();

@@ -36,8 +36,8 @@ fn written(alloc: Global, defs: &str, script: &str, most: u64) -> Result<Vec<u8>
     };
     let mut line = Report::new(alloc);
     match fault {
-        ProgramFault::Defs(refusal) => line.refusal("DEFS", &refusal)?,
-        ProgramFault::Script(refusal) => line.refusal("SCRIPT", &refusal)?,
+        ProgramFault::Defs(refusal) => line.add_refusal("DEFS", &refusal)?,
+        ProgramFault::Script(refusal) => line.add_refusal("SCRIPT", &refusal)?,
         ProgramFault::Stopped => return Err(Fail::from("memory ended the run")),
         ProgramFault::Output => return Err(Fail::from("the writer took no bytes")),
         ProgramFault::NoThread => return Err(Fail::from("there are no threads here")),

@@ -1,147 +1,97 @@
 //! That calls succeed, and verdicts found by hand.
 
-ghost use Rattle.std.specs.Prelude.{◌≡◌, ◌<◌, ◌∷◌, [], length, IfOk};
+ghost use Rattle.std.specs.Prelude.{◌≡◌, ◌<◌, length, IfOk};
 ghost use Rattle.table.specs.Rows.{row_at};
 ghost use Rattle.assertion.specs.Bounded.{IsBounded};
 ghost use Rattle.assertion.specs.Meaning.{rows_of};
-ghost use Rattle.value.specs.declared.values.Value.TheVariants as values;
 ghost use Rattle.delta.specs.Views.{AreBounded};
 
-use assertion::{Assertion, ConstraintAttributes, Form, Linked, Plain};
-use cond::{Cond, Expr};
+use crate::forms::{above_a_hundred, by_group, by_row, single};
+use crate::shared::{column, columns, count, let_go, same, text};
+use assertion::{Assertion, ConstraintAttributes, Form};
 use delta::View;
 use mvrows::Rows;
-use sqlite_items::Items;
-use std::alloc::Global;
+use std::alloc::{AllocError, Global};
+use std::process::Abort;
 use std::test::Fail;
-use table::{Aggregate, Catalog, Change, Column, Row, Schema};
-use threeval::Truth;
+use table::{Aggregate, Catalog, Change, Row, Schema};
 use value::{ColType, Comparison, Refusal, Root, Text, Value};
 
-fn column(alloc: Global, name: &str, kind: ColType, is_key: bool) -> Result<Column, Refusal> {
-    Ok(Column {
-        name: Text::from_str(alloc, name)?,
-        kind,
-        nullable: !is_key,
-        is_key,
-    })
-}
-
-/// ACCOUNT (ID INTEGER, OWNER VARCHAR(3), BAL INTEGER), with the key ID.
+/// ACCOUNT (ID INTEGER, NAME VARCHAR(3), BAL INTEGER), with the key ID.
 fn schema(alloc: Global) -> Result<Schema, Refusal> {
-    let mut columns = Vec::new(alloc);
-    columns.push(column(alloc, "ID", ColType::Integer, true)?)?;
-    columns.push(column(alloc, "OWNER", ColType::Varchar(3), false)?)?;
+    let mut columns = columns(alloc)?;
     columns.push(column(alloc, "BAL", ColType::Integer, false)?)?;
     Ok(Schema::new(columns, 0))
 }
 
-/// A row of that table; without an owner's name the owner is NULL.
-fn row(alloc: Global, id: i64, owner: &str, balance: i64) -> Result<Row, Refusal> {
-    let owner = if owner.is_empty() {
+/// A row of that table; without a name it is NULL.
+fn row(alloc: Global, id: i64, name: &str, balance: i64) -> Result<Row, Refusal> {
+    let name = if name.is_empty() {
         Value::Null
     } else {
-        Value::Text(Text::from_str(alloc, owner)?)
+        text(alloc, name)?
     };
-    Ok(Row::new(vec![in alloc; Value::Int(id), owner, Value::Int(balance)]?))
-}
-
-/// A list of one item.
-fn one<T: Drop>(alloc: Global, item: T) -> Result<Items<T>, Refusal>
-    ensures { IfOk result (λ items. items ≡ item ∷ []) }
-{
-    let mut items = Vec::new(alloc);
-    items.push(item)?;
-    Ok(Items::from_vec(items))
-}
-
-/// What slot 0 holds, beside a number.
-fn slot_beside(comparison: Comparison, number: i64) -> Cond
-    ensures { result ≡ Cond.Compare comparison (Expr.Slot 0) (Expr.Literal (values.Int number)) }
-{
-    Cond::Compare(comparison, Expr::Slot(0), Expr::Literal(Value::Int(number)))
+    Ok(Row::new(vec![in alloc; Value::Int(id), name, Value::Int(balance)]?))
 }
 
 /// No owner's least balance is above 5.
 fn high(alloc: Global) -> Result<Form, Refusal>
     ensures { IfOk result (λ form. IsBounded form) }
 {
-    Ok(Form::ByGroup {
-        table: 0,
-        kept: Cond::And(Items::new(alloc)),
-        group: 1,
-        having: slot_beside(Comparison::Greater, 5),
-        aggregates: one(alloc, Aggregate::Min(2))?,
-    })
+    by_group(alloc, 0, Aggregate::Min(2), Comparison::Greater, 5)
 }
 
 /// The sum of the balances above 100 is at most 300.
 fn few(alloc: Global) -> Result<Form, Refusal>
     ensures { IfOk result (λ form. IsBounded form) }
 {
-    let large = Plain {
-        table: 0,
-        kept: Cond::Compare(
-            Comparison::Greater,
-            Expr::Column(2),
-            Expr::Literal(Value::Int(100)),
-        ),
-        aggregate: Aggregate::Sum(2),
-    };
-    Ok(Form::Single {
-        condition: slot_beside(Comparison::AtMost, 300),
-        queries: one(alloc, large)?,
-    })
+    single(alloc, 0, above_a_hundred(), Aggregate::Sum(2), 300)
 }
 
 /// No account's number is the balance of two.
 fn own(alloc: Global) -> Result<Form, Refusal>
     ensures { IfOk result (λ form. IsBounded form) }
 {
-    let linked = Linked {
-        table: 0,
-        kept: Cond::And(Items::new(alloc)),
-        link: 2,
-        aggregate: Aggregate::CountRows,
-    };
-    Ok(Form::ByRow {
-        table: 0,
-        condition: slot_beside(Comparison::AtLeast, 2),
-        queries: one(alloc, linked)?,
-    })
+    by_row(alloc, 0, 2, Comparison::AtLeast, 2)
 }
 
 /// An assertion of this form.
-fn named(alloc: Global, name: &str, form: Form) -> Result<Assertion, Refusal>
-    ensures { IfOk result (λ assertion. assertion.form ≡ form) }
+fn named(name: Text, form: Form) -> Assertion
+    ensures { result.form ≡ form }
 {
-    Ok(Assertion {
-        name: Text::from_str(alloc, name)?,
+    Assertion {
+        name,
         attributes: ConstraintAttributes {
             deferrable: false,
             initially_deferred: false,
         },
         form,
-    })
+    }
+}
+
+/// Adds an assertion of this form.
+fn add(made: &mut Vec<Assertion>, name: Text, form: Result<Form, Refusal>) -> Result<(), Refusal>
+    requires bounded { IfOk form (λ form. IsBounded form) }
+    requires all { AreBounded made.now.items }
+    ensures all { IfOk result (λ done. AreBounded made.new.items) }
+{
+    made.push(named(name, form?))?;
+    Ok(())
 }
 
 /// An assertion of each form, in the order by groups, single, by rows.
 fn assertions(alloc: Global) -> Result<Vec<Assertion>, Refusal>
-    ensures bounded { IfOk result (λ made. AreBounded made.items) }
-    ensures three { IfOk result (λ made. length made.items ≡ 3) }
+    ensures { IfOk result (λ made. AreBounded made.items) }
 {
     let mut made = Vec::new(alloc);
-    made.push(named(alloc, "HIGH", high(alloc)?)?)?;
-    made.push(named(alloc, "FEW", few(alloc)?)?)?;
-    made.push(named(alloc, "OWN", own(alloc)?)?)?;
+    add(&mut made, Text::from_str(alloc, "HIGH")?, high(alloc))?;
+    add(&mut made, Text::from_str(alloc, "FEW")?, few(alloc))?;
+    add(&mut made, Text::from_str(alloc, "OWN")?, own(alloc))?;
     Ok(made)
 }
 
 /// The view of a table of this row alone.
-fn view_of(alloc: Global, row: Row) -> Result<View, Refusal>
-    ensures three { IfOk result (λ view. length view.declared.assertions ≡ 3) }
-    ensures one { IfOk result (λ view. length view.state ≡ 1) }
-{
+fn view_of(alloc: Global, row: Row) -> Result<View, Refusal> {
     let schema = schema(alloc)?;
     schema.admits(&row)?;
     let key = row.value(schema.key()).copy()?;
@@ -170,9 +120,7 @@ fn old_row(view: &View, schema: &Schema, key: &Value) -> Result<Option<Row>, Ref
 }
 
 /// The view with the row in place of the one under its key.
-fn put(view: &View, row: Row) -> Result<View, Refusal>
-    ensures { IfOk result (λ after. after.declared ≡ view.now.declared) }
-{
+fn put(view: &View, row: Row) -> Result<View, Refusal> {
     let Some(schema) = view.catalog().at(0) else {
         return view.copy();
     };
@@ -188,9 +136,7 @@ fn put(view: &View, row: Row) -> Result<View, Refusal>
 }
 
 /// The view without the row of this number.
-fn remove(view: &View, id: i64) -> Result<View, Refusal>
-    ensures { IfOk result (λ after. after.declared ≡ view.now.declared) }
-{
+fn remove(view: &View, id: i64) -> Result<View, Refusal> {
     let Some(schema) = view.catalog().at(0) else {
         return view.copy();
     };
@@ -205,54 +151,125 @@ fn remove(view: &View, id: i64) -> Result<View, Refusal>
     view.after(&changes)
 }
 
+/// The view of a table of one row.
+fn begun(alloc: Global, id: i64, name: &str, balance: i64) -> Result<View, Refusal> {
+    let row = row(alloc, id, name, balance)?;
+    view_of(alloc, row)
+}
+
+/// The view with one more row, or with another in its place.
+fn put_row(alloc: Global, view: &View, id: i64, name: &str, balance: i64) -> Result<View, Refusal> {
+    let row = row(alloc, id, name, balance)?;
+    put(view, row)
+}
+
+/// The view of a table of the first row, after the other rows are put in.
+fn grown(alloc: Global, rows: &[(i64, &str, i64)]) -> Result<View, Refusal> {
+    let Some(((id, name, balance), others)) = rows.split_first() else {
+        return Err(Refusal::Stranger);
+    };
+    let mut view = begun(alloc, *id, name, *balance)?;
+    for (id, name, balance) in others {
+        view = put_row(alloc, &view, *id, name, *balance)?;
+    }
+    Ok(view)
+}
+
+/// Writes the verdict of an assertion and its least bad root, or -.
+fn write_verdict(view: &View, place: usize, shown: &mut String) -> Result<(), AllocError> {
+    if place >= view.assertions().len() {
+        return Ok(());
+    }
+    shown.push_str(view.verdict(place).name())?;
+    match view.least_bad(place) {
+        Some(root) => write!(shown, " {root};"),
+        None => shown.push_str(" -;"),
+    }
+}
+
 /// The verdicts in order.
-fn verdicts(view: &View) -> (Truth, Truth, Truth)
-    requires { length view.now.declared.assertions ≡ 3 }
-{
-    (view.verdict(0), view.verdict(1), view.verdict(2))
+fn verdicts(alloc: Global, view: &View) -> Result<String, AllocError> {
+    let mut shown = String::new(alloc);
+    for place in 0..view.assertions().len() {
+        write_verdict(view, place, &mut shown)?;
+    }
+    Ok(shown)
+}
+
+/// Ends the test where the view has other verdicts.
+fn judges(rt: &(impl Abort + Alloc<A = Global>), view: &View, wanted: &str) -> Result<(), Fail> {
+    let found = verdicts(rt.alloc(), view)?;
+    same(rt, found.as_str(), wanted);
+    Ok(())
+}
+
+/// The view without the rows 1 and 2.
+fn without_two(view: &View) -> Result<View, Refusal> {
+    let fewer = remove(view, 1)?;
+    remove(&fewer, 2)
 }
 
 #[test]
 fn least_balance_removed(rt: HostRuntime) -> Result<(), Fail> {
-    let alloc = rt.alloc();
-    let one = view_of(alloc, row(alloc, 1, "KIM", 3)?)?;
-    let two = put(&one, row(alloc, 2, "KIM", 4)?)?;
-    let three = put(&two, row(alloc, 3, "KIM", 9)?)?;
-    assert!(rt; three.verdict(0) == Truth::True && three.least_bad(0).is_none());
-    let fewer = remove(&remove(&three, 1)?, 2)?;
-    let kim = Root::Of(Value::Text(Text::from_str(alloc, "KIM")?));
-    assert!(rt; fewer.least_bad(0) == Some(&kim));
-    assert!(rt; fewer.verdict(0) == Truth::False);
-    Ok(())
+    let three = grown(rt.alloc(), &[(1, "KIM", 3), (2, "KIM", 4), (3, "KIM", 9)])?;
+    judges(&rt, &three, "TRUE -;UNKNOWN -;TRUE -;")?;
+    let fewer = without_two(&three)?;
+    judges(&rt, &fewer, "FALSE 'KIM';UNKNOWN -;TRUE -;")
 }
+
+/// Rows put in, the last in place of another, and the verdicts.
+const PUT: &[(&[(i64, &str, i64)], &str)] = &[
+    (&[(2, "", 2)], "TRUE -;UNKNOWN -;TRUE -;"),
+    (&[(2, "", 2), (9, "", 2)], "TRUE -;UNKNOWN -;FALSE 2;"),
+    (
+        &[(2, "", 2), (9, "", 2), (9, "", 301)],
+        "TRUE -;FALSE ALL;TRUE -;",
+    ),
+];
 
 #[test]
 fn sum_of_nothing_is_unknown(rt: HostRuntime) -> Result<(), Fail> {
-    let alloc = rt.alloc();
-    let one = view_of(alloc, row(alloc, 2, "", 2)?)?;
-    assert_eq!(rt; verdicts(&one), (Truth::True, Truth::Unknown, Truth::True));
-    let more = put(&one, row(alloc, 9, "", 2)?)?;
-    assert!(rt; more.least_bad(2) == Some(&Root::Of(Value::Int(2))));
-    let moved = put(&more, row(alloc, 9, "", 301)?)?;
-    assert_eq!(rt; verdicts(&moved), (Truth::True, Truth::False, Truth::True));
-    assert!(rt; moved.least_bad(1) == Some(&Root::All));
+    for (rows, wanted) in PUT {
+        judges(&rt, &grown(rt.alloc(), rows)?, wanted)?;
+    }
     Ok(())
 }
 
-#[test]
-fn null_group(rt: HostRuntime) -> Result<(), Fail> {
-    let alloc = rt.alloc();
-    let view = view_of(alloc, row(alloc, 7, "", 6)?)?.copy()?;
-    assert!(rt; view.least_bad(0) == Some(&Root::Of(Value::Null)));
-    assert_eq!(rt; (view.catalog().len(), view.schema(0).key()), (1, 0));
-    assert_eq!(rt; view.assertions().len(), 3);
-    let mut changes = Vec::new(alloc);
-    changes.push(Change {
+/// The number of roots at which the first assertion can turn as the row (7, NULL, 6) goes, and whether they are NULL.
+fn candidates(alloc: Global, view: &View) -> Result<(usize, bool), Refusal> {
+    if view.assertions().is_empty() {
+        return Ok((0, false));
+    }
+    let change = Change {
         table: 0,
         key: Value::Int(7),
         old: Some(row(alloc, 7, "", 6)?),
         new: None,
-    })?;
-    assert!(rt; view.candidates(0, &changes)?[..] == [Root::Of(Value::Null)]);
+    };
+    let roots = view.candidates(0, &[change])?;
+    let are_null = roots.first() == Some(&Root::Of(Value::Null));
+    Ok((roots.len(), are_null))
+}
+
+/// A copy of the view of the row (7, NULL, 6).
+fn copied(alloc: Global) -> Result<View, Refusal> {
+    let view = begun(alloc, 7, "", 6)?;
+    view.copy()
+}
+
+#[test]
+fn null_group(rt: HostRuntime) -> Result<(), Fail> {
+    let view = copied(rt.alloc())?;
+    judges(&rt, &view, "FALSE NULL;UNKNOWN -;TRUE -;")?;
+    assert!(rt; candidates(rt.alloc(), &view)? == (1, true));
+    Ok(())
+}
+
+#[test]
+fn views_lend_their_parts(rt: HostRuntime) -> Result<(), Fail> {
+    let view = grown(rt.alloc(), &[(7, "", 6)])?;
+    count(&rt, view.assertions().len(), 3);
+    assert_eq!(rt; view.catalog().len(), 1);
+    count(&rt, view.schema(0).key(), 0);
     Ok(())
 }

@@ -1,17 +1,24 @@
 //! That calls succeed, and set functions counted by hand.
 
+use crate::shared::let_go;
 use cond::SlotValue;
 use groups::{Member, Total, Totals};
 use std::alloc::Global;
+use std::process::Abort;
 use std::test::Fail;
 use table::Aggregate;
 use value::{Refusal, Value};
 
+/// A number, or NULL where there is none.
+fn number_or_null(number: Option<i64>) -> Value {
+    number.map_or(Value::Null, Value::Int)
+}
+
 /// A row of a group with a value, NULL where there is no number.
 fn member(group: Option<i64>, value: Option<i64>) -> Option<Member> {
     Some(Member {
-        group: group.map_or(Value::Null, Value::Int),
-        value: value.map_or(Value::Null, Value::Int),
+        group: number_or_null(group),
+        value: number_or_null(value),
     })
 }
 
@@ -19,9 +26,31 @@ fn member(group: Option<i64>, value: Option<i64>) -> Option<Member> {
 fn totals_of(alloc: Global, rows: &[(Option<i64>, Option<i64>)]) -> Result<Totals, Refusal> {
     let mut totals = Totals::new(alloc);
     for (group, value) in rows {
-        totals = totals.with(&member(*group, *value), &None)?;
+        totals = with(&totals, *group, *value)?;
     }
     Ok(totals)
+}
+
+/// The totals with one more row.
+fn with(totals: &Totals, group: Option<i64>, value: Option<i64>) -> Result<Totals, Refusal> {
+    let added = member(group, value);
+    totals.with(&added, &None)
+}
+
+/// The totals without a row.
+fn without(totals: &Totals, group: Option<i64>, value: Option<i64>) -> Result<Totals, Refusal> {
+    let removed = member(group, value);
+    totals.with(&None, &removed)
+}
+
+/// The number in an answer, nothing where it is NULL.
+fn number_in(answer: &SlotValue) -> Option<i128> {
+    match answer {
+        SlotValue::Count(count) => Some(i128::from(*count)),
+        SlotValue::Sum(sum) => *sum,
+        SlotValue::Extreme(Value::Int(number)) => Some(i128::from(*number)),
+        SlotValue::Extreme(Value::Null | Value::Text(_)) => None,
+    }
 }
 
 /// What a set function gives of a group, nothing where it gives NULL.
@@ -30,76 +59,149 @@ fn number(
     group: Option<i64>,
     aggregate: Aggregate,
 ) -> Result<Option<i128>, Refusal> {
-    let group = group.map_or(Value::Null, Value::Int);
-    match totals.answer(&group, aggregate)? {
-        SlotValue::Count(count) => Ok(Some(i128::from(count))),
-        SlotValue::Sum(sum) => Ok(sum),
-        SlotValue::Extreme(Value::Int(number)) => Ok(Some(i128::from(number))),
-        SlotValue::Extreme(Value::Null | Value::Text(_)) => Ok(None),
-    }
+    let answer = totals.answer(&number_or_null(group), aggregate)?;
+    let number = number_in(&answer);
+    let_go(answer);
+    Ok(number)
+}
+
+/// Ends the test where a set function gives another number of a group.
+fn gives(
+    rt: &impl Abort,
+    totals: &Totals,
+    group: Option<i64>,
+    aggregate: Aggregate,
+    wanted: Option<i128>,
+) -> Result<(), Fail> {
+    assert!(rt; number(totals, group, aggregate)? == wanted);
+    Ok(())
 }
 
 /// The number of rows of a group, nothing where it has no total.
-fn rows(totals: &Totals, group: Option<i64>) -> Option<u64> {
-    let group = group.map_or(Value::Null, Value::Int);
-    totals.get(&group).map(|total| total.rows())
+fn rows(totals: &Totals, group: i64) -> Option<u64> {
+    totals.get(&Value::Int(group)).map(|total| total.rows())
+}
+
+/// A group of the numbers 5, 7, 9 and 9.
+const VALUES: &[(Option<i64>, Option<i64>)] = &[
+    (Some(1), Some(5)),
+    (Some(1), Some(7)),
+    (Some(1), Some(9)),
+    (Some(1), Some(9)),
+];
+
+/// The totals of those numbers without the 5.
+fn without_least(alloc: Global) -> Result<Totals, Refusal> {
+    let all = totals_of(alloc, VALUES)?;
+    without(&all, Some(1), Some(5))
+}
+
+/// The totals of those numbers without the 5 and one 9.
+fn without_ends(alloc: Global) -> Result<Totals, Refusal> {
+    let fewer = without_least(alloc)?;
+    without(&fewer, Some(1), Some(9))
 }
 
 #[test]
-fn the_least_and_the_greatest_value_go(rt: HostRuntime) -> Result<(), Fail> {
-    let values = [
-        (Some(1), Some(5)),
-        (Some(1), Some(7)),
-        (Some(1), Some(9)),
-        (Some(1), Some(9)),
-    ];
-    let all = totals_of(rt.alloc(), &values)?;
-    let fewer = all.with(&None, &member(Some(1), Some(5)))?;
-    let fewest = fewer.with(&None, &member(Some(1), Some(9)))?;
-    let least = Aggregate::Min(0);
-    assert_eq!(rt; number(&all, Some(1), least)?, Some(5));
-    assert_eq!(rt; number(&fewer, Some(1), least)?, Some(7));
-    assert_eq!(rt; number(&fewest, Some(1), Aggregate::Max(0))?, Some(9));
-    assert_eq!(rt; number(&fewest, Some(1), Aggregate::Sum(0))?, Some(16));
-    Ok(())
+fn the_least_value_is_found(rt: HostRuntime) -> Result<(), Fail> {
+    let all = totals_of(rt.alloc(), VALUES)?;
+    gives(&rt, &all, Some(1), Aggregate::Min(0), Some(5))
+}
+
+#[test]
+fn the_least_value_goes(rt: HostRuntime) -> Result<(), Fail> {
+    let fewer = without_least(rt.alloc())?;
+    gives(&rt, &fewer, Some(1), Aggregate::Min(0), Some(7))
+}
+
+#[test]
+fn the_greatest_value_goes_once(rt: HostRuntime) -> Result<(), Fail> {
+    let fewest = without_ends(rt.alloc())?;
+    gives(&rt, &fewest, Some(1), Aggregate::Max(0), Some(9))?;
+    gives(&rt, &fewest, Some(1), Aggregate::Sum(0), Some(16))
+}
+
+/// Two rows of NULL, and one of a 3.
+const NULLS: &[(Option<i64>, Option<i64>)] = &[(None, None), (Some(1), Some(3)), (None, None)];
+
+/// A copy of the totals of these rows.
+fn copied(alloc: Global, rows: &[(Option<i64>, Option<i64>)]) -> Result<Totals, Refusal> {
+    let totals = totals_of(alloc, rows)?;
+    totals.copy()
 }
 
 #[test]
 fn nulls_are_one_group_and_no_values(rt: HostRuntime) -> Result<(), Fail> {
-    let values = [(None, None), (Some(1), Some(3)), (None, None)];
-    let totals = totals_of(rt.alloc(), &values)?.copy()?;
-    assert_eq!(rt; number(&totals, None, Aggregate::CountRows)?, Some(2));
-    assert_eq!(rt; number(&totals, None, Aggregate::Count(0))?, Some(0));
-    assert_eq!(rt; number(&totals, None, Aggregate::Sum(0))?, None);
-    assert_eq!(rt; number(&totals, None, Aggregate::Min(0))?, None);
+    let totals = copied(rt.alloc(), NULLS)?;
+    gives(&rt, &totals, None, Aggregate::CountRows, Some(2))?;
+    gives(&rt, &totals, None, Aggregate::Count(0), Some(0))?;
+    gives(&rt, &totals, None, Aggregate::Sum(0), None)?;
+    gives(&rt, &totals, None, Aggregate::Min(0), None)
+}
+
+/// The totals after the row of a 3 goes from group 1 to group 2, which has a 4.
+fn moved(old: &Totals) -> Result<Totals, Refusal> {
+    let (added, removed) = (member(Some(2), Some(3)), member(Some(1), Some(3)));
+    old.with(&added, &removed)
+}
+
+/// A group of a 3 and one of a 4.
+const TWO_GROUPS: &[(Option<i64>, Option<i64>)] = &[(Some(1), Some(3)), (Some(2), Some(4))];
+
+#[test]
+fn a_moved_row_leaves_the_old_totals(rt: HostRuntime) -> Result<(), Fail> {
+    let old = totals_of(rt.alloc(), TWO_GROUPS)?;
+    let new = moved(&old)?;
+    assert!(rt; rows(&old, 1) == Some(1) && rows(&old, 2) == Some(1));
+    assert!(rt; rows(&new, 1).is_none() && rows(&new, 2) == Some(2));
     Ok(())
+}
+
+/// The totals of the two groups after the row is moved.
+fn moved_of_two(alloc: Global) -> Result<Totals, Refusal> {
+    let old = totals_of(alloc, TWO_GROUPS)?;
+    moved(&old)
 }
 
 #[test]
 fn a_moved_row_empties_its_old_group(rt: HostRuntime) -> Result<(), Fail> {
-    let old = totals_of(rt.alloc(), &[(Some(1), Some(3)), (Some(2), Some(4))])?;
-    let new = old.with(&member(Some(2), Some(3)), &member(Some(1), Some(3)))?;
-    assert_eq!(rt;
-        (rows(&old, Some(1)), rows(&old, Some(2))),
-        (Some(1), Some(1))
-    );
-    assert_eq!(rt; (rows(&new, Some(1)), rows(&new, Some(2))), (None, Some(2)));
-    assert_eq!(rt; number(&new, Some(1), Aggregate::CountRows)?, Some(0));
-    assert_eq!(rt; number(&new, Some(2), Aggregate::Sum(0))?, Some(7));
+    let new = moved_of_two(rt.alloc())?;
+    gives(&rt, &new, Some(1), Aggregate::CountRows, Some(0))?;
+    gives(&rt, &new, Some(2), Aggregate::Sum(0), Some(7))
+}
+
+/// The number of rows in a total's copy, nothing where it has none.
+fn rows_in_copy(total: &Total) -> Result<Option<u64>, Refusal> {
+    let copy = total.copy()?;
+    Ok(if copy.is_empty() {
+        None
+    } else {
+        Some(copy.rows())
+    })
+}
+
+/// What COUNT(*) is of a total.
+fn counted(total: &Total) -> Result<Option<i128>, Refusal> {
+    let answer = total.answer(Aggregate::CountRows)?;
+    let number = number_in(&answer);
+    let_go(answer);
+    Ok(number)
+}
+
+#[test]
+fn an_empty_total_counts_nothing(rt: HostRuntime) -> Result<(), Fail> {
+    let empty = Total::new(rt.alloc());
+    assert!(rt; empty.is_empty());
+    assert!(rt; counted(&empty)? == Some(0));
     Ok(())
 }
 
 #[test]
-fn totals_lend_their_figures(rt: HostRuntime) -> Result<(), Fail> {
-    let alloc = rt.alloc();
-    let totals = totals_of(alloc, &[(Some(1), Some(3))])?;
-    let empty = Total::new(alloc);
-    assert!(rt; empty.is_empty());
-    assert!(rt; matches!(empty.answer(Aggregate::CountRows)?, SlotValue::Count(0)));
-    if let Some(total) = totals.get(&Value::Int(1)) {
-        let copy = total.copy()?;
-        assert_eq!(rt; copy.rows(), 1);
-        assert!(rt; !copy.is_empty());
+fn a_total_of_one_row_is_copied(rt: HostRuntime) -> Result<(), Fail> {
+    let totals = totals_of(rt.alloc(), &[(Some(1), Some(3))])?;
+    match totals.get(&Value::Int(1)) {
+        Some(total) => assert!(rt; rows_in_copy(total)? == Some(1)),
+        None => assert!(rt; false, "no total"),
     }
     Ok(())
 }

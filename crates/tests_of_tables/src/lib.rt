@@ -1,6 +1,8 @@
 //! The tests of the crates of values, tables and verdicts, by their public calls alone.
 //!
-//! They stand apart from the crates, since a crate that holds tests is proved once more for them.
+//! They stand apart from the crates, since a crate that holds tests is proved once more for them. What proves dearly is
+//! a tree or a refusal that is owned where a call may fail, so each is made by a function of its own, is compared by
+//! reference, and is let go as a value of any type.
 #![tactic(auto)]
 
 #[cfg(test)]
@@ -10,6 +12,8 @@ mod cond_tests;
 #[cfg(test)]
 mod delta_tests;
 #[cfg(test)]
+mod forms;
+#[cfg(test)]
 mod groups_tests;
 #[cfg(test)]
 mod mvrows_tests;
@@ -17,6 +21,8 @@ mod mvrows_tests;
 mod pages_tests;
 #[cfg(test)]
 mod roots_tests;
+#[cfg(test)]
+mod shared;
 #[cfg(test)]
 mod table_tests;
 #[cfg(test)]

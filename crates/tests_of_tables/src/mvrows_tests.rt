@@ -47,14 +47,28 @@ fn without(version: &Rows, key: i64) -> Result<Rows, Refusal>
     version.with(1, &change)
 }
 
-/// The versions before and after the row of key 2 goes and one of key 1 comes twice, beginning with no rows.
-fn versions(alloc: Global) -> Result<(Rows, Rows), Refusal> {
+/// The version of the names 7 and 8 under the keys 2 and 3.
+fn two_rows(alloc: Global) -> Result<Rows, Refusal>
+    ensures { IfOk result (λ rows. IsAscending value_cmp (value_in 1) rows) }
+{
     let one = put(alloc, &Rows::new(alloc), 7, 2)?;
-    let two = put(alloc, &one, 8, 3)?;
-    let three = put(alloc, &two, 9, 1)?;
-    let four = put(alloc, &three, 6, 1)?;
-    let last = without(&four, 2)?;
-    Ok((two, last))
+    put(alloc, &one, 8, 3)
+}
+
+/// The version after a row of key 1 comes twice.
+fn put_twice(alloc: Global, old: &Rows) -> Result<Rows, Refusal>
+    requires { IsAscending value_cmp (value_in 1) old.now }
+    ensures { IfOk result (λ rows. IsAscending value_cmp (value_in 1) rows) }
+{
+    let once = put(alloc, old, 9, 1)?;
+    put(alloc, &once, 6, 1)
+}
+
+/// The version after a row of key 1 comes twice and the row of key 2 goes.
+fn changed(alloc: Global, old: &Rows) -> Result<Rows, Refusal>
+    requires { IsAscending value_cmp (value_in 1) old.now }
+{
+    without(&put_twice(alloc, old)?, 2)
 }
 
 /// The name of a row.
@@ -82,27 +96,45 @@ fn names(version: &Rows) -> i64 {
     names
 }
 
+/// The names under the keys 1, 2 and 3, as the digits of a number.
+fn found(version: &Rows) -> i64 {
+    let (first, second, third) = (name(version, 1), name(version, 2), name(version, 3));
+    first
+        .wrapping_mul(100)
+        .wrapping_add(second.wrapping_mul(10))
+        .wrapping_add(third)
+}
+
 #[test]
 fn a_change_leaves_the_old_version(rt: HostRuntime) -> Result<(), Fail> {
-    let (old, new) = versions(rt.alloc())?;
-    assert_eq!(rt; (name(&old, 1), name(&old, 2), name(&old, 3)), (0, 7, 8));
-    assert_eq!(rt; (name(&new, 1), name(&new, 2), name(&new, 3)), (6, 0, 8));
+    let old = two_rows(rt.alloc())?;
+    let new = changed(rt.alloc(), &old)?;
+    assert!(rt; found(&old) == 78);
+    assert!(rt; found(&new) == 608);
     Ok(())
+}
+
+/// A copy of the version after those changes.
+fn copied(alloc: Global, old: &Rows) -> Result<Rows, Refusal>
+    requires { IsAscending value_cmp (value_in 1) old.now }
+{
+    let new = changed(alloc, old)?;
+    new.copy()
 }
 
 #[test]
 fn rows_are_lent_in_order(rt: HostRuntime) -> Result<(), Fail> {
-    let (old, new) = versions(rt.alloc())?;
-    let copy = new.copy()?;
-    assert_eq!(rt; (old.len(), copy.len()), (2, 2));
-    assert_eq!(rt; (names(&old), names(&copy)), (78, 68));
+    let old = two_rows(rt.alloc())?;
+    assert!(rt; old.len() == 2 && names(&old) == 78);
+    let copy = copied(rt.alloc(), &old)?;
+    assert!(rt; copy.len() == 2 && names(&copy) == 68);
     Ok(())
 }
 
 #[test]
 fn another_column_is_looked_through(rt: HostRuntime) -> Result<(), Fail> {
-    let (old, _) = versions(rt.alloc())?;
-    assert_eq!(rt; old.get(0, &Value::Int(8)).map(name_of), Some(8));
-    assert_eq!(rt; old.get(0, &Value::Int(9)).map(name_of), None);
+    let old = two_rows(rt.alloc())?;
+    assert!(rt; old.get(0, &Value::Int(8)).map(name_of) == Some(8));
+    assert!(rt; old.get(0, &Value::Int(9)).is_none());
     Ok(())
 }

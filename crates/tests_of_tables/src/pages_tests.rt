@@ -1,9 +1,10 @@
 //! Changes against plain lists, and the sizes of pages.
 
+use crate::shared::{count, text};
 use pages::Pages;
 use std::alloc::Global;
 use std::test::Fail;
-use value::{Refusal, Text, Value};
+use value::{Refusal, Value};
 
 /// How many keys come and go.
 const COUNT: i64 = 1_000;
@@ -97,18 +98,30 @@ fn wrong(alloc: Global, versions: &[Pages<i64>], grows: bool) -> Result<i64, Ref
     Ok(wrong)
 }
 
+/// How many versions aren't the plain list of their keys while the keys go.
+fn wrong_while_emptied(alloc: Global, full: &Pages<i64>) -> Result<i64, Refusal> {
+    let emptied = emptied(alloc, full)?;
+    wrong(alloc, &emptied, false)
+}
+
+/// The number under a key.
+fn number_under(pages: &Pages<i64>, key: i64) -> Option<i64> {
+    pages.get(&Value::Int(key)).copied()
+}
+
 #[test]
 fn every_version_stays_whole(rt: HostRuntime) -> Result<(), Fail> {
-    let alloc = rt.alloc();
-    let grown = grown(alloc)?;
-    assert_eq!(rt; wrong(alloc, &grown, true)?, 0);
-    if let Some(full) = grown.last() {
-        assert_eq!(rt; full.len(), 1_000);
-        let emptied = emptied(alloc, full)?;
-        assert_eq!(rt; wrong(alloc, &emptied, false)?, 0);
-        assert_eq!(rt; full.get(&Value::Int(500)).copied(), Some(500));
+    let grown = grown(rt.alloc())?;
+    assert!(rt; wrong(rt.alloc(), &grown, true)? == 0);
+    match grown.last() {
+        Some(full) => {
+            count(&rt, full.len(), 1_000);
+            assert!(rt; wrong_while_emptied(rt.alloc(), full)? == 0);
+            assert!(rt; number_under(full, 500) == Some(500));
+        }
+        None => assert!(rt; false, "no version"),
     }
-    assert_eq!(rt; wrong(alloc, &grown, true)?, 0);
+    assert!(rt; wrong(rt.alloc(), &grown, true)? == 0);
     Ok(())
 }
 
@@ -126,59 +139,99 @@ fn counted(alloc: Global, last: i64, upwards: bool) -> Result<Pages<i64>, Refusa
     Ok(pages)
 }
 
+/// Whether the pages from these two places on have so many entries.
+fn are_long(pages: &Pages<i64>, first: (usize, usize), second: (usize, usize)) -> bool {
+    pages.page_from(first.0).len() == first.1 && pages.page_from(second.0).len() == second.1
+}
+
 #[test]
 fn a_full_page_is_cut(rt: HostRuntime) -> Result<(), Fail> {
     let full = counted(rt.alloc(), 64, true)?;
-    assert_eq!(rt; full.page_from(0).len(), 64);
+    assert!(rt; are_long(&full, (0, 64), (63, 1)));
     let cut = with_number(&full, 65)?;
-    assert_eq!(rt; (cut.page_from(0).len(), cut.page_from(32).len()), (32, 33));
-    assert_eq!(rt; (cut.page_from(31).len(), cut.page_from(65).len()), (1, 0));
-    assert_eq!(rt; full.len(), 64);
+    assert!(rt; are_long(&cut, (0, 32), (32, 33)));
+    assert!(rt; are_long(&cut, (31, 1), (65, 0)));
+    count(&rt, full.len(), 64);
     Ok(())
+}
+
+/// The map of one number, without it.
+fn emptied_of_one(alloc: Global) -> Result<Pages<i64>, Refusal> {
+    let one = counted(alloc, 1, true)?;
+    one.with(&Value::Int(1), None)
+}
+
+/// Whether the map has no entry.
+fn is_empty(pages: &Pages<i64>) -> bool {
+    pages.len() == 0 && pages.page_from(0).is_empty() && number_under(pages, 1).is_none()
+}
+
+/// The map with a 2, after a key goes that isn't there.
+fn begun_again(none: &Pages<i64>) -> Result<Pages<i64>, Refusal> {
+    let still_none = none.with(&Value::Int(3), None)?;
+    with_number(&still_none, 2)
 }
 
 #[test]
 fn an_emptied_map_begins_again(rt: HostRuntime) -> Result<(), Fail> {
-    let one = counted(rt.alloc(), 1, true)?;
-    let none = one.with(&Value::Int(1), None)?;
-    assert_eq!(rt; (one.len(), none.len(), none.page_from(0).len()), (1, 0, 0));
-    assert_eq!(rt; none.get(&Value::Int(1)).copied(), None);
-    let again = with_number(&none.with(&Value::Int(3), None)?, 2)?;
-    assert_eq!(rt; again.get(&Value::Int(2)).copied(), Some(2));
-    assert_eq!(rt; again.allocator(), rt.alloc());
+    let none = emptied_of_one(rt.alloc())?;
+    assert!(rt; is_empty(&none));
+    let again = begun_again(&none)?;
+    assert!(rt; number_under(&again, 2) == Some(2));
+    assert!(rt; again.allocator() == rt.alloc());
     Ok(())
 }
 
-/// The first and the last number of a map.
-fn ends(pages: &Pages<i64>) -> (Option<i64>, Option<i64>) {
-    (
-        pages.first().map(|entry| entry.1),
-        pages.last().map(|entry| entry.1),
-    )
+#[test]
+fn a_version_of_one_entry_stays(rt: HostRuntime) -> Result<(), Fail> {
+    let one = counted(rt.alloc(), 1, true)?;
+    let none = one.with(&Value::Int(1), None)?;
+    assert!(rt; is_empty(&none));
+    count(&rt, one.len(), 1);
+    Ok(())
+}
+
+/// Whether these are the first and the last number of a map.
+fn are_ends(pages: &Pages<i64>, first: Option<i64>, last: Option<i64>) -> bool {
+    let (least, greatest) = (pages.first(), pages.last());
+    least.map(|entry| entry.1) == first && greatest.map(|entry| entry.1) == last
 }
 
 #[test]
 fn a_map_has_a_first_and_a_last_entry(rt: HostRuntime) -> Result<(), Fail> {
-    let alloc = rt.alloc();
-    assert_eq!(rt; ends(&Pages::new(alloc)), (None, None));
-    assert_eq!(rt; ends(&counted(alloc, 1, true)?), (Some(1), Some(1)));
-    assert_eq!(rt; ends(&counted(alloc, 300, false)?), (Some(1), Some(300)));
+    assert!(rt; are_ends(&Pages::new(rt.alloc()), None, None));
+    let one = counted(rt.alloc(), 1, true)?;
+    assert!(rt; are_ends(&one, Some(1), Some(1)));
+    let many = counted(rt.alloc(), 300, false)?;
+    assert!(rt; are_ends(&many, Some(1), Some(300)));
     Ok(())
 }
 
-/// A text as a key.
-fn text(alloc: Global, text: &str) -> Result<Value, Refusal> {
-    Ok(Value::Text(Text::from_str(alloc, text)?))
+/// The map with this under a text, or without the text.
+fn with_text(pages: &Pages<i64>, key: &str, number: Option<i64>) -> Result<Pages<i64>, Refusal> {
+    let key = text(pages.allocator(), key)?;
+    pages.with(&key, number)
 }
 
 /// A map whose keys are NULL, numbers and texts.
 fn of_all_kinds(alloc: Global) -> Result<Pages<i64>, Refusal> {
-    Pages::new(alloc)
-        .with(&text(alloc, "AB")?, Some(5))?
-        .with(&Value::Int(7), Some(3))?
-        .with(&text(alloc, "A")?, Some(4))?
-        .with(&Value::Null, Some(1))?
-        .with(&Value::Int(-7), Some(2))
+    let mut pages = with_text(&Pages::new(alloc), "AB", Some(5))?;
+    pages = pages.with(&Value::Int(7), Some(3))?;
+    pages = with_text(&pages, "A", Some(4))?;
+    pages = pages.with(&Value::Null, Some(1))?;
+    pages.with(&Value::Int(-7), Some(2))
+}
+
+/// The number under a text.
+fn number_under_text(pages: &Pages<i64>, key: &str) -> Result<Option<i64>, Refusal> {
+    let key = text(pages.allocator(), key)?;
+    Ok(pages.get(&key).copied())
+}
+
+/// The map without the text A and without NULL.
+fn without_two(pages: &Pages<i64>) -> Result<Pages<i64>, Refusal> {
+    let fewer = with_text(pages, "A", None)?;
+    fewer.with(&Value::Null, None)
 }
 
 /// The values in the order of their keys, as the digits of a number.
@@ -192,15 +245,11 @@ fn digits(pages: &Pages<i64>) -> i64 {
 
 #[test]
 fn keys_are_null_numbers_and_texts(rt: HostRuntime) -> Result<(), Fail> {
-    let alloc = rt.alloc();
-    let pages = of_all_kinds(alloc)?;
-    assert_eq!(rt; digits(&pages), 12_345);
-    assert_eq!(rt; pages.get(&text(alloc, "AB")?).copied(), Some(5));
-    assert_eq!(rt; pages.get(&Value::Null).copied(), Some(1));
-    let fewer = pages
-        .with(&text(alloc, "A")?, None)?
-        .with(&Value::Null, None)?;
-    assert_eq!(rt; digits(&fewer), 235);
+    let pages = of_all_kinds(rt.alloc())?;
+    assert!(rt; digits(&pages) == 12_345);
+    assert!(rt; number_under_text(&pages, "AB")? == Some(5));
+    assert!(rt; pages.get(&Value::Null).copied() == Some(1));
+    assert!(rt; digits(&without_two(&pages)?) == 235);
     Ok(())
 }
 
@@ -216,16 +265,20 @@ fn missing(pages: &Pages<i64>, last: i64) -> i64 {
     missing
 }
 
+/// Whether many keys that come in order stand under themselves.
+fn stand(alloc: Global, upwards: bool) -> Result<bool, Refusal> {
+    let pages = counted(alloc, MANY, upwards)?;
+    Ok(pages.len() == 100_000 && missing(&pages, MANY) == 0)
+}
+
 #[test]
 fn many_keys_come_upwards(rt: HostRuntime) -> Result<(), Fail> {
-    let pages = counted(rt.alloc(), MANY, true)?;
-    assert_eq!(rt; (pages.len(), missing(&pages, MANY)), (100_000, 0));
+    assert!(rt; stand(rt.alloc(), true)?);
     Ok(())
 }
 
 #[test]
 fn many_keys_come_downwards(rt: HostRuntime) -> Result<(), Fail> {
-    let pages = counted(rt.alloc(), MANY, false)?;
-    assert_eq!(rt; (pages.len(), missing(&pages, MANY)), (100_000, 0));
+    assert!(rt; stand(rt.alloc(), false)?);
     Ok(())
 }

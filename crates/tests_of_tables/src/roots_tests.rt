@@ -1,84 +1,25 @@
 //! That calls succeed, and bad roots found by hand.
 
-ghost use Rattle.std.specs.Prelude.{◌≡◌, ◌∷◌, [], None, IfOk};
+ghost use Rattle.std.specs.Prelude.{◌≡◌, None, IfOk};
 ghost use Rattle.value.specs.Ordered.{HasKey, HoldsOf};
 ghost use Rattle.value.specs.ValueOrder.{value_cmp};
 ghost use Rattle.table.specs.Rows.{value_in};
 ghost use Rattle.cond.specs.Bounds.{IsSmallRow};
 ghost use Rattle.assertion.specs.Bounded.{IsBounded};
-ghost use Rattle.value.specs.declared.values.Value.TheVariants as values;
+ghost use Rattle.roots.specs.Maintained.{AreOfTables};
 
-use assertion::{Form, Linked, Plain};
-use cond::{Cond, Expr};
+use crate::forms::{all_rows, by_group, by_row, single};
+use crate::shared::{let_go, same};
+use assertion::Form;
+use groups::Totals;
 use mvrows::Rows;
 use roots::{BadRoots, bad_after, bad_of, candidates, is_bad, totals_after, totals_of, truth_of};
-use sqlite_items::Items;
-use std::alloc::Global;
+use std::alloc::{AllocError, Global};
+use std::process::Abort;
 use std::test::Fail;
 use table::{Aggregate, Change, Row};
 use threeval::Truth;
 use value::{Comparison, Refusal, Root, Value};
-
-/// A list of one item.
-fn one<T: Drop>(alloc: Global, item: T) -> Result<Items<T>, Refusal>
-    ensures { IfOk result (λ items. items ≡ item ∷ []) }
-{
-    let mut items = Vec::new(alloc);
-    items.push(item)?;
-    Ok(Items::from_vec(items))
-}
-
-/// What slot 0 holds, beside a number.
-fn slot_beside(comparison: Comparison, number: i64) -> Cond
-    ensures { result ≡ Cond.Compare comparison (Expr.Slot 0) (Expr.Literal (values.Int number)) }
-{
-    Cond::Compare(comparison, Expr::Slot(0), Expr::Literal(Value::Int(number)))
-}
-
-/// Each row of table 0 has one whose column 1 holds its key.
-fn by_row(alloc: Global) -> Result<Form, Refusal>
-    ensures { IfOk result (λ form. IsBounded form) }
-{
-    let linked = Linked {
-        table: 0,
-        kept: Cond::And(Items::new(alloc)),
-        link: 1,
-        aggregate: Aggregate::CountRows,
-    };
-    Ok(Form::ByRow {
-        table: 0,
-        condition: slot_beside(Comparison::Equal, 0),
-        queries: one(alloc, linked)?,
-    })
-}
-
-/// No group of column 1 of table 0 has a sum of column 2 above 100.
-fn by_group(alloc: Global) -> Result<Form, Refusal>
-    ensures { IfOk result (λ form. IsBounded form) }
-{
-    Ok(Form::ByGroup {
-        table: 0,
-        kept: Cond::And(Items::new(alloc)),
-        group: 1,
-        having: slot_beside(Comparison::Greater, 100),
-        aggregates: one(alloc, Aggregate::Sum(2))?,
-    })
-}
-
-/// The least of column 2 of table 0 is at most a number.
-fn single(alloc: Global, number: i64) -> Result<Form, Refusal>
-    ensures { IfOk result (λ form. IsBounded form) }
-{
-    let all = Plain {
-        table: 0,
-        kept: Cond::And(Items::new(alloc)),
-        aggregate: Aggregate::Min(2),
-    };
-    Ok(Form::Single {
-        condition: slot_beside(Comparison::AtMost, number),
-        queries: one(alloc, all)?,
-    })
-}
 
 /// The row (1, NULL, 101) is put into table 0.
 fn insertion(alloc: Global) -> Result<Change, Refusal>
@@ -95,9 +36,36 @@ fn insertion(alloc: Global) -> Result<Change, Refusal>
     })
 }
 
-/// The bad roots and the truth of an assertion over one table, which had no row, after a change, and whether it is
-/// bad as a whole.
-fn told(alloc: Global, form: &Form, change: &Change) -> Result<(BadRoots, Truth, bool), Refusal>
+/// Writes the first bad root, or -.
+fn write_first(bad: &BadRoots, shown: &mut String) -> Result<(), AllocError> {
+    match bad.first() {
+        Some(root) => write!(shown, "{root}"),
+        None => shown.push_str("-"),
+    }
+}
+
+/// The first bad root, the truth, and whether it is bad as a whole.
+fn shown(alloc: Global, bad: &BadRoots, truth: Truth, is_bad: bool) -> Result<String, Refusal> {
+    let mut shown = String::new(alloc);
+    write_first(bad, &mut shown)?;
+    shown.push_str(" ")?;
+    shown.push_str(truth.name())?;
+    shown.push_str(if is_bad { " bad" } else { " not bad" })?;
+    Ok(shown)
+}
+
+/// What is shown of an assertion of these totals and bad roots.
+fn judged(alloc: Global, form: &Form, totals: &[Totals], bad: &BadRoots) -> Result<String, Refusal>
+    requires bounded { IsBounded form.now }
+    requires totals { AreOfTables form.now totals.now }
+{
+    let truth = truth_of(alloc, form, totals, bad)?;
+    let whole = is_bad(alloc, form, None, totals, &Root::All)?;
+    shown(alloc, bad, truth, whole)
+}
+
+/// What is shown of an assertion over one table, which had no row, after a change.
+fn told(alloc: Global, form: &Form, change: &Change) -> Result<String, Refusal>
     requires bounded { IsBounded form.now }
     requires table { change.now.table ≡ 0 }
     requires old { change.now.old ≡ None }
@@ -110,38 +78,95 @@ fn told(alloc: Global, form: &Form, change: &Change) -> Result<(BadRoots, Truth,
     let bad = bad_of(alloc, &[], &before, form, &empty)?;
     let mut tables = Vec::new(alloc);
     tables.push(Rows::new(alloc).with(0, change)?)?;
-    let kept = totals_after(alloc, form, &empty, change)?;
-    let bad = bad_after(alloc, &[], &tables, form, &kept, &bad, change)?;
-    let truth = truth_of(alloc, form, &kept, &bad)?;
-    let whole = is_bad(alloc, form, None, &kept, &Root::All)?;
-    Ok((bad, truth, whole))
+    let totals = totals_after(alloc, form, &empty, change)?;
+    let bad = bad_after(alloc, &[], &tables, form, &totals, &bad, change)?;
+    judged(alloc, form, &totals, &bad)
+}
+
+/// What is shown after the insertion.
+fn told_of_insertion(alloc: Global, form: &Form) -> Result<String, Refusal>
+    requires { IsBounded form.now }
+{
+    let change = insertion(alloc)?;
+    told(alloc, form, &change)
+}
+
+/// Ends the test where something else is shown of an assertion of this form after the insertion.
+fn tells(
+    rt: &(impl Abort + Alloc<A = Global>),
+    made: Result<Form, Refusal>,
+    wanted: &str,
+) -> Result<(), Fail>
+    requires { IfOk made (λ form. IsBounded form) }
+{
+    let form = made?;
+    let found = told_of_insertion(rt.alloc(), &form);
+    let_go(form);
+    same(rt, found?.as_str(), wanted);
+    Ok(())
+}
+
+/// No group of column 1 has a sum of column 2 above 100.
+fn sums(alloc: Global) -> Result<Form, Refusal>
+    ensures { IfOk result (λ form. IsBounded form) }
+{
+    by_group(alloc, 0, Aggregate::Sum(2), Comparison::Greater, 100)
+}
+
+/// The least of column 2 is at most a number.
+fn least(alloc: Global, number: i64) -> Result<Form, Refusal>
+    ensures { IfOk result (λ form. IsBounded form) }
+{
+    single(alloc, 0, all_rows(alloc), Aggregate::Min(2), number)
+}
+
+/// Each row has one whose column 1 holds its key.
+fn followed(alloc: Global) -> Result<Form, Refusal>
+    ensures { IfOk result (λ form. IsBounded form) }
+{
+    by_row(alloc, 0, 1, Comparison::Equal, 0)
 }
 
 #[test]
 fn forms_are_turned_by_a_row(rt: HostRuntime) -> Result<(), Fail> {
-    let alloc = rt.alloc();
+    tells(&rt, followed(rt.alloc()), "1 FALSE not bad")?;
+    tells(&rt, sums(rt.alloc()), "NULL FALSE not bad")?;
+    tells(&rt, least(rt.alloc(), 100), "ALL FALSE bad")?;
+    tells(&rt, least(rt.alloc(), 101), "- TRUE not bad")
+}
+
+/// The roots, each with a ; behind it.
+fn listed(alloc: Global, roots: &[Root]) -> Result<String, AllocError> {
+    let mut shown = String::new(alloc);
+    for root in roots {
+        write!(shown, "{root};")?;
+    }
+    Ok(shown)
+}
+
+/// The roots at which an assertion of this form can turn by the insertion.
+fn candidate_roots(alloc: Global, form: &Form) -> Result<String, Refusal> {
     let change = insertion(alloc)?;
-    let (bad, truth, whole) = told(alloc, &by_row(alloc)?, &change)?;
-    assert!(rt; bad.first() == Some(&Root::Of(Value::Int(1))) && truth == Truth::False && !whole);
-    let (bad, truth, whole) = told(alloc, &by_group(alloc)?, &change)?;
-    assert!(rt; bad.first() == Some(&Root::Of(Value::Null)) && truth == Truth::False && !whole);
-    let (bad, truth, whole) = told(alloc, &single(alloc, 100)?, &change)?;
-    assert!(rt; bad.first() == Some(&Root::All) && truth == Truth::False && whole);
-    let (bad, truth, whole) = told(alloc, &single(alloc, 101)?, &change)?;
-    assert!(rt; bad.first().is_none() && truth == Truth::True && !whole);
+    let roots = candidates(alloc, form, &[change])?;
+    Ok(listed(alloc, &roots)?)
+}
+
+/// Ends the test where the candidates are others.
+fn turns_at(
+    rt: &(impl Abort + Alloc<A = Global>),
+    made: Result<Form, Refusal>,
+    wanted: &str,
+) -> Result<(), Fail> {
+    let form = made?;
+    let found = candidate_roots(rt.alloc(), &form);
+    let_go(form);
+    same(rt, found?.as_str(), wanted);
     Ok(())
 }
 
 #[test]
 fn null_is_a_candidate_as_a_group_alone(rt: HostRuntime) -> Result<(), Fail> {
-    let alloc = rt.alloc();
-    let mut changes = Vec::new(alloc);
-    changes.push(insertion(alloc)?)?;
-    let roots = candidates(alloc, &by_row(alloc)?, &changes)?;
-    assert!(rt; roots[..] == [Root::Of(Value::Int(1))]);
-    let roots = candidates(alloc, &by_group(alloc)?, &changes)?;
-    assert!(rt; roots[..] == [Root::Of(Value::Null)]);
-    let roots = candidates(alloc, &single(alloc, 100)?, &changes)?;
-    assert!(rt; roots[..] == [Root::All]);
-    Ok(())
+    turns_at(&rt, followed(rt.alloc()), "1;")?;
+    turns_at(&rt, sums(rt.alloc()), "NULL;")?;
+    turns_at(&rt, least(rt.alloc(), 100), "ALL;")
 }

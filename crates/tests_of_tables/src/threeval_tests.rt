@@ -1,37 +1,43 @@
 //! The tables of the three truth values.
 
+use crate::shared::same;
 use threeval::Truth;
+use threeval::Truth::{False, True, Unknown};
 
-#[test]
-fn truth_tables(rt: HostRuntime) {
-    let (yes, no, unknown) = (Truth::True, Truth::False, Truth::Unknown);
-    // Two truths, and their AND and OR, as the standard prints them.
-    let table = [
-        (yes, yes, yes, yes),
-        (yes, no, no, yes),
-        (yes, unknown, unknown, yes),
-        (no, no, no, no),
-        (no, unknown, no, unknown),
-        (unknown, unknown, unknown, unknown),
-    ];
-    for (a, b, and, or) in table {
-        assert_eq!(rt; a.and(b), and);
-        assert_eq!(rt; b.and(a), and);
-        assert_eq!(rt; a.or(b), or);
-        assert_eq!(rt; b.or(a), or);
-    }
+/// Two truths, and their AND and OR, as the standard prints them.
+const TABLE: &[(Truth, Truth, Truth, Truth)] = &[
+    (True, True, True, True),
+    (True, False, False, True),
+    (True, Unknown, Unknown, True),
+    (False, False, False, False),
+    (False, Unknown, False, Unknown),
+    (Unknown, Unknown, Unknown, Unknown),
+];
+
+/// Whether two truths have this AND and this OR, either way round.
+fn join(a: Truth, b: Truth, and: Truth, or: Truth) -> bool {
+    a.and(b) == and && b.and(a) == and && a.or(b) == or && b.or(a) == or
 }
 
 #[test]
+fn truth_tables(rt: HostRuntime) {
+    for (a, b, and, or) in TABLE {
+        assert!(rt; join(*a, *b, *and, *or));
+    }
+}
+
+/// A truth, its NOT and its name.
+const TRUTHS: &[(Truth, Truth, &str)] = &[
+    (True, False, "TRUE"),
+    (False, True, "FALSE"),
+    (Unknown, Unknown, "UNKNOWN"),
+];
+
+#[test]
 fn truths_one_by_one(rt: HostRuntime) {
-    let table = [
-        (Truth::True, Truth::False, "TRUE"),
-        (Truth::False, Truth::True, "FALSE"),
-        (Truth::Unknown, Truth::Unknown, "UNKNOWN"),
-    ];
-    for (truth, negation, name) in table {
-        assert_eq!(rt; truth.not(), negation);
-        assert_eq!(rt; truth.name(), name);
-        assert_eq!(rt; Truth::from(true).is(truth), name == "TRUE");
+    for (truth, negation, name) in TRUTHS {
+        same(&rt, truth.name(), name);
+        assert!(rt; truth.not() == *negation);
+        assert!(rt; Truth::from(true).is(*truth) == (*truth == True));
     }
 }

@@ -1,123 +1,148 @@
 //! A condition of each shape.
 
+use crate::shared::{add_table, condition_of, event, expression_of, let_go, same, schema};
 use assertion::Form;
 use form_check::{Source, form, row_condition, row_expression};
 use name_check::Scope;
-use sqlite_items::Boxed;
 use std::alloc::Global;
+use std::process::Abort;
 use std::test::Fail;
-use syntax::{ColumnName, Condition, Expression, Query, SelectList};
-use table::{Aggregate, Catalog, Column, Schema};
-use value::{ColType, Comparison, Refusal, Text};
+use syntax::{Condition, Expression};
+use table::Catalog;
+use value::{ColType, Refusal, Text};
 
-/// A table of two INTEGER columns, the first of them its key.
-fn schema(alloc: Global, key: &str, other: &str) -> Result<Schema, Refusal> {
-    let name = Text::from_str(alloc, key)?;
-    let mut columns = vec![in alloc;
-        Column {
-            name,
-            kind: ColType::Integer,
-            nullable: false,
-            is_key: true
-        },
-    ]?;
-    columns.push(Column {
-        name: Text::from_str(alloc, other)?,
-        kind: ColType::Integer,
-        nullable: true,
-        is_key: false,
-    })?;
-    Ok(Schema::new(columns, 0))
-}
+/// ID, which is the key, and SHIFT.
+const COLUMNS: &[(&str, ColType)] = &[("ID", ColType::Integer), ("SHIFT", ColType::Integer)];
 
-/// The table D with the columns ID and SHIFT.
+/// The table D of those columns.
 fn catalog(alloc: Global) -> Result<Catalog, Refusal> {
     let mut catalog = Catalog::new(alloc);
-    catalog.add(Text::from_str(alloc, "D")?, schema(alloc, "ID", "SHIFT")?)?;
+    add_table(alloc, &mut catalog, "D", COLUMNS)?;
     Ok(catalog)
 }
 
-fn column(alloc: Global, name: &str) -> Result<ColumnName, Refusal> {
-    Ok(ColumnName {
-        qualifier: None,
-        name: Text::from_str(alloc, name)?,
-    })
-}
-
-/// `SELECT listed FROM D`.
-fn query(alloc: Global, select_list: SelectList) -> Result<Query, Refusal> {
-    Ok(Query {
-        select_list,
-        table: Text::from_str(alloc, "D")?,
-        correlation_name: None,
-        keeps: None,
-        group: None,
-        having: None,
-    })
-}
-
-/// NOT EXISTS of a query.
-fn not_exists(alloc: Global, query: Query) -> Result<Condition, Refusal> {
-    let exists = Condition::Exists(Boxed::new(alloc, query)?);
-    Ok(Condition::Not(Boxed::new(alloc, exists)?))
-}
-
-/// A set function is at most 2.
-fn at_most_two(function: Expression) -> Condition {
-    Condition::Compare(function, Comparison::AtMost, Expression::Number(2))
-}
-
-/// The form's name and how many slots it has.
-fn told(alloc: Global, condition: &Condition) -> Result<(&'static str, usize), Refusal> {
-    match &form(alloc, &catalog(alloc)?, condition) {
-        Ok(Form::ByRow { queries, .. }) => Ok(("rows", queries.len())),
-        Ok(Form::ByGroup { aggregates, .. }) => Ok(("groups", aggregates.len())),
-        Ok(Form::Single { queries, .. }) => Ok(("single", queries.len())),
-        Err(Refusal::OutsideClass) => Ok(("outside", 0)),
-        Err(_) => Ok(("other", 0)),
+/// A word for so many slots.
+fn number(slots: usize) -> &'static str {
+    match slots {
+        0 => "none",
+        1 => "one",
+        _ => "several",
     }
 }
 
-#[test]
-fn three_forms(rt: HostRuntime) -> Result<(), Fail> {
-    let alloc = rt.alloc();
-    let rows = not_exists(alloc, query(alloc, SelectList::Star)?)?;
-    assert_eq!(rt; told(alloc, &rows)?, ("rows", 0));
-    let mut grouped = query(alloc, SelectList::Star)?;
-    grouped.group = Some(column(alloc, "SHIFT")?);
-    grouped.having = Some(at_most_two(Expression::CountRows));
-    assert_eq!(rt; told(alloc, &not_exists(alloc, grouped)?)?, ("groups", 1));
-    let sum = Expression::Aggregate(syntax::Aggregate::Sum, column(alloc, "SHIFT")?);
-    let value = Boxed::new(alloc, query(alloc, SelectList::One(sum))?)?;
-    let single = at_most_two(Expression::Subquery(value));
-    assert_eq!(rt; told(alloc, &single)?, ("single", 1));
-    let exists = Condition::Exists(Boxed::new(alloc, query(alloc, SelectList::Star)?)?);
-    assert_eq!(rt; told(alloc, &exists)?, ("outside", 0));
+/// The form's name and how many slots it has.
+fn told(made: &Result<Form, Refusal>) -> (&'static str, &'static str) {
+    match made {
+        Ok(Form::ByRow { queries, .. }) => ("rows", number(queries.len())),
+        Ok(Form::ByGroup { aggregates, .. }) => ("groups", number(aggregates.len())),
+        Ok(Form::Single { queries, .. }) => ("single", number(queries.len())),
+        Err(Refusal::OutsideClass) => ("outside", "none"),
+        Err(_) => ("other", "none"),
+    }
+}
+
+/// What is told of the form of a DELETE's condition.
+fn form_of(
+    alloc: Global,
+    catalog: &Catalog,
+    condition: Option<&Condition>,
+) -> (&'static str, &'static str) {
+    match condition {
+        Some(condition) => {
+            let made = form(alloc, catalog, condition);
+            let told = told(&made);
+            let_go(made);
+            told
+        }
+        None => ("no condition", "none"),
+    }
+}
+
+/// Ends the test where the condition of a DELETE has another form.
+fn forms(
+    rt: &(impl Abort + Alloc<A = Global>),
+    text: &str,
+    wanted: &str,
+    slots: &str,
+) -> Result<(), Fail> {
+    let catalog = catalog(rt.alloc())?;
+    let event = event(rt.alloc(), text)?;
+    let (form, number) = form_of(rt.alloc(), &catalog, condition_of(&event));
+    let_go(event);
+    same(rt, form, wanted);
+    same(rt, number, slots);
     Ok(())
 }
 
 #[test]
-fn row_conditions(rt: HostRuntime) -> Result<(), Fail> {
-    let alloc = rt.alloc();
-    let (table, schema) = (Text::from_str(alloc, "D")?, schema(alloc, "ID", "SHIFT")?);
+fn three_forms(rt: HostRuntime) -> Result<(), Fail> {
+    let rows = "DELETE FROM D WHERE NOT EXISTS (SELECT * FROM D)";
+    forms(&rt, rows, "rows", "none")?;
+    let groups =
+        "DELETE FROM D WHERE NOT EXISTS (SELECT * FROM D GROUP BY SHIFT HAVING COUNT(*) <= 2)";
+    forms(&rt, groups, "groups", "one")?;
+    let single = "DELETE FROM D WHERE (SELECT SUM(SHIFT) FROM D) <= 2";
+    forms(&rt, single, "single", "one")?;
+    let outside = "DELETE FROM D WHERE EXISTS (SELECT * FROM D)";
+    forms(&rt, outside, "outside", "none")
+}
+
+/// Whether a condition is one of a row.
+fn is_of_row(alloc: Global, scope: Scope, condition: Option<&Condition>) -> bool {
+    match condition {
+        Some(condition) => {
+            let made = row_condition(alloc, scope, condition);
+            let is_made = made.is_ok();
+            let_go(made);
+            is_made
+        }
+        None => false,
+    }
+}
+
+/// Whether an expression is one of a row.
+fn is_value_of_row(alloc: Global, scope: Scope, expression: Option<&Expression>) -> bool {
+    match expression {
+        Some(expression) => {
+            let made = row_expression(alloc, scope, expression);
+            let is_made = made.is_ok();
+            let_go(made);
+            is_made
+        }
+        None => false,
+    }
+}
+
+/// Whether the condition of a DELETE, or the first value of an UPDATE, is one of a row.
+fn may_stand(alloc: Global, text: &str) -> Result<bool, Refusal> {
+    let table = Text::from_str(alloc, "D")?;
+    let schema = schema(alloc, COLUMNS)?;
     let scope = Scope {
         exposed_name: &table,
         schema: &schema,
     };
-    let own = at_most_two(Expression::Column(column(alloc, "SHIFT")?));
-    assert!(rt; row_condition(alloc, scope, &own).is_ok());
-    let counted = at_most_two(Expression::CountRows);
-    assert!(rt; row_condition(alloc, scope, &counted).is_err());
-    let shift = Expression::Column(column(alloc, "SHIFT")?);
-    assert!(rt; row_expression(alloc, scope, &shift).is_ok());
-    let catalog = catalog(alloc)?;
-    assert_eq!(rt;
-        Source::of(&catalog, &table, &None).map(|source| source.table),
-        Some(0)
-    );
-    assert_eq!(rt;
-        Source::by_table_name(&catalog, &table).map(|source| source.table),
-        Some(0)
-    );
+    let event = event(alloc, text)?;
+    let stands = is_of_row(alloc, scope, condition_of(&event))
+        || is_value_of_row(alloc, scope, expression_of(&event));
+    let_go(event);
+    Ok(stands)
+}
+
+#[test]
+fn conditions_of_rows(rt: HostRuntime) -> Result<(), Fail> {
+    assert!(rt; may_stand(rt.alloc(), "DELETE FROM D WHERE SHIFT <= 2")?);
+    assert!(rt; !may_stand(rt.alloc(), "DELETE FROM D WHERE COUNT(*) <= 2")?);
+    assert!(rt; may_stand(rt.alloc(), "UPDATE D SET ID = SHIFT")?);
+    Ok(())
+}
+
+#[test]
+fn sources(rt: HostRuntime) -> Result<(), Fail> {
+    let catalog = catalog(rt.alloc())?;
+    let table = Text::from_str(rt.alloc(), "D")?;
+    let named = Source::of(&catalog, &table, &None);
+    assert!(rt; named.map(|source| source.table) == Some(0));
+    let found = Source::by_table_name(&catalog, &table);
+    assert!(rt; found.map(|source| source.table) == Some(0));
     Ok(())
 }

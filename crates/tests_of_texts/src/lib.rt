@@ -1,12 +1,12 @@
 //! The tests of the crates that read texts, resolve what they name, and write the report, by their public calls alone.
 //!
-//! They stand apart from the crates, since a crate that holds tests is proved once more for them.
+//! They stand apart from the crates, since a crate that holds tests is proved once more for them. What proves dearly is
+//! a tree or a refusal that is owned where a call may fail. So trees are read from texts, are compared by reference,
+//! and are let go as values of any type.
 #![tactic(auto)]
 
 #[cfg(test)]
 mod assertcheck_tests;
-#[cfg(test)]
-mod assertcheck_update_tests;
 #[cfg(test)]
 mod definitions_tests;
 #[cfg(test)]
@@ -19,6 +19,8 @@ mod parse_tests;
 mod report_closing_tests;
 #[cfg(test)]
 mod report_tests;
+#[cfg(test)]
+mod shared;
 #[cfg(test)]
 mod token_tests;
 #[cfg(test)]

@@ -1,107 +1,149 @@
 //! Names that are found, inside and outside, and names that stand for nothing.
 
-use name_check::{Scope, exposed_name, known_condition, known_expression};
-use sqlite_items::Boxed;
+use crate::shared::{add_table, condition_of, event, expression_of, let_go, schema};
+use name_check::{Scope, look_up_condition, look_up_expression};
+use statement_syntax::Event;
 use std::alloc::Global;
 use std::test::Fail;
-use syntax::{ColumnName, Condition, Expression, Query, SelectList};
-use table::{Catalog, Column, Schema};
-use value::{ColType, Comparison, Refusal, Text};
-
-/// A table of one INTEGER column, which is its key.
-fn schema(alloc: Global, column: &str) -> Result<Schema, Refusal> {
-    let name = Text::from_str(alloc, column)?;
-    let columns = vec![in alloc;
-        Column {
-            name,
-            kind: ColType::Integer,
-            nullable: false,
-            is_key: true
-        },
-    ]?;
-    Ok(Schema::new(columns, 0))
-}
+use syntax::ColumnName;
+use table::{Catalog, Schema};
+use value::{ColType, Refusal, Text};
 
 /// The tables S with the column ID, and D with the column SHIFT.
 fn catalog(alloc: Global) -> Result<Catalog, Refusal> {
     let mut catalog = Catalog::new(alloc);
-    catalog.add(Text::from_str(alloc, "S")?, schema(alloc, "ID")?)?;
-    catalog.add(Text::from_str(alloc, "D")?, schema(alloc, "SHIFT")?)?;
+    add_table(alloc, &mut catalog, "S", &[("ID", ColType::Integer)])?;
+    add_table(alloc, &mut catalog, "D", &[("SHIFT", ColType::Integer)])?;
     Ok(catalog)
 }
 
-fn column(alloc: Global, qualifier: &str, name: &str) -> Result<ColumnName, Refusal> {
-    let qualifier = if qualifier.is_empty() {
-        None
-    } else {
-        Some(Text::from_str(alloc, qualifier)?)
+/// The schema of S.
+fn schema_of_s(alloc: Global) -> Result<Schema, Refusal> {
+    schema(alloc, &[("ID", ColType::Integer)])
+}
+
+/// Whether this name stands for nothing; an empty one where all names are found.
+fn is_answer(answer: &Result<(), Refusal>, wanted: &str) -> bool {
+    match answer {
+        Ok(()) => wanted.is_empty(),
+        Err(Refusal::UnknownName { name }) => *name.as_bytes() == *wanted.as_bytes(),
+        Err(_) => false,
+    }
+}
+
+/// Whether this name stands for nothing; the answer is let go.
+fn let_go_answer(answer: Result<(), Refusal>, wanted: &str) -> bool {
+    let is_answer = is_answer(&answer, wanted);
+    let_go(answer);
+    is_answer
+}
+
+/// Whether this is answered to a DELETE's condition, or to the first value of an UPDATE.
+fn is_answered(
+    alloc: Global,
+    catalog: &Catalog,
+    scope: Scope,
+    event: &Event,
+    wanted: &str,
+) -> bool {
+    if let Some(condition) = condition_of(event) {
+        let answer = look_up_condition(alloc, catalog, &[scope], condition);
+        return let_go_answer(answer, wanted);
+    }
+    match expression_of(event) {
+        Some(expression) => {
+            let answer = look_up_expression(alloc, catalog, &[scope], expression);
+            let_go_answer(answer, wanted)
+        }
+        None => false,
+    }
+}
+
+/// Whether this is answered to a condition or an expression over S.
+fn is_told(alloc: Global, text: &str, wanted: &str) -> Result<bool, Refusal> {
+    let catalog = catalog(alloc)?;
+    let table = Text::from_str(alloc, "S")?;
+    let schema = schema_of_s(alloc)?;
+    let scope = Scope {
+        exposed_name: &table,
+        schema: &schema,
     };
+    let event = event(alloc, text)?;
+    let is_answered = is_answered(alloc, &catalog, scope, &event, wanted);
+    let_go(event);
+    Ok(is_answered)
+}
+
+/// Texts, and the name that stands for nothing.
+const NAMES: &[(&str, &str)] = &[
+    (
+        "DELETE FROM S WHERE EXISTS (SELECT * FROM D AS X WHERE SHIFT IS NULL)",
+        "",
+    ),
+    (
+        "DELETE FROM S WHERE EXISTS (SELECT * FROM D AS X WHERE ID IS NULL)",
+        "",
+    ),
+    (
+        "DELETE FROM S WHERE EXISTS (SELECT * FROM D AS X WHERE S.ID IS NULL)",
+        "",
+    ),
+    (
+        "DELETE FROM S WHERE EXISTS (SELECT * FROM D AS X WHERE OWNER IS NULL)",
+        "OWNER",
+    ),
+    (
+        "DELETE FROM S WHERE EXISTS (SELECT * FROM D AS X WHERE X.ID IS NULL)",
+        "ID",
+    ),
+    (
+        "DELETE FROM S WHERE EXISTS (SELECT * FROM D AS X WHERE D.SHIFT IS NULL)",
+        "D",
+    ),
+    ("UPDATE S SET ID = SHIFT", "SHIFT"),
+];
+
+#[test]
+fn inner_names_and_outer_names(rt: HostRuntime) -> Result<(), Fail> {
+    for (text, wanted) in NAMES {
+        assert!(rt; is_told(rt.alloc(), text, wanted)?, "{text}");
+    }
+    Ok(())
+}
+
+/// A name with a table's before it.
+fn qualified(alloc: Global, table: &str, name: &str) -> Result<ColumnName, Refusal> {
+    let qualifier = Some(Text::from_str(alloc, table)?);
     Ok(ColumnName {
         qualifier,
         name: Text::from_str(alloc, name)?,
     })
 }
 
-/// `EXISTS (SELECT * FROM D AS X WHERE column IS NULL)`.
-fn exists(alloc: Global, column: ColumnName) -> Result<Condition, Refusal> {
-    let query = Query {
-        select_list: SelectList::Star,
-        table: Text::from_str(alloc, "D")?,
-        correlation_name: Some(Text::from_str(alloc, "X")?),
-        keeps: Some(Condition::IsNull(Expression::Column(column))),
-        group: None,
-        having: None,
-    };
-    Ok(Condition::Exists(Boxed::new(alloc, query)?))
+/// A name alone.
+fn plain(alloc: Global, name: &str) -> Result<ColumnName, Refusal> {
+    Ok(ColumnName {
+        qualifier: None,
+        name: Text::from_str(alloc, name)?,
+    })
 }
 
-/// Whether the name that stands for nothing is this one.
-fn is_unknown(answer: &Result<(), Refusal>, wanted: &str) -> bool {
-    match answer {
-        Err(Refusal::UnknownName { name }) => *name.as_bytes() == *wanted.as_bytes(),
-        _ => false,
-    }
-}
-
-/// What is answered to the query above in a condition over S.
-fn told(alloc: Global, qualifier: &str, name: &str) -> Result<Result<(), Refusal>, Refusal> {
-    let catalog = catalog(alloc)?;
+/// The place of a column among those of S, and whether S is named before it.
+fn own(alloc: Global, column: &ColumnName) -> Result<(Option<usize>, bool), Refusal> {
     let table = Text::from_str(alloc, "S")?;
-    let schema = schema(alloc, "ID")?;
+    let schema = schema_of_s(alloc)?;
     let scope = Scope {
         exposed_name: &table,
         schema: &schema,
     };
-    let condition = exists(alloc, column(alloc, qualifier, name)?)?;
-    Ok(known_condition(alloc, &catalog, &[scope], &condition))
-}
-
-#[test]
-fn inner_names_and_outer_names(rt: HostRuntime) -> Result<(), Fail> {
-    let alloc = rt.alloc();
-    assert!(rt; told(alloc, "", "SHIFT")?.is_ok());
-    assert!(rt; told(alloc, "", "ID")?.is_ok());
-    assert!(rt; told(alloc, "S", "ID")?.is_ok());
-    assert!(rt; is_unknown(&told(alloc, "", "OWNER")?, "OWNER"));
-    assert!(rt; is_unknown(&told(alloc, "X", "ID")?, "ID"));
-    assert!(rt; is_unknown(&told(alloc, "D", "SHIFT")?, "D"));
-    Ok(())
+    Ok((scope.own(column), scope.is_named(column)))
 }
 
 #[test]
 fn own_columns(rt: HostRuntime) -> Result<(), Fail> {
     let alloc = rt.alloc();
-    let table = Text::from_str(alloc, "S")?;
-    let schema = schema(alloc, "ID")?;
-    let scope = Scope {
-        exposed_name: &table,
-        schema: &schema,
-    };
-    assert_eq!(rt; scope.own(&column(alloc, "", "ID")?), Some(0));
-    assert_eq!(rt; scope.own(&column(alloc, "D", "ID")?), None);
-    assert!(rt; scope.is_named(&column(alloc, "S", "ID")?));
-    let expression = Expression::Column(column(alloc, "", "SHIFT")?);
-    let answer = known_expression(alloc, &catalog(alloc)?, &[scope], &expression);
-    assert!(rt; is_unknown(&answer, "SHIFT"));
+    assert!(rt; own(alloc, &plain(alloc, "ID")?)?.0 == Some(0));
+    assert!(rt; own(alloc, &qualified(alloc, "D", "ID")?)?.0.is_none());
+    assert!(rt; own(alloc, &qualified(alloc, "S", "ID")?)?.1);
     Ok(())
 }

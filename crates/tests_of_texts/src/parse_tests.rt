@@ -1,5 +1,6 @@
 //! Texts with their trees, or with the places at which they are refused, written out by hand.
 
+use crate::shared::{event, let_go};
 use parse::{parse_schema, parse_script, parse_statement};
 use sqlite_items::Items;
 use statement_syntax::{Definition, Event, Mode, Statement, Step};
@@ -9,7 +10,7 @@ use syntax::{Condition, Expression};
 use value::{ColType, Comparison, Refusal, Value};
 
 /// The offset that a refusal names: of Syntax, or of TooDeep.
-#[derive(Clone, Copy, Debug, PartialEq, Eq)]
+#[derive(Clone, Copy, PartialEq, Eq)]
 enum Place {
     Taken,
     Syntax(usize),
@@ -17,19 +18,21 @@ enum Place {
     Other,
 }
 
+/// The place at which a text is refused.
 fn place_of<T: Drop>(answer: Result<T, Refusal>) -> Place {
-    match answer {
-        Ok(_) => Place::Taken,
-        Err(Refusal::Syntax { at }) => Place::Syntax(at),
-        Err(Refusal::TooDeep { at }) => Place::TooDeep(at),
-        Err(_) => Place::Other,
-    }
+    let place = place_in(&answer);
+    let_go(answer);
+    place
 }
 
-#[test]
-fn null_is_no_expression(rt: HostRuntime) {
-    let answer = parse_statement(rt.alloc(), b"SELECT ID FROM ACCT WHERE BAL = NULL");
-    assert_eq!(rt; place_of(answer), Place::Syntax(32));
+/// The place that an answer names.
+fn place_in<T>(answer: &Result<T, Refusal>) -> Place {
+    match answer {
+        Ok(_) => Place::Taken,
+        Err(Refusal::Syntax { at }) => Place::Syntax(*at),
+        Err(Refusal::TooDeep { at }) => Place::TooDeep(*at),
+        Err(_) => Place::Other,
+    }
 }
 
 /// A comparison in so many parentheses.
@@ -45,31 +48,26 @@ fn in_parentheses(alloc: Global, open: usize) -> Result<Vec<u8>, AllocError> {
     Ok(text)
 }
 
+/// The place at which so many bytes of such a comparison are refused.
+fn place_of_nested(alloc: Global, open: usize, bytes: usize) -> Result<Place, AllocError> {
+    let text = in_parentheses(alloc, open)?;
+    Ok(match text.get(..bytes) {
+        Some(beginning) => place_of(parse_statement(alloc, beginning)),
+        None => Place::Other,
+    })
+}
+
+/// The 65th is refused, which is the byte 90, also where the text ends with it.
 #[test]
 fn sixty_five_parentheses(rt: HostRuntime) -> Result<(), Fail> {
-    let alloc = rt.alloc();
-    let text = in_parentheses(alloc, 65)?;
-    assert_eq!(rt; place_of(parse_statement(alloc, &text)), Place::TooDeep(90));
-    let beginning = text.get(..91).unwrap_or(&[]);
-    assert_eq!(rt; beginning.len(), 91);
-    assert_eq!(rt;
-        place_of(parse_statement(alloc, beginning)),
-        Place::TooDeep(90)
-    );
-    let text = in_parentheses(alloc, 64)?;
-    assert_eq!(rt; place_of(parse_statement(alloc, &text)), Place::Taken);
+    assert!(rt; place_of_nested(rt.alloc(), 65, 163)? == Place::TooDeep(90));
+    assert!(rt; place_of_nested(rt.alloc(), 65, 91)? == Place::TooDeep(90));
+    assert!(rt; place_of_nested(rt.alloc(), 64, 161)? == Place::Taken);
     Ok(())
 }
 
+/// A script whose last text does not end.
 const UNFINISHED: &[u8] = b"A: BEGIN;\nA: INSERT INTO ACCT VALUES (1, 'KI";
-
-#[test]
-fn unfinished_text(rt: HostRuntime) {
-    assert_eq!(rt;
-        place_of(parse_script(rt.alloc(), UNFINISHED)),
-        Place::Syntax(41)
-    );
-}
 
 /// What is answered to the first bytes of the unfinished script.
 fn wanted(bytes: usize) -> Place {
@@ -84,65 +82,94 @@ fn wanted(bytes: usize) -> Place {
     }
 }
 
+/// Whether this is answered to the first bytes of it.
+fn is_wanted(alloc: Global, bytes: usize) -> bool {
+    match UNFINISHED.get(..bytes) {
+        Some(beginning) => place_of(parse_script(alloc, beginning)) == wanted(bytes),
+        None => false,
+    }
+}
+
+/// The last beginning is the whole, which is refused at the quote.
 #[test]
 fn every_beginning(rt: HostRuntime) {
     assert_eq!(rt; UNFINISHED.len(), 44);
     for bytes in 0..=UNFINISHED.len() {
-        let answer = parse_script(rt.alloc(), &UNFINISHED[..bytes]);
-        assert_eq!(rt; place_of(answer), wanted(bytes), "of {bytes} bytes");
+        assert!(rt; is_wanted(rt.alloc(), bytes), "of {bytes} bytes");
+    }
+}
+
+/// A schema that goes on with a mark that may not stand there.
+const BAD_SCHEMA: &[u8] = b"create table Acct (Id int primary key, Kind varchar(4) not null);
+        insert into Acct (Id, Kind) values (1, 'it''s'), -- the list ends here
+        ;";
+
+#[test]
+fn a_bad_schema(rt: HostRuntime) {
+    assert!(rt; place_of(parse_schema(rt.alloc(), BAD_SCHEMA)) == Place::Syntax(121));
+}
+
+/// A table, a row and an assertion.
+const SCHEMA: &[u8] = b"create table Acct (Id int primary key, Kind varchar(4) not null);
+    insert into Acct (Id, Kind) values (-1, 'it''s');
+    create assertion Sound check (not exists
+        (select Kind from Acct group by Kind having sum(Bal) < 0)) initially deferred;";
+
+/// Whether this is the table ACCT of an INTEGER and a VARCHAR(4).
+fn is_acct(definition: &Definition) -> bool {
+    let Definition::Table { name, columns } = definition else {
+        return false;
+    };
+    match columns.as_slice() {
+        [id, kind] => {
+            name.as_bytes() == b"ACCT".as_slice()
+                && id.kind == ColType::Integer
+                && kind.kind == ColType::Varchar(4)
+        }
+        _ => false,
+    }
+}
+
+/// Whether this puts in -1 and `it's`.
+fn is_row(definition: &Definition) -> bool {
+    let Definition::Insert(insert) = definition else {
+        return false;
+    };
+    match insert.values.as_slice() {
+        [Value::Int(-1), Value::Text(text)] => text.as_bytes() == b"it's".as_slice(),
+        _ => false,
+    }
+}
+
+/// Whether this is a NOT that is deferred from the start, and says nothing of whether it is deferrable.
+fn is_sound(definition: &Definition) -> bool {
+    let Definition::Assertion {
+        condition,
+        attributes,
+        ..
+    } = definition
+    else {
+        return false;
+    };
+    matches!(condition, Condition::Not(_))
+        && attributes.initially == Some(Mode::Deferred)
+        && attributes.deferrable.is_none()
+}
+
+/// Whether these are that table, that row and that assertion.
+fn are_three(definitions: &[Definition]) -> bool {
+    match definitions {
+        [table, row, assertion] => is_acct(table) && is_row(row) && is_sound(assertion),
+        _ => false,
     }
 }
 
 #[test]
 fn a_schema(rt: HostRuntime) -> Result<(), Fail> {
-    let text = b"create table Acct (Id int primary key, Kind varchar(4) not null);
-        insert into Acct (Id, Kind) values (1, 'it''s'), -- the list ends here
-        ;";
-    assert_eq!(rt;
-        place_of(parse_schema(rt.alloc(), text)),
-        Place::Syntax(121)
-    );
-    let text = b"create table Acct (Id int primary key, Kind varchar(4) not null);
-        insert into Acct (Id, Kind) values (-1, 'it''s');
-        create assertion Sound check (not exists (select Kind from Acct group by Kind having sum(Bal) < 0)) initially deferred;";
-    let schema = parse_schema(rt.alloc(), text)?;
-    assert_eq!(rt; schema.len(), 3);
-    if let Some(Definition::Table { name, columns }) = schema.get(0) {
-        assert_eq!(rt; name.as_bytes(), b"ACCT".as_slice());
-        let kinds = columns
-            .as_slice()
-            .iter()
-            .map(|c| c.kind)
-            .collect::<Vec<ColType>>(rt.alloc())?;
-        assert_eq!(rt;
-            kinds.as_slice(),
-            [ColType::Integer, ColType::Varchar(4)].as_slice()
-        );
-    } else {
-        assert!(rt; false, "a table");
-    }
-    if let Some(Definition::Insert(insert)) = schema.get(1) {
-        assert!(rt; matches!(insert.values.get(0), Some(Value::Int(-1))));
-        assert!(rt;
-            matches!(insert.values.get(1), Some(Value::Text(text)) if text.as_bytes() == b"it's".as_slice())
-        );
-    } else {
-        assert!(rt; false, "an INSERT");
-    }
-    if let Some(
-        Definition::Assertion {
-            condition,
-            attributes,
-            ..
-        },
-    ) = schema.get(2)
-    {
-        assert!(rt; matches!(condition, Condition::Not(_)));
-        assert_eq!(rt; attributes.initially, Some(Mode::Deferred));
-        assert_eq!(rt; attributes.deferrable, None);
-    } else {
-        assert!(rt; false, "an assertion");
-    }
+    let schema = parse_schema(rt.alloc(), SCHEMA)?;
+    let are_three = are_three(schema.as_slice());
+    let_go(schema);
+    assert!(rt; are_three);
     Ok(())
 }
 
@@ -157,36 +184,59 @@ fn takes_a_sum_away(expression: &Expression) -> bool {
     parts.len() == 2 && matches!(part.get(), Expression::Sum(_))
 }
 
-#[test]
-fn a_sum_under_a_minus_stays(rt: HostRuntime) -> Result<(), Fail> {
-    let text =
-        b"DELETE FROM ACCT WHERE (BAL - (A + B)) > -3 AND BAL BETWEEN 1 AND 2 AND TRUTH IS NULL";
-    let event = parse_statement(rt.alloc(), text)?;
+/// Whether the condition compares such a sum with -3, and has a BETWEEN and an IS NULL behind it.
+fn has_three_parts(condition: &Condition) -> bool {
+    let Condition::And(parts) = condition else {
+        return false;
+    };
+    match parts.as_slice() {
+        [
+            Condition::Compare(left, Comparison::Greater, Expression::Number(-3)),
+            Condition::Between(_, _, _),
+            Condition::IsNull(_),
+        ] => takes_a_sum_away(left),
+        _ => false,
+    }
+}
+
+/// Whether this is a DELETE from ACCT with that condition.
+fn is_delete(event: &Event) -> bool {
     let Event::Run(
         Statement::Delete {
             table,
             keeps: Some(condition),
         },
-    ) = &event
+    ) = event
     else {
-        assert!(rt; false, "a DELETE");
-        return Ok(());
+        return false;
     };
-    let Condition::And(parts) = condition.get() else {
-        assert!(rt; false, "an AND");
-        return Ok(());
-    };
-    assert_eq!(rt; table.as_bytes(), b"ACCT".as_slice());
-    assert_eq!(rt; parts.len(), 3);
-    if let Some(Condition::Compare(left, Comparison::Greater, right)) = parts.get(0) {
-        assert!(rt; takes_a_sum_away(left));
-        assert!(rt; matches!(right, Expression::Number(-3)));
-    } else {
-        assert!(rt; false, "a comparison");
-    }
-    assert!(rt; matches!(parts.get(1), Some(Condition::Between(_, _, _))));
-    assert!(rt; matches!(parts.get(2), Some(Condition::IsNull(_))));
+    table.as_bytes() == b"ACCT".as_slice() && has_three_parts(condition.get())
+}
+
+#[test]
+fn a_sum_under_a_minus_stays(rt: HostRuntime) -> Result<(), Fail> {
+    let text =
+        "DELETE FROM ACCT WHERE (BAL - (A + B)) > -3 AND BAL BETWEEN 1 AND 2 AND TRUTH IS NULL";
+    let event = event(rt.alloc(), text)?;
+    let is_delete = is_delete(&event);
+    let_go(event);
+    assert!(rt; is_delete);
     Ok(())
+}
+
+/// A letter for an event.
+fn letter(event: &Event) -> u8 {
+    match event {
+        Event::Begin => b'b',
+        Event::Commit => b'c',
+        Event::Rollback => b'r',
+        Event::Run(Statement::Insert(_)) => b'I',
+        Event::Run(Statement::Update { .. }) => b'U',
+        Event::Run(Statement::Delete { .. }) => b'D',
+        Event::Run(Statement::Select { .. }) => b'S',
+        Event::Run(Statement::SetConstraints { .. }) => b'C',
+        Event::Run(Statement::Verdict(_)) => b'V',
+    }
 }
 
 /// The steps of a script, a letter each.
@@ -194,48 +244,48 @@ fn letters(alloc: Global, steps: &Items<Step>) -> Result<Vec<u8>, AllocError> {
     steps
         .as_slice()
         .iter()
-        .map(|step| match &step.event {
-            Event::Begin => b'b',
-            Event::Commit => b'c',
-            Event::Rollback => b'r',
-            Event::Run(Statement::Insert(_)) => b'I',
-            Event::Run(Statement::Update { .. }) => b'U',
-            Event::Run(Statement::Delete { .. }) => b'D',
-            Event::Run(Statement::Select { .. }) => b'S',
-            Event::Run(Statement::SetConstraints { .. }) => b'C',
-            Event::Run(Statement::Verdict(_)) => b'V',
-        })
+        .map(|step| letter(&step.event))
         .collect(alloc)
+}
+
+/// A script of each event.
+const SCRIPT: &[u8] = b"a: begin; B: begin; a: insert into T values (null, +1, 'x');
+    b: update T set X = null, Y = X * 2 where not X in (1, 2)
+        or (select max(Z) from T U where U.Z = 1) = 3;
+    a: delete from T; a: select * from T where exists (select * from T);
+    a: set constraints all deferred; a: verdict SOUND;
+    a: commit work; b: rollback; a: commit; b: rollback work;";
+
+/// The letters of the script.
+fn letters_of_script(alloc: Global) -> Result<Vec<u8>, Refusal> {
+    let script = parse_script(alloc, SCRIPT)?;
+    let found = letters(alloc, &script);
+    let_go(script);
+    Ok(found?)
 }
 
 #[test]
 fn a_script_of_each_event(rt: HostRuntime) -> Result<(), Fail> {
-    let text = b"a: begin; B: begin; a: insert into T values (null, +1, 'x');
-        b: update T set X = null, Y = X * 2 where not X in (1, 2) or (select max(Z) from T U where U.Z = 1) = 3;
-        a: delete from T; a: select * from T where exists (select * from T); a: set constraints all deferred;
-        a: verdict SOUND; a: commit work; b: rollback; a: commit; b: rollback work;";
-    let script = parse_script(rt.alloc(), text)?;
-    assert_eq!(rt;
-        letters(rt.alloc(), &script)?.as_slice(),
-        b"bbIUDSCVcrcr".as_slice()
-    );
+    let found = letters_of_script(rt.alloc())?;
+    assert!(rt; found.as_slice() == b"bbIUDSCVcrcr".as_slice());
     Ok(())
 }
 
+/// Texts, and the places at which they are refused.
+const NO_EVENTS: &[(&[u8], usize)] = &[
+    (b"SELECT ID FROM ACCT WHERE BAL = NULL", 32),
+    (b"BEGIN READ ONLY", 6),
+    (b"COMMIT; COMMIT", 6),
+    (b"SELECT A FROM B WHERE", 21),
+    (b"UPDATE T SET WHERE = 1", 13),
+    (b"DELETE FROM T WHERE A BETWEEN (1 AND 2)", 33),
+    (b"VERDICT A, B", 9),
+];
+
 #[test]
 fn what_is_no_event(rt: HostRuntime) {
-    let texts: [(&[u8], usize); 6] = [
-        (b"BEGIN READ ONLY", 6),
-        (b"COMMIT; COMMIT", 6),
-        (b"SELECT A FROM B WHERE", 21),
-        (b"UPDATE T SET WHERE = 1", 13),
-        (b"DELETE FROM T WHERE A BETWEEN (1 AND 2)", 33),
-        (b"VERDICT A, B", 9),
-    ];
-    for (text, at) in texts {
-        assert_eq!(rt;
-            place_of(parse_statement(rt.alloc(), text)),
-            Place::Syntax(at)
-        );
+    for (text, at) in NO_EVENTS {
+        let place = place_of(parse_statement(rt.alloc(), text));
+        assert!(rt; place == Place::Syntax(*at), "{at}");
     }
 }

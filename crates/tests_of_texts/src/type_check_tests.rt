@@ -1,139 +1,146 @@
 //! Typed and mistyped conditions and forms, and one that is too wide.
 
-use assertion::{Form, Linked, Plain};
+use crate::shared::{add_table, columns, condition_of, event, let_go};
+use assertion::Form;
 use cond::{Cond, Expr};
+use form_check::form;
 use sqlite_items::Items;
 use std::alloc::Global;
 use std::test::Fail;
-use table::{Aggregate, Catalog, Column, Schema};
+use syntax::Condition;
+use table::{Aggregate, Catalog, Column};
 use type_check::{
     DataType, aggregate_type, column_type, expression_type, form_is_bounded, form_is_typed,
     is_well_typed,
 };
-use value::{ColType, Comparison, Refusal, Text, Value};
+use value::{ColType, Comparison, Refusal, Value};
 
-fn column(alloc: Global, name: &str, kind: ColType) -> Result<Column, Refusal> {
-    Ok(Column {
-        name: Text::from_str(alloc, name)?,
-        kind,
-        nullable: true,
-        is_key: false,
-    })
-}
+/// ID INTEGER, which is the key, and OWNER VARCHAR(10).
+const COLUMNS: &[(&str, ColType)] = &[("ID", ColType::Integer), ("OWNER", ColType::Varchar(10))];
 
-/// An INTEGER and a VARCHAR(10).
-fn columns(alloc: Global) -> Result<Vec<Column>, Refusal> {
-    let mut columns = Vec::new(alloc);
-    columns.push(column(alloc, "ID", ColType::Integer)?)?;
-    columns.push(column(alloc, "OWNER", ColType::Varchar(10))?)?;
-    Ok(columns)
-}
-
-/// A table of those columns, whose key is the number.
+/// The table ACCT of those columns.
 fn catalog(alloc: Global) -> Result<Catalog, Refusal> {
     let mut catalog = Catalog::new(alloc);
-    let columns = columns(alloc)?;
-    if !columns.is_empty() {
-        catalog.add(Text::from_str(alloc, "ACCT")?, Schema::new(columns, 0))?;
-    }
+    add_table(alloc, &mut catalog, "ACCT", COLUMNS)?;
     Ok(catalog)
 }
 
-/// A list of one item.
-fn one<T: Drop>(alloc: Global, item: T) -> Result<Items<T>, Refusal> {
-    let mut items = Vec::new(alloc);
-    items.push(item)?;
-    Ok(Items::from_vec(items))
+/// A sum of the first slot alone.
+fn sum(alloc: Global) -> Result<Expr, Refusal> {
+    let mut parts = Vec::new(alloc);
+    parts.push(Expr::Slot(0))?;
+    Ok(Expr::Sum(Items::from_vec(parts)))
 }
 
-/// An expression that is to be 1.
-fn is_one(expr: Expr) -> Cond {
-    Cond::Compare(Comparison::Equal, expr, Expr::Literal(Value::Int(1)))
+/// The type of that sum, where the slot has this type.
+fn type_of_sum(
+    alloc: Global,
+    columns: &[Column],
+    slot: DataType,
+) -> Result<Option<DataType>, Refusal> {
+    let sum = sum(alloc)?;
+    let found = expression_type(&sum, columns, &[slot]);
+    let_go(sum);
+    Ok(found)
 }
 
-/// No row has one with an ID of 1 whose column `link` holds its key.
-fn by_row(alloc: Global, link: usize) -> Result<Form, Refusal> {
-    let query = Linked {
-        table: 0,
-        kept: is_one(Expr::Column(0)),
-        link,
-        aggregate: Aggregate::CountRows,
-    };
-    Ok(Form::ByRow {
-        table: 0,
-        condition: Cond::Exists(0),
-        queries: one(alloc, query)?,
-    })
-}
-
-/// No group of this column has this as 1.
-fn by_group(alloc: Global, group: usize, aggregate: Aggregate) -> Result<Form, Refusal> {
-    Ok(Form::ByGroup {
-        table: 0,
-        kept: Cond::And(Items::new(alloc)),
-        group,
-        having: is_one(Expr::Slot(0)),
-        aggregates: one(alloc, aggregate)?,
-    })
-}
-
-/// The product of this column's sum and another number is 1.
-fn single(alloc: Global, column: usize, factor: i64) -> Result<Form, Refusal> {
-    let all = Plain {
-        table: 0,
-        kept: Cond::And(Items::new(alloc)),
-        aggregate: Aggregate::Sum(column),
-    };
-    let mut factors = Vec::new(alloc);
-    factors.push(Expr::Slot(0))?;
-    factors.push(Expr::Literal(Value::Int(factor)))?;
-    Ok(Form::Single {
-        condition: is_one(Expr::Product(Items::from_vec(factors))),
-        queries: one(alloc, all)?,
-    })
+/// Whether a column may be compared with 1.
+fn may_be_one(columns: &[Column], column: usize) -> bool {
+    let one = Expr::Literal(Value::Int(1));
+    let is_one = Cond::Compare(Comparison::Equal, Expr::Column(column), one);
+    let is_typed = is_well_typed(&is_one, columns, &[]);
+    let_go(is_one);
+    is_typed
 }
 
 #[test]
-fn expressions_and_conditions_have_types(rt: HostRuntime) -> Result<(), Fail> {
-    let alloc = rt.alloc();
-    let columns = columns(alloc)?;
-    assert_eq!(rt; column_type(&columns, 1), Some(DataType::Text));
-    assert_eq!(rt;
-        aggregate_type(&columns, Aggregate::Max(1)),
-        Some(DataType::Text)
-    );
-    assert_eq!(rt; aggregate_type(&columns, Aggregate::Sum(1)), None);
-    let sum = Expr::Sum(one(alloc, Expr::Slot(0))?);
-    assert_eq!(rt;
-        expression_type(&sum, &columns, &[DataType::Number]),
-        Some(DataType::Number)
-    );
-    assert_eq!(rt; expression_type(&sum, &columns, &[DataType::Text]), None);
-    assert!(rt; is_well_typed(&is_one(Expr::Column(0)), &columns, &[]));
-    assert!(rt; !is_well_typed(&is_one(Expr::Column(1)), &columns, &[]));
+fn expressions_have_types(rt: HostRuntime) -> Result<(), Fail> {
+    let columns = columns(rt.alloc(), COLUMNS)?;
+    assert!(rt; column_type(&columns, 1) == Some(DataType::Text));
+    assert!(rt; aggregate_type(&columns, Aggregate::Max(1)) == Some(DataType::Text));
+    assert!(rt; aggregate_type(&columns, Aggregate::Sum(1)).is_none());
+    let number = type_of_sum(rt.alloc(), &columns, DataType::Number)?;
+    assert!(rt; number == Some(DataType::Number));
+    assert!(rt; type_of_sum(rt.alloc(), &columns, DataType::Text)?.is_none());
     Ok(())
 }
 
 #[test]
-fn forms_are_typed_and_bounded(rt: HostRuntime) -> Result<(), Fail> {
-    let alloc = rt.alloc();
+fn conditions_have_types(rt: HostRuntime) -> Result<(), Fail> {
+    let columns = columns(rt.alloc(), COLUMNS)?;
+    assert!(rt; may_be_one(&columns, 0));
+    assert!(rt; !may_be_one(&columns, 1));
+    Ok(())
+}
+
+/// Whether a form is typed, and whether it is bounded.
+fn judged(alloc: Global, catalog: &Catalog, form: &Form) -> Result<(bool, bool), Refusal> {
+    let is_typed = form_is_typed(alloc, catalog, form)?;
+    Ok((is_typed, form_is_bounded(alloc, form)?))
+}
+
+/// What is judged of a condition's form.
+fn judged_of(
+    alloc: Global,
+    catalog: &Catalog,
+    condition: Option<&Condition>,
+) -> Result<(bool, bool), Refusal> {
+    let Some(condition) = condition else {
+        return Err(Refusal::Stranger);
+    };
+    let form = form(alloc, catalog, condition)?;
+    let judged = judged(alloc, catalog, &form);
+    let_go(form);
+    judged
+}
+
+/// Whether the form of a DELETE's condition is typed, and whether it is bounded.
+fn told(alloc: Global, text: &str) -> Result<(bool, bool), Refusal> {
     let catalog = catalog(alloc)?;
-    assert!(rt; form_is_typed(alloc, &catalog, &by_row(alloc, 0)?)?);
-    assert!(rt; !form_is_typed(alloc, &catalog, &by_row(alloc, 1)?)?);
-    let found = by_group(alloc, 1, Aggregate::Count(1))?;
-    assert!(rt; form_is_typed(alloc, &catalog, &found)?);
-    let found = by_group(alloc, 1, Aggregate::Min(1))?;
-    assert!(rt; !form_is_typed(alloc, &catalog, &found)?);
+    let event = event(alloc, text)?;
+    let judged = judged_of(alloc, &catalog, condition_of(&event));
+    let_go(event);
+    judged
+}
+
+/// Conditions that are bounded, and whether they are typed.
+const FORMS: &[(&str, bool)] = &[
+    (
+        "DELETE FROM ACCT WHERE NOT EXISTS (SELECT * FROM ACCT A WHERE EXISTS
+        (SELECT * FROM ACCT B WHERE B.ID = 1 AND B.ID = A.ID))",
+        true,
+    ),
+    (
+        "DELETE FROM ACCT WHERE NOT EXISTS (SELECT * FROM ACCT A WHERE EXISTS
+        (SELECT * FROM ACCT B WHERE B.ID = 1 AND B.OWNER = A.ID))",
+        false,
+    ),
+    (
+        "DELETE FROM ACCT WHERE NOT EXISTS
+        (SELECT OWNER FROM ACCT GROUP BY OWNER HAVING COUNT(OWNER) = 1)",
+        true,
+    ),
+    (
+        "DELETE FROM ACCT WHERE NOT EXISTS
+        (SELECT OWNER FROM ACCT GROUP BY OWNER HAVING MIN(OWNER) = 1)",
+        false,
+    ),
+];
+
+#[test]
+fn forms_are_typed(rt: HostRuntime) -> Result<(), Fail> {
+    for (text, is_typed) in FORMS {
+        assert!(rt; told(rt.alloc(), text)? == (*is_typed, true), "{text}");
+    }
     Ok(())
 }
 
+/// 2^114 times 4096 is 2^126.
 #[test]
 fn sums_are_bounded(rt: HostRuntime) -> Result<(), Fail> {
-    let alloc = rt.alloc();
-    // 2^114 times 4096 is 2^126.
-    let (widest, wider) = (single(alloc, 0, 4_096)?, single(alloc, 0, 4_097)?);
-    assert!(rt; form_is_typed(alloc, &catalog(alloc)?, &widest)?);
-    assert!(rt; form_is_bounded(alloc, &widest)?);
-    assert!(rt; !form_is_bounded(alloc, &wider)?);
+    let widest = "DELETE FROM ACCT WHERE (SELECT SUM(ID) FROM ACCT) * 4096 = 1";
+    assert!(rt; told(rt.alloc(), widest)? == (true, true));
+    let wider = "DELETE FROM ACCT WHERE (SELECT SUM(ID) FROM ACCT) * 4097 = 1";
+    assert!(rt; !told(rt.alloc(), wider)?.1);
     Ok(())
 }

@@ -67,16 +67,16 @@ where
     );
     match run {
         Ok(()) => Ok(out),
-        Err(fault) => told(alloc, fault),
+        Err(fault) => line_of(alloc, fault),
     }
 }
 
 /// The line that says why there is no report.
-fn told(alloc: Global, fault: ProgramFault) -> Result<Vec<u8>, Fail> {
+fn line_of(alloc: Global, fault: ProgramFault) -> Result<Vec<u8>, Fail> {
     let mut line = Report::new(alloc);
     match fault {
-        ProgramFault::Defs(refusal) => line.refusal("DEFS", &refusal)?,
-        ProgramFault::Script(refusal) => line.refusal("SCRIPT", &refusal)?,
+        ProgramFault::Defs(refusal) => line.add_refusal("DEFS", &refusal)?,
+        ProgramFault::Script(refusal) => line.add_refusal("SCRIPT", &refusal)?,
         ProgramFault::Stopped => return Err(Fail::from("memory ended the run")),
         ProgramFault::Output => return Err(Fail::from("the writer took no bytes")),
         ProgramFault::NoThread => return Err(Fail::from("a session was not run")),

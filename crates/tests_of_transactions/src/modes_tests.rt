@@ -1,0 +1,122 @@
+//! That modes are set, and which names SET CONSTRAINTS takes.
+
+ghost use Rattle.std.specs.Prelude.{◌≡◌, length};
+
+use crate::texts::{let_go, view_of};
+use assertion::Assertion;
+use modes::{Modes, settable_names};
+use sqlite_items::Items;
+use statement_syntax::{Mode, Which};
+use std::alloc::Global;
+use std::process::Abort;
+use std::test::Fail;
+use value::{Refusal, Text};
+
+/// Two assertions that are always satisfied: COVER, which is initially deferred, and FUNDS, which is not deferrable.
+const ASSERTIONS: &str = "CREATE TABLE DUTY (ID INTEGER PRIMARY KEY);
+    CREATE ASSERTION COVER CHECK ((SELECT COUNT(*) FROM DUTY) >= 0) INITIALLY DEFERRED;
+    CREATE ASSERTION FUNDS CHECK ((SELECT COUNT(*) FROM DUTY) >= 0);";
+
+/// SET CONSTRAINTS of one name.
+fn one_name(alloc: Global, name: &str) -> Result<Which, Refusal> {
+    let name = Text::from_str(alloc, name)?;
+    Ok(Which::Names(Items::from_vec(vec![in alloc; name]?)))
+}
+
+/// How many names are taken, or a word for why none is.
+fn word(answer: &Result<Items<Text>, Refusal>) -> &'static str {
+    match answer {
+        Ok(names) if names.len() == 1 => "one",
+        Ok(_) => "some",
+        Err(Refusal::UnknownName { .. }) => "unknown",
+        Err(Refusal::NotDeferrable { .. }) => "not deferrable",
+        Err(_) => "other",
+    }
+}
+
+/// A word for what SET CONSTRAINTS takes.
+fn taken(alloc: Global, assertions: &[Assertion], which: &Which) -> &'static str {
+    let answer = settable_names(alloc, assertions, which);
+    let told = word(&answer);
+    let_go(answer);
+    told
+}
+
+/// The same of one name.
+fn taken_by_name(
+    alloc: Global,
+    assertions: &[Assertion],
+    name: &str,
+) -> Result<&'static str, Refusal> {
+    let which = one_name(alloc, name)?;
+    let told = taken(alloc, assertions, &which);
+    let_go(which);
+    Ok(told)
+}
+
+/// The modes after SET CONSTRAINTS ALL IMMEDIATE.
+fn all_immediate(alloc: Global, assertions: &[Assertion], modes: &Modes) -> Result<Modes, Refusal>
+    requires { length modes.now ≡ length assertions.now }
+{
+    let names = settable_names(alloc, assertions, &Which::All)?;
+    modes.set(assertions, names.as_slice(), Mode::Immediate)
+}
+
+/// A word for the modes of COVER and FUNDS.
+fn modes_word(modes: &Modes) -> &'static str {
+    match modes.as_slice() {
+        [false, true] => "COVER is deferred",
+        [true, true] => "immediate",
+        _ => "other",
+    }
+}
+
+/// Whether the mode of the first assertion is deferred.
+fn is_first_deferred(modes: &Modes) -> bool {
+    !modes.as_slice().is_empty() && matches!(modes.of(0), Mode::Deferred)
+}
+
+/// Whether the first assertion is deferred, and words for the modes before SET CONSTRAINTS ALL IMMEDIATE and after it.
+fn words(
+    alloc: Global,
+    assertions: &[Assertion],
+) -> Result<(bool, &'static str, &'static str), Refusal> {
+    let modes = Modes::initial(alloc, assertions)?;
+    let before = modes_word(&modes);
+    let is_deferred = is_first_deferred(&modes);
+    let set = all_immediate(alloc, assertions, &modes);
+    let_go(modes);
+    let after = modes_word(&set?);
+    Ok((is_deferred, before, after))
+}
+
+#[test]
+fn modes_are_set_by_name(rt: HostRuntime) -> Result<(), Fail> {
+    let view = view_of(rt.alloc(), ASSERTIONS)?;
+    let found = words(rt.alloc(), view.assertions());
+    let_go(view);
+    assert_eq!(rt; found?, (true, "COVER is deferred", "immediate"));
+    Ok(())
+}
+
+/// Names that are deferrable, not deferrable and unknown.
+fn tests_names<R: Abort>(rt: &R, alloc: Global, assertions: &[Assertion]) -> Result<(), Fail> {
+    for (name, want) in [
+        ("COVER", "one"),
+        ("FUNDS", "not deferrable"),
+        ("DUTY", "unknown"),
+    ] {
+        assert_eq!(rt; taken_by_name(alloc, assertions, name)?, want);
+    }
+    Ok(())
+}
+
+#[test]
+fn names_are_tested_from_the_left(rt: HostRuntime) -> Result<(), Fail> {
+    let view = view_of(rt.alloc(), ASSERTIONS)?;
+    let outcome = tests_names(&rt, rt.alloc(), view.assertions());
+    let all = taken(rt.alloc(), view.assertions(), &Which::All);
+    let_go(view);
+    assert_eq!(rt; all, "one");
+    outcome
+}

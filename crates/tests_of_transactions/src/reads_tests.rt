@@ -1,0 +1,197 @@
+//! That calls succeed, and keys found by hand.
+
+ghost use Rattle.std.specs.Prelude.{◌≡◌, length};
+
+use crate::texts::{let_go, view_of};
+use assertion::Assertion;
+use cond::{Cond, Expr};
+use delta::View;
+use reads::{Equality, checks_read, equality_on, real_changes, tables_read, where_key};
+use siread::{LockKey, Place};
+use sqlite_items::Items;
+use std::alloc::Global;
+use std::process::Abort;
+use std::test::Fail;
+use table::{Change, Row};
+use value::{Comparison, Refusal, Value};
+
+/// An assertion by rows, each beside those that link to it, and one of a single condition.
+const ACCOUNTS: &str = "CREATE TABLE ACCOUNT (ID INTEGER PRIMARY KEY, BAL INTEGER);
+    CREATE ASSERTION OWN CHECK (NOT EXISTS (SELECT * FROM ACCOUNT A
+        WHERE (SELECT COUNT(*) FROM ACCOUNT B WHERE B.BAL = A.ID) >= 2));
+    CREATE ASSERTION SOME_TWO CHECK ((SELECT COUNT(*) FROM ACCOUNT) >= 2);";
+
+/// A list of two.
+fn two<T: Drop>(alloc: Global, first: T, second: T) -> Result<Vec<T>, Refusal> {
+    let mut items = Vec::new(alloc);
+    items.push(first)?;
+    items.push(second)?;
+    Ok(items)
+}
+
+/// A column beside a number.
+fn beside(column: usize, comparison: Comparison, number: i64) -> Cond {
+    Cond::Compare(
+        comparison,
+        Expr::Literal(Value::Int(number)),
+        Expr::Column(column),
+    )
+}
+
+/// `column 1 = 3 AND column` of this place `= 7`.
+fn both(alloc: Global, column: usize) -> Result<Cond, Refusal> {
+    let first = beside(1, Comparison::Equal, 3);
+    let second = beside(column, Comparison::Equal, 7);
+    Ok(Cond::And(Items::from_vec(two(alloc, first, second)?)))
+}
+
+/// A word for a key, with a number of it.
+fn describe(key: &LockKey) -> (&'static str, i64) {
+    match key {
+        LockKey::Row(
+            Place {
+                key: Value::Int(key),
+                ..
+            },
+        ) => ("row", *key),
+        LockKey::Column {
+            column: 1,
+            value: Value::Int(value),
+            ..
+        } => ("column 1", *value),
+        LockKey::Table(0) => ("table", 0),
+        _ => ("other", 0),
+    }
+}
+
+/// The key that a WHERE reads, described.
+fn key_read(filter: Cond) -> Result<(&'static str, i64), Refusal> {
+    let key = where_key(0, 0, &filter);
+    let_go(filter);
+    Ok(describe(&key?))
+}
+
+/// The same of two equalities.
+fn key_of_both(alloc: Global, column: usize) -> Result<(&'static str, i64), Refusal> {
+    key_read(both(alloc, column)?)
+}
+
+/// The same of a comparison that sets nothing equal.
+fn key_of_less() -> Result<(&'static str, i64), Refusal> {
+    key_read(beside(0, Comparison::Less, 7))
+}
+
+#[test]
+fn where_reads_its_key(rt: HostRuntime) -> Result<(), Fail> {
+    assert_eq!(rt; key_of_both(rt.alloc(), 0)?, ("row", 7));
+    assert_eq!(rt; key_of_both(rt.alloc(), 2)?, ("column 1", 3));
+    assert_eq!(rt; key_of_less()?, ("table", 0));
+    Ok(())
+}
+
+/// The number that a column is set equal to, if it is.
+fn number_on(filter: &Cond, column: usize) -> Option<(usize, i64)> {
+    match equality_on(filter, column) {
+        Some(
+            Equality {
+                column,
+                value: Value::Int(number),
+            },
+        ) => Some((column, *number)),
+        _ => None,
+    }
+}
+
+#[test]
+fn first_equality_on_a_column(rt: HostRuntime) -> Result<(), Fail> {
+    let filter = both(rt.alloc(), 1)?;
+    assert_eq!(rt; number_on(&filter, 1), Some((1, 3)));
+    assert!(rt; equality_on(&filter, 0).is_none());
+    let_go(filter);
+    Ok(())
+}
+
+/// A row of two numbers.
+fn row(alloc: Global, key: i64, balance: i64) -> Result<Row, Refusal> {
+    Ok(Row::new(vec![in alloc; Value::Int(key), Value::Int(balance)]?))
+}
+
+/// The row under 7 gets 3 where it had this.
+fn to_three(alloc: Global, balance: i64) -> Result<Change, Refusal> {
+    Ok(Change {
+        table: 0,
+        key: Value::Int(7),
+        old: Some(row(alloc, 7, balance)?),
+        new: Some(row(alloc, 7, 3)?),
+    })
+}
+
+/// The keys that the check of some assertions reads at a change, described.
+fn read_at(
+    alloc: Global,
+    view: &View,
+    meant: &[bool],
+    changes: &[Change],
+) -> Result<Vec<(&'static str, i64)>, Refusal> {
+    if meant.len() != view.assertions().len() {
+        return Err(Refusal::TooWide);
+    }
+    let keys = checks_read(alloc, view, meant, changes)?;
+    Ok(keys.iter().map(describe).collect(alloc)?)
+}
+
+/// The row itself, and by its old and its new number those that link to it; of the single condition the table.
+fn checks<R: Abort>(rt: &R, alloc: Global, view: &View, changes: &[Change]) -> Result<(), Fail> {
+    let by_row = read_at(alloc, view, &[true, false], changes)?;
+    assert!(rt;
+        by_row[..]
+            == [
+                ("row", 7),
+                ("column 1", 7),
+                ("row", 3),
+                ("column 1", 3),
+                ("row", 3),
+                ("column 1", 3)
+            ]
+    );
+    let single = read_at(alloc, view, &[false, true], changes)?;
+    assert!(rt; single[..] == [("table", 0)]);
+    Ok(())
+}
+
+#[test]
+fn checks_read_at_candidates(rt: HostRuntime) -> Result<(), Fail> {
+    let changes = [to_three(rt.alloc(), 3)?];
+    let view = view_of(rt.alloc(), ACCOUNTS)?;
+    let outcome = checks(&rt, rt.alloc(), &view, &changes);
+    let_go(view);
+    outcome
+}
+
+/// How many keys VERDICT of each assertion reads.
+fn key_counts(alloc: Global, assertions: &[Assertion]) -> Result<Vec<usize>, Refusal> {
+    let mut counts = Vec::new(alloc);
+    for assertion in assertions {
+        let keys = tables_read(alloc, &assertion.form)?;
+        counts.push(keys.len())?;
+    }
+    Ok(counts)
+}
+
+#[test]
+fn verdicts_read_tables(rt: HostRuntime) -> Result<(), Fail> {
+    let view = view_of(rt.alloc(), ACCOUNTS)?;
+    let counts = key_counts(rt.alloc(), view.assertions());
+    let_go(view);
+    assert!(rt; counts?[..] == [2, 1]);
+    Ok(())
+}
+
+#[test]
+fn rows_set_to_what_they_held(rt: HostRuntime) -> Result<(), Fail> {
+    let same = to_three(rt.alloc(), 3)?;
+    let other = to_three(rt.alloc(), 4)?;
+    let real = real_changes(two(rt.alloc(), same, other)?);
+    assert_eq!(rt; real.len(), 1);
+    Ok(())
+}
