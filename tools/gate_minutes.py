@@ -98,6 +98,30 @@ def show(table, top):
     print(f"| all of these | {' | '.join(f'{it:.1f}' for it in sums)} | {count} | {sum(sums):.1f} |")
 
 
+def edges(top):
+    """What each crate stands on, by crates.txt."""
+    found = {}
+    with open(f"{top}/crates.txt") as it:
+        for line in it:
+            name, colon, below = line.partition(":")
+            if colon and not line.startswith("#"):
+                found[name.split()[0]] = below.split()
+    return found
+
+
+def longest_chain(table, top):
+    """The crates of which each waits for the one before it, and whose proofs take longest together."""
+    below, chains = edges(top), {}
+
+    def chain(crate):
+        if crate not in chains:
+            spent, under = max([chain(it) for it in below[crate] if it in below], default=(0.0, []))
+            chains[crate] = spent + table[crate, "proof"], [*under, crate]
+        return chains[crate]
+
+    return max(map(chain, below))
+
+
 def add(file, table):
     """The table with what the file has of earlier runs, which is then in the file."""
     if os.path.exists(file):
@@ -121,7 +145,10 @@ def main():
         how = {"cwd": top, "stdout": log, "stderr": subprocess.STDOUT, "stdin": subprocess.DEVNULL}
         gate = subprocess.Popen(["rt", "ci", *words.names], **how)
         table = watch(lambda: gate.poll() is None, str(gate.pid))
-    show(add(words.add, table) if words.add else table, top)
+    table = add(words.add, table) if words.add else table
+    show(table, top)
+    minutes, chain = longest_chain(table, top)
+    print(f"\nThe longest chain of proofs: {', '.join(chain)}; {minutes / 60:.0f} minutes.")
     spent = resource.getrusage(resource.RUSAGE_CHILDREN)
     print(f"\nThis run: {(time.time() - begin) / 60:.0f} minutes on {os.cpu_count()} processors, "
           f"{(spent.ru_utime + spent.ru_stime) / 60:.0f} processor minutes of all processes.")

@@ -3,8 +3,8 @@
 
 A must-fail edit turns code, which its own contract refuses. A slip made alike in code and definition passes that contract,
 and only the law that ties the form to what is written can find it. So in a copy of the repository the definitions of
-form_check are put into the crate `meaning` (the code is then left out of it), one of them is turned, and the crate is
-checked again: it has to be refused. First it is checked with nothing turned, and has to be proved.
+numbering and form_check are put into the crate `meaning` (the code is then left out of it), one of them is turned, and
+the crate is checked again: it has to be refused. First it is checked with nothing turned, and has to be proved.
 
     turned_definitions.py FOLDER        FOLDER: for the copy (about 2 GB; it is written over)
 
@@ -17,7 +17,7 @@ import sys
 from pathlib import Path
 
 REPOSITORY = Path(__file__).resolve().parent.parent
-MODULES = ["Results", "Columns", "Leaves", "Queries", "Links", "Forms"]
+MODULES = {"numbering": ["Results", "Columns", "Leaves"], "form_check": ["Queries", "Links", "Forms"]}
 LAWS = ["rows_are_as_written", "class_has_forms", "form_means_what_is_written"]
 
 # what is turned, the module, and pairs of the text there and what stands for it
@@ -31,8 +31,8 @@ TURNS = [
         ("each (row_condition child) (own_parts child root parts)",
          "each (row_condition root) (own_parts child root parts)")]),
     ("HAVING is of unfiltered rows", "Forms", [
-        ("and_then (row_filter source.scope query.keeps) (λ kept. having_over source group kept having)",
-         "and_then (row_filter source.scope None) (λ kept. having_over source group kept having)")]),
+        ("and_then (row_filter source.scope query.keeps) (λ restriction. having_over source group restriction having)",
+         "and_then (row_filter source.scope None) (λ restriction. having_over source group restriction having)")]),
     ("a name of both tables is the root's", "Links", [
         ("if is_name_of name.qualifier name.name child then None else own_column root name", "own_column root name")]),
     ("NOT is lost", "Leaves", [
@@ -41,7 +41,7 @@ TURNS = [
         ("expression_may_stand place other = false",
          "expression_may_stand place Expression-F.CountRows = true\nexpression_may_stand place other = false")]),
     ("the ends of BETWEEN are exchanged", "Leaves", [
-        ("both (between_of s.0) low.1 high.1 s.1", "both (between_of s.0) high.1 low.1 s.1")]),
+        ("both (between_of s.0) low high s.1", "both (between_of s.0) high low s.1")]),
     ("HAVING without GROUP BY is forgotten", "Forms", [
         ("by_clauses tables source query None (Some having) = Err OutsideClass",
          "by_clauses tables source query None (Some having) = by_row tables source query")]),
@@ -67,8 +67,7 @@ TURNS = [
     ("a correlation name is forgotten", "Queries", [
         ("sourced (unwrap_or correlation_name table)", "sourced table")]),
     ("WHERE of a query of its own is forgotten", "Forms", [
-        ("and_then (row_filter source.scope keeps) (λ kept. Ok (record { table = source.table; kept = kept; aggregate = a }))",
-         "and_then (row_filter source.scope None) (λ kept. Ok (record { table = source.table; kept = kept; aggregate = a }))")]),
+        ("and_then (row_filter source.scope keeps) (λ filter.", "and_then (row_filter source.scope None) (λ filter.")]),
 ]
 
 
@@ -89,7 +88,7 @@ def crates_below():
 
 
 def copy_to(folder):
-    """The crates below, with what was built of them, and form_check's definitions in the crate meaning."""
+    """The crates below, with what was built of them, and the definitions in the crate meaning."""
     shutil.rmtree(folder, ignore_errors=True)
     wanted, edges = crates_below()
     (folder / "crates").mkdir(parents=True)
@@ -99,19 +98,22 @@ def copy_to(folder):
     (folder / "crates.txt").write_text("".join(lines))
     subprocess.run(["git", "init", "-q"], cwd=folder, check=True)
     meaning = folder / "crates" / "meaning"
-    for module in MODULES:
-        shutil.copy(folder / f"crates/form_check/specs/{module}.antt", meaning / f"specs/{module}.antt")
-    old = (meaning / "specs/Lib.antt").read_text()
-    (meaning / "specs/Lib.antt").write_text(old + "".join(f"pub mod {module}\n" for module in MODULES))
+    modules = [(crate, module) for crate in MODULES for module in MODULES[crate]]
+    for crate, module in modules:
+        shutil.copy(folder / f"crates/{crate}/specs/{module}.antt", meaning / f"specs/{module}.antt")
+    lib = meaning / "specs/Lib.antt"
+    lib.write_text(lib.read_text() + "".join(f"pub mod {module}\n" for _, module in modules))
     keep_laws(meaning)
     for path in [*meaning.glob("specs/*.antt"), *meaning.glob("proofs/**/*.antt")]:
         text = path.read_text()
-        path.write_text(re.sub(rf"Rattle\.form_check\.specs\.({'|'.join(MODULES)})\b", r"Rattle.meaning.specs.\1", text))
+        for crate, module in modules:
+            text = re.sub(rf"Rattle\.{crate}\.specs\.{module}\b", f"Rattle.meaning.specs.{module}", text)
+        path.write_text(text)
     return meaning
 
 
 def keep_laws(meaning):
-    """Leaves out the laws of what is checked, which speak of form_check's own definitions."""
+    """Leaves out the laws of what is checked, which speak of the definitions where they stand."""
     for path in (meaning / "proofs/laws").iterdir():
         if path.name not in LAWS:
             shutil.rmtree(path)

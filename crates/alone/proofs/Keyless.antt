@@ -16,7 +16,7 @@ use Rattle.form_check.specs.Queries.{Source, sourced, source_of, row_filter}
 use Rattle.type_check.specs.Types.{is_typed_condition}
 use Rattle.assertcheck.specs.declared.updates.Setting.{Setting}
 use Rattle.assertcheck.specs.declared.updates.Update.{Update}
-use Rattle.value.specs.Results.{and_then, found, provided, unless}
+use Rattle.value.specs.Results.{and_then, provided, unless}
 use Rattle.value.proofs.Results.{and_then_ok, found_ok, ok_same, provided_ok, unless_ok}
 use Rattle.assertcheck.specs.Conditions.{target_of}
 use Rattle.assertcheck.specs.Statements.{new_place}

@@ -21,9 +21,9 @@ use Rattle.assertion.specs.declared.forms.Form.{Form}
 use Rattle.assertion.specs.declared.forms.Form.TheVariants.{ByRow, ByGroup, Single}
 use Rattle.name_check.specs.Scopes.{Scope, own_column}
 use Rattle.value.specs.Results.{and_then, each}
-use Rattle.form_check.specs.Results.{in_class, only_if}
-use Rattle.form_check.specs.Columns.{no_column, grouping_column}
-use Rattle.form_check.specs.Leaves.{Leaf, Leaves, Rows, Of, Exists, Value, numbered}
+use Rattle.numbering.specs.Results.{in_class, only_if}
+use Rattle.numbering.specs.Columns.{no_column, grouping_column}
+use Rattle.numbering.specs.Leaves.{Leaf, Leaves, Rows, Of, Exists, Value, numbered}
 use Rattle.form_check.specs.Queries.{Source, source_of, row_filter, of_column, selected_aggregate, may_be_selected}
 use Rattle.form_check.specs.Links.{top_parts, links_in, only_one, filter_parts}
 

@@ -1,6 +1,3 @@
-pub mod Results
-pub mod Columns
-pub mod Leaves
 pub mod Shown
 pub mod Queries
 pub mod Links

@@ -19,7 +19,7 @@ use Rattle.cond.specs.declared.conds.Cond.{Cond}
 use Rattle.cond.specs.declared.conds.Cond.TheViews as cond_of
 use Rattle.name_check.specs.Scopes.{Scope, own_column}
 use Rattle.value.specs.Results.{and_then}
-use Rattle.form_check.specs.Leaves.{Leaves, numbered, numbered_expression}
+use Rattle.numbering.specs.Leaves.{Leaves, numbered, numbered_expression}
 
 -- the table of a query by its place, and as names in the query see it
 pub record Source : Type 0 where

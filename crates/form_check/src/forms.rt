@@ -5,9 +5,9 @@ ghost use Rattle.syntax.specs.declared.trees.Query.{out-Query};
 ghost use Rattle.value.specs.declared.refusals.Refusal.TheVariants.{NoMemory};
 ghost use Rattle.name_check.specs.Shown.{shown};
 ghost use Rattle.form_check.specs.Forms.{aggregate_of, by_clauses, by_group, by_row, form_of, having_over, not_exists, row_where, single};
-ghost use Rattle.form_check.specs.Shown.{shown_leaves, shown_source};
+ghost use Rattle.form_check.specs.Shown.{shown_source};
+ghost use Rattle.numbering.specs.Shown.{shown_leaves};
 
-use crate::leaves::{Columns, Leaf, numbered};
 use crate::linked_queries::RowQueries;
 use crate::plain_queries::WholeQueries;
 use crate::queries::{Source, may_be_selected, of_column, row_filter};
@@ -15,6 +15,7 @@ use crate::slots::{Slots, all_slots};
 use assertion::Form;
 use cond::Cond;
 use name_check::Scope;
+use numbering::{Columns, Leaf, numbered};
 use sqlite_items::Items;
 use std::alloc::Global;
 use syntax::{ColumnName, Condition, Query};
@@ -67,11 +68,22 @@ fn by_row(alloc: Global, catalog: &Catalog, source: Source, query: &Query) -> Re
     }
     let (condition, leaves) = row_where(alloc, source.scope, &query.keeps)?;
     let root = source.scope;
-    Ok(Form::ByRow {
-        table: source.table,
-        condition,
-        queries: all_slots(alloc, &RowQueries { catalog, root }, &leaves)?,
-    })
+    match all_slots(alloc, &RowQueries { catalog, root }, &leaves) {
+        Ok(queries) => Ok(Form::ByRow {
+            table: source.table,
+            condition,
+            queries,
+        }),
+        Err(refusal) => drop_and_refuse(refusal, condition),
+    }
+}
+
+/// Refuses, and lets go what was made before. Its type is a parameter here, so that the callers' proofs do not go over
+/// its fields.
+fn drop_and_refuse<T: Drop>(refusal: Refusal, _made: T) -> Result<Form, Refusal>
+    ensures { result ≡ Err refusal }
+{
+    Err(refusal)
 }
 
 /// The condition of WHERE, and what stands in its slots; a missing one keeps every row.
@@ -129,20 +141,21 @@ fn having_over(
         refusal ≢ NoMemory → having_over (shown_source source.entry) group filter having.now ≡ Err refusal) }
 {
     let mut leaves = Vec::new(alloc);
-    let having = numbered(
-        alloc,
-        &Columns::Grouping(source.scope, group),
-        having,
-        &mut leaves,
-    )?;
     let scope = source.scope;
-    Ok(Form::ByGroup {
-        table: source.table,
-        filter,
-        group,
-        having,
-        aggregates: all_slots(alloc, &Aggregates { scope }, &leaves)?,
-    })
+    let having = match numbered(alloc, &Columns::Grouping(scope, group), having, &mut leaves) {
+        Ok(having) => having,
+        Err(refusal) => return drop_and_refuse(refusal, filter),
+    };
+    match all_slots(alloc, &Aggregates { scope }, &leaves) {
+        Ok(aggregates) => Ok(Form::ByGroup {
+            table: source.table,
+            filter,
+            group,
+            having,
+            aggregates,
+        }),
+        Err(refusal) => drop_and_refuse(refusal, (filter, having)),
+    }
 }
 
 /// The set functions of the groups of a table.
@@ -175,8 +188,8 @@ fn single(alloc: Global, catalog: &Catalog, condition: &Condition) -> Result<For
 {
     let mut leaves = Vec::new(alloc);
     let condition = numbered(alloc, &Columns::None, condition, &mut leaves)?;
-    Ok(Form::Single {
-        condition,
-        queries: all_slots(alloc, &WholeQueries { catalog }, &leaves)?,
-    })
+    match all_slots(alloc, &WholeQueries { catalog }, &leaves) {
+        Ok(queries) => Ok(Form::Single { condition, queries }),
+        Err(refusal) => drop_and_refuse(refusal, condition),
+    }
 }

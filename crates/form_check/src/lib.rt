@@ -2,8 +2,9 @@
 //!
 //! A condition as it is written names columns and holds set functions and queries anywhere. What the layers below can
 //! evaluate is a `cond::Cond`: over the columns of one row, by their places, and slots for all else. This crate makes
-//! the one of the other, where the shape allows it, and refuses every other shape as outside the class. Names are
-//! known when it is called (`name_check`); types and widths are looked at afterwards (`type_check`).
+//! the one of the other, with what stands in the slots, where the shape allows it, and refuses every other shape as
+//! outside the class. Names are known when it is called (`name_check`); types and widths are looked at afterwards
+//! (`type_check`).
 //!
 //! A *row condition* (WHERE of a statement, and of most queries) is over the columns of its own table alone: no set
 //! function, no query, no column of a table around it ([`row_condition`]). A *row expression* is so too
@@ -24,18 +25,15 @@
 //! Under EXISTS a query lists `*`, one literal or one column of its own table (by groups the grouping column), which
 //! means the same.
 //!
-//! It works in two passes. The first ([`leaves`]) makes the condition, and puts each set function and query that it
-//! meets into a list; its place there is its slot. The second looks at that list alone, and makes of each entry what
-//! the form has there, or refuses it.
+//! It works in two passes. The first makes the condition, and a list of what it meets in it that wants a slot
+//! (`numbering`). The second looks at that list alone, and makes of each entry what the form has there, or refuses it.
 //!
-//! The definitions are in `specs/`: `Leaves` (a condition with its slots), `Columns` (which names may stand in it),
-//! `Queries` (sources, row conditions, select lists), `Links`, `Forms`, `Results` (steps that end where a shape is
-//! outside the class) and `Shown`. They go step by step as the code does. That a form has the bad roots and the truth
-//! of its text, and that one is made exactly where the text is of the class, are laws of the crate `meaning`.
+//! The definitions are in `specs/`: `Queries` (sources, row conditions, select lists), `Links`, `Forms` and `Shown`.
+//! They go step by step as the code does. That a form has the bad roots and the truth of its text, and that one is made
+//! exactly where the text is of the class, are laws of the crate `meaning`.
 #![tactic(auto)]
 
 mod forms;
-mod leaves;
 mod linked_queries;
 mod links;
 mod plain_queries;

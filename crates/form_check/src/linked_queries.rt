@@ -8,13 +8,13 @@ ghost use Rattle.form_check.specs.Links.{top_parts};
 ghost use Rattle.form_check.specs.Forms.{linked, linked_by, linked_exists, linked_value, linked_where};
 ghost use Rattle.form_check.specs.Shown.{shown_source};
 
-use crate::leaves::{Columns, Leaf};
 use crate::links::LinkedTables;
 use crate::queries::{Source, may_be_selected, selected_aggregate};
 use crate::slots::Slots;
 use assertion::{Link, Query};
 use cond::Cond;
 use name_check::Scope;
+use numbering::{Columns, Leaf};
 use sqlite_items::Items;
 use std::alloc::Global;
 use std::slice;

@@ -37,7 +37,7 @@ impl<'a> LinkedTables<'a> {
     }
 
     /// The parts that are no links, as conditions over the child's rows.
-    #[tactic(auto, using(crate::proofs::Numberings::behind_next, crate::proofs::Numberings::behind_none))]
+    #[tactic(auto, using(value::proofs::Results::behind_next, value::proofs::Results::behind_none))]
     pub fn filter_parts(&self, alloc: Global, parts: &[Condition]) -> Result<Vec<Cond>, Refusal>
         ensures made { IfOk result (λ made.
             filter_parts (shown self.now.child) (shown self.now.root) parts.now ≡ Ok made.items) }

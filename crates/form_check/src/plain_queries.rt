@@ -6,10 +6,10 @@ ghost use Rattle.value.specs.declared.refusals.Refusal.TheVariants.{NoMemory};
 ghost use Rattle.form_check.specs.Forms.{plain, plain_by, plain_value};
 ghost use Rattle.form_check.specs.Shown.{shown_source};
 
-use crate::leaves::Leaf;
 use crate::queries::{Source, row_filter, selected_aggregate};
 use crate::slots::Slots;
 use assertion::{Query, Whole};
+use numbering::Leaf;
 use std::alloc::Global;
 use syntax::{ColumnName, Condition, Query as WrittenQuery};
 use table::{Aggregate, Catalog};

@@ -6,11 +6,12 @@ ghost use Rattle.std.specs.Option.{option_map};
 ghost use Rattle.value.specs.declared.refusals.Refusal.TheVariants.{NoMemory};
 ghost use Rattle.name_check.specs.Shown.{shown};
 ghost use Rattle.form_check.specs.Queries.{alone, source_of, sourced, row_condition, row_expression, row_filter, of_column, selected_aggregate, may_be_selected};
-ghost use Rattle.form_check.specs.Shown.{shown_leaves, shown_source, place};
+ghost use Rattle.form_check.specs.Shown.{shown_source};
+ghost use Rattle.numbering.specs.Shown.{shown_leaves, place};
 
-use crate::leaves::{Columns, Leaf, numbered, numbered_expression};
 use cond::{Cond, Expr};
 use name_check::{Scope, exposed_name};
+use numbering::{Columns, Leaf, numbered, numbered_expression};
 use sqlite_items::Items;
 use std::alloc::Global;
 use syntax::{Condition, Expression, SelectList};

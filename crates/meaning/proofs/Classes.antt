@@ -24,9 +24,9 @@ use Rattle.syntax.specs.declared.trees.SelectList.{SelectList, out-SelectList}
 use Rattle.syntax.specs.declared.trees.Query.{Query, out-Query}
 use Rattle.name_check.specs.Scopes.{Scope, named_in, is_name_of, own_column}
 use Rattle.value.specs.Results.{and_then, each}
-use Rattle.form_check.specs.Results.{in_class, only_if}
-use Rattle.form_check.specs.Columns.{no_column, in_group, grouping_column}
-use Rattle.form_check.specs.Leaves.{Leaf, Leaves, numbered}
+use Rattle.numbering.specs.Results.{in_class, only_if}
+use Rattle.numbering.specs.Columns.{no_column, in_group, grouping_column}
+use Rattle.numbering.specs.Leaves.{Leaf, Leaves, numbered}
 use Rattle.form_check.specs.Queries.{Source, sourced, source_of, alone, aggregate_in, aggregate_selected, expression_may_stand, selection_may_stand, row_condition, row_filter, of_column, selected_aggregate, may_be_selected}
 use Rattle.form_check.specs.Forms.{Clauses, plain, plain_by, plain_value, aggregate_of, row_where, by_row, having_over, by_group, by_clauses, not_exists, single, denied, form_in, form_of, linked}
 use Rattle.meaning.specs.Class as class

@@ -29,8 +29,8 @@ use Rattle.syntax.specs.declared.trees.Condition.{Condition}
 use Rattle.name_check.specs.Scopes as names
 use Rattle.name_check.specs.Scopes.{own_column}
 use Rattle.value.specs.Results.{each}
-use Rattle.form_check.specs.Columns.{in_group, grouping_column}
-use Rattle.form_check.specs.Leaves.{Leaf, Leaves, Rows, Of as SetOf, Exists, Value as Worth, numbered}
+use Rattle.numbering.specs.Columns.{in_group, grouping_column}
+use Rattle.numbering.specs.Leaves.{Leaf, Leaves, Rows, Of as SetOf, Exists, Value as Worth, numbered}
 use Rattle.form_check.specs.Queries.{row_filter, of_column}
 use Rattle.form_check.specs.Forms.{aggregate_of}
 use Rattle.meaning.specs.Meaning as written

@@ -36,8 +36,8 @@ use Rattle.syntax.specs.declared.trees.Query.{Query, out-Query}
 use Rattle.name_check.specs.Scopes as names
 use Rattle.name_check.specs.Scopes.{is_name_of, own_column}
 use Rattle.value.specs.Results.{and_then, each}
-use Rattle.form_check.specs.Results.{in_class, only_if}
-use Rattle.form_check.specs.Leaves.{Leaf, Rows, Of, Exists, Value as Worth}
+use Rattle.numbering.specs.Results.{in_class, only_if}
+use Rattle.numbering.specs.Leaves.{Leaf, Rows, Of, Exists, Value as Worth}
 use Rattle.form_check.specs.Queries.{Source, source_of, row_condition, selected_aggregate, may_be_selected, selection_may_stand, expression_may_stand}
 use Rattle.form_check.specs.Links.{parts_in, top_parts, name_in, is_key, outer_column, linked_column, either, link_between, link_in, link_of, links_in, only_one, own_parts, filter_parts}
 use Rattle.form_check.specs.Forms.{linked_where, linked_exists, linked_value, linked}

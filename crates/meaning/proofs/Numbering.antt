@@ -37,8 +37,8 @@ use Rattle.syntax.specs.declared.trees.Expression.{Expression, roll-Expression}
 use Rattle.syntax.specs.declared.trees.SelectList.{SelectList}
 use Rattle.syntax.specs.declared.trees.Query.{Query}
 use Rattle.value.specs.Results.{and_then}
-use Rattle.form_check.specs.Leaves.{Leaf, Leaves, Numbered, Rows, Of, Exists, Value as Worth, placed, slot, then_made, both, all, numbered, numbered_expression}
-use Rattle.form_check.specs.Leaves as leaves_of
+use Rattle.numbering.specs.Leaves.{Leaf, Leaves, Numbered, Rows, Of, Exists, Value as Worth, placed, slot, then_made, both, all, numbered, numbered_expression}
+use Rattle.numbering.specs.Leaves as leaves_of
 use Rattle.meaning.specs.Meaning as written
 use Rattle.meaning.specs.Meaning.{References, Valued, Answer, column_values, first_value, rows_at_hand, set_function, only_value, is_any, truth, valued, answers}
 use Rattle.meaning.proofs.Steps.{and_then_ok, in_class_ok, then_ok, ok_pair}

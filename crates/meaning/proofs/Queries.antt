@@ -27,7 +27,7 @@ use Rattle.syntax.specs.declared.trees.Query.{Query, out-Query}
 use Rattle.name_check.specs.Scopes as names
 use Rattle.name_check.specs.Scopes.{own_column}
 use Rattle.value.specs.Results.{and_then, each}
-use Rattle.form_check.specs.Leaves.{Leaf, Leaves, Rows, Of, Exists, Value as Worth}
+use Rattle.numbering.specs.Leaves.{Leaf, Leaves, Rows, Of, Exists, Value as Worth}
 use Rattle.form_check.specs.Queries.{Source, sourced, source_of, row_filter, of_column, aggregate_in, aggregate_selected, selected_aggregate}
 use Rattle.form_check.specs.Forms.{Clauses, plain, plain_by, plain_value}
 use Rattle.meaning.specs.Meaning as written

@@ -21,7 +21,7 @@ use Rattle.syntax.specs.declared.trees.Condition.{Condition}
 use Rattle.name_check.specs.Scopes as names
 use Rattle.name_check.specs.Scopes.{own_column}
 use Rattle.value.specs.Results.{each}
-use Rattle.form_check.specs.Leaves.{Leaves}
+use Rattle.numbering.specs.Leaves.{Leaves}
 use Rattle.form_check.specs.Queries.{Source, sourced}
 use Rattle.form_check.specs.Forms.{linked, row_where}
 use Rattle.meaning.specs.Meaning.{References, Valued, Answer, first_value, with_rows, passes, truth, root_of}

@@ -14,7 +14,7 @@ use Rattle.syntax.specs.declared.trees.ColumnName.{ColumnName}
 use Rattle.syntax.specs.declared.trees.Condition.{Condition}
 use Rattle.syntax.specs.declared.trees.Expression.{Expression}
 use Rattle.name_check.specs.Scopes.{Scope, named_in, is_name_of, innermost, own_column}
-use Rattle.form_check.specs.Leaves.{Leaves, numbered, numbered_expression}
+use Rattle.numbering.specs.Leaves.{Leaves, numbered, numbered_expression}
 use Rattle.form_check.specs.Queries.{alone, row_condition, row_expression, row_filter}
 use Rattle.meaning.specs.Meaning.{Reference, References, column_values, values_at, values_of, first_value, truth, valued, passes}
 use Rattle.meaning.specs.Laws.{seen}

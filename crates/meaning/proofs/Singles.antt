@@ -11,8 +11,8 @@ use Rattle.table.specs.Rows.{RowValues, Tables, value_in}
 use Rattle.syntax.specs.declared.trees.ColumnName.{ColumnName}
 use Rattle.syntax.specs.declared.trees.Condition.{Condition}
 use Rattle.value.specs.Results.{and_then, each}
-use Rattle.form_check.specs.Columns.{no_column}
-use Rattle.form_check.specs.Leaves.{numbered}
+use Rattle.numbering.specs.Columns.{no_column}
+use Rattle.numbering.specs.Leaves.{numbered}
 use Rattle.form_check.specs.Forms.{single, plain}
 use Rattle.meaning.specs.Meaning.{References, column_values, first_value, written_truth}
 use Rattle.meaning.proofs.Steps.{and_then_ok, ok_same}

@@ -18,9 +18,9 @@ use Rattle.syntax.specs.declared.trees.Expression.{Expression, roll-Expression}
 use Rattle.syntax.specs.declared.trees.SelectList.{SelectList}
 use Rattle.syntax.specs.declared.trees.Query.{Query}
 use Rattle.value.specs.Results.{and_then}
-use Rattle.form_check.specs.Results.{in_class}
-use Rattle.form_check.specs.Leaves.{Leaf, Leaves, Numbered, Rows, Of, Exists, Value as Worth, placed, slot, then_made, both, all, numbered, numbered_expression}
-use Rattle.form_check.specs.Leaves as leaves_of
+use Rattle.numbering.specs.Results.{in_class}
+use Rattle.numbering.specs.Leaves.{Leaf, Leaves, Numbered, Rows, Of, Exists, Value as Worth, placed, then_made, both, all, numbered, numbered_expression}
+use Rattle.numbering.specs.Leaves as leaves_of
 use Rattle.meaning.specs.Class as class
 use Rattle.meaning.specs.Class.{Piece, Pieces, Each, condition_columns, expression_columns, columns_in, condition_pieces, expression_pieces, pieces_in}
 use Rattle.meaning.proofs.Steps.{and_then_ok, in_class_ok, then_ok, ok_pair}

@@ -26,9 +26,9 @@ use Rattle.syntax.specs.declared.trees.SelectList.{SelectList}
 use Rattle.syntax.specs.declared.trees.Query.{Query, out-Query}
 use Rattle.name_check.specs.Scopes.{own_column}
 use Rattle.value.specs.Results.{and_then, each}
-use Rattle.form_check.specs.Results.{only_if}
-use Rattle.form_check.specs.Columns.{grouping_column}
-use Rattle.form_check.specs.Leaves.{numbered}
+use Rattle.numbering.specs.Results.{only_if}
+use Rattle.numbering.specs.Columns.{grouping_column}
+use Rattle.numbering.specs.Leaves.{numbered}
 use Rattle.form_check.specs.Queries.{Source, source_of, row_filter, may_be_selected}
 use Rattle.form_check.specs.Forms.{Clauses, linked, aggregate_of, row_where, by_row, having_over, by_group, by_clauses, not_exists, single, denied, form_in}
 use Rattle.meaning.specs.Meaning as written

@@ -1,5 +1,5 @@
 -- What is maintained for an assertion stays right through a change of a table that it isn't over.
-use Rattle.std.proofs.Common.{◌≡◌, ◌≢◌, ℕ, false, List, [], ◌∷◌, ◌++◌, Option, map, get_or, refl, sym, ◌∙◌, ap}
+use Rattle.std.proofs.Common.{◌≡◌, ◌≢◌, ℕ, false, List, [], ◌∷◌, ◌++◌, map, get_or, refl, sym, ◌∙◌, ap}
 use Rattle.std.specs.Prelude.{◌==◌, All, flat_map, if◌then◌else◌}
 use Rattle.std.proofs.lemmas.List.Elements.{All-nil, All-cons}
 use Rattle.std.proofs.lemmas.Bool.{or_parts}

@@ -2,11 +2,10 @@
 
 ghost use Rattle.std.specs.Prelude.{◌≤◌};
 
-use crate::files::{ReadFault, fault_of, read_all};
-use crate::replay::replay_into;
 use clap::{Arg, ArgMatches, Command, value_parser};
+use replay::replay_into;
 use report::Report;
-use running::ProgramFault;
+use running::{ProgramFault, ReadFault, fault_of, read_all};
 use session::Shelf;
 use std::alloc::{AllocError, Global};
 use std::env;

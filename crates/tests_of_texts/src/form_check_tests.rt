@@ -4,6 +4,8 @@ use crate::shared::{add_table, condition_of, event, expression_of, let_go, same,
 use assertion::Form;
 use form_check::{Source, form, row_condition, row_expression};
 use name_check::Scope;
+use numbering::{Columns, numbered, numbered_expression};
+use statement_syntax::Event;
 use std::alloc::Global;
 use std::process::Abort;
 use std::test::Fail;
@@ -87,15 +89,15 @@ fn three_forms(rt: HostRuntime) -> Result<(), Fail> {
     forms(&rt, outside, "outside", "none")
 }
 
+/// Whether it was made.
+fn is_made<T: Drop>(made: Result<T, Refusal>) -> bool {
+    made.is_ok()
+}
+
 /// Whether a condition is one of a row.
 fn is_of_row(alloc: Global, scope: Scope, condition: Option<&Condition>) -> bool {
     match condition {
-        Some(condition) => {
-            let made = row_condition(alloc, scope, condition);
-            let is_made = made.is_ok();
-            let_go(made);
-            is_made
-        }
+        Some(condition) => is_made(row_condition(alloc, scope, condition)),
         None => false,
     }
 }
@@ -103,12 +105,7 @@ fn is_of_row(alloc: Global, scope: Scope, condition: Option<&Condition>) -> bool
 /// Whether an expression is one of a row.
 fn is_value_of_row(alloc: Global, scope: Scope, expression: Option<&Expression>) -> bool {
     match expression {
-        Some(expression) => {
-            let made = row_expression(alloc, scope, expression);
-            let is_made = made.is_ok();
-            let_go(made);
-            is_made
-        }
+        Some(expression) => is_made(row_expression(alloc, scope, expression)),
         None => false,
     }
 }
@@ -136,13 +133,79 @@ fn conditions_of_rows(rt: HostRuntime) -> Result<(), Fail> {
     Ok(())
 }
 
+/// The place of the table D, as a query names it and as a statement does.
+fn places_of(catalog: &Catalog, table: &Text) -> (Option<usize>, Option<usize>) {
+    let named = Source::of(catalog, table, &None);
+    let found = Source::by_table_name(catalog, table);
+    (
+        named.map(|source| source.table),
+        found.map(|source| source.table),
+    )
+}
+
 #[test]
 fn sources(rt: HostRuntime) -> Result<(), Fail> {
-    let catalog = catalog(rt.alloc())?;
     let table = Text::from_str(rt.alloc(), "D")?;
-    let named = Source::of(&catalog, &table, &None);
-    assert!(rt; named.map(|source| source.table) == Some(0));
-    let found = Source::by_table_name(&catalog, &table);
-    assert!(rt; found.map(|source| source.table) == Some(0));
+    let catalog = catalog(rt.alloc())?;
+    assert_eq!(rt; places_of(&catalog, &table), (Some(0), Some(0)));
+    Ok(())
+}
+
+/// How many slots the condition or the first value has, unless a column stands in it.
+fn slots_in(alloc: Global, event: &Event) -> Option<usize> {
+    let mut leaves = Vec::new(alloc);
+    let is_made = match (condition_of(event), expression_of(event)) {
+        (Some(condition), _) => is_made(numbered(alloc, &Columns::None, condition, &mut leaves)),
+        (None, Some(expression)) => {
+            is_made(numbered_expression(alloc, &Columns::None, expression, &mut leaves))
+        }
+        (None, None) => false,
+    };
+    if is_made { Some(leaves.len()) } else { None }
+}
+
+#[test]
+fn slots_of_conditions(rt: HostRuntime) -> Result<(), Fail> {
+    for (text, slots) in [
+        (
+            "DELETE FROM D WHERE COUNT(*) <= 2 OR EXISTS (SELECT * FROM D)",
+            Some(2),
+        ),
+        ("DELETE FROM D WHERE ID = 1", None),
+        ("UPDATE D SET ID = COUNT(*) - 7", Some(1)),
+    ] {
+        let event = event(rt.alloc(), text)?;
+        let found = slots_in(rt.alloc(), &event);
+        let_go(event);
+        assert_eq!(rt; found, slots);
+    }
+    Ok(())
+}
+
+/// The place of the column that an expression is.
+fn place_in(columns: &Columns, expression: Option<&Expression>) -> Option<usize> {
+    match expression {
+        Some(Expression::Column(column)) => columns.place(column),
+        _ => None,
+    }
+}
+
+#[test]
+fn places_of_columns(rt: HostRuntime) -> Result<(), Fail> {
+    let table = Text::from_str(rt.alloc(), "D")?;
+    let schema = schema(rt.alloc(), COLUMNS)?;
+    let scope = Scope {
+        exposed_name: &table,
+        schema: &schema,
+    };
+    let event = event(rt.alloc(), "UPDATE D SET ID = SHIFT")?;
+    let expression = expression_of(&event);
+    let none = place_in(&Columns::None, expression);
+    let own = place_in(&Columns::Own(scope), expression);
+    let grouping = place_in(&Columns::Grouping(scope, 1), expression);
+    let other = place_in(&Columns::Grouping(scope, 0), expression);
+    let_go(event);
+    assert_eq!(rt; (none, own), (None, Some(1)));
+    assert_eq!(rt; (grouping, other), (Some(0), None));
     Ok(())
 }

@@ -62,6 +62,16 @@ fn is_answered(
 /// Whether this is answered to a condition or an expression over S.
 fn is_told(alloc: Global, text: &str, wanted: &str) -> Result<bool, Refusal> {
     let catalog = catalog(alloc)?;
+    is_told_over(alloc, &catalog, text, wanted)
+}
+
+/// The same, with the tables around it.
+fn is_told_over(
+    alloc: Global,
+    catalog: &Catalog,
+    text: &str,
+    wanted: &str,
+) -> Result<bool, Refusal> {
     let table = Text::from_str(alloc, "S")?;
     let schema = schema_of_s(alloc)?;
     let scope = Scope {
@@ -69,7 +79,7 @@ fn is_told(alloc: Global, text: &str, wanted: &str) -> Result<bool, Refusal> {
         schema: &schema,
     };
     let event = event(alloc, text)?;
-    let is_answered = is_answered(alloc, &catalog, scope, &event, wanted);
+    let is_answered = is_answered(alloc, catalog, scope, &event, wanted);
     let_go(event);
     Ok(is_answered)
 }
@@ -111,19 +121,14 @@ fn inner_names_and_outer_names(rt: HostRuntime) -> Result<(), Fail> {
     Ok(())
 }
 
-/// A name with a table's before it.
-fn qualified(alloc: Global, table: &str, name: &str) -> Result<ColumnName, Refusal> {
-    let qualifier = Some(Text::from_str(alloc, table)?);
+/// A name, with a table's before it or alone.
+fn named(alloc: Global, table: Option<&str>, name: &str) -> Result<ColumnName, Refusal> {
+    let qualifier = match table {
+        Some(table) => Some(Text::from_str(alloc, table)?),
+        None => None,
+    };
     Ok(ColumnName {
         qualifier,
-        name: Text::from_str(alloc, name)?,
-    })
-}
-
-/// A name alone.
-fn plain(alloc: Global, name: &str) -> Result<ColumnName, Refusal> {
-    Ok(ColumnName {
-        qualifier: None,
         name: Text::from_str(alloc, name)?,
     })
 }
@@ -139,11 +144,20 @@ fn own(alloc: Global, column: &ColumnName) -> Result<(Option<usize>, bool), Refu
     Ok((scope.own(column), scope.is_named(column)))
 }
 
+/// The same of a name.
+fn own_of(
+    alloc: Global,
+    table: Option<&str>,
+    name: &str,
+) -> Result<(Option<usize>, bool), Refusal> {
+    let column = named(alloc, table, name)?;
+    own(alloc, &column)
+}
+
 #[test]
 fn own_columns(rt: HostRuntime) -> Result<(), Fail> {
-    let alloc = rt.alloc();
-    assert!(rt; own(alloc, &plain(alloc, "ID")?)?.0 == Some(0));
-    assert!(rt; own(alloc, &qualified(alloc, "D", "ID")?)?.0.is_none());
-    assert!(rt; own(alloc, &qualified(alloc, "S", "ID")?)?.1);
+    assert_eq!(rt; own_of(rt.alloc(), None, "ID")?, (Some(0), true));
+    assert_eq!(rt; own_of(rt.alloc(), Some("D"), "ID")?, (None, false));
+    assert_eq!(rt; own_of(rt.alloc(), Some("S"), "ID")?, (Some(0), true));
     Ok(())
 }

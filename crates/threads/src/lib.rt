@@ -11,11 +11,8 @@
 #![tactic(auto)]
 
 mod engine;
-#[cfg(test)]
-mod gates;
 mod grouping;
 mod printing;
-#[cfg(test)]
-mod tests;
 
 pub use engine::threads_into;
+pub use printing::print_report;

@@ -1,0 +1,4 @@
+pub mod Results
+pub mod Columns
+pub mod Leaves
+pub mod Shown

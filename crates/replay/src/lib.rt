@@ -1,0 +1,237 @@
+//! The engine: two texts, of definitions and of a script, are replayed into a writer.
+//!
+//! [`replay_into`] is the engine, and its contract is the promise of a whole replay, from bytes to bytes: where both
+//! texts are read, the definitions are admitted and the script has 256 sessions or fewer, the writer gains exactly the
+//! lines that `specs/` says, of answers that the sessions may be given, each after those before it; otherwise it gains
+//! nothing, and the answer is the first fault. Memory or the writer may end the run. What that promise stands on, from
+//! the bottom up:
+//!
+//! * `parse`: a text has the tree that the grammar relates to its tokens, or the stated first fault;
+//! * `definitions` and `commit::admit`: what definitions define, and that no assertion is false on the rows they
+//!   begin with;
+//! * `txn`: a statement alone. After a change each immediate assertion is evaluated on the rows as they then are;
+//!   where one is false, the statement is refused with that assertion and its least bad root, and leaves the tables
+//!   as they were;
+//! * `commit::Engine`: the sessions' transactions, each on the tables that the commits before its begin left, and
+//!   what COMMIT answers;
+//! * `report`: the bytes of each line.
+//!
+//! All of these definitions evaluate whole lists of rows from scratch. None of them knows a total or a bad root
+//! that is kept: that evaluating afresh and keeping give the same is the promise of the crate `delta`.
+#![tactic(auto)]
+
+ghost use Rattle.std.specs.Prelude.{◌≡◌, ◌≢◌, ◌≤◌, ◌++◌, true, IfOk, IfErr, OnOk};
+ghost use Rattle.std.specs.Io.KnownBytes.{Appends};
+ghost use Rattle.value.specs.declared.refusals.Refusal.TheVariants.{NoMemory, TooManySessions};
+ghost use Rattle.alone.specs.Alone.{IsSound};
+ghost use Rattle.commit.specs.Runs.{beginning};
+ghost use Rattle.report.specs.Report.{answer_line};
+ghost use Rattle.running.specs.Texts.{HasFewSessions, HasManySessions, IsFirstFault, IsInTheRun, is_before_the_run};
+ghost use Rattle.replay.specs.Lines.{ending, left_line, left_lines};
+ghost use Rattle.replay.specs.Replay.{IsBeginning, WritesReport};
+ghost use Rattle.replay.specs.Writing.{PrintsAnswer, PrintsAnswers, PrintsRun};
+
+use answer::Answer;
+use commit::{Engine, Seat, admit, has_few_sessions};
+use delta::View;
+use report::Report;
+use running::{MOST_SESSIONS, ProgramFault, add_closing_part, flush, read_texts, write_all};
+use sqlite_items::Items;
+use statement_syntax::Step;
+use std::alloc::{AllocError, Global};
+use std::io::Write;
+use value::Refusal;
+
+/// Replays a script of any sessions on definitions, with at most so many commits, and writes the lines of each
+/// answer as soon as it is answered; then a line for each transaction that is left open, and the closing part.
+///
+/// Where both texts are read, the definitions are taken in and the script has 256 sessions or fewer, its events are
+/// run. The writer then gains the report of their answers and of what they leave, and nothing else. An event that
+/// finds no memory is answered so, and changes nothing.
+///
+/// # Errors
+///
+/// The first fault in the order of the work: [`ProgramFault::Defs`] where the definitions are no text of their
+/// grammar; [`ProgramFault::Script`] where the script is none of its own; `Defs` again where the definitions are
+/// refused; `Script` of [`Refusal::TooManySessions`] where the script has more than 256 sessions. After each of
+/// these the writer is as it was. Then [`ProgramFault::Stopped`] where there is no memory for the lines of an
+/// answer, or at the end of the run; and [`ProgramFault::Output`] at the first fault of the writer.
+#[tactic(auto, using(crate::proofs::Reporting::reports, crate::proofs::Reporting::first_fault, running::proofs::Late::nothing_before))]
+pub fn replay_into<W: Write>(
+    alloc: Global,
+    defs: &[u8],
+    script: &[u8],
+    max_commits: u64,
+    out: &mut W,
+) -> Result<(), ProgramFault>
+    requires some { 1 ≤ max_commits }
+    requires within { max_commits ≤ 4294967295 }
+    ensures written { OnOk result
+        (WritesReport defs.now script.now max_commits (W.contents out.old) (W.contents out.new)) }
+    ensures refused { IfErr result (IsFirstFault defs.now script.now) }
+    ensures nothing { IfErr result (λ fault. is_before_the_run fault ≡ true → out.new ≡ out.old) }
+{
+    let (mut engine, steps) = begin_run(alloc, defs, script, max_commits)?;
+    let printed = print_run(alloc, &mut engine, steps.as_slice(), out);
+    let_go(engine);
+    let_go(steps);
+    printed
+}
+
+/// The engine before the first event, and the events.
+fn begin_run(
+    alloc: Global,
+    defs: &[u8],
+    script: &[u8],
+    limit: u64,
+) -> Result<(Engine, Items<Step>), ProgramFault>
+    requires within { limit ≤ 4294967295 }
+    ensures begun { IfOk result (λ made. IsBeginning defs.now script.now limit made.0 made.1) }
+    ensures refused { IfErr result (IsFirstFault defs.now script.now) }
+    ensures before { IfErr result (λ fault. is_before_the_run fault ≡ true) }
+{
+    let (definitions, steps) = read_texts(alloc, defs, script)?;
+    let view = match admit(alloc, definitions.as_slice()) {
+        Ok(view) => view,
+        Err(refusal) => return Err(ProgramFault::Defs(refusal)),
+    };
+    match seat_sessions(alloc, limit, view, steps.as_slice()) {
+        Ok(engine) => Ok((engine, steps)),
+        Err(refusal) => Err(ProgramFault::Script(refusal)),
+    }
+}
+
+/// The engine before the first of some events, if they are of 256 sessions or fewer.
+fn seat_sessions(alloc: Global, limit: u64, view: View, steps: &[Step]) -> Result<Engine, Refusal>
+    requires sound { IsSound view.declared view.state }
+    requires within { limit ≤ 4294967295 }
+    ensures begun { IfOk result (λ engine. engine ≡ beginning limit view steps.now) }
+    ensures few { IfOk result (λ _. HasFewSessions steps.now) }
+    ensures refused { IfErr result (λ refusal.
+        refusal ≢ NoMemory → HasManySessions steps.now × (refusal ≡ TooManySessions)) }
+{
+    // (before a seat is made for each: looking for each among so many would take the square of a long script)
+    if !has_few_sessions(alloc, steps, MOST_SESSIONS)? {
+        let_go(view);
+        return Err(Refusal::TooManySessions);
+    }
+    let engine = Engine::new(alloc, limit, view, steps)?;
+    Ok(engine)
+}
+
+/// Lets a value go. Its type is a parameter here, so that the caller's proof does not go over its fields.
+fn let_go<T: Drop>(_value: T) {}
+
+/// Runs the events one after the other, and writes what each is answered, and then what they leave.
+#[tactic(auto, using(crate::proofs::Printing::closes))]
+fn print_run<W: Write>(
+    alloc: Global,
+    engine: &mut Engine,
+    steps: &[Step],
+    out: &mut W,
+) -> Result<(), ProgramFault>
+    ensures written { OnOk result (PrintsRun engine.old steps.now (W.contents out.old) (W.contents out.new)) }
+    ensures late { IfErr result IsInTheRun }
+{
+    let mut lines = Report::new(alloc);
+    print_answers(engine, steps, &mut lines, out)?;
+    print_ending(alloc, engine, &mut lines, out)
+}
+
+/// Runs the events one after the other, and writes what each is answered.
+#[tactic(auto, using(crate::proofs::Printing::begins, crate::proofs::Printing::goes_on, crate::proofs::Printing::ends))]
+fn print_answers<W: Write>(
+    engine: &mut Engine,
+    steps: &[Step],
+    lines: &mut Report,
+    out: &mut W,
+) -> Result<(), ProgramFault>
+    ensures written { OnOk result
+        (PrintsAnswers engine.old steps.now engine.new (W.contents out.old) (W.contents out.new)) }
+    ensures late { IfErr result IsInTheRun }
+{
+    for step in steps {
+        print_answer(engine, step, lines, out)?;
+    }
+    Ok(())
+}
+
+/// Runs an event, and writes what it is answered.
+fn print_answer<W: Write>(
+    engine: &mut Engine,
+    step: &Step,
+    lines: &mut Report,
+    out: &mut W,
+) -> Result<(), ProgramFault>
+    ensures written { OnOk result
+        (PrintsAnswer engine.old step.now engine.new (W.contents out.old) (W.contents out.new)) }
+    ensures late { IfErr result IsInTheRun }
+{
+    let answer = engine.answer(step);
+    let written = write_answer(step, &answer, lines, out);
+    let_go(answer);
+    written
+}
+
+/// Writes the lines of an answer.
+fn write_answer<W: Write>(
+    step: &Step,
+    answer: &Answer,
+    lines: &mut Report,
+    out: &mut W,
+) -> Result<(), ProgramFault>
+    ensures written { OnOk result
+        (Appends (W.contents out.old) (W.contents out.new) (answer_line step.now answer.now)) }
+    ensures late { IfErr result IsInTheRun }
+{
+    lines.clear();
+    if lines.add_answer(step, answer).is_err() {
+        return Err(ProgramFault::Stopped);
+    }
+    write_all(lines.as_bytes(), out)
+}
+
+/// Writes a line for each transaction that is open in the end, and the closing part, and flushes the writer.
+fn print_ending<W: Write>(
+    alloc: Global,
+    engine: &Engine,
+    lines: &mut Report,
+    out: &mut W,
+) -> Result<(), ProgramFault>
+    ensures written { OnOk result (Appends (W.contents out.old) (W.contents out.new) (ending engine.now)) }
+    ensures late { IfErr result IsInTheRun }
+{
+    lines.clear();
+    if add_end(alloc, engine, lines).is_err() {
+        return Err(ProgramFault::Stopped);
+    }
+    write_all(lines.as_bytes(), out)?;
+    flush(out)
+}
+
+/// Adds what stands behind the answers.
+fn add_end(alloc: Global, engine: &Engine, lines: &mut Report) -> Result<(), AllocError>
+    ensures { OnOk result (lines.new ≡ lines.old ++ ending engine.now) }
+{
+    leave_open(engine.seats(), lines)?;
+    add_closing_part(alloc, engine.core(), lines)
+}
+
+/// Adds a line for each transaction that is open.
+fn leave_open(seats: &[Seat], lines: &mut Report) -> Result<(), AllocError>
+    ensures { OnOk result (lines.new ≡ lines.old ++ left_lines seats.now) }
+{
+    for seat in seats {
+        leave_seat(seat, lines)?;
+    }
+    Ok(())
+}
+
+fn leave_seat(seat: &Seat, lines: &mut Report) -> Result<(), AllocError>
+    ensures { OnOk result (lines.new ≡ lines.old ++ left_line seat.now.session seat.now.txn) }
+{
+    if seat.txn.is_some() {
+        lines.add_left_open(&seat.session)?;
+    }
+    Ok(())
+}

@@ -1,0 +1,21 @@
+//! The tests of both ways to run a script, in its order and on threads, by the bytes that they print.
+//!
+//! They stand apart from the crates, since a crate that holds tests is proved once more for them.
+#![tactic(auto)]
+
+#[cfg(test)]
+mod classes;
+#[cfg(test)]
+mod files;
+#[cfg(test)]
+mod gates;
+#[cfg(test)]
+mod replays;
+#[cfg(test)]
+mod sessions;
+#[cfg(test)]
+mod statements;
+#[cfg(test)]
+mod texts;
+#[cfg(test)]
+mod threads_in_turn;

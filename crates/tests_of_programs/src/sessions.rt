@@ -1,0 +1,233 @@
+//! Scripts of several sessions, by the bytes that they print.
+
+use crate::replays::{locks_kept, prints_over_tables};
+use crate::texts::{COVER, EIGHT, FUNDS, KIM, READ_AND_WRITE, SEVEN};
+use std::alloc::Global;
+use std::process::Abort;
+use std::test::Fail;
+
+#[test]
+fn empty_script(rt: HostRuntime) -> Result<(), Fail> {
+    let more = format!(in rt.alloc(); "{COVER}{FUNDS}")?;
+    prints_over_tables(
+        &rt,
+        more.as_str(),
+        "",
+        "COMMITS 0\nSERIAL\nREFUSED 0\nASSERTIONS 2\nCOVER TRUE\nFUNDS TRUE\n",
+    )
+}
+
+/// Each of two goes off call, since the other one is on call.
+#[test]
+fn shift_write_skew(rt: HostRuntime) -> Result<(), Fail> {
+    let more = format!(in rt.alloc(); "{COVER}{SEVEN}")?;
+    prints_over_tables(
+        &rt,
+        more.as_str(),
+        "A: BEGIN; B: BEGIN; A: UPDATE DUTY SET ONCALL = 0 WHERE ID = 1;
+         B: UPDATE DUTY SET ONCALL = 0 WHERE ID = 2; A: COMMIT; B: COMMIT;",
+        "A: BEGIN 0\nB: BEGIN 0\nA: UPDATE 1\nB: UPDATE 1\nA: COMMIT 1\n\
+         B: REFUSED 13 40001 READER 1 PIVOT THIS WRITER 1\n\
+         COMMITS 1\n1 A SNAPSHOT 0 ROWS 1\nSERIAL 1\nREFUSED 1\nB 13 40001 READER 1 PIVOT THIS WRITER 1\n\
+         ASSERTIONS 1\nCOVER TRUE\n",
+    )
+}
+
+#[test]
+fn disjoint_shifts(rt: HostRuntime) -> Result<(), Fail> {
+    let more = format!(in rt.alloc(); "{COVER}{SEVEN}{EIGHT}")?;
+    prints_over_tables(
+        &rt,
+        more.as_str(),
+        "A: BEGIN; B: BEGIN; A: UPDATE DUTY SET ONCALL = 0 WHERE ID = 1;
+         B: UPDATE DUTY SET ONCALL = 0 WHERE ID = 3; A: COMMIT; B: COMMIT;",
+        "A: BEGIN 0\nB: BEGIN 0\nA: UPDATE 1\nB: UPDATE 1\nA: COMMIT 1\nB: COMMIT 2\n\
+         COMMITS 2\n1 A SNAPSHOT 0 ROWS 1\n2 B SNAPSHOT 0 ROWS 1\nSERIAL 1 2\nREFUSED 0\nASSERTIONS 1\n\
+         COVER TRUE\n",
+    )
+}
+
+/// After the first COMMIT its three keys are kept, since the other transaction began before it; after the second
+/// none is.
+#[test]
+fn lock_table_sizes(rt: HostRuntime) -> Result<(), Fail> {
+    let more = format!(in rt.alloc(); "{COVER}{SEVEN}{EIGHT}")?;
+    let kept = locks_kept(
+        rt.alloc(),
+        more.as_str(),
+        "A: BEGIN; B: BEGIN; A: UPDATE DUTY SET ONCALL = 0 WHERE ID = 1;
+         B: UPDATE DUTY SET ONCALL = 0 WHERE ID = 3; A: COMMIT; B: COMMIT;",
+    )?;
+    assert_eq!(rt; kept.as_slice(), [0, 0, 0, 0, 3, 0].as_slice());
+    Ok(())
+}
+
+#[test]
+fn ledger_write_skew(rt: HostRuntime) -> Result<(), Fail> {
+    prints_over_tables(
+        &rt,
+        KIM,
+        "A: BEGIN; B: BEGIN; A: SELECT BAL FROM ACCT WHERE ID = 1; A: SELECT BAL FROM ACCT WHERE ID = 2;
+         B: SELECT BAL FROM ACCT WHERE ID = 1; B: SELECT BAL FROM ACCT WHERE ID = 2;
+         A: UPDATE ACCT SET BAL = BAL - 120 WHERE ID = 1; A: COMMIT;
+         B: UPDATE ACCT SET BAL = BAL - 120 WHERE ID = 2; B: COMMIT;",
+        "A: BEGIN 0\nB: BEGIN 0\nA: SELECT 1\n  100\nA: SELECT 1\n  50\nB: SELECT 1\n  100\nB: SELECT 1\n  50\n\
+         A: UPDATE 1\nA: COMMIT 1\nB: UPDATE 1\nB: REFUSED 13 40001 READER 1 PIVOT THIS WRITER 1\n\
+         COMMITS 1\n1 A SNAPSHOT 0 ROWS 1\nSERIAL 1\nREFUSED 1\nB 13 40001 READER 1 PIVOT THIS WRITER 1\n\
+         ASSERTIONS 0\n",
+    )
+}
+
+#[test]
+fn reader_before_writer(rt: HostRuntime) -> Result<(), Fail> {
+    prints_over_tables(
+        &rt,
+        KIM,
+        "A: BEGIN; A: SELECT BAL FROM ACCT WHERE ID = 1; B: BEGIN; B: UPDATE ACCT SET BAL = 0 WHERE ID = 1;
+         B: COMMIT; A: COMMIT;",
+        "A: BEGIN 0\nA: SELECT 1\n  100\nB: BEGIN 0\nB: UPDATE 1\nB: COMMIT 1\nA: COMMIT 2\n\
+         COMMITS 2\n1 B SNAPSHOT 0 ROWS 1\n2 A SNAPSHOT 0 ROWS 0\nSERIAL 2 1\nREFUSED 0\nASSERTIONS 0\n",
+    )
+}
+
+/// X, P and Y run, and commit in this order.
+fn prints_commits(
+    rt: &(impl Abort + Alloc<A = Global>),
+    commits: &str,
+    want: &str,
+) -> Result<(), Fail> {
+    let more = format!(in rt.alloc(); "{COVER}{SEVEN}{KIM}")?;
+    let script = format!(in rt.alloc(); "{READ_AND_WRITE}{commits}")?;
+    let replies = format!(in rt.alloc();
+        "X: BEGIN 0\nP: BEGIN 0\nY: BEGIN 0\nX: SELECT 1\n  1\nP: SELECT 1\n  100\nP: UPDATE 1\nY: UPDATE 1\n{want}"
+    )?;
+    prints_over_tables(rt, more.as_str(), script.as_str(), replies.as_str())
+}
+
+#[test]
+fn harmless_pivot(rt: HostRuntime) -> Result<(), Fail> {
+    prints_commits(
+        &rt,
+        "X: COMMIT; Y: COMMIT; P: COMMIT;",
+        "X: COMMIT 1\nY: COMMIT 2\nP: COMMIT 3\n\
+         COMMITS 3\n1 X SNAPSHOT 0 ROWS 0\n2 Y SNAPSHOT 0 ROWS 1\n3 P SNAPSHOT 0 ROWS 1\nSERIAL 1 3 2\n\
+         REFUSED 0\nASSERTIONS 1\nCOVER TRUE\n",
+    )
+}
+
+#[test]
+fn pivot_refused(rt: HostRuntime) -> Result<(), Fail> {
+    prints_commits(
+        &rt,
+        "Y: COMMIT; X: COMMIT; P: COMMIT;",
+        "Y: COMMIT 1\nX: COMMIT 2\nP: REFUSED 13 40001 READER 2 PIVOT THIS WRITER 1\n\
+         COMMITS 2\n1 Y SNAPSHOT 0 ROWS 1\n2 X SNAPSHOT 0 ROWS 0\nSERIAL 1 2\nREFUSED 1\n\
+         P 13 40001 READER 2 PIVOT THIS WRITER 1\nASSERTIONS 1\nCOVER TRUE\n",
+    )
+}
+
+#[test]
+fn reader_refused(rt: HostRuntime) -> Result<(), Fail> {
+    prints_commits(
+        &rt,
+        "Y: COMMIT; P: COMMIT; X: COMMIT;",
+        "Y: COMMIT 1\nP: COMMIT 2\nX: REFUSED 13 40001 READER THIS PIVOT 2 WRITER 1\n\
+         COMMITS 2\n1 Y SNAPSHOT 0 ROWS 1\n2 P SNAPSHOT 0 ROWS 1\nSERIAL 2 1\nREFUSED 1\n\
+         X 13 40001 READER THIS PIVOT 2 WRITER 1\nASSERTIONS 1\nCOVER TRUE\n",
+    )
+}
+
+#[test]
+fn late_reader(rt: HostRuntime) -> Result<(), Fail> {
+    let more = format!(in rt.alloc(); "{COVER}{SEVEN}{KIM}")?;
+    prints_over_tables(
+        &rt,
+        more.as_str(),
+        "P: BEGIN; Y: BEGIN; P: SELECT BAL FROM ACCT WHERE ID = 1; P: UPDATE DUTY SET ONCALL = 0 WHERE ID = 1;
+         Y: UPDATE ACCT SET BAL = 0 WHERE ID = 1; Y: COMMIT; X: BEGIN; X: SELECT ONCALL FROM DUTY WHERE ID = 1;
+         X: COMMIT; P: COMMIT;",
+        "P: BEGIN 0\nY: BEGIN 0\nP: SELECT 1\n  100\nP: UPDATE 1\nY: UPDATE 1\nY: COMMIT 1\nX: BEGIN 1\n\
+         X: SELECT 1\n  1\nX: COMMIT 2\nP: REFUSED 13 40001 READER 2 PIVOT THIS WRITER 1\n\
+         COMMITS 2\n1 Y SNAPSHOT 0 ROWS 1\n2 X SNAPSHOT 1 ROWS 0\nSERIAL 1 2\nREFUSED 1\n\
+         P 13 40001 READER 2 PIVOT THIS WRITER 1\nASSERTIONS 1\nCOVER TRUE\n",
+    )
+}
+
+#[test]
+fn same_key_inserted_twice(rt: HostRuntime) -> Result<(), Fail> {
+    prints_over_tables(
+        &rt,
+        "",
+        "A: BEGIN; B: BEGIN; B: SELECT * FROM ACCT WHERE ID = 9; A: INSERT INTO ACCT VALUES (9, 'KIM', 1);
+         B: INSERT INTO ACCT VALUES (9, 'KIM', 1); A: COMMIT; B: COMMIT;",
+        "A: BEGIN 0\nB: BEGIN 0\nB: SELECT 0\nA: INSERT 1\nB: INSERT 1\nA: COMMIT 1\n\
+         B: REFUSED 12 40001 ACCT 9 BY 1\n\
+         COMMITS 1\n1 A SNAPSHOT 0 ROWS 1\nSERIAL 1\nREFUSED 1\nB 12 40001 ACCT 9 BY 1\nASSERTIONS 0\n",
+    )
+}
+
+#[test]
+fn null_group_write_skew(rt: HostRuntime) -> Result<(), Fail> {
+    let more = format!(in rt.alloc();
+        "{FUNDS}INSERT INTO ACCT VALUES (1, NULL, 5); INSERT INTO ACCT VALUES (2, NULL, 5);"
+    )?;
+    prints_over_tables(
+        &rt,
+        more.as_str(),
+        "A: BEGIN; B: BEGIN; A: UPDATE ACCT SET BAL = -4 WHERE ID = 1; B: UPDATE ACCT SET BAL = -4 WHERE ID = 2;
+         A: COMMIT; B: COMMIT;",
+        "A: BEGIN 0\nB: BEGIN 0\nA: UPDATE 1\nB: UPDATE 1\nA: COMMIT 1\n\
+         B: REFUSED 13 40001 READER 1 PIVOT THIS WRITER 1\n\
+         COMMITS 1\n1 A SNAPSHOT 0 ROWS 1\nSERIAL 1\nREFUSED 1\nB 13 40001 READER 1 PIVOT THIS WRITER 1\n\
+         ASSERTIONS 1\nFUNDS TRUE\n",
+    )
+}
+
+/// The sessions stand by their first events.
+#[test]
+fn transactions_are_left_open(rt: HostRuntime) -> Result<(), Fail> {
+    prints_over_tables(
+        &rt,
+        COVER,
+        "B: BEGIN; A: BEGIN; C: BEGIN; A: ROLLBACK; B: VERDICT COVER;",
+        "B: BEGIN 0\nA: BEGIN 0\nC: BEGIN 0\nA: ROLLBACK\nB: VERDICT COVER TRUE\nB: ROLLBACK AT END\n\
+         C: ROLLBACK AT END\n\
+         COMMITS 0\nSERIAL\nREFUSED 0\nASSERTIONS 1\nCOVER TRUE\n",
+    )
+}
+
+/// A BEGIN in each of so many sessions, and what it prints.
+fn begins(alloc: Global, sessions: u32) -> Result<(String, String), Fail> {
+    let mut script = String::new(alloc);
+    let mut want = String::new(alloc);
+    for session in 0..sessions {
+        script.push_str(format!(in alloc; "S{session}: BEGIN;")?.as_str())?;
+        want.push_str(format!(in alloc; "S{session}: BEGIN 0\n")?.as_str())?;
+    }
+    for session in 0..sessions {
+        want.push_str(format!(in alloc; "S{session}: ROLLBACK AT END\n")?.as_str())?;
+    }
+    want.push_str("COMMITS 0\nSERIAL\nREFUSED 0\nASSERTIONS 0\n")?;
+    Ok((script, want))
+}
+
+#[test]
+fn a_script_has_at_most_256_sessions(rt: HostRuntime) -> Result<(), Fail> {
+    let (script, want) = begins(rt.alloc(), 256)?;
+    prints_over_tables(&rt, "", script.as_str(), want.as_str())?;
+    let (script, _) = begins(rt.alloc(), 257)?;
+    prints_over_tables(
+        &rt,
+        "",
+        script.as_str(),
+        "SCRIPT: REFUSED 24 - TOO MANY SESSIONS\n",
+    )?;
+    // Definitions that are false come first.
+    let more = format!(in rt.alloc(); "{COVER}INSERT INTO SHIFTS VALUES (7);")?;
+    prints_over_tables(
+        &rt,
+        more.as_str(),
+        script.as_str(),
+        "DEFS: REFUSED 21 - COVER 7\n",
+    )
+}
