@@ -4,3 +4,7 @@ pub mod Checks
 pub mod Statements
 pub mod Resolve
 pub mod Alone
+pub use Rattle.assertion.specs.Declarations
+pub use Rattle.assertion.specs.Meaning
+pub use Rattle.assertion.specs.Roots
+pub use Rattle.modes.specs.Modes

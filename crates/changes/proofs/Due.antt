@@ -6,7 +6,7 @@ use Rattle.value.specs.Ordered.{HoldsOf}
 use Rattle.table.specs.declared.rows.Change.{Change}
 use Rattle.table.specs.Rows.{RowValues, Layout, FitsColumns}
 use Rattle.cond.specs.declared.conds.Cond.{Cond}
-use Rattle.assertion.specs.Meaning.{State, rows_of, key_of, filtered_rows}
+use Rattle.alone.specs.Meaning.{State, rows_of, key_of, filtered_rows}
 use Rattle.assertcheck.specs.declared.updates.Setting.{Setting}
 use Rattle.alone.specs.States.{IsState, AreDue}
 use Rattle.alone.specs.Statements.{removal, renewal, updated, sets_key, delete_effect}

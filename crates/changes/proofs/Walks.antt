@@ -8,7 +8,7 @@ use Rattle.table.specs.declared.schemas.Column.{Column}
 use Rattle.table.specs.Rows.{RowValues}
 use Rattle.cond.specs.declared.conds.Cond.{Cond}
 use Rattle.cond.specs.Eval.{keeps}
-use Rattle.assertion.specs.Meaning.{filtered_rows}
+use Rattle.alone.specs.Meaning.{filtered_rows}
 use Rattle.assertcheck.specs.declared.updates.Setting.{Setting}
 use Rattle.alone.specs.Statements.{settings_fault, update_fault}
 

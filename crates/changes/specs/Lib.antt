@@ -1,2 +1,3 @@
 pub mod Insertions
 pub mod Lookups
+pub use Rattle.alone.specs.Statements

@@ -7,7 +7,7 @@ ghost use Rattle.value.specs.ValueOrder.{value_cmp};
 ghost use Rattle.table.specs.declared.schemas.Column.{Column};
 ghost use Rattle.table.specs.Rows.{FitsColumns, value_in};
 ghost use Rattle.cond.specs.Bounds.{IsSmallRow};
-ghost use Rattle.assertion.specs.Meaning.{filtered_rows};
+ghost use Rattle.alone.specs.Meaning.{filtered_rows};
 
 use cond::Cond;
 use mvrows::{RowIter, Rows};

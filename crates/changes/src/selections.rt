@@ -3,7 +3,7 @@
 ghost use Rattle.std.specs.Prelude.{◌≡◌, ◌<◌, [], length, IfOk, IsOkUnless, IsTrue};
 ghost use Rattle.value.specs.declared.refusals.Refusal.TheVariants.{NoMemory};
 ghost use Rattle.cond.specs.Bounds.{is_bounded};
-ghost use Rattle.assertion.specs.Meaning.{filtered_rows, rows_of};
+ghost use Rattle.alone.specs.Meaning.{filtered_rows, rows_of};
 ghost use Rattle.alone.specs.Statements.{selected_rows, selected_values};
 
 use crate::filtered::filtered_rows;

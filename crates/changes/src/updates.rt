@@ -5,7 +5,7 @@ ghost use Rattle.value.specs.declared.refusals.Refusal.TheVariants.{NoMemory};
 ghost use Rattle.value.specs.Ordered.{HoldsOf};
 ghost use Rattle.table.specs.Rows.{FitsColumns, IsTable, Layout};
 ghost use Rattle.cond.specs.Bounds.{IsSmallRow, is_bounded};
-ghost use Rattle.assertion.specs.Meaning.{State, key_of, filtered_rows, rows_of};
+ghost use Rattle.alone.specs.Meaning.{State, key_of, filtered_rows, rows_of};
 ghost use Rattle.assertcheck.specs.Updates.{IsBoundedSetting};
 ghost use Rattle.answer.specs.declared.answers.Reply.TheVariants.{Updated};
 ghost use Rattle.alone.specs.States.{AreDue, IsState};

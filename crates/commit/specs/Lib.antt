@@ -4,3 +4,7 @@ pub mod Kept
 pub mod Decisions
 pub mod Events
 pub mod Runs
+pub use Rattle.alone.specs.Alone
+pub use Rattle.delta.specs.Views
+pub use Rattle.definitions.specs.Written
+pub use Rattle.txn.specs.Transactions

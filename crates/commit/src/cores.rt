@@ -2,7 +2,7 @@
 
 ghost use Rattle.std.specs.Prelude.{◌≡◌, ◌≢◌, ◌≤◌, ◌<◌, ◌+◌, ◌++◌, ◌∷◌, [], ℕ, List, length, true, vec_capacity, vec_len, Contains, IfOk, IfErr, IfSome, IfNone, IsOkUnless, OnErr, OnOk, Ok, Err, None, Some};
 ghost use Rattle.value.specs.declared.refusals.Refusal.TheVariants.{NoMemory};
-ghost use Rattle.modes.specs.Modes.{assertion_of};
+ghost use Rattle.txn.specs.Modes.{assertion_of};
 ghost use Rattle.siread.specs.Locks.{IsCount, above, readers_at};
 ghost use Rattle.live.specs.Held.{is_held};
 ghost use Rattle.live.specs.Live.{least_held, without};

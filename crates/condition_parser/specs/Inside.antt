@@ -2,7 +2,7 @@
 use Rattle.std.specs.Prelude.{ℕ, zero, suc}
 use Rattle.syntax.specs.declared.wants.Found.{Found}
 use Rattle.syntax.specs.declared.wants.Want.{Want}
-use Rattle.reading.specs.Reading.{Reader, refuse}
+use Rattle.leaf_parser.specs.Reading.{Reader, refuse}
 use Rattle.syntax.specs.Readers.{read}
 
 unfoldable pub inside : ℕ → Want → Reader Found

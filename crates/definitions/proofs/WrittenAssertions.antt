@@ -17,7 +17,7 @@ use Rattle.assertion.specs.Declarations.{Declared, layouts_in}
 use Rattle.assertion.specs.Roots.{state_after_all}
 use Rattle.assertcheck.specs.Assertions.{checked}
 use Rattle.assertcheck.specs.Statements.{insert_of}
-use Rattle.alone.specs.Statements.{insert_effect}
+use Rattle.changes.specs.Statements.{insert_effect}
 use Rattle.meaning.specs.Laws.{IsWritten, Pairs}
 use Rattle.meaning.proofs.Checked.{StaysWritten-law}
 use Rattle.delta.specs.Views.{Shown}

@@ -7,7 +7,7 @@ ghost use Rattle.definitions.specs.Written.{AreWritten};
 ghost use Rattle.assertion.specs.Declarations.{layouts_in};
 ghost use Rattle.assertion.specs.Roots.{IsChangeOf, state_after};
 ghost use Rattle.answer.specs.declared.answers.Reply.TheVariants.{Inserted};
-ghost use Rattle.alone.specs.Statements.{insert_effect};
+ghost use Rattle.changes.specs.Statements.{insert_effect};
 ghost use Rattle.changes.specs.Insertions.{inserted};
 ghost use Rattle.delta.specs.Views.{IsFitting};
 

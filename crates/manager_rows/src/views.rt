@@ -2,9 +2,9 @@
 
 ghost use Rattle.std.specs.Prelude.{◌≡◌, ◌<◌, length, IfOk};
 ghost use Rattle.table.specs.Rows.{row_at};
-ghost use Rattle.assertion.specs.Declarations.{layouts_in};
-ghost use Rattle.assertion.specs.Meaning.{rows_of};
-ghost use Rattle.assertion.specs.Roots.{IsChangeOf};
+ghost use Rattle.alone.specs.Declarations.{layouts_in};
+ghost use Rattle.alone.specs.Meaning.{rows_of};
+ghost use Rattle.alone.specs.Roots.{IsChangeOf};
 ghost use Rattle.delta.specs.Views.{IsFitting};
 
 use crate::again::{is_same, page, show_view};

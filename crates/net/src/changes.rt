@@ -3,7 +3,7 @@
 ghost use Rattle.std.specs.Prelude.{◌≡◌, ◌<◌, IfOk, IsOkUnless};
 ghost use Rattle.std.specs.Option.{option_copied};
 ghost use Rattle.value.specs.declared.refusals.Refusal.TheVariants.{NoMemory};
-ghost use Rattle.assertion.specs.Declarations.{layouts_in};
+ghost use Rattle.alone.specs.Declarations.{layouts_in};
 ghost use Rattle.alone.specs.States.{net_change, row_in, same_row, same_there};
 ghost use Rattle.net.specs.Nets.{DifferAt, difference_at, differences_at};
 

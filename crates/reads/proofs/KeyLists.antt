@@ -3,7 +3,7 @@ use Rattle.std.proofs.Common.{◌≡◌, ℕ, zero, suc, ◌<◌, Bool, true, fa
 use Rattle.table.specs.declared.rows.Change.{Change}
 use Rattle.assertion.specs.declared.assertions.Assertion.{Assertion}
 use Rattle.siread.specs.declared.keys.LockKey.{LockKey}
-use Rattle.modes.specs.Modes.{immediate_ones}
+use Rattle.alone.specs.Modes.{immediate_ones}
 use Rattle.alone.specs.Checks.{check_keys, checks_read}
 
 -- what a check of the assertions meant reads, by the first of them

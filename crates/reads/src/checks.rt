@@ -4,7 +4,7 @@ ghost use Rattle.std.specs.Prelude.{◌≡◌, ◌<◌, ◌++◌, [], flat_map, 
 ghost use Rattle.value.specs.declared.refusals.Refusal.TheVariants.{NoMemory};
 ghost use Rattle.assertion.specs.declared.assertions.Assertion.{Assertion as AnyAssertion};
 ghost use Rattle.siread.specs.declared.keys.LockKey.TheVariants.{Table as WholeTable};
-ghost use Rattle.modes.specs.Modes.{immediate_ones};
+ghost use Rattle.alone.specs.Modes.{immediate_ones};
 ghost use Rattle.alone.specs.Checks.{check_keys, checks_read as checks_read_of, keys_for, link_key, tables_in};
 
 use assertion::{Form, Link, Query};

@@ -2,15 +2,15 @@
 use Rattle.std.specs.Prelude.{◌≡◌, ◌≤◌, ◌<◌, ℕ, Bool, true, false, List, [], Ok, Err, length, ⊤, ◌⊎◌}
 use Rattle.value.specs.declared.refusals.Refusal.{Refusal}
 use Rattle.value.specs.declared.refusals.Refusal.TheVariants.{TooManySessions}
-use Rattle.reading.specs.Language.{Language}
-use Rattle.reading.specs.Lexemes.{lexemes}
-use Rattle.reading.specs.Answer.{Fits}
+use Rattle.parse.specs.Language.{Language}
+use Rattle.parse.specs.Lexemes.{lexemes}
+use Rattle.parse.specs.Answer.{Fits}
 use Rattle.statement_syntax.specs.declared.definitions.Definition.{Definition}
 use Rattle.statement_syntax.specs.declared.statements.Step.{Step}
 use Rattle.statement_syntax.specs.SchemaGrammar.{IsSchema, IsScript}
 use Rattle.parse.specs.Told.{Refused, most_open}
 use Rattle.delta.specs.Views.{Shown}
-use Rattle.definitions.specs.Written.{AreWritten}
+use Rattle.commit.specs.Written.{AreWritten}
 use Rattle.commit.specs.Admission.{admitted}
 use Rattle.commit.specs.Runs.{all_seated}
 use Rattle.running.specs.declared.faults.ProgramFault.{ProgramFault}

@@ -3,8 +3,8 @@ use Rattle.std.proofs.Common.{◌≡◌, ℕ, ◌<◌, ◌≤◌, cond, List, []
 use Rattle.std.specs.Prelude.{Contains, nat_le}
 use Rattle.std.proofs.lemmas.Bool.{cases_Bool, leb-true, leb-false}
 use Rattle.table.specs.declared.rows.Change.{Change}
-use Rattle.assertion.specs.Declarations.{Declared, layouts_in}
-use Rattle.assertion.specs.Meaning.{State}
+use Rattle.alone.specs.Declarations.{Declared, layouts_in}
+use Rattle.alone.specs.Meaning.{State}
 use Rattle.siread.specs.declared.keys.Place.{Place}
 use Rattle.siread.specs.Keys.{place_of}
 use Rattle.alone.specs.States.{row_in, IsState}

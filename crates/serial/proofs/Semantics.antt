@@ -2,10 +2,10 @@
 -- put in.
 use Rattle.std.proofs.Common.{List, [], ◌∷◌, subst}
 use Rattle.table.specs.declared.rows.Change.{Change}
-use Rattle.assertion.specs.Meaning.{State}
+use Rattle.alone.specs.Meaning.{State}
 use Rattle.alone.specs.States.{row_in, IsState, IsPut}
-use Rattle.assertion.specs.Declarations.{Declared}
-use Rattle.assertion.specs.Declarations.{layouts_in}
+use Rattle.alone.specs.Declarations.{Declared}
+use Rattle.alone.specs.Declarations.{layouts_in}
 use Rattle.alone.specs.Alone.{run_on, IsSound}
 use Rattle.alone.proofs.Lists.{Each}
 use Rattle.alone.proofs.Stores.{row_in-put, all_fit, same_states}

@@ -5,8 +5,8 @@ use Rattle.std.specs.Prelude.{Contains}
 use Rattle.value.specs.ValueOrder.{value_cmp}
 use Rattle.value.specs.Ordered.{IsAscending}
 use Rattle.table.specs.Rows.{Layout, Tables, value_in, layouts_of}
-use Rattle.assertion.specs.Meaning.{State, rows_of, key_of}
-use Rattle.assertion.specs.Declarations.{Declared}
+use Rattle.alone.specs.Meaning.{State, rows_of, key_of}
+use Rattle.alone.specs.Declarations.{Declared}
 use Rattle.alone.specs.declared.statements.Resolved.{Resolved}
 use Rattle.alone.specs.Alone.{transaction, transaction_keys, IsSound}
 use Rattle.siread.proofs.Members.{in_cases, not_in_nil}

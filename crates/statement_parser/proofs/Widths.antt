@@ -8,8 +8,8 @@ use Rattle.value.specs.declared.values.ColType.TheVariants as kind_of
 use Rattle.leaf_parser.specs.declared.stops.Stop.{Stop}
 use Rattle.leaf_parser.specs.declared.stops.Stop.TheVariants as stop
 use Rattle.leaf_parser.specs.Reads.{Stops}
-use Rattle.reading.specs.Language.{Lexeme, Lexemes, head}
-use Rattle.reading.specs.Reading.{Reader, Outcome, Done, Fail, Deep, same_kind, expect, expect_where, ◌<$>◌}
+use Rattle.leaf_parser.specs.Language.{Lexeme, Lexemes, head}
+use Rattle.leaf_parser.specs.Reading.{Reader, Outcome, Done, Fail, Deep, same_kind, expect, expect_where, ◌<$>◌}
 use Rattle.syntax.specs.Grammar.{digits_value}
 use Rattle.statement_syntax.specs.SchemaGrammar.{is_width, varchar_of}
 use Rattle.statement_parser.specs.Widths.{width_of}

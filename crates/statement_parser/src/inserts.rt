@@ -3,7 +3,7 @@
 ghost use Rattle.statement_syntax.specs.Grammar as grammar;
 ghost use Rattle.statement_syntax.specs.Readers as reader;
 ghost use Rattle.token.specs.declared.kinds.Kind.TheVariants as k;
-ghost use Rattle.reading.specs.Reading as rd;
+ghost use Rattle.leaf_parser.specs.Reading as rd;
 ghost use Rattle.leaf_parser.specs.Reads.{Reads};
 
 use leaf_parser::{

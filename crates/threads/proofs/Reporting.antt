@@ -6,7 +6,7 @@ use Rattle.value.specs.Results.{and_then}
 use Rattle.value.specs.declared.refusals.Refusal.TheVariants.{NoMemory}
 use Rattle.statement_syntax.specs.declared.definitions.Definition.{Definition}
 use Rattle.statement_syntax.specs.declared.statements.Step.{Step}
-use Rattle.delta.specs.Views.{Shown}
+use Rattle.commit.specs.Views.{Shown}
 use Rattle.definitions.specs.Taken.{taken}
 use Rattle.definitions.specs.Written.{AreWritten}
 use Rattle.commit.specs.Admission.{satisfied}

@@ -4,7 +4,7 @@ use Rattle.std.specs.List.{list_all}
 use Rattle.std.specs.Io.KnownBytes.{Appends}
 use Rattle.statement_syntax.specs.declared.statements.Step.{Step}
 use Rattle.statement_syntax.specs.declared.definitions.Definition.{Definition}
-use Rattle.delta.specs.Views.{Shown}
+use Rattle.commit.specs.Views.{Shown}
 use Rattle.definitions.specs.Written.{AreWritten}
 use Rattle.commit.specs.Admission.{admitted}
 use Rattle.commit.specs.Cores.{CoreState, IsSerializable}

@@ -4,3 +4,4 @@ pub mod Held
 pub mod Runnable
 pub mod Steps
 pub mod Transactions
+pub use Rattle.modes.specs.Modes

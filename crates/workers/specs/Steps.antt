@@ -6,9 +6,9 @@ use Rattle.statement_syntax.specs.declared.statements.Event.{Event}
 use Rattle.statement_syntax.specs.declared.statements.Event.TheVariants.{Begin, Commit, Rollback, Run}
 use Rattle.answer.specs.declared.answers.Answer.{Answer}
 use Rattle.answer.specs.declared.answers.Answer.TheVariants.{Begun, Committed, Refused, RolledBack}
-use Rattle.alone.specs.Resolve.{resolved}
-use Rattle.txn.specs.Transactions.{step_of, with_statement}
-use Rattle.commit.specs.Events.{answer_of}
+use Rattle.session.specs.Resolve.{resolved}
+use Rattle.session.specs.Transactions.{step_of, with_statement}
+use Rattle.session.specs.Events.{answer_of}
 use Rattle.session.specs.Books.{Ticketed}
 use Rattle.session.specs.Answers.{IsGivenBack, IsRefused}
 

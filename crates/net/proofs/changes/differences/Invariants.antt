@@ -1,5 +1,5 @@
 use Rattle.std.proofs.Common.{◌≡◌, ◌++◌}
-use Rattle.assertion.specs.Declarations.{layouts_in}
+use Rattle.alone.specs.Declarations.{layouts_in}
 use Rattle.net.specs.Nets.{differences_at}
 use Rattle.net.proofs.changes.differences.Given as goal
 

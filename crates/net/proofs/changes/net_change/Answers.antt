@@ -1,5 +1,5 @@
 use Rattle.std.proofs.Common.{◌∙◌, subst}
-use Rattle.assertion.specs.Declarations.{Declared, layouts_in}
+use Rattle.alone.specs.Declarations.{Declared, layouts_in}
 use Rattle.delta.specs.Views.{AreTables}
 use Rattle.net.proofs.Places.{differences_net}
 use Rattle.net.proofs.changes.net_change.Goals as goal

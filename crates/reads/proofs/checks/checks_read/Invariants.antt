@@ -1,5 +1,5 @@
 use Rattle.std.proofs.Common.{◌≡◌, ◌++◌, drop}
-use Rattle.modes.specs.Modes.{immediate_ones}
+use Rattle.alone.specs.Modes.{immediate_ones}
 use Rattle.alone.specs.Checks.{checks_read}
 use Rattle.reads.proofs.checks.checks_read.Given as goal
 

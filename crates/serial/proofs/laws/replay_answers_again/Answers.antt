@@ -1,9 +1,9 @@
 -- The replay theorem over tables.
 use Rattle.std.proofs.Common.{◌<◌, List}
-use Rattle.assertion.specs.Meaning.{State}
+use Rattle.alone.specs.Meaning.{State}
 use Rattle.alone.specs.States.{row_in, IsState}
-use Rattle.assertion.specs.Declarations.{Declared}
-use Rattle.assertion.specs.Declarations.{layouts_in}
+use Rattle.alone.specs.Declarations.{Declared}
+use Rattle.alone.specs.Declarations.{layouts_in}
 use Rattle.alone.specs.Alone.{IsSound}
 use Rattle.alone.proofs.Lists.{each_from}
 use Rattle.serial.specs.declared.records.Record.{Record}
