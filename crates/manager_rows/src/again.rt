@@ -8,6 +8,7 @@ use mvrows::Rows;
 use session::{Manager, Named, Session, Txn};
 use siread::LockKey;
 use std::alloc::Global;
+use std::fmt::Debug;
 use std::sync::Wait;
 use std::test::Fail;
 
@@ -17,6 +18,12 @@ const ROOM: usize = 1 << 16;
 pub fn page(alloc: Global) -> Result<String, Fail> {
     let page = String::with_capacity(alloc, ROOM)?;
     Ok(page)
+}
+
+/// Adds a value and ends the line. (Its type is a parameter, as in `equal`.)
+pub fn show<T: Debug>(value: &T, text: &mut String) -> Result<(), Fail> {
+    write!(text, "{value:?}\n")?;
+    Ok(())
 }
 
 /// What a call that found no memory was to leave as it was, before it and after it.
@@ -73,8 +80,7 @@ fn show_found<N: Named, R: Wait>(
 ) -> Result<(), Fail> {
     show_txn(txn, text)?;
     for assertion in txn.own().assertions() {
-        let verdict = manager.verdict(rt, &assertion.name);
-        write!(text, "{verdict:?}\n")?;
+        show(&manager.verdict(rt, &assertion.name), text)?;
     }
     Ok(())
 }
@@ -91,7 +97,9 @@ pub fn show_run(
     own: &View,
     text: &mut String,
 ) -> Result<(), Fail> {
-    write!(text, "{snapshot} {trace:?} {reads:?}\n")?;
+    show(&snapshot, text)?;
+    show(&trace, text)?;
+    show(&reads, text)?;
     show_view(own, text)
 }
 
@@ -101,27 +109,26 @@ pub fn show_view(view: &View, text: &mut String) -> Result<(), Fail> {
         show_rows(view.rows(table), text)?;
     }
     for place in 0..view.assertions().len() {
-        let (verdict, root) = (view.verdict(place), view.least_bad(place));
-        write!(text, "{verdict:?} {root:?}\n")?;
+        show(&view.verdict(place), text)?;
+        show(&view.least_bad(place), text)?;
     }
     Ok(())
 }
 
 fn show_rows(rows: &Rows, text: &mut String) -> Result<(), Fail> {
     for row in rows.iter() {
-        write!(text, "{row:?}\n")?;
+        show(row, text)?;
     }
     Ok(())
 }
 
 /// The commits, those that were refused, the serial order, the count of kept locks, and the tables.
 pub fn show_core(core: &Core, text: &mut String) -> Result<(), Fail> {
-    let (records, order, refused) = (core.records(), core.serial_order(), core.refused());
-    let (locks, is_prepared) = (core.locks(), core.prepared().is_some());
-    write!(
-        text,
-        "{records:?} {order:?} {refused:?} {locks} {is_prepared}\n"
-    )?;
+    show(&core.records(), text)?;
+    show(&core.serial_order(), text)?;
+    show(&core.refused(), text)?;
+    show(&core.locks(), text)?;
+    show(&core.prepared().is_some(), text)?;
     show_view(core.loaded(), text)?;
     show_view(core.newest(), text)
 }

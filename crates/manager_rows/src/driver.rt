@@ -8,7 +8,9 @@ use report::Report;
 use session::{CommitFault, Manager, Named, Receipt, Session, Txn};
 use statement_syntax::{Event, Statement, Step};
 use std::alloc::Global;
+use std::fmt::Debug;
 use std::mem;
+use std::process::Abort;
 use std::sync::Wait;
 use std::test::Fail;
 use value::{Refusal, Text};
@@ -29,7 +31,14 @@ impl<N: Named> Drop for Seat<N> {
     }
 }
 
+/// Lets a value go. Here and below the type is a parameter: what is done with a large value is then not proved at each
+/// of its parts.
 pub fn let_go<T: Drop>(_value: T) {}
+
+/// Ends the test where another value is found than the wanted one.
+pub fn equal<T: Copy + PartialEq + Debug>(rt: &impl Abort, found: T, wanted: T) {
+    assert_eq!(rt; found, wanted);
+}
 
 /// The sessions of a manager, what they were answered, and each receipt that was given or shown.
 #[derive(Drop)]
@@ -138,12 +147,19 @@ fn answer_again<N: Named, R: Wait>(
 ) -> Result<Answer, Fail> {
     let alloc = *receipts.allocator();
     let before = shown(rt, alloc, manager, seat)?;
-    let first = answer(rt, manager, seat, event, receipts)?;
-    if !matches!(&first, Answer::Refused(Refusal::NoMemory)) {
+    if let Some(first) = unless_memory(answer(rt, manager, seat, event, receipts)?) {
         return Ok(first);
     }
     is_same(&before, &shown(rt, alloc, manager, seat)?)?;
     answer(rt, manager, seat, event, receipts)
+}
+
+/// The answer, unless it is that no memory was found.
+pub fn unless_memory(answer: Answer) -> Option<Answer> {
+    match answer {
+        Answer::Refused(Refusal::NoMemory) => None,
+        answer => Some(answer),
+    }
 }
 
 fn answer<N: Named, R: Wait>(

@@ -1,7 +1,7 @@
 //! A COMMIT that finds no memory gives its transaction back: through a manager, and below it through an engine.
 
-use crate::again::{is_same, page, show_core, show_run};
-use crate::driver::let_go;
+use crate::again::{is_same, page, show, show_core, show_run};
+use crate::driver::{equal, let_go, unless_memory};
 use crate::printed::{COVER, Case, SEVEN, TABLES, prints, steps_of};
 use answer::Answer;
 use commit::{Core, Engine, Seat, admit};
@@ -11,7 +11,6 @@ use statement_syntax::Step;
 use std::alloc::Global;
 use std::process::Abort;
 use std::test::Fail;
-use value::Refusal;
 
 /// Each takes the same one off call; the second is refused, and its COMMIT has an entry to make for that.
 const SCRIPT: &str = "A: BEGIN; B: BEGIN; A: UPDATE DUTY SET ONCALL = 0 WHERE ID = 1;
@@ -40,13 +39,31 @@ fn by_a_manager(rt: HostRuntime) -> Result<(), Fail> {
 fn by_an_engine(rt: HostRuntime) -> Result<(), Fail> {
     let steps = steps_of(rt.alloc(), SCRIPT)?;
     let mut engine = engine(rt.alloc(), steps.as_slice())?;
-    let mut lines = Report::new(rt.alloc());
-    for step in steps.as_slice() {
-        let answer = answer_again(rt.alloc(), &mut engine, step)?;
-        lines.add_answer(step, &answer)?;
-    }
+    let lines = answers(rt.alloc(), &mut engine, steps.as_slice())?;
     assert_eq!(rt; lines.as_bytes(), ANSWERS.as_bytes());
     ended(&rt, engine.core());
+    Ok(())
+}
+
+/// The lines of what steps are answered.
+fn answers(alloc: Global, engine: &mut Engine, steps: &[Step]) -> Result<Report, Fail> {
+    let mut lines = Report::new(alloc);
+    for step in steps {
+        add_answer(alloc, engine, step, &mut lines)?;
+    }
+    Ok(lines)
+}
+
+fn add_answer(
+    alloc: Global,
+    engine: &mut Engine,
+    step: &Step,
+    lines: &mut Report,
+) -> Result<(), Fail> {
+    let answer = answer_again(alloc, engine, step)?;
+    let added = lines.add_answer(step, &answer);
+    let_go(answer);
+    added?;
     Ok(())
 }
 
@@ -61,11 +78,9 @@ fn engine(alloc: Global, steps: &[Step]) -> Result<Engine, Fail> {
 /// Answers an event. One that finds no memory has changed nothing that can be seen, and is answered once more.
 fn answer_again(alloc: Global, engine: &mut Engine, step: &Step) -> Result<Answer, Fail> {
     let before = shown(alloc, engine)?;
-    let answer = engine.answer(step);
-    if !matches!(&answer, Answer::Refused(Refusal::NoMemory)) {
-        return Ok(answer);
+    if let Some(first) = unless_memory(engine.answer(step)) {
+        return Ok(first);
     }
-    let_go(answer);
     is_same(&before, &shown(alloc, engine)?)?;
     Ok(engine.answer(step))
 }
@@ -85,15 +100,14 @@ fn show_seat(core: &Core, seat: &Seat, text: &mut String) -> Result<(), Fail> {
         text.push_str("NONE\n")?;
         return Ok(());
     };
-    let is_held = core.holds(txn.ticket(), txn.snapshot());
-    write!(text, "{is_held} ")?;
+    show(&core.holds(txn.ticket(), txn.snapshot()), text)?;
     show_run(txn.snapshot(), txn.trace(), txn.reads(), txn.own(), text)
 }
 
 /// One was committed and one refused, and none is open.
 fn ended<R: Abort>(rt: &R, core: &Core) {
-    assert_eq!(rt; core.records().len(), 1);
-    assert_eq!(rt; core.serial_order().len(), 1);
-    assert_eq!(rt; core.refused().len(), 1);
-    assert_eq!(rt; core.locks(), 0);
+    equal(rt, core.records().len(), 1);
+    equal(rt, core.serial_order().len(), 1);
+    equal(rt, core.refused().len(), 1);
+    equal(rt, core.locks(), 0);
 }

@@ -7,7 +7,7 @@ ghost use Rattle.siread.specs.Locks.{above, readers_at};
 ghost use Rattle.conflict.specs.Readers.{reads_of};
 ghost use Rattle.commit.specs.Cores.{IsLive};
 
-use crate::driver::let_go;
+use crate::driver::{equal, let_go};
 use crate::printed::{COVER, SEVEN, TABLES, defined, steps_of};
 use crate::without_memory::{ask_in_vain, end_memory};
 use commit::{Core, Uncommitted, admit, first_false};
@@ -64,14 +64,15 @@ fn no_slots(alloc: Global) -> Slots
 }
 
 fn compares<R: Abort>(rt: &R, name: &Value) {
-    assert_eq!(rt;
+    equal(
+        rt,
         compare(&Value::Int(1), &Value::Int(2)),
-        Some(Ordering::Less)
+        Some(Ordering::Less),
     );
-    assert_eq!(rt; compare(name, &Value::Null), None);
-    assert_eq!(rt; order(name, name), Ordering::Equal);
-    assert_eq!(rt; Truth::Unknown.and(Truth::False), Truth::False);
-    assert_eq!(rt; Truth::Unknown.or(Truth::False).not(), Truth::Unknown);
+    equal(rt, compare(name, &Value::Null), None);
+    equal(rt, order(name, name), Ordering::Equal);
+    equal(rt, Truth::Unknown.and(Truth::False), Truth::False);
+    equal(rt, Truth::Unknown.or(Truth::False).not(), Truth::Unknown);
     assert!(rt; Truth::Unknown.is(Truth::Unknown));
 }
 
@@ -125,22 +126,31 @@ fn finds_each(rows: &Rows) -> bool {
     true
 }
 
-#[test]
-fn pages(rt: HostRuntime) -> Result<(), Fail> {
-    let key = Value::Int(7);
+/// One row of the group 7.
+fn totals(alloc: Global) -> Result<Totals, Refusal> {
     let member = Some(Member {
         group: Value::Int(7),
         value: Value::Int(1),
     });
-    let totals = Totals::new(rt.alloc()).with(&member, &None)?;
+    Totals::new(alloc).with(&member, &None)
+}
+
+#[test]
+fn pages(rt: HostRuntime) -> Result<(), Fail> {
+    let key = Value::Int(7);
+    let totals = totals(rt.alloc())?;
     let pages = Pages::new(rt.alloc()).with(&key, Some(5u64))?;
     assert!(rt; end_memory(rt.alloc()));
     assert!(rt; totals.get(&key).is_some());
-    assert_eq!(rt; pages.get(&key), Some(&5));
-    assert_eq!(rt; pages.page_from(0).len(), 1);
-    assert_eq!(rt; pages.len(), 1);
+    hold_one(&rt, &pages, &key);
     ask_in_vain(rt.alloc());
     Ok(())
+}
+
+fn hold_one<R: Abort>(rt: &R, pages: &Pages<u64>, key: &Value) {
+    equal(rt, pages.get(key), Some(&5));
+    equal(rt, pages.page_from(0).len(), 1);
+    equal(rt, pages.len(), 1);
 }
 
 /// The row of a key is put into the first table.
@@ -169,11 +179,11 @@ fn locks(rt: HostRuntime) -> Result<(), Fail> {
     locks.put(2, &keys)?;
     assert!(rt; end_memory(rt.alloc()));
     assert!(rt; locks.readers(&row_key(7)) == [1, 2].as_slice());
-    assert_eq!(rt; locks.greatest_reader(&[change]), 2);
+    equal(&rt, locks.greatest_reader(&[change]), 2);
     locks.take_back(2, &keys);
-    assert_eq!(rt; locks.len(), 2);
+    equal(&rt, locks.len(), 2);
     locks.trim_below(1);
-    assert_eq!(rt; locks.len(), 0);
+    equal(&rt, locks.len(), 0);
     ask_in_vain(rt.alloc());
     Ok(())
 }
@@ -184,11 +194,11 @@ fn snapshots(rt: HostRuntime) -> Result<(), Fail> {
     live.begin(1)?;
     live.begin(3)?;
     assert!(rt; end_memory(rt.alloc()));
-    assert_eq!(rt; live.next_ticket(), 2);
+    equal(&rt, live.next_ticket(), 2);
     assert!(rt; live.holds(0, 1) && !live.holds(1, 1));
-    assert_eq!(rt; live.least(4), 1);
+    equal(&rt, live.least(4), 1);
     live.end(0);
-    assert_eq!(rt; live.least(4), 3);
+    equal(&rt, live.least(4), 3);
     ask_in_vain(rt.alloc());
     Ok(())
 }
@@ -304,12 +314,16 @@ fn a_commit_is_made(rt: HostRuntime) -> Result<(), Fail> {
     assert!(rt; end_memory(rt.alloc()));
     assert!(rt; core.prepared().is_some());
     core.finish();
-    assert_eq!(rt; core.records().len(), 1);
-    assert!(rt; core.serial_order() == [1].as_slice());
-    assert_eq!(rt; core.verdict(&cover), Some(Truth::True));
-    assert_eq!(rt; core.locks(), 0);
+    has_one(&rt, &core, &cover);
     ask_in_vain(rt.alloc());
     Ok(())
+}
+
+fn has_one<R: Abort>(rt: &R, core: &Core, cover: &Text) {
+    equal(rt, core.records().len(), 1);
+    assert!(rt; core.serial_order() == [1].as_slice());
+    equal(rt, core.verdict(cover), Some(Truth::True));
+    equal(rt, core.locks(), 0);
 }
 
 #[test]
@@ -330,12 +344,12 @@ fn a_commit_is_given_up(rt: HostRuntime) -> Result<(), Fail> {
 }
 
 fn reopens<R: Abort>(rt: &R, closed: Closed, cover: &Text) {
-    assert_eq!(rt; closed.changes().len(), 1);
+    equal(rt, closed.changes().len(), 1);
     assert!(rt; closed.refused().is_none() && !closed.reads().is_empty());
     let txn = closed.reopen();
-    assert_eq!(rt; txn.verdict(cover), Some(Truth::True));
-    assert_eq!(rt; (txn.ticket(), txn.snapshot()), (0, 0));
-    assert_eq!(rt; txn.trace().len(), 1);
+    equal(rt, txn.verdict(cover), Some(Truth::True));
+    equal(rt, (txn.ticket(), txn.snapshot()), (0, 0));
+    equal(rt, txn.trace().len(), 1);
     assert!(rt; !txn.reads().is_empty());
     let_go(txn.abandon());
 }

@@ -2,7 +2,7 @@
 
 ghost use Rattle.std.specs.Prelude.{◌≡◌};
 
-use crate::driver::{Sessions, let_go};
+use crate::driver::{Sessions, equal, let_go};
 use commit::Core;
 use definitions::Definitions;
 use parse::{parse_schema, parse_script};
@@ -65,51 +65,82 @@ pub fn steps_of(alloc: Global, script: &str) -> Result<Items<Step>, Fail> {
     Ok(steps)
 }
 
-/// The case comes of its script, over these definitions, with limits of a million commits and of a hundred sessions.
-pub fn prints<R: Wait + Abort>(rt: &R, alloc: Global, more: &str, case: &Case) -> Result<(), Fail> {
-    let limits = Limits::new(1_000_000, 100).ok_or("limits")?;
-    prints_within(rt, alloc, more, limits, case)
+/// What a manager is opened on.
+#[derive(Drop)]
+pub struct Opening {
+    pub shelf: Shelf,
+    pub definitions: Definitions,
+    pub limits: Limits,
 }
 
-/// The same with these limits.
-pub fn prints_within<R: Wait + Abort>(
-    rt: &R,
+/// A shelf of its own, what these definitions define, and limits of so many commits and sessions.
+pub fn make_opening(
     alloc: Global,
     more: &str,
-    limits: Limits,
-    case: &Case,
-) -> Result<(), Fail> {
-    let same = Limits::new(limits.commits(), limits.sessions()).ok_or("limits")?;
-    let one = Shelf::new(alloc)?;
-    let two = Shelf::new(alloc)?;
+    commits: u64,
+    sessions: u64,
+) -> Result<Opening, Fail> {
     let definitions = defined(alloc, more)?;
-    let anew = defined(alloc, more)?;
-    serve::<Brand, R>(rt, alloc, one, two, limits, same, definitions, anew, case)
+    let limits = Limits::new(commits, sessions).ok_or("limits")?;
+    let shelf = Shelf::new(alloc)?;
+    Ok(Opening {
+        shelf,
+        definitions,
+        limits,
+    })
 }
 
-/// An opening that finds no memory keeps what it was handed, so the second has a shelf and definitions of its own.
+pub fn open<N: Named, R: Wait>(
+    rt: &R,
+    alloc: Global,
+    id: u64,
+    on: Opening,
+) -> Result<Manager<N>, Refusal>
+    requires shelf { on.shelf ≡ N.shelf id }
+    requires limits { on.limits ≡ N.limits id }
+{
+    let Opening {
+        shelf,
+        definitions,
+        limits,
+    } = on;
+    Manager::<N>::open(rt, alloc, shelf, id, definitions, limits)
+}
+
+/// The case comes of its script, over these definitions, with limits of a million commits and of a hundred sessions.
+pub fn prints<R: Wait + Abort>(rt: &R, alloc: Global, more: &str, case: &Case) -> Result<(), Fail> {
+    let one = make_opening(alloc, more, 1_000_000, 100)?;
+    let two = make_opening(alloc, more, 1_000_000, 100)?;
+    prints_on(rt, alloc, one, two, case)
+}
+
+/// The same on the first of these openings, or on the second where the first finds no memory.
+pub fn prints_on<R: Wait + Abort>(
+    rt: &R,
+    alloc: Global,
+    one: Opening,
+    two: Opening,
+    case: &Case,
+) -> Result<(), Fail> {
+    serve::<Brand, R>(rt, alloc, one, two, case)
+}
+
+/// A manager that finds no memory keeps what it was handed, so the second has an opening of its own.
 fn serve<N: Named, R: Wait + Abort>(
     rt: &R,
     alloc: Global,
-    one: Shelf,
-    two: Shelf,
-    limits: Limits,
-    same: Limits,
-    definitions: Definitions,
-    anew: Definitions,
+    one: Opening,
+    two: Opening,
     case: &Case,
 ) -> Result<(), Fail>
-    requires one { one ≡ N.shelf 1 }
-    requires two { two ≡ N.shelf 2 }
-    requires limits { limits ≡ N.limits 1 }
-    requires same { same ≡ N.limits 2 }
+    requires shelf_of_one { one.shelf ≡ N.shelf 1 }
+    requires limits_of_one { one.limits ≡ N.limits 1 }
+    requires shelf_of_two { two.shelf ≡ N.shelf 2 }
+    requires limits_of_two { two.limits ≡ N.limits 2 }
 {
-    match Manager::<N>::open(rt, alloc, one, 1, definitions, limits) {
+    match open::<N, R>(rt, alloc, 1, one) {
         Ok(manager) => prints_through(rt, alloc, manager, case),
-        Err(Refusal::NoMemory) => {
-            let manager = Manager::<N>::open(rt, alloc, two, 2, anew, same)?;
-            prints_through(rt, alloc, manager, case)
-        }
+        Err(Refusal::NoMemory) => prints_through(rt, alloc, open::<N, R>(rt, alloc, 2, two)?, case),
         Err(refusal) => Err(Fail::from(refusal)),
     }
 }
@@ -138,23 +169,46 @@ pub fn serves<N: Named, R: Wait + Abort>(
     manager: Manager<N>,
     case: &Case,
 ) -> Result<Left<N>, Fail> {
-    let mut sessions = Sessions::new(alloc);
-    let steps = steps_of(alloc, case.script)?;
-    sessions.run(rt, &manager, steps.as_slice())?;
+    let mut sessions = run_script(rt, alloc, &manager, case.script)?;
     sessions.leave_open()?;
     let verdicts = verdicts(rt, alloc, &manager)?;
     let history = manager.close();
     finds(rt, &history, sessions.receipts.as_slice(), case.receipts)?;
     stands(rt, alloc, history.core(), verdicts.as_slice())?;
-    close(alloc, history.core(), &mut sessions.lines)?;
-    assert_eq!(rt; sessions.lines.as_bytes(), case.want.as_bytes());
-    assert_eq!(rt; history.core().locks(), case.locks);
+    ends(rt, alloc, history.core(), &mut sessions.lines, case)?;
     let Sessions {
         seats: _,
         lines: _,
         receipts,
     } = sessions;
     Ok(Left { history, receipts })
+}
+
+/// The sessions of a script that is run.
+pub fn run_script<N: Named, R: Wait>(
+    rt: &R,
+    alloc: Global,
+    manager: &Manager<N>,
+    script: &str,
+) -> Result<Sessions<N>, Fail> {
+    let steps = steps_of(alloc, script)?;
+    let mut sessions = Sessions::new(alloc);
+    sessions.run(rt, manager, steps.as_slice())?;
+    Ok(sessions)
+}
+
+/// The case's bytes and locks are what is left.
+fn ends<R: Abort>(
+    rt: &R,
+    alloc: Global,
+    core: &Core,
+    lines: &mut Report,
+    case: &Case,
+) -> Result<(), Fail> {
+    close(alloc, core, lines)?;
+    assert_eq!(rt; lines.as_bytes(), case.want.as_bytes());
+    assert_eq!(rt; core.locks(), case.locks);
+    Ok(())
 }
 
 /// What a manager says of the names of assertions.
@@ -192,11 +246,11 @@ fn finds<N: Named, R: Abort>(
     receipts: &[Receipt<N>],
     numbers: &[u64],
 ) -> Result<(), Fail> {
-    assert_eq!(rt; receipts.len(), numbers.len());
+    equal(rt, receipts.len(), numbers.len());
     for (receipt, number) in receipts.iter().zip(numbers) {
         let record = history.record(receipt)?;
-        assert_eq!(rt; receipt.number(), *number);
-        assert_eq!(rt; record.number, *number);
+        equal(rt, receipt.number(), *number);
+        equal(rt, record.number, *number);
     }
     Ok(())
 }

@@ -1,6 +1,6 @@
 //! Scripts of several sessions.
 
-use crate::printed::{COVER, Case, EIGHT, KIM, SEVEN, prints, prints_within};
+use crate::printed::{COVER, Case, EIGHT, KIM, SEVEN, make_opening, prints, prints_on};
 use session::Limits;
 use std::alloc::Global;
 use std::process::Abort;
@@ -211,7 +211,8 @@ fn deferred_then_immediate(rt: HostRuntime) -> Result<(), Fail> {
 /// With room for one commit and one session, the second of each is refused.
 #[test]
 fn epoch_full(rt: HostRuntime) -> Result<(), Fail> {
-    let limits = Limits::new(1, 1).ok_or("limits")?;
+    let one = make_opening(rt.alloc(), "", 1, 1)?;
+    let two = make_opening(rt.alloc(), "", 1, 1)?;
     let case = Case {
         script: "A: BEGIN; A: INSERT INTO SHIFTS VALUES (1); A: COMMIT; B: BEGIN;
             A: BEGIN; A: SELECT * FROM SHIFTS; A: COMMIT;",
@@ -222,7 +223,7 @@ fn epoch_full(rt: HostRuntime) -> Result<(), Fail> {
         receipts: &[1, 1],
         locks: 0,
     };
-    prints_within(&rt, rt.alloc(), "", limits, &case)
+    prints_on(&rt, rt.alloc(), one, two, &case)
 }
 
 #[test]

@@ -3,9 +3,8 @@
 ghost use Rattle.std.specs.Prelude.{◌≡◌};
 
 use crate::driver::let_go;
-use crate::printed::{COVER, Case, KIM, Left, SEVEN, defined, serves};
-use definitions::Definitions;
-use session::{CommitFault, Limits, Manager, Named, Receipt, Shelf, Txn};
+use crate::printed::{COVER, Case, KIM, Left, Opening, SEVEN, make_opening, open, serves};
+use session::{CommitFault, Manager, Named, Receipt, Txn};
 use std::alloc::Global;
 use std::marker::Brand;
 use std::process::Abort;
@@ -15,35 +14,37 @@ use value::{Refusal, Text};
 
 #[test]
 fn strangers(rt: HostRuntime) -> Result<(), Fail> {
-    let one = Shelf::new(rt.alloc())?;
-    let two = Shelf::new(rt.alloc())?;
-    let limits = Limits::new(10, 10).ok_or("limits")?;
-    let same = Limits::new(10, 10).ok_or("limits")?;
     let more = format!(in rt.alloc(); "{COVER}{SEVEN}")?;
-    let shifts = defined(rt.alloc(), more.as_str())?;
-    let accounts = defined(rt.alloc(), KIM)?;
-    two_managers::<Brand, HostRuntime>(&rt, rt.alloc(), one, two, limits, same, shifts, accounts)
+    let shifts = make_opening(rt.alloc(), more.as_str(), 10, 10)?;
+    let accounts = make_opening(rt.alloc(), KIM, 10, 10)?;
+    two_managers::<Brand, HostRuntime>(&rt, rt.alloc(), shifts, accounts)
 }
 
 /// Each refuses the other's session and transaction, gives the transaction back, and goes on.
 fn two_managers<N: Named, R: Wait + Abort>(
     rt: &R,
     alloc: Global,
-    one: Shelf,
-    two: Shelf,
-    limits: Limits,
-    same: Limits,
-    shifts: Definitions,
-    accounts: Definitions,
+    shifts: Opening,
+    accounts: Opening,
 ) -> Result<(), Fail>
-    requires one { one ≡ N.shelf 1 }
-    requires two { two ≡ N.shelf 2 }
-    requires limits { limits ≡ N.limits 1 }
-    requires same { same ≡ N.limits 2 }
+    requires shelf_of_shifts { shifts.shelf ≡ N.shelf 1 }
+    requires limits_of_shifts { shifts.limits ≡ N.limits 1 }
+    requires shelf_of_accounts { accounts.shelf ≡ N.shelf 2 }
+    requires limits_of_accounts { accounts.limits ≡ N.limits 2 }
 {
-    let first = Manager::<N>::open(rt, alloc, one, 1, shifts, limits)?;
-    let second = Manager::<N>::open(rt, alloc, two, 2, accounts, same)?;
+    let first = open::<N, R>(rt, alloc, 1, shifts)?;
+    let second = open::<N, R>(rt, alloc, 2, accounts)?;
     meet(rt, alloc, &first, &second)?;
+    go_on(rt, alloc, first, second)
+}
+
+/// The first serves its shifts, the second its accounts, and knows no receipt of the first.
+fn go_on<N: Named, R: Wait + Abort>(
+    rt: &R,
+    alloc: Global,
+    first: Manager<N>,
+    second: Manager<N>,
+) -> Result<(), Fail> {
     let first = serve_shifts(rt, alloc, first)?;
     let second = serve_accounts(rt, alloc, second)?;
     for receipt in first.receipts.as_slice() {
@@ -85,10 +86,8 @@ fn is_stranger<N: Named>(begun: Result<Txn<N>, Refusal>) -> bool {
 
 /// The transaction that a COMMIT gave back as a stranger's, with no receipt.
 fn refused<N: Named>(outcome: Result<Receipt<N>, CommitFault<N>>) -> Result<Txn<N>, Fail> {
-    match outcome {
-        Ok(_) => Err(Fail::from("a stranger's transaction was committed")),
-        Err(fault) => given_back(fault),
-    }
+    let fault = outcome.err();
+    given_back(fault.ok_or("a stranger's transaction was committed")?)
 }
 
 fn given_back<N: Named>(fault: CommitFault<N>) -> Result<Txn<N>, Fail> {

@@ -2,12 +2,11 @@
 
 ghost use Rattle.std.specs.Prelude.{◌≡◌};
 
-use crate::driver::let_go;
-use crate::printed::{defined, steps_of};
+use crate::driver::{equal, let_go};
+use crate::printed::{Opening, make_opening, open, steps_of};
 use answer::Reply;
-use definitions::Definitions;
-use session::{Closed, CommitFault, Limits, Manager, Named, Receipt, Shelf, Txn, Unclosed};
-use statement_syntax::Event;
+use session::{Closed, CommitFault, Manager, Named, Receipt, Txn, Unclosed};
+use statement_syntax::{Event, Step};
 use std::alloc::Global;
 use std::marker::Brand;
 use std::process::Abort;
@@ -23,38 +22,39 @@ const COVER_DEFERRED: &str =
 
 #[test]
 fn violation_at_commit(rt: HostRuntime) -> Result<(), Fail> {
-    let shelf = Shelf::new(rt.alloc())?;
-    let limits = Limits::new(1, 1).ok_or("limits")?;
-    let definitions = defined(rt.alloc(), COVER_DEFERRED)?;
-    violates::<Brand, HostRuntime>(&rt, rt.alloc(), shelf, limits, definitions)
+    let on = make_opening(rt.alloc(), COVER_DEFERRED, 1, 1)?;
+    violates::<Brand, HostRuntime>(&rt, rt.alloc(), on)
 }
 
 /// A shift is put in that no one covers.
-fn violates<N: Named, R: Wait + Abort>(
-    rt: &R,
-    alloc: Global,
-    shelf: Shelf,
-    limits: Limits,
-    definitions: Definitions,
-) -> Result<(), Fail>
-    requires shelf { shelf ≡ N.shelf 1 }
-    requires limits { limits ≡ N.limits 1 }
+fn violates<N: Named, R: Wait + Abort>(rt: &R, alloc: Global, on: Opening) -> Result<(), Fail>
+    requires shelf { on.shelf ≡ N.shelf 1 }
+    requires limits { on.limits ≡ N.limits 1 }
 {
-    let manager = Manager::<N>::open(rt, alloc, shelf, 1, definitions, limits)?;
+    let manager = open::<N, R>(rt, alloc, 1, on)?;
     let cover = Text::from_str(alloc, "COVER")?;
     let steps = steps_of(alloc, "A: INSERT INTO SHIFTS VALUES (7);")?;
-    let mut session = manager.session(rt, &cover)?;
-    let mut txn = manager.begin(rt, &mut session)?;
-    for step in steps.as_slice() {
-        insert(rt, &mut txn, &step.event);
-    }
-    open_tells(rt, &txn, &cover);
-    let txn = reopened(rt, txn);
-    let is_ended = is_violation(manager.commit(rt, &mut session, txn));
-    assert!(rt; is_ended);
+    commits_in_vain(rt, &manager, steps.as_slice(), &cover)?;
     assert_eq!(rt; manager.verdict(rt, &cover), Some(Truth::True));
     let history = manager.close();
     assert_eq!(rt; history.core().refused().len(), 1);
+    Ok(())
+}
+
+fn commits_in_vain<N: Named, R: Wait + Abort>(
+    rt: &R,
+    manager: &Manager<N>,
+    steps: &[Step],
+    cover: &Text,
+) -> Result<(), Fail> {
+    let mut session = manager.session(rt, cover)?;
+    let mut txn = manager.begin(rt, &mut session)?;
+    for step in steps {
+        insert(rt, &mut txn, &step.event);
+    }
+    open_tells(rt, &txn, cover);
+    let txn = reopened(rt, txn);
+    assert!(rt; is_violation(manager.commit(rt, &mut session, txn)));
     Ok(())
 }
 
@@ -65,11 +65,11 @@ fn insert<N: Named, R: Abort>(rt: &R, txn: &mut Txn<N>, event: &Event) {
 }
 
 fn open_tells<N: Named, R: Abort>(rt: &R, txn: &Txn<N>, cover: &Text) {
-    assert_eq!(rt; txn.snapshot(), 0);
-    assert_eq!(rt; txn.trace().len(), 1);
+    equal(rt, txn.snapshot(), 0);
+    equal(rt, txn.trace().len(), 1);
     assert!(rt; !txn.reads().is_empty());
-    assert_eq!(rt; txn.own().assertions().len(), 1);
-    assert_eq!(rt; txn.verdict(cover), Some(Truth::False));
+    equal(rt, txn.own().assertions().len(), 1);
+    equal(rt, txn.verdict(cover), Some(Truth::False));
     match txn.pending() {
         Ok(names) => assert_eq!(rt; names.len(), 1),
         Err(_) => assert!(rt; false, "memory"),
@@ -91,10 +91,10 @@ fn reopened<N: Named, R: Abort>(rt: &R, txn: Txn<N>) -> Txn<N> {
 }
 
 fn closed_tells<N: Named, R: Abort>(rt: &R, closed: &Closed<N>) {
-    assert_eq!(rt; closed.snapshot(), 0);
-    assert_eq!(rt; closed.changes().len(), 1);
+    equal(rt, closed.snapshot(), 0);
+    equal(rt, closed.changes().len(), 1);
     assert!(rt; !closed.reads().is_empty());
-    assert_eq!(rt; closed.own().assertions().len(), 1);
+    equal(rt, closed.own().assertions().len(), 1);
     assert!(rt; matches!(closed.refused(), Some(Refusal::Violated { .. })));
 }
 

@@ -2,12 +2,11 @@
 
 ghost use Rattle.std.specs.Prelude.{◌≡◌};
 
-use crate::driver::{Seat, Sessions, let_go};
-use crate::printed::{COVER, SEVEN, defined, steps_of};
+use crate::driver::{Seat, equal, let_go};
+use crate::printed::{COVER, Opening, SEVEN, make_opening, open, run_script};
 use crate::strangers::is_ended;
 use commit::first_false;
-use definitions::Definitions;
-use session::{Closed, History, Limits, Manager, Named, Receipt, Shelf, Txn, Unclosed};
+use session::{Closed, History, Manager, Named, Receipt, Txn, Unclosed};
 use std::alloc::Global;
 use std::marker::Brand;
 use std::process::Abort;
@@ -26,42 +25,41 @@ const STEPS: &str = "A: BEGIN; A: UPDATE ACCT SET BAL = 0; A: COMMIT;
 
 #[test]
 fn without_memory(rt: HostRuntime) -> Result<(), Fail> {
-    let shelf = Shelf::new(rt.alloc())?;
-    let limits = Limits::new(10, 10).ok_or("limits")?;
     let more = format!(in rt.alloc(); "{COVER}{SEVEN}")?;
-    let definitions = defined(rt.alloc(), more.as_str())?;
-    answers::<Brand, HostRuntime>(&rt, rt.alloc(), shelf, limits, definitions)
+    let on = make_opening(rt.alloc(), more.as_str(), 10, 10)?;
+    answers::<Brand, HostRuntime>(&rt, rt.alloc(), on)
 }
 
 /// A commit, and three transactions that are open when memory ends.
-fn answers<N: Named, R: Wait + Abort>(
-    rt: &R,
-    alloc: Global,
-    shelf: Shelf,
-    limits: Limits,
-    definitions: Definitions,
-) -> Result<(), Fail>
-    requires shelf { shelf ≡ N.shelf 1 }
-    requires limits { limits ≡ N.limits 1 }
+fn answers<N: Named, R: Wait + Abort>(rt: &R, alloc: Global, on: Opening) -> Result<(), Fail>
+    requires shelf { on.shelf ≡ N.shelf 1 }
+    requires limits { on.limits ≡ N.limits 1 }
 {
-    let manager = Manager::<N>::open(rt, alloc, shelf, 1, definitions, limits)?;
+    let manager = open::<N, R>(rt, alloc, 1, on)?;
     let cover = Text::from_str(alloc, "COVER")?;
-    let steps = steps_of(alloc, STEPS)?;
-    let mut sessions = Sessions::new(alloc);
-    sessions.run(rt, &manager, steps.as_slice())?;
+    let mut sessions = run_script(rt, alloc, &manager, STEPS)?;
     let closed = last_closed(&mut sessions.seats)?;
     assert!(rt; end_memory(alloc));
     reopens(rt, closed);
-    for seat in sessions.seats.iter_mut() {
-        ends(rt, &manager, seat.txn.take(), &cover);
-    }
-    assert_eq!(rt; manager.verdict(rt, &cover), Some(Truth::True));
+    end_all(rt, &manager, sessions.seats.as_mut_slice(), &cover);
     let history = manager.close();
     for receipt in sessions.receipts.as_slice() {
         leaves(rt, &history, receipt, &cover);
     }
     ask_in_vain(alloc);
     Ok(())
+}
+
+fn end_all<N: Named, R: Wait + Abort>(
+    rt: &R,
+    manager: &Manager<N>,
+    seats: &mut [Seat<N>],
+    cover: &Text,
+) {
+    for seat in seats {
+        ends(rt, manager, seat.txn.take(), cover);
+    }
+    equal(rt, manager.verdict(rt, cover), Some(Truth::True));
 }
 
 /// The transaction of the last seat, taken to COMMIT.
@@ -102,33 +100,33 @@ fn ends<N: Named, R: Wait + Abort>(
 }
 
 fn tells<N: Named, R: Abort>(rt: &R, txn: &Txn<N>, cover: &Text) {
-    assert_eq!(rt; txn.snapshot(), 1);
-    assert_eq!(rt; txn.trace().len(), 1);
+    equal(rt, txn.snapshot(), 1);
+    equal(rt, txn.trace().len(), 1);
     assert!(rt; !txn.reads().is_empty());
-    assert_eq!(rt; txn.own().assertions().len(), 1);
-    assert_eq!(rt; txn.verdict(cover), Some(Truth::True));
+    equal(rt, txn.own().assertions().len(), 1);
+    equal(rt, txn.verdict(cover), Some(Truth::True));
 }
 
 /// What an open transaction's close_check made, as it stands and open again.
 fn reopens<N: Named, R: Abort>(rt: &R, closed: Closed<N>) {
-    assert_eq!(rt; closed.snapshot(), 1);
-    assert_eq!(rt; closed.changes().len(), 1);
+    equal(rt, closed.snapshot(), 1);
+    equal(rt, closed.changes().len(), 1);
     assert!(rt; closed.refused().is_none());
-    assert_eq!(rt; closed.own().assertions().len(), 1);
+    equal(rt, closed.own().assertions().len(), 1);
     let txn = closed.reopen();
-    assert_eq!(rt; txn.snapshot(), 1);
+    equal(rt, txn.snapshot(), 1);
     let_go(txn.abandon());
 }
 
 fn leaves<N: Named, R: Abort>(rt: &R, history: &History<N>, receipt: &Receipt<N>, cover: &Text) {
     let again = receipt.copy();
-    assert_eq!(rt; again.number(), 1);
+    equal(rt, again.number(), 1);
     assert!(rt; matches!(history.record(&again), Ok(record) if record.number == 1));
     let core = history.core();
-    assert_eq!(rt; core.records().len(), 1);
-    assert_eq!(rt; core.serial_order().len(), 1);
-    assert_eq!(rt; core.refused().len(), 0);
-    assert_eq!(rt; core.locks(), 0);
-    assert_eq!(rt; core.verdict(cover), Some(Truth::True));
+    equal(rt, core.records().len(), 1);
+    equal(rt, core.serial_order().len(), 1);
+    equal(rt, core.refused().len(), 0);
+    equal(rt, core.locks(), 0);
+    equal(rt, core.verdict(cover), Some(Truth::True));
     assert!(rt; first_false(core.newest()).is_none());
 }

@@ -198,17 +198,20 @@ fn transactions_are_left_open(rt: HostRuntime) -> Result<(), Fail> {
 
 /// A BEGIN in each of so many sessions, and what it prints.
 fn begins(alloc: Global, sessions: u32) -> Result<(String, String), Fail> {
-    let mut script = String::new(alloc);
-    let mut want = String::new(alloc);
-    for session in 0..sessions {
-        script.push_str(format!(in alloc; "S{session}: BEGIN;")?.as_str())?;
-        want.push_str(format!(in alloc; "S{session}: BEGIN 0\n")?.as_str())?;
-    }
-    for session in 0..sessions {
-        want.push_str(format!(in alloc; "S{session}: ROLLBACK AT END\n")?.as_str())?;
-    }
-    want.push_str("COMMITS 0\nSERIAL\nREFUSED 0\nASSERTIONS 0\n")?;
+    let script = of_each(alloc, sessions, ": BEGIN;")?;
+    let begun = of_each(alloc, sessions, ": BEGIN 0\n")?;
+    let left = of_each(alloc, sessions, ": ROLLBACK AT END\n")?;
+    let want = format!(in alloc; "{begun}{left}COMMITS 0\nSERIAL\nREFUSED 0\nASSERTIONS 0\n")?;
     Ok((script, want))
+}
+
+/// This, behind the name of each of so many sessions.
+fn of_each(alloc: Global, sessions: u32, said: &str) -> Result<String, Fail> {
+    let mut all = String::new(alloc);
+    for session in 0..sessions {
+        write!(all, "S{session}{said}")?;
+    }
+    Ok(all)
 }
 
 #[test]

@@ -16,7 +16,7 @@ use std::test::Fail;
 use std::thread::Threads;
 use threads::{print_report, threads_into};
 use value::Text;
-use workers::{Free, Gate, Script, run_sessions};
+use workers::{Free, Gate, Script, ScriptAnswers, run_sessions};
 
 /// What is written for two texts, by the threads that the gate lets pass.
 fn written<R, G>(rt: &R, defs: &str, script: &str, gate: &G) -> Result<Vec<u8>, Fail>
@@ -280,6 +280,11 @@ fn runs_one_of_two<N: Named + Send + Sync, R: Threads + Wait + Abort + Sync>(
     let manager = manager_of_one::<N, R>(rt, alloc, shelf)?;
     let scripts = vec![in alloc; script_of(alloc, "A")?, script_of(alloc, "B")?]?;
     let answered = run_sessions(rt, alloc, &manager, scripts.as_slice(), &Free)?;
+    one_ran(rt, alloc, answered.as_slice())
+}
+
+/// One has two answers and ran, the other has its refusal alone.
+fn one_ran<R: Abort>(rt: &R, alloc: Global, answered: &[ScriptAnswers]) -> Result<(), Fail> {
     let lengths: Vec<usize> = answered
         .iter()
         .map(|script| script.answers.len())

@@ -1,7 +1,7 @@
 //! That calls succeed, and verdicts found by hand.
 
 ghost use Rattle.std.specs.Prelude.{◌≡◌, ◌<◌, length, IfOk};
-ghost use Rattle.table.specs.Rows.{row_at};
+ghost use Rattle.table.specs.Rows.{IsTable, row_at};
 ghost use Rattle.assertion.specs.Bounded.{IsBounded};
 ghost use Rattle.assertion.specs.Meaning.{rows_of};
 ghost use Rattle.delta.specs.Views.{AreBounded};
@@ -90,19 +90,24 @@ fn assertions(alloc: Global) -> Result<Vec<Assertion>, Refusal>
     Ok(made)
 }
 
-/// The view of a table of this row alone.
-fn view_of(alloc: Global, row: Row) -> Result<View, Refusal> {
-    let schema = schema(alloc)?;
+/// The rows of a table of this row alone.
+fn table_of(alloc: Global, schema: &Schema, row: Row) -> Result<Rows, Refusal>
+    ensures { IfOk result (λ rows. IsTable schema.now rows) }
+{
     schema.admits(&row)?;
-    let key = row.value(schema.key()).copy()?;
     let change = Change {
         table: 0,
-        key,
+        key: row.value(schema.key()).copy()?,
         old: None,
         new: Some(row),
     };
-    let mut tables = Vec::new(alloc);
-    tables.push(Rows::new(alloc).with(schema.key(), &change)?)?;
+    Rows::new(alloc).with(schema.key(), &change)
+}
+
+/// The view of a table of this row alone.
+fn view_of(alloc: Global, row: Row) -> Result<View, Refusal> {
+    let schema = schema(alloc)?;
+    let tables = [table_of(alloc, &schema, row)?];
     let mut catalog = Catalog::new(alloc);
     catalog.add(Text::from_str(alloc, "ACCOUNT")?, schema)?;
     View::load(alloc, catalog, assertions(alloc)?, &tables)

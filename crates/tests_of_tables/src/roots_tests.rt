@@ -1,12 +1,13 @@
 //! That calls succeed, and bad roots found by hand.
 
-ghost use Rattle.std.specs.Prelude.{◌≡◌, None, IfOk};
+ghost use Rattle.std.specs.Prelude.{◌≡◌, [], ◌∷◌, None, IfOk};
 ghost use Rattle.value.specs.Ordered.{HasKey, HoldsOf};
 ghost use Rattle.value.specs.ValueOrder.{value_cmp};
 ghost use Rattle.table.specs.Rows.{value_in};
 ghost use Rattle.cond.specs.Bounds.{IsSmallRow};
 ghost use Rattle.assertion.specs.Bounded.{IsBounded};
-ghost use Rattle.roots.specs.Maintained.{AreOfTables};
+ghost use Rattle.assertion.specs.Roots.{state_after};
+ghost use Rattle.roots.specs.Maintained.{AreMaintained, AreOfTables};
 
 use crate::forms::{all_rows, by_group, by_row, single};
 use crate::shared::{let_go, same};
@@ -64,6 +65,28 @@ fn judged(alloc: Global, form: &Form, totals: &[Totals], bad: &BadRoots) -> Resu
     shown(alloc, bad, truth, whole)
 }
 
+/// What is shown of an assertion over one table after a change, by what was maintained before it.
+fn told_after(
+    alloc: Global,
+    form: &Form,
+    totals: &[Totals],
+    bad: &BadRoots,
+    tables: &[Rows],
+    change: &Change,
+) -> Result<String, Refusal>
+    requires bounded { IsBounded form.now }
+    requires table { change.now.table ≡ 0 }
+    requires old { change.now.old ≡ None }
+    requires keyed { HasKey value_cmp (value_in 0) change.now.key change.now.new }
+    requires small { HoldsOf IsSmallRow change.now.new }
+    requires totals { AreMaintained ([] ∷ []) form.now totals.now }
+    requires tables { tables.now ≡ state_after [] change.now ([] ∷ []) }
+{
+    let totals = totals_after(alloc, form, totals, change)?;
+    let bad = bad_after(alloc, &[], tables, form, &totals, bad, change)?;
+    judged(alloc, form, &totals, &bad)
+}
+
 /// What is shown of an assertion over one table, which had no row, after a change.
 fn told(alloc: Global, form: &Form, change: &Change) -> Result<String, Refusal>
     requires bounded { IsBounded form.now }
@@ -72,15 +95,10 @@ fn told(alloc: Global, form: &Form, change: &Change) -> Result<String, Refusal>
     requires keyed { HasKey value_cmp (value_in 0) change.now.key change.now.new }
     requires small { HoldsOf IsSmallRow change.now.new }
 {
-    let mut before = Vec::new(alloc);
-    before.push(Rows::new(alloc))?;
-    let empty = totals_of(alloc, form, &before)?;
-    let bad = bad_of(alloc, &[], &before, form, &empty)?;
-    let mut tables = Vec::new(alloc);
-    tables.push(Rows::new(alloc).with(0, change)?)?;
-    let totals = totals_after(alloc, form, &empty, change)?;
-    let bad = bad_after(alloc, &[], &tables, form, &totals, &bad, change)?;
-    judged(alloc, form, &totals, &bad)
+    let (before, after) = ([Rows::new(alloc)], [Rows::new(alloc).with(0, change)?]);
+    let totals = totals_of(alloc, form, &before)?;
+    let bad = bad_of(alloc, &[], &before, form, &totals)?;
+    told_after(alloc, form, &totals, &bad, &after, change)
 }
 
 /// What is shown after the insertion.
