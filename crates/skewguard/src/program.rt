@@ -1,6 +1,8 @@
 //! The command line: `skewguard replay [--max-commits N] DEFS SCRIPT`, and `skewguard threads` with the same words.
 
-ghost use Rattle.std.specs.Prelude.{◌≤◌};
+ghost use Rattle.std.specs.Prelude.{◌≡◌, ◌≢◌, ◌≤◌, ◌⊎◌, Err, IfErr, IsOk};
+ghost use Rattle.running.specs.declared.faults.ProgramFault.TheVariants.{Output};
+ghost use Rattle.running.specs.declared.files.ReadFault.TheVariants.{NoMemory, Unreadable};
 
 use clap::{Arg, ArgMatches, Command, value_parser};
 use replay::replay_into;
@@ -64,7 +66,7 @@ where
 
 /// Says that there was no memory for the words of the command line, and gives the status to end with.
 fn report_no_memory<E: Write>(err: &mut E) -> u8
-    ensures { result ≤ 3 }
+    ensures { result ≡ 1 }
 {
     let _ = err.write_all(b"REFUSED 1 - NO MEMORY\n");
     REFUSED
@@ -204,7 +206,10 @@ fn end_with_status<W: Write, E: Write>(
     out: &mut W,
     err: &mut E,
 ) -> u8
-    ensures { result ≤ 3 }
+    ensures whole { IsOk run → result ≡ 0 }
+    ensures output { run ≡ Err Output → result ≡ 3 }
+    ensures refused { IfErr run (λ fault. fault ≢ Output → result ≡ 1) }
+    ensures known { result ≤ 3 }
 {
     match run {
         Ok(()) => RUN,
@@ -229,7 +234,9 @@ fn read<R: Files + AllocGlobal>(rt: &R, path: &str) -> Result<Vec<u8>, ReadFault
 
 /// Says that a file was not read, and gives the status to end with.
 fn report_unread<E: Write>(alloc: Global, name: &str, fault: ReadFault, err: &mut E) -> u8
-    ensures { result ≤ 3 }
+    ensures unreadable { fault ≡ Unreadable → result ≡ 3 }
+    ensures no_memory { fault ≡ NoMemory → result ≡ 1 }
+    ensures either { (result ≡ 1) ⊎ (result ≡ 3) }
 {
     match fault {
         ReadFault::NoMemory => report_refused(alloc, name, &Refusal::NoMemory, err),
@@ -243,7 +250,7 @@ fn report_unread<E: Write>(alloc: Global, name: &str, fault: ReadFault, err: &mu
 
 /// Says why a text was refused, and gives the status to end with.
 fn report_refused<E: Write>(alloc: Global, name: &str, refusal: &Refusal, err: &mut E) -> u8
-    ensures { result ≤ 3 }
+    ensures { result ≡ 1 }
 {
     let mut line = Report::new(alloc);
     if line.add_refusal(name, refusal).is_ok() {
