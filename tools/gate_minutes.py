@@ -3,9 +3,9 @@
 
     tools/gate_minutes.py [--log FILE] [--add FILE] [NAME ..]
 
-runs `rt ci` here, or `rt ci NAME ..`, and prints the table of docs/GATE.md. The gate keeps what it passed, and a later
-run doesn't do it again. So the minutes of several runs belong together: with `--add FILE` those of this run are added
-to what FILE (JSON) has of earlier ones, and the table is of all of them.
+runs `rt ci` here, or `rt ci NAME ..` with a kit whose gate takes names, and prints the table of docs/GATE.md. Where the
+gate keeps what it passed, a later run doesn't do it again, and the minutes of several runs belong together: with
+`--add FILE` those of this run are added to what FILE (JSON) has of earlier ones, and the table is of all of them.
 
 The gate itself reports no times. Its work is done by processes of the prover, one a check, so this reads from /proc
 what each of its own has used so far, every half second, and adds up by the crate that its command line names. What a
