@@ -90,6 +90,7 @@ pub fn make_opening(
     })
 }
 
+/// Opens the manager of this id.
 pub fn open<N: Named, R: Wait>(
     rt: &R,
     alloc: Global,
