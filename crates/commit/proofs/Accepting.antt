@@ -36,10 +36,8 @@ use Rattle.conflict.proofs.Puts.{numbers_after}
 use Rattle.txn.specs.Transactions.{OpenTransaction, begun, keys_of as all_read, outcome_of, own_view}
 use Rattle.commit.specs.Cores.{CoreState, IsLive, committed, log_of, newest_tables, record_of, with_begun, with_commit}
 use Rattle.commit.proofs.Tickets.{fewer, held_last}
+use Rattle.commit.proofs.Recording.{below, changes_are, epoch_next, log_with, newest_at}
 use Rattle.commit.specs.Kept.{IsCore}
-
-pub log_with : (records : List Record) (commit : Record) → reverse (records ++ commit ∷ []) ≡ commit ∷ reverse records
-log_with records commit = reverse-append records (commit ∷ [])
 
 -- what holds of the number of each commit holds of each number in the serial order
 each_before : (P : ℕ → Type 0) (place number : ℕ) (order : List ℕ) → P number → Each P order → Each P (put_number_before place number order)
@@ -64,11 +62,6 @@ module _ (now : CoreState) (tables : Shown) (places order : List ℕ) (core : Is
   abbrev log : List Record
   log = log_of now
 
-  pub below : Each (λ w. w.number < length records + 1) log
-  below =
-      let long = length-reverse records in
-      each_weaker (λ w. w.number < suc (length log)) (λ w. w.number < length records + 1) (λ w l. omega arith) log (numbers_below log core.epoch.accepted)
-
   pub order_distinct : IsDistinct nat_eq order
   order_distinct = subst (IsDistinct nat_eq) (sym core.order_is) (order_is_distinct log core.epoch.accepted)
 
@@ -78,11 +71,7 @@ module _ (now : CoreState) (tables : Shown) (places order : List ℕ) (core : Is
       let P : ℕ → Type 0 = λ other. other ≢ length records + 1 in
       subst (All P) (sym core.order_is)
       (All-from_recursion P (map (λ (r : Record). r.number) (serial_order log)) (each_ordered P log core.epoch.accepted
-      (each_weaker (λ (w : Record). w.number < length records + 1) (λ (w : Record). P w.number) (λ w l e. omega (arith, l, e)) log below)))
-
-  -- the tables after all commits are those after their number
-  newest_at : state_of now.declared now.start log (length records) ≡ newest now.declared now.start log
-  newest_at = ap (newest now.declared now.start) (held_all (length records) log (each_weaker (λ w. w.number < length records + 1) (λ w. w.number ≤ length records) (λ w l. omega arith) log below))
+      (each_weaker (λ (w : Record). w.number < length records + 1) (λ (w : Record). P w.number) (λ w l e. omega (arith, l, e)) log (below now core.epoch.accepted))))
 
   -- a transaction that begins
   pub begun_live : IsLive (with_begun now) (begun now.live.begun (length records) tables)
@@ -90,7 +79,7 @@ module _ (now : CoreState) (tables : Shown) (places order : List ℕ) (core : Is
     held = held_last now.live (length records);
     declared_is = ap (λ (s : Shown). s.declared) core.newest_is;
     within = omega arith;
-    start_is = ap (λ (s : Shown). s.state) core.newest_is ∙ sym newest_at;
+    start_is = ap (λ (s : Shown). s.state) core.newest_is ∙ sym (newest_at now core.epoch.accepted);
   }
 
   module _ (session : List ℕ) (t : OpenTransaction) (live : IsLive now t) where
@@ -100,47 +89,18 @@ module _ (now : CoreState) (tables : Shown) (places order : List ℕ) (core : Is
     abbrev at_start : State
     at_start = state_of now.declared now.start log t.snapshot
 
-    outcome_is : outcome_of t ≡ transaction now.declared t.trace at_start
-    outcome_is = λ i. transaction (live.declared_is i) t.trace (live.start_is i)
-
-    reads_are : all_read t ≡ transaction_keys now.declared t.trace at_start
-    reads_are = λ i. transaction_keys (live.declared_is i) t.trace (live.start_is i)
-
-    changes_are : commit.changes ≡ net_change (layouts_in now.declared) at_start (run_on now.declared t.trace at_start).final.view
-    changes_are = ap (λ (o : Outcome). o.changes) outcome_is
+    changes_is : commit.changes ≡ net_change (layouts_in now.declared) at_start (run_on now.declared t.trace at_start).final.view
+    changes_is = changes_are now session t live
 
     -- its changes are of tables that there are
     pub tables_in : All (λ (change : Change). change.table < length (names_of now.declared.tables)) commit.changes
     tables_in =
         let P : Change → Type 0 = λ change. change.table < length (names_of now.declared.tables) in
         All-from_recursion P commit.changes (each_from P commit.changes (λ change m.
-        let within = (net_exact (layouts_in now.declared) at_start (run_on now.declared t.trace at_start).final.view change (subst (λ cs. Contains cs change) changes_are m)).1 in
+        let within = (net_exact (layouts_in now.declared) at_start (run_on now.declared t.trace at_start).final.view change (subst (λ cs. Contains cs change) changes_is m)).1 in
         let names = length-map now.declared.tables (λ p. p.0) in
         let layouts = length-map now.declared.tables (λ p. p.1) in
         omega arith))
-
-    recorded : (outcome_of t).refused ≡ None → IsRecorded at_start (run_of now.declared) (keys_of now.declared) commit
-    recorded none = record {
-      accepted = sym (ap (λ (o : Outcome). o.refused) outcome_is) ∙ none;
-      changes = sym changes_are;
-      reads = among_from (transaction_keys now.declared t.trace at_start) (all_read t) (λ key m. subst (λ ks. Contains ks key) (sym reads_are) m);
-      reads_no_more = among_from (all_read t) (transaction_keys now.declared t.trace at_start) (λ key m. subst (λ ks. Contains ks key) reads_are m);
-    }
-
-    epoch_next : IsAnswer log commit (Number (length records + 1)) → (outcome_of t).refused ≡ None → IsEpoch now.declared now.start (commit ∷ log)
-    epoch_next answer none = record {
-      admitted = core.epoch.admitted;
-      accepted = (
-        record {
-          numbered = (let long = length-reverse records in omega arith);
-          after_snapshot = (let within = live.within in omega arith);
-          no_write_conflict = answer.1;
-          no_danger = answer.2;
-        },
-        core.epoch.accepted,
-      );
-      history = (recorded none, core.epoch.history);
-    }
 
     -- its net change may be put into the newest tables
     module _ (free : HasNoWriteConflict log commit) where
@@ -148,14 +108,14 @@ module _ (now : CoreState) (tables : Shown) (places order : List ℕ) (core : Is
       due =
           let final : State = (run_on now.declared t.trace at_start).final.view in
           record {
-            in_order = subst AreInOrder (sym changes_are) (net_in_order (layouts_in now.declared) at_start final);
+            in_order = subst AreInOrder (sym changes_is) (net_in_order (layouts_in now.declared) at_start final);
             exact = λ change m.
                 ap (λ (s : Shown). row_in (layouts_in now.declared) s.state (place_of change)) core.newest_is
                 ∙ unwritten now.declared now.start core.epoch.admitted.fit log (history_nets now.declared now.start log core.epoch.history) (log_falls log core.epoch.accepted) t.snapshot (place_of change)
                 (λ other d listed later md same. free other listed (record { after_snapshot = later; common = share_row-at commit.changes other.changes (place_of change) change d m refl md same }))
-                ∙ change_exact now.declared t.trace at_start change (subst (λ cs. Contains cs change) changes_are m);
+                ∙ change_exact now.declared t.trace at_start change (subst (λ cs. Contains cs change) changes_is m);
             puts = each_at (IsPut (layouts_in now.declared)) commit.changes
-                (subst (Each (IsPut (layouts_in now.declared))) (sym changes_are) (net_puts (layouts_in now.declared) at_start final));
+                (subst (Each (IsPut (layouts_in now.declared))) (sym changes_is) (net_puts (layouts_in now.declared) at_start final));
           }
 
       pub puts : AreChangesOf (layouts_in tables.declared) commit.changes tables.state
@@ -173,7 +133,7 @@ module _ (now : CoreState) (tables : Shown) (places order : List ℕ) (core : Is
     -- where its snapshot is of the newest tables, they are its own view
     pub own_is : t.snapshot ≡ length records → IsState (layouts_in t.declared) (own_view t).state → own_view t ≡ newest_tables (with_commit now commit)
     own_is last fit =
-        let at_newest : at_start ≡ newest now.declared now.start log = ap (state_of now.declared now.start log) last ∙ newest_at in
+        let at_newest : at_start ≡ newest now.declared now.start log = ap (state_of now.declared now.start log) last ∙ newest_at now core.epoch.accepted in
         let start_fits : IsState (layouts_in now.declared) at_start = subst (IsState (layouts_in now.declared)) (sym at_newest)
         (newest_fits now.declared now.start core.epoch.admitted.fit log (history_nets now.declared now.start log core.epoch.history)) in
         let same : own_view t ≡ record { declared = now.declared; state = (run_on now.declared t.trace at_start).final.view }
@@ -183,7 +143,7 @@ module _ (now : CoreState) (tables : Shown) (places order : List ℕ) (core : Is
         same
         ∙ ap (λ state. record { declared = now.declared; state = state })
         (sym (put_net (layouts_in now.declared) at_start _ start_fits fits)
-        ∙ ap (λ cs. state_after_all (layouts_in now.declared) cs at_start) (sym changes_are)
+        ∙ ap (λ cs. state_after_all (layouts_in now.declared) cs at_start) (sym changes_is)
         ∙ ap (state_after_all (layouts_in now.declared) commit.changes) at_newest)
         ∙ ap (λ log. record { declared = now.declared; state = newest now.declared now.start log }) (sym (log_with records commit))
 
@@ -193,17 +153,17 @@ module _ (now : CoreState) (tables : Shown) (places order : List ℕ) (core : Is
         → place ≡ least_out log commit → after ≡ put_number_before place (length records + 1) order
         → IsCore (committed now session t) view (places ++ place ∷ []) after
     core_next view place after none room answer is there put = record {
-      epoch = subst (IsEpoch now.declared now.start) (sym (log_with records commit)) (epoch_next answer none);
+      epoch = subst (IsEpoch now.declared now.start) (sym (log_with records commit)) (epoch_next now session t live core.epoch answer none);
       newest_is = is;
       places_are =
           ap (λ p. places ++ p ∷ []) there
           ∙ ap (λ ps. ps ++ least_out log commit ∷ []) core.places_are
-          ∙ places_more records commit (epoch_next answer none).accepted;
+          ∙ places_more records commit (epoch_next now session t live core.epoch answer none).accepted;
       order_is =
           put
           ∙ ap (λ p. put_number_before p (length records + 1) order) there
           ∙ ap (put_number_before (least_out log commit) (length records + 1)) core.order_is
-          ∙ sym (numbers_after commit log (epoch_next answer none).accepted)
+          ∙ sym (numbers_after commit log (epoch_next now session t live core.epoch answer none).accepted)
           ∙ ap (λ log. map (λ (r : Record). r.number) (serial_order log)) (sym (log_with records commit));
       within = (let within = core.within in let long = length-append records (commit ∷ []) in let other = eqb-false _ _ room in omega arith);
       small = core.small;

@@ -6,14 +6,14 @@ use Rattle.answer.specs.declared.answers.Answer.{Answer}
 use Rattle.commit.specs.Events.{EngineState, IsAnswered, after}
 use Rattle.commit.specs.Runs.{AreAnswers, IsNext, led_to}
 
-answers_more : (now : EngineState) (steps : List Step) (answers : List Answer) (step : Step) (answer : Answer) → AreAnswers now steps answers → IsAnswered (led_to now steps answers) step answer
+pub answers_more : (now : EngineState) (steps : List Step) (answers : List Answer) (step : Step) (answer : Answer) → AreAnswers now steps answers → IsAnswered (led_to now steps answers) step answer
     → AreAnswers now (steps ++ step ∷ []) (answers ++ answer ∷ [])
 answers_more now [] [] step answer h a = (a, tt)
 answers_more now [] (b ∷ more) step answer h a = absurd h
 answers_more now (s ∷ rest) [] step answer h a = absurd h
 answers_more now (s ∷ rest) (b ∷ more) step answer h a = (h.0, answers_more (after now s b) rest more step answer h.1 a)
 
-led_more : (now : EngineState) (steps : List Step) (answers : List Answer) (step : Step) (answer : Answer) → AreAnswers now steps answers
+pub led_more : (now : EngineState) (steps : List Step) (answers : List Answer) (step : Step) (answer : Answer) → AreAnswers now steps answers
     → led_to now (steps ++ step ∷ []) (answers ++ answer ∷ []) ≡ after (led_to now steps answers) step answer
 led_more now [] [] step answer h = refl
 led_more now [] (b ∷ more) step answer h = absurd h

@@ -1,10 +1,14 @@
 pub mod Tickets
 pub mod Locking
+pub mod Recording
 pub mod Accepting
 pub mod Keeping
 pub mod Answering
 pub mod Deciding
 pub mod Living
+pub mod Running
+pub mod Telling
+pub mod Fitting
 pub mod Weighing
 pub mod Seating
 pub mod Satisfying

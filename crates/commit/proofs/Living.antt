@@ -1,8 +1,8 @@
 -- Open transactions live on as others begin, are committed, and end.
-use Rattle.std.proofs.Common.{◌≡◌, ◌<◌, ℕ, zero, suc, false, cond, List, [], ◌∷◌, ◌++◌, Option, Some, None, Result, Ok, Err, length, inl, inr, refl, sym, ap, ◌∙◌, subst, arith}
+use Rattle.std.proofs.Common.{◌≡◌, ◌<◌, ℕ, zero, suc, true, false, cond, List, [], ◌∷◌, ◌++◌, Option, Some, None, Result, Ok, Err, length, reverse, inl, inr, refl, sym, ap, ◌∙◌, subst, arith}
 use Rattle.std.specs.Prelude.{◌⊎◌, slice_get, slice_set, OnOk, OnErr, IfOk, IsOkUnless}
 use Rattle.std.proofs.lemmas.Bool.{cases_eq}
-use Rattle.std.proofs.lemmas.List.{length-append, reverse-append}
+use Rattle.std.proofs.lemmas.List.{length-append}
 use Rattle.value.specs.Ordered.{HoldsOf}
 use Rattle.value.specs.declared.refusals.Refusal.{Refusal}
 use Rattle.value.specs.declared.refusals.Refusal.TheVariants.{NoMemory}
@@ -14,11 +14,13 @@ use Rattle.answer.specs.declared.answers.Answer.TheVariants.{Begun, Committed, R
 use Rattle.live.specs.Live.{AreBelow}
 use Rattle.serial.specs.Epoch.{newest, state_of}
 use Rattle.serial.proofs.Replays.{held_same}
+use Rattle.serial.specs.declared.records.Record.{Record}
 use Rattle.txn.specs.Transactions.{OpenTransaction}
 use Rattle.commit.specs.declared.seats.Seat.{Seat}
 use Rattle.commit.specs.Cores.{CoreState, IsLive, committed, ended, log_of, record_of, refused_to, with_begun}
 use Rattle.commit.specs.Runs.{all_seated, free_seat, seated, unless_seated}
-use Rattle.commit.specs.Events.{AreLive, EngineState, IsAnswered, IsAnsweredAt, IsReply, after, after_at, core_after, decided_core, found_no_memory, seat_of, seats_set, as_answer, txn_after, txn_of}
+use Rattle.commit.specs.Events.{AreLive, EngineState, IsAnswered, IsAnsweredAt, IsReply, after, after_at, core_after, decided_core, found_no_memory, seat_of, seats_set, as_answer, takes_memory, takes_memory_at, txn_after, txn_of}
+use Rattle.commit.proofs.Recording.{log_with}
 use Rattle.commit.proofs.Tickets.{fewer, held_more, held_other, one_more, ticket_below}
 
 live_begun : (c : CoreState) (other : OpenTransaction) → IsLive c other → IsLive (with_begun c) other
@@ -37,14 +39,19 @@ live_ended c t other apart l = record {
   start_is = l.start_is;
 }
 
+-- the tables of a snapshot stay as they are, whatever is committed after it
+pub tables_stay : (c : CoreState) (commit : Record) (snapshot : ℕ) → snapshot < commit.number
+    → state_of c.declared c.start (log_of c) snapshot ≡ state_of c.declared c.start (reverse (c.records ++ commit ∷ [])) snapshot
+tables_stay c commit snapshot later =
+    ap (newest c.declared c.start) (sym (held_same snapshot commit (log_of c) later))
+    ∙ ap (λ log. state_of c.declared c.start log snapshot) (sym (log_with c.records commit))
+
 live_committed : (c : CoreState) (session : List ℕ) (t other : OpenTransaction) → (other.ticket ≡ t.ticket → ⊥) → IsLive c other → IsLive (committed c session t) other
 live_committed c session t other apart l = record {
   held = held_other c.live t.ticket (record { ticket = other.ticket; snapshot = other.snapshot }) apart l.held;
   declared_is = l.declared_is;
   within = (let within = l.within in let long = length-append c.records (record_of c session t ∷ []) in omega arith);
-  start_is = l.start_is
-      ∙ ap (newest c.declared c.start) (sym (held_same other.snapshot (record_of c session t) (log_of c) (let within = l.within in omega arith)))
-      ∙ ap (λ log. state_of c.declared c.start log other.snapshot) (sym (reverse-append c.records (record_of c session t ∷ [])));
+  start_is = l.start_is ∙ tables_stay c (record_of c session t) other.snapshot (let within = l.within in omega arith);
 }
 
 live_refused : (c : CoreState) (session : List ℕ) (t : OpenTransaction) (refusal : Refusal) (other : OpenTransaction) → (other.ticket ≡ t.ticket → ⊥) → IsLive c other → IsLive (refused_to c session t refusal) other
@@ -134,12 +141,12 @@ holds_of P None f = tt
 holds_of P (Some t) f = f t refl
 
 -- what stands in a list of seats with one set
-set_there : {X : Type 0} (xs : List X) (place : ℕ) (x : X) → place < length xs → slice_get (slice_set xs place x) place ≡ Some x
+pub set_there : {X : Type 0} (xs : List X) (place : ℕ) (x : X) → place < length xs → slice_get (slice_set xs place x) place ≡ Some x
 set_there [] place x within = let no : ⊥ = omega arith in absurd no
 set_there (y ∷ ys) zero x within = refl
 set_there (y ∷ ys) (suc place) x within = set_there ys place x (omega arith)
 
-set_elsewhere : {X : Type 0} (xs : List X) (other place : ℕ) (x : X) → (other ≡ place → ⊥) → slice_get (slice_set xs place x) other ≡ slice_get xs other
+pub set_elsewhere : {X : Type 0} (xs : List X) (other place : ℕ) (x : X) → (other ≡ place → ⊥) → slice_get (slice_set xs place x) other ≡ slice_get xs other
 set_elsewhere [] other place x apart = refl
 set_elsewhere (y ∷ ys) zero zero x apart = absurd (apart refl)
 set_elsewhere (y ∷ ys) zero (suc place) x apart = refl
@@ -187,7 +194,7 @@ module _ (now : EngineState) (step : Step) (place : ℕ) (seat : Seat) (core : C
     case_apart from i j t u h g same (inr other) (inl at) = absurd (no_other from j i u t at other (here j u at g) (there_still i t other h) (sym same))
     case_apart from i j t u h g same (inr other) (inr also) = live.apart i j t u (there_still i t other h) (there_still j u also g) same
 
-    all_answered : (answer : Answer) → core ≡ core_after now.core step.session step.event seat.txn answer → left ≡ record seat { txn = txn_after now.core step.event seat.txn }
+    pub all_answered : (answer : Answer) → core ≡ core_after now.core step.session step.event seat.txn answer → left ≡ record seat { txn = txn_after now.core step.event seat.txn }
         → HoldsOf (IsLive core) left.txn → AreLive core (slice_set now.seats place left)
     all_answered answer e f own =
         let from : (t : OpenTransaction) → left.txn ≡ Some t → IsFrom now.core seat.txn t = λ t h. is_from now.core step.event seat.txn t (sym (ap (λ (s : Seat). s.txn) f) ∙ h) in
@@ -207,10 +214,14 @@ module _ (now : EngineState) (step : Step) (place : ℕ) (seat : Seat) (core : C
         subst (λ c. AreLive c (slice_set now.seats place left)) (sym g.0) (subst (AreLive now.core) (sym (ap (slice_set now.seats place) g.1 ∙ unchanged)) live)
 
   module _ (seated : seat_of now.seats step.session ≡ Some place) (there : slice_get now.seats place ≡ Some seat) where
-    pub is_answered : (answered : Result Answer Refusal) → IsOkUnless answered NoMemory → IfOk answered (IsReply now.core step.session step.event seat.txn) → IsAnswered now step (as_answer answered)
-    is_answered (Ok answer) only reply =
+    pub is_answered : (answered : Result Answer Refusal) → IsOkUnless answered NoMemory → OnErr answered (takes_memory step.event seat.txn ≡ true)
+        → IfOk answered (IsReply now.core step.session step.event seat.txn) → IsAnswered now step (as_answer answered)
+    is_answered (Ok answer) only takes reply =
         inr (subst (λ p. IsAnsweredAt now step.session step.event p answer) (sym seated) (subst (λ s. IsReply now.core step.session step.event (txn_of s) answer) (sym there) reply))
-    is_answered (Err refusal) only reply = inl (ap Refused only)
+    is_answered (Err refusal) only takes reply = inl (record {
+      takes = ap (takes_memory_at now step.event) seated ∙ ap (λ s. takes_memory step.event (txn_of s)) there ∙ takes;
+      is = ap Refused only;
+    })
 
     pub is_after : (answered : Result Answer Refusal) → IsOkUnless answered NoMemory → IfOk answered (λ answer. found_no_memory answer ≡ false)
         → IfOk answered (λ answer. core ≡ core_after now.core step.session step.event seat.txn answer)
@@ -241,7 +252,7 @@ seated_free : (seats : List Seat) (session : List ℕ) (place : Option ℕ) → 
 seated_free seats session None free = one_seated seats session free
 seated_free seats session (Some place) free = free
 
-all_free : (seats : List Seat) (steps : List Step) → AreFree seats → AreFree (all_seated seats steps)
+pub all_free : (seats : List Seat) (steps : List Step) → AreFree seats → AreFree (all_seated seats steps)
 all_free seats [] free = free
 all_free seats (step ∷ rest) free = all_free (seated seats step.session) rest (seated_free seats step.session (seat_of seats step.session) free)
 

@@ -1,5 +1,5 @@
 -- What each event of a session is answered, and what it leaves.
-use Rattle.std.specs.Prelude.{◌≡◌, ◌⊎◌, ℕ, Bool, true, false, List, length, slice_get, slice_set, Option, Some, None, Result, Ok, Err, if◌then◌else◌}
+use Rattle.std.specs.Prelude.{◌≡◌, ◌⊎◌, ℕ, Bool, true, false, List, length, slice_get, slice_set, Option, Some, None, is_none, is_some, Result, Ok, Err, if◌then◌else◌}
 use Rattle.std.specs.List.{position}
 use Rattle.std.specs.Str.{bytes_eq}
 use Rattle.value.specs.declared.refusals.Refusal.{Refusal}
@@ -141,10 +141,27 @@ abbrev pub found_no_memory : Answer → Bool
 found_no_memory (Refused refusal) = is_no_memory refusal
 found_no_memory answer = false
 
--- what an event of a session is answered, unless it finds no memory
+-- whether an event takes memory: BEGIN outside a transaction, a statement and COMMIT inside one
+abbrev pub takes_memory : Event → Option OpenTransaction → Bool
+takes_memory Begin txn = is_none txn
+takes_memory (Run statement) txn = is_some txn
+takes_memory Commit txn = is_some txn
+takes_memory Rollback txn = false
+
+-- one of a session without a seat takes none
+abbrev pub takes_memory_at : EngineState → Event → Option ℕ → Bool
+takes_memory_at now event None = false
+takes_memory_at now event (Some place) = takes_memory event (txn_of (slice_get now.seats place))
+
+-- an event that takes memory may find none
+pub record FindsNoMemory (now : EngineState) (step : Step) (answer : Answer) : Type 0 where
+  pub takes : takes_memory_at now step.event (seat_of now.seats step.session) ≡ true
+  pub is : answer ≡ Refused NoMemory
+
+-- what an event of a session is answered
 abbrev pub IsAnswered : EngineState → Step → Answer → Type 0
 IsAnswered now step answer =
-    (answer ≡ Refused NoMemory) ⊎ IsAnsweredAt now step.session step.event (seat_of now.seats step.session) answer
+    FindsNoMemory now step answer ⊎ IsAnsweredAt now step.session step.event (seat_of now.seats step.session) answer
 
 -- what it leaves; where it found no memory, all as it was
 abbrev pub after : EngineState → Step → Answer → EngineState

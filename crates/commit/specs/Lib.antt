@@ -4,6 +4,8 @@ pub mod Kept
 pub mod Decisions
 pub mod Events
 pub mod Runs
+pub mod Told
+pub mod Fitting
 pub use Rattle.alone.specs.Alone
 pub use Rattle.delta.specs.Views
 pub use Rattle.definitions.specs.Written

@@ -2,6 +2,7 @@
 use Rattle.std.specs.Prelude.{◌≡◌, ℕ, List, [], ◌∷◌, ◌++◌, Option, Some, None, ⊤}
 use Rattle.statement_syntax.specs.declared.statements.Step.{Step}
 use Rattle.answer.specs.declared.answers.Answer.{Answer}
+use Rattle.alone.specs.Alone.{IsSound}
 use Rattle.delta.specs.Views.{Shown}
 use Rattle.live.specs.Live.{none_live}
 use Rattle.commit.specs.declared.seats.Seat.{Seat}
@@ -62,3 +63,10 @@ pub record IsNext (now : EngineState) (step : Step) (answers : List Answer) (lef
   pub answered : IsAnswered now step answer
   pub left_is : left ≡ after now step answer
   pub more_is : more ≡ answers ++ answer ∷ []
+
+-- what holds of each run from a beginning on tables on which no assertion is false: of these tables, of the events that
+-- were answered, of their answers, and of what they leave
+abbrev pub InEachRun : (Shown → List Step → List Answer → EngineState → Type 0) → Type 0
+InEachRun Holds = (limit : ℕ) (loaded : Shown) (all steps : List Step) (answers : List Answer)
+    → IsSound loaded.declared loaded.state → AreAnswers (beginning limit loaded all) steps answers
+    → Holds loaded steps answers (led_to (beginning limit loaded all) steps answers)

@@ -100,7 +100,8 @@ pub struct Uncommitted {
 }
 
 impl Core {
-    /// No commit yet, over tables on which no assertion is false, and room for so many commits, 1 to 4,294,967,295.
+    /// No commit yet, over tables on which no assertion is false, and at most so many commits, from none to
+    /// 4,294,967,295. NoMemory is the only error.
     pub fn new(alloc: Global, limit: u64, loaded: View) -> Result<Core, Refusal>
         requires sound { IsSound loaded.declared loaded.state }
         requires within { limit ≤ 4294967295 }
@@ -275,9 +276,10 @@ impl Core {
         &self.newest
     }
 
-    /// The commits, in the order of their numbers.
+    /// The commits, in the order of their numbers: at most as many as the limit.
     pub fn records(&self) -> &[Record]
-        ensures { result.now ≡ self.now.records }
+        ensures records { result.now ≡ self.now.records }
+        ensures within { length result.now ≤ self.now.limit }
     {
         self.records.as_slice()
     }

@@ -5,9 +5,12 @@ ghost use Rattle.value.specs.declared.refusals.Refusal.TheVariants.{NoMemory};
 ghost use Rattle.alone.specs.Alone.{IsSound};
 ghost use Rattle.commit.specs.Cores.{IsSerializable};
 ghost use Rattle.commit.specs.Events.{IsAnswered, after, as_answer};
+ghost use Rattle.commit.specs.Fitting.{AllFit};
 ghost use Rattle.commit.specs.Runs.{AreAnswers, IsNext, beginning, led_to};
+ghost use Rattle.commit.specs.Told.{WereToldAlone};
 
 use crate::cores::Core;
+use crate::laws::answers_lead_to_a_serial_order;
 use crate::seats::{Seat, answer_event, find_seat, make_seats};
 use answer::Answer;
 use delta::View;
@@ -47,7 +50,7 @@ pub struct Outcome {
 
 impl Engine {
     /// Before the first of these events, whose sessions get a seat each, over tables on which no assertion is
-    /// false, with at most so many commits, up to 4,294,967,295. NoMemory is the only error.
+    /// false, with at most so many commits, from none to 4,294,967,295. NoMemory is the only error.
     pub fn new(alloc: Global, limit: u64, loaded: View, steps: &[Step]) -> Result<Engine, Refusal>
         requires sound { IsSound loaded.declared loaded.state }
         requires within { limit ≤ 4294967295 }
@@ -59,7 +62,8 @@ impl Engine {
         Ok(Engine { core, seats })
     }
 
-    /// Answers an event. Where no memory is found, that is the answer, and nothing has changed.
+    /// Answers an event. Where no memory is found, that is the answer, and nothing has changed. That can come only to
+    /// BEGIN outside a transaction, and to a statement or COMMIT inside one: everything else takes none.
     pub fn answer(&mut self, step: &Step) -> Answer
         ensures answered { IsAnswered self.old step.now result }
         ensures after { self.new ≡ after self.old step.now result }
@@ -87,8 +91,8 @@ impl Engine {
 }
 
 /// Answers events of any sessions, one after the other, from tables on which no assertion is false, with at most so
-/// many commits, up to 4,294,967,295. Should the answers themselves find no memory, the run ends there, and what is
-/// answered is the beginning of the list.
+/// many commits, from none to 4,294,967,295. Should the answers themselves find no memory, the run ends there, and what
+/// is answered is the beginning of the list.
 ///
 /// # Errors
 ///
@@ -106,11 +110,16 @@ pub fn run(alloc: Global, limit: u64, loaded: View, steps: &[Step]) -> Result<Ou
         ≡ led_to (beginning limit loaded steps.now) (take (length outcome.answers.items) steps.now)
         outcome.answers.items) }
     ensures serializable { IfOk result (λ outcome. IsSerializable outcome.engine.core) }
+    ensures told { IfOk result (λ outcome.
+        WereToldAlone outcome.engine.core (take (length outcome.answers.items) steps.now) outcome.answers.items) }
+    ensures fit { IfOk result (λ outcome. AllFit outcome.engine) }
 {
+    // (that the loaded rows fit is known of a view where its catalog is lent)
+    let _ = loaded.catalog();
     let mut engine = Engine::new(alloc, limit, loaded, steps)?;
     let mut answers = Vec::new(alloc);
     answer_all(&mut engine, steps, &mut answers);
-    engine.core().is_serializable();
+    answers_lead_to_a_serial_order();
     Ok(Outcome { answers, engine })
 }
 

@@ -22,7 +22,9 @@
 //! [`run`] answers a list of events. Its contract is the headline of the whole: each answer is one that
 //! `specs/Events` allows after those before it; no committed tables make an assertion false; the serial order has
 //! each commit once; and the committed transactions, run alone in it, answer what they answered and leave the
-//! newest tables (`IsSerializable` in `specs/Cores`).
+//! newest tables (`IsSerializable` in `specs/Cores`). What each of them was told, out of the list of events and answers,
+//! is what it answers alone (`specs/Told`). The law behind it speaks of the definitions alone
+//! ([`answers_lead_to_a_serial_order`]).
 //!
 //! How it works. What a core keeps at hand (the newest tables, the least conflict out of each commit, the order) is
 //! what its records determine, and each record was accepted over those before it and recorded as it runs alone on
@@ -30,9 +32,9 @@
 //! is judged by the commits after its snapshot (`conflict::judge`), and all that takes memory is made before the
 //! first field changes.
 //!
-//! What the layer above may rest on: the contracts of [`Engine::answer`], [`Core::commit`] and [`run`];
-//! [`replies_are_those_alone`] says that what a record's trace answers on its snapshot is what its session was told.
-//! What it owes: tables that are admitted, and a limit of at most 4,294,967,295 commits.
+//! What the layer above may rest on: the contracts of [`Engine::answer`], [`Core::commit`] and [`run`], and that law.
+//! What it owes: tables that are admitted, and a limit of at most 4,294,967,295 commits. With a limit of 0 no commit is
+//! accepted: each COMMIT on whose own view no assertion is false is answered that the epoch is full.
 #![tactic(auto)]
 
 mod admission;
@@ -46,6 +48,6 @@ mod seats;
 pub use admission::{admit, first_false, require_satisfied};
 pub use cores::{Core, Uncommitted};
 pub use engine::{Engine, Outcome, run};
-pub use laws::replies_are_those_alone;
+pub use laws::{answers_lead_to_a_serial_order, replies_are_those_alone};
 pub use prepared::Prepared;
 pub use seats::{Seat, has_few_sessions};

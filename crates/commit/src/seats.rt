@@ -1,11 +1,11 @@
 //! The sessions' seats, and what an event does in one.
 
-ghost use Rattle.std.specs.Prelude.{◌≡◌, ◌<◌, [], false, length, nat_le, IfSome, IfOk, IsOkUnless, OnErr, OnOk, Some, None};
+ghost use Rattle.std.specs.Prelude.{◌≡◌, ◌<◌, [], false, true, length, nat_le, IfSome, IfOk, IsOkUnless, OnErr, OnOk, Some, None};
 ghost use Rattle.value.specs.Ordered.{HoldsOf};
 ghost use Rattle.value.specs.declared.refusals.Refusal.TheVariants.{NoMemory};
 ghost use Rattle.commit.specs.Cores.{IsLive};
-ghost use Rattle.statement_syntax.specs.declared.statements.Event.TheVariants.{Begin, Commit, Rollback};
-ghost use Rattle.commit.specs.Events.{IsReply, begin_answer, core_after, found_no_memory, rollback_answer, run_answer, seat_of, txn_after, txn_with};
+ghost use Rattle.statement_syntax.specs.declared.statements.Event.TheVariants.{Begin, Commit, Rollback, Run};
+ghost use Rattle.commit.specs.Events.{IsReply, begin_answer, core_after, found_no_memory, rollback_answer, run_answer, seat_of, takes_memory, txn_after, txn_with};
 ghost use Rattle.commit.specs.Runs.{all_seated, seated};
 
 use crate::cores::{Core, Uncommitted};
@@ -111,6 +111,7 @@ pub fn answer_event(core: &mut Core, seat: &mut Seat, step: &Step) -> Result<Ans
     ensures only_memory { IsOkUnless result NoMemory }
     ensures answered { IfOk result (IsReply core.old step.now.session step.now.event seat.old.txn) }
     ensures known { IfOk result (λ answer. found_no_memory answer ≡ false) }
+    ensures takes { OnErr result (takes_memory step.now.event seat.old.txn ≡ true) }
     ensures commits { IfOk result (λ answer.
         core.new ≡ core_after core.old step.now.session step.now.event seat.old.txn answer) }
     ensures seat { OnOk result (seat.new ≡ record seat.old { txn = txn_after core.old step.now.event seat.old.txn }) }
@@ -132,6 +133,7 @@ fn begin(core: &mut Core, seat: &mut Seat) -> Result<Answer, Refusal>
     ensures only_memory { IsOkUnless result NoMemory }
     ensures answered { IfOk result (λ answer. answer ≡ begin_answer core.old seat.old.txn) }
     ensures known { IfOk result (λ answer. found_no_memory answer ≡ false) }
+    ensures takes { OnErr result (takes_memory Begin seat.old.txn ≡ true) }
     ensures commits { IfOk result (λ answer.
         core.new ≡ core_after core.old seat.old.session Begin seat.old.txn answer) }
     ensures seat { OnOk result (seat.new ≡ record seat.old { txn = txn_after core.old Begin seat.old.txn }) }
@@ -152,6 +154,7 @@ fn run(seat: &mut Seat, statement: &Statement) -> Result<Answer, Refusal>
     ensures only_memory { IsOkUnless result NoMemory }
     ensures answered { IfOk result (λ answer. answer ≡ run_answer statement.now seat.old.txn) }
     ensures known { IfOk result (λ answer. found_no_memory answer ≡ false) }
+    ensures takes { OnErr result (takes_memory (Run statement.now) seat.old.txn ≡ true) }
     ensures seat { OnOk result (seat.new ≡ record seat.old { txn = txn_with statement.now seat.old.txn }) }
     ensures same { OnErr result (seat.new ≡ seat.old) }
 {
@@ -172,6 +175,7 @@ fn commit(core: &mut Core, seat: &mut Seat, session: &Text) -> Result<Answer, Re
     ensures only_memory { IsOkUnless result NoMemory }
     ensures answered { IfOk result (IsReply core.old session.now Commit seat.old.txn) }
     ensures known { IfOk result (λ answer. found_no_memory answer ≡ false) }
+    ensures takes { OnErr result (takes_memory Commit seat.old.txn ≡ true) }
     ensures commits { IfOk result (λ answer. core.new ≡ core_after core.old session.now Commit seat.old.txn answer) }
     ensures seat { OnOk result (seat.new ≡ record seat.old { txn = None }) }
     ensures same { OnErr result ((core.new ≡ core.old) × (seat.new ≡ seat.old)) }

@@ -1,35 +1,61 @@
 -- What is printed of a run from the beginning of a script is its report.
-use Rattle.std.proofs.Common.{ℕ, List, Option, Result, Ok, Err, refl, subst}
+use Rattle.std.proofs.Common.{◌≡◌, ℕ, List, Option, Result, Ok, Err, refl, subst}
 use Rattle.std.specs.Prelude.{OnOk, IfErr}
 use Rattle.std.specs.Io.KnownBytes.{Appends}
 use Rattle.statement_syntax.specs.declared.statements.Step.{Step}
 use Rattle.commit.specs.Events.{EngineState}
-use Rattle.commit.specs.Runs.{AreAnswers, beginning, led_to}
+use Rattle.commit.specs.Cores.{IsSerializable}
+use Rattle.commit.specs.Runs.{AreAnswers, InEachRun, beginning, led_to}
+use Rattle.commit.specs.Told.{WereToldAlone}
 use Rattle.running.specs.declared.faults.ProgramFault.{ProgramFault}
+use Rattle.running.specs.declared.faults.ProgramFault.TheVariants.{Stopped}
 use Rattle.replay.specs.Lines.{report}
 use Rattle.running.specs.Texts.{IsFirstFault, IsInTheRun, IsRun}
 use Rattle.running.proofs.Late.{late_faults}
-use Rattle.replay.specs.Replay.{IsBeginning, WritesReport}
-use Rattle.replay.specs.Writing.{PrintsRun}
+use Rattle.replay.specs.Replay.{IsBeginning, WritesBeginning, WritesReport}
+use Rattle.replay.specs.Writing.{PrintsBeginning, PrintsRun}
 
 module _ (defs script : List ℕ) (limit : ℕ) (engine : EngineState) (steps : List Step) (begun : IsBeginning defs script limit engine steps) where
-  reported : (old new : Option (List ℕ)) → PrintsRun engine steps old new → WritesReport defs script limit old new
-  reported old new p = record {
+  reported : InEachRun (λ loaded steps answers left. IsSerializable left.core) → InEachRun (λ loaded steps answers left. WereToldAlone left.core steps answers)
+      → (old new : Option (List ℕ)) → PrintsRun engine steps old new → WritesReport defs script limit old new
+  reported serializable told old new p =
+    let answered : AreAnswers (beginning limit begun.shown steps) steps p.answers = subst (λ e. AreAnswers e steps p.answers) begun.is p.answered in record {
     bytes = report steps p.answers (led_to (beginning limit begun.shown steps) steps p.answers);
     is = record {
       shown = begun.shown;
       steps = steps;
       answers = p.answers;
       ready = begun.ready;
-      answered = subst (λ e. AreAnswers e steps p.answers) begun.is p.answered;
+      answered = answered;
+      serializable = serializable limit begun.shown steps steps p.answers begun.sound answered;
+      told = told limit begun.shown steps steps p.answers begun.sound answered;
       prints = refl;
     };
     written = subst (λ e. Appends old new (report steps p.answers (led_to e steps p.answers))) begun.is p.written;
   }
 
-  pub reports : {A : Type 0} (printed : Result A ProgramFault) (old new : Option (List ℕ)) → OnOk printed (PrintsRun engine steps old new) → OnOk printed (WritesReport defs script limit old new)
-  reports (Ok done) old new p = reported old new p
-  reports (Err fault) old new p = tt
+  pub reports : InEachRun (λ loaded steps answers left. IsSerializable left.core) → InEachRun (λ loaded steps answers left. WereToldAlone left.core steps answers)
+      → {A : Type 0} (printed : Result A ProgramFault) (old new : Option (List ℕ)) → OnOk printed (PrintsRun engine steps old new) → OnOk printed (WritesReport defs script limit old new)
+  reports serializable told (Ok done) old new p = reported serializable told old new p
+  reports serializable told (Err fault) old new p = tt
+
+  begins_only : (old new : Option (List ℕ)) → PrintsBeginning engine steps old new → WritesBeginning defs script limit old new
+  begins_only old new p = record {
+    shown = begun.shown;
+    steps = steps;
+    ready = begun.ready;
+    first = p.first;
+    rest = p.rest;
+    split = p.split;
+    answers = p.answers;
+    answered = subst (λ e. AreAnswers e p.first p.answers) begun.is p.answered;
+    written = p.written;
+  }
+
+  pub stopped : {A : Type 0} (printed : Result A ProgramFault) (old new : Option (List ℕ)) → IfErr printed (λ fault. fault ≡ Stopped → PrintsBeginning engine steps old new)
+      → IfErr printed (λ fault. fault ≡ Stopped → WritesBeginning defs script limit old new)
+  stopped (Ok done) old new p = tt
+  stopped (Err fault) old new p = λ e. begins_only old new (p e)
 
   run : IsRun defs script
   run = record { shown = begun.shown; steps = steps; ready = begun.ready }

@@ -1,5 +1,5 @@
 -- What a part of the run answers and writes.
-use Rattle.std.specs.Prelude.{◌≡◌, ℕ, List, Option}
+use Rattle.std.specs.Prelude.{◌≡◌, ◌++◌, ℕ, List, Option}
 use Rattle.std.specs.Io.KnownBytes.{Appends}
 use Rattle.statement_syntax.specs.declared.statements.Step.{Step}
 use Rattle.answer.specs.declared.answers.Answer.{Answer}
@@ -31,3 +31,12 @@ pub record PrintsRun (before : EngineState) (steps : List Step) (old new : Optio
   pub answers : List Answer
   pub answered : AreAnswers before steps answers
   pub written : Appends old new (report steps answers (led_to before steps answers))
+
+-- the first of the events are answered, each after those before it, and the writer gains the lines of the answers
+pub record PrintsBeginning (before : EngineState) (steps : List Step) (old new : Option (List ℕ)) : Type 0 where
+  pub first : List Step
+  pub rest : List Step
+  pub split : first ++ rest ≡ steps
+  pub answers : List Answer
+  pub answered : AreAnswers before first answers
+  pub written : Appends old new (lines first answers)

@@ -28,11 +28,12 @@ ghost use Rattle.commit.specs.Runs.{beginning};
 ghost use Rattle.report.specs.Report.{answer_line};
 ghost use Rattle.running.specs.Texts.{HasFewSessions, HasManySessions, IsFirstFault, IsInTheRun, is_before_the_run};
 ghost use Rattle.replay.specs.Lines.{ending, left_line, left_lines};
-ghost use Rattle.replay.specs.Replay.{IsBeginning, WritesReport};
-ghost use Rattle.replay.specs.Writing.{PrintsAnswer, PrintsAnswers, PrintsRun};
+ghost use Rattle.running.specs.declared.faults.ProgramFault.TheVariants.{Output, Stopped};
+ghost use Rattle.replay.specs.Replay.{IsBeginning, WritesBeginning, WritesReport};
+ghost use Rattle.replay.specs.Writing.{PrintsAnswer, PrintsAnswers, PrintsBeginning, PrintsRun};
 
 use answer::Answer;
-use commit::{Engine, Seat, admit, has_few_sessions};
+use commit::{Engine, Seat, admit, answers_lead_to_a_serial_order, has_few_sessions};
 use delta::View;
 use report::Report;
 use running::{MOST_SESSIONS, ProgramFault, add_closing_part, flush, read_texts, write_all};
@@ -46,8 +47,9 @@ use value::Refusal;
 /// answer as soon as it is answered; then a line for each transaction that is left open, and the closing part.
 ///
 /// Where both texts are read, the definitions are taken in and the script has 256 sessions or fewer, its events are
-/// run. The writer then gains the report of their answers and of what they leave, and nothing else. An event that
-/// finds no memory is answered so, and changes nothing.
+/// run. The writer then gains the report of their answers and of what they leave, and nothing else. The commits that it
+/// tells of are serializable in the order that it names, and each committed transaction was told what it answers alone.
+/// An event that finds no memory is answered so, and changes nothing.
 ///
 /// # Errors
 ///
@@ -55,8 +57,9 @@ use value::Refusal;
 /// grammar; [`ProgramFault::Script`] where the script is none of its own; `Defs` again where the definitions are
 /// refused; `Script` of [`Refusal::TooManySessions`] where the script has more than 256 sessions. After each of
 /// these the writer is as it was. Then [`ProgramFault::Stopped`] where there is no memory for the lines of an
-/// answer, or at the end of the run; and [`ProgramFault::Output`] at the first fault of the writer.
-#[tactic(auto, using(crate::proofs::Reporting::reports, crate::proofs::Reporting::first_fault, running::proofs::Late::nothing_before))]
+/// answer, or at the end of the run: the writer has then gained the lines of the answers to the first events; and
+/// [`ProgramFault::Output`] at the first fault of the writer, after which nothing is known of the bytes that went out.
+#[tactic(auto, using(crate::proofs::Reporting::stopped, crate::proofs::Reporting::first_fault, running::proofs::Late::nothing_before))]
 pub fn replay_into<W: Write>(
     alloc: Global,
     defs: &[u8],
@@ -70,8 +73,11 @@ pub fn replay_into<W: Write>(
         (WritesReport defs.now script.now max_commits (W.contents out.old) (W.contents out.new)) }
     ensures refused { IfErr result (IsFirstFault defs.now script.now) }
     ensures nothing { IfErr result (λ fault. is_before_the_run fault ≡ true → out.new ≡ out.old) }
+    ensures stopped { IfErr result (λ fault. fault ≡ Stopped
+        → WritesBeginning defs.now script.now max_commits (W.contents out.old) (W.contents out.new)) }
 {
     let (mut engine, steps) = begin_run(alloc, defs, script, max_commits)?;
+    answers_lead_to_a_serial_order();
     let printed = print_run(alloc, &mut engine, steps.as_slice(), out);
     let_go(engine);
     let_go(steps);
@@ -123,7 +129,7 @@ fn seat_sessions(alloc: Global, limit: u64, view: View, steps: &[Step]) -> Resul
 fn let_go<T: Drop>(_value: T) {}
 
 /// Runs the events one after the other, and writes what each is answered, and then what they leave.
-#[tactic(auto, using(crate::proofs::Printing::closes))]
+#[tactic(auto, using(crate::proofs::Printing::closes, crate::proofs::Printing::stops_last))]
 fn print_run<W: Write>(
     alloc: Global,
     engine: &mut Engine,
@@ -132,6 +138,8 @@ fn print_run<W: Write>(
 ) -> Result<(), ProgramFault>
     ensures written { OnOk result (PrintsRun engine.old steps.now (W.contents out.old) (W.contents out.new)) }
     ensures late { IfErr result IsInTheRun }
+    ensures stopped { IfErr result (λ fault. fault ≡ Stopped
+        → PrintsBeginning engine.old steps.now (W.contents out.old) (W.contents out.new)) }
 {
     let mut lines = Report::new(alloc);
     print_answers(engine, steps, &mut lines, out)?;
@@ -149,6 +157,8 @@ fn print_answers<W: Write>(
     ensures written { OnOk result
         (PrintsAnswers engine.old steps.now engine.new (W.contents out.old) (W.contents out.new)) }
     ensures late { IfErr result IsInTheRun }
+    ensures stopped { IfErr result (λ fault. fault ≡ Stopped
+        → PrintsBeginning engine.old steps.now (W.contents out.old) (W.contents out.new)) }
 {
     for step in steps {
         print_answer(engine, step, lines, out)?;
@@ -166,6 +176,7 @@ fn print_answer<W: Write>(
     ensures written { OnOk result
         (PrintsAnswer engine.old step.now engine.new (W.contents out.old) (W.contents out.new)) }
     ensures late { IfErr result IsInTheRun }
+    ensures stopped { IfErr result (λ fault. fault ≡ Stopped → out.new ≡ out.old) }
 {
     let answer = engine.answer(step);
     let written = write_answer(step, &answer, lines, out);
@@ -183,6 +194,7 @@ fn write_answer<W: Write>(
     ensures written { OnOk result
         (Appends (W.contents out.old) (W.contents out.new) (answer_line step.now answer.now)) }
     ensures late { IfErr result IsInTheRun }
+    ensures stopped { IfErr result (λ fault. fault ≡ Stopped → out.new ≡ out.old) }
 {
     lines.clear();
     if lines.add_answer(step, answer).is_err() {
@@ -200,6 +212,7 @@ fn print_ending<W: Write>(
 ) -> Result<(), ProgramFault>
     ensures written { OnOk result (Appends (W.contents out.old) (W.contents out.new) (ending engine.now)) }
     ensures late { IfErr result IsInTheRun }
+    ensures stopped { IfErr result (λ fault. fault ≡ Stopped → out.new ≡ out.old) }
 {
     lines.clear();
     if add_end(alloc, engine, lines).is_err() {

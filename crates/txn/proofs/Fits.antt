@@ -11,17 +11,18 @@ use Rattle.assertion.specs.Meaning.{State, key_of, rows_of}
 use Rattle.alone.specs.States.{net_change}
 use Rattle.alone.proofs.Lists.{each_from}
 use Rattle.alone.proofs.Nets.{at_in, net_exact}
-use Rattle.delta.specs.Views.{AreTables, IsFitting, layout_at}
+use Rattle.delta.specs.Views.{IsFitting, layout_at}
+use Rattle.txn.specs.Fitting.{RowsFit}
 
-module _ (layouts : List Layout) (before after : State) (tables : AreTables layouts after) where
+module _ (layouts : List Layout) (before after : State) (fitting : RowsFit layouts after) where
   fits_at : (table : ℕ) (row : Option RowValues) (k : Value) → row ≡ row_at (key_of table layouts) k (rows_of table after)
       → HoldsOf (FitsColumns (layout_at table layouts).columns) row
   fits_at table None k e = tt
   fits_at table (Some row) k e =
       let found = at_in value_cmp (value_in (key_of table layouts)) k (rows_of table after) row (sym e) in
-      subst (FitsColumns (layout_at table layouts).columns) found.2 ((tables.each table).fitting found.0 row found.1)
+      subst (FitsColumns (layout_at table layouts).columns) found.2 (fitting table found.0 row found.1)
 
-  fits : (change : Change) → Contains (net_change layouts before after) change → IsFitting layouts change
+  pub fits : (change : Change) → Contains (net_change layouts before after) change → IsFitting layouts change
   fits change m = fits_at change.table change.new change.key (ap (λ (c : Change). c.new) (net_exact layouts before after change m).0)
 
   pub net_fits : All (IsFitting layouts) (net_change layouts before after)

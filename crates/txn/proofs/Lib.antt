@@ -4,3 +4,4 @@ mod Modes
 mod Naming
 mod Putting
 pub mod Fits
+pub mod Fitting

@@ -1,5 +1,6 @@
 pub mod Checks
 pub mod Effects
+pub mod Fitting
 pub mod Held
 pub mod Runnable
 pub mod Steps

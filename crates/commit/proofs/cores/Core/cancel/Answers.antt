@@ -6,7 +6,7 @@ use Rattle.txn.specs.Transactions.{keys_of}
 use Rattle.conflict.proofs.Readers.{reads_below}
 use Rattle.commit.specs.Cores.{reads_kept}
 use Rattle.commit.specs.Kept.{idle_core}
-use Rattle.commit.proofs.Accepting.{below}
+use Rattle.commit.proofs.Recording.{below}
 use Rattle.commit.proofs.Keeping.{kept_idle, kept_ready}
 use Rattle.commit.proofs.cores.Core.cancel.Goals as goal
 
@@ -22,7 +22,7 @@ invariant_of-self-2 c =
     let low : AreBelow (c.len.result + 1) (reads_kept now) =
     subst (λ n. AreBelow n (reads_kept now)) (sym number)
     (reads_below c.self.inside.records.items (length c.self.inside.records.items + 1) (least_held (length c.self.inside.records.items) c.self.inside.live.snapshots)
-    (below now c.self.inside.newest c.self.inside.places.items c.self.inside.order.items c.self.invariant.0)) in
+    (below now c.self.invariant.0.epoch.accepted)) in
     kept_idle now c.self.inside.newest c.self.inside.places.items c.self.inside.order.items (readers_at c.take_back.new.self) Room c.take.new.self c.take.ensures.after
     c.self.invariant.0
     (c.take_back.ensures.undone (reads_kept now) low (ready.2 ∙ (λ i. with_reader (sym number i) (sym keys i) (reads_kept now))))

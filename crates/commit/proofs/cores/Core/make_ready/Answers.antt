@@ -5,7 +5,7 @@ use Rattle.live.specs.Live.{least_held}
 use Rattle.conflict.proofs.Readers.{reads_below}
 use Rattle.commit.specs.Cores.{reads_kept}
 use Rattle.commit.specs.Kept.{idle_core}
-use Rattle.commit.proofs.Accepting.{below}
+use Rattle.commit.proofs.Recording.{below}
 use Rattle.commit.proofs.Keeping.{is_idle, kept_idle, locks_idle, same_core}
 use Rattle.commit.proofs.cores.Core.make_ready.Goals as goal
 
@@ -18,7 +18,7 @@ put-requires c =
     subst (λ n. AreBelow (n + 1) (readers_at c.self.inside.locks)) (sym (c.len.ensures ∙ c.self.inside.records.ok.0))
     (subst (AreBelow (length c.self.inside.records.items + 1)) (sym locks)
     (reads_below c.self.inside.records.items (length c.self.inside.records.items + 1) (least_held (length c.self.inside.records.items) c.self.inside.live.snapshots)
-    (below now c.self.inside.newest c.self.inside.places.items c.self.inside.order.items c.self.invariant.0)))
+    (below now c.self.invariant.0.epoch.accepted)))
 
 pub invariant_of-self-in-Err-put : goal.invariant_of-self-in-Err-put
 invariant_of-self-in-Err-put c =

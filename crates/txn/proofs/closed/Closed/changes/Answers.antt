@@ -12,4 +12,4 @@ returns-clause-fit c =
     (subst (λ (t : OpenTransaction). All (IsFitting (layouts_in t.declared)) c.self.inside.changes.items) c.self.view_is
     (subst (All (IsFitting (layouts_in c.self.inside.start.declared))) (sym c.self.invariant.1.changes_are)
     (net_fits (layouts_in c.self.inside.start.declared) c.self.inside.start.state _
-    (subst (λ (s : Shown). AreTables (layouts_in s.declared) s.state) c.self.invariant.0.own_is c.catalog.ensures.tables))))
+    (λ table. ((subst (λ (s : Shown). AreTables (layouts_in s.declared) s.state) c.self.invariant.0.own_is c.catalog.ensures.tables).each table).fitting))))

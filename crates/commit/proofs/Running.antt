@@ -1,0 +1,198 @@
+-- An event more: the commits were again each accepted over those before it, and the open transactions are live. Definitions alone.
+use Rattle.std.proofs.Common.{◌≡◌, ◌≢◌, ◌+◌, ◌<◌, ◌≤◌, ℕ, Bool, true, false, cond, eqb, List, [], ◌∷◌, ◌++◌, length, get_or, Option, Some, None, Result, Ok, Err, inl, inr, refl, sym, ap, ◌∙◌, subst, arith}
+use Rattle.std.specs.Prelude.{◌==◌, slice_get, slice_set, ◌⊎◌}
+use Rattle.std.specs.List.{position}
+use Rattle.std.specs.Str.{bytes_eq}
+use Rattle.std.proofs.lemmas.Bool.{eqb-false}
+use Rattle.std.proofs.lemmas.List.{length-append}
+use Rattle.std.proofs.lemmas.List.Elements.{All-nil}
+use Rattle.std.proofs.lemmas.List.Quantifiers.{position-Some}
+use Rattle.std.proofs.lemmas.Option.{slice_get-get_or, slice_get_within}
+use Rattle.value.specs.Ordered.{HoldsOf}
+use Rattle.value.specs.declared.refusals.Refusal.{Refusal}
+use Rattle.value.specs.declared.refusals.Refusal.TheVariants.{NoMemory, TooManySessions}
+use Rattle.statement_syntax.specs.declared.statements.Step.{Step}
+use Rattle.statement_syntax.specs.declared.statements.Event.{Event}
+use Rattle.statement_syntax.specs.declared.statements.Event.TheVariants.{Begin, Commit, Rollback, Run}
+use Rattle.answer.specs.declared.answers.Answer.{Answer}
+use Rattle.answer.specs.declared.answers.Answer.TheVariants.{Begun, Committed, Refused, Replied, RolledBack}
+use Rattle.alone.specs.Alone.{IsSound}
+use Rattle.alone.specs.Resolve.{resolved}
+use Rattle.delta.specs.Views.{Shown}
+use Rattle.live.specs.declared.snapshots.LiveSnapshot.{LiveSnapshot}
+use Rattle.serial.specs.declared.records.Record.{Record}
+use Rattle.serial.specs.Epoch.{IsEpoch}
+use Rattle.txn.specs.Transactions.{OpenTransaction, outcome_of}
+use Rattle.commit.specs.declared.seats.Seat.{Seat}
+use Rattle.commit.specs.Cores.{CoreState, IsCommitAnswer, IsLive, committed, log_of, record_of}
+use Rattle.commit.specs.Events.{AreLive, EngineState, FindsNoMemory, IsAnswered, IsAnsweredAt, IsReply, IsCommitted, after, after_at, commit_answer, core_after, decided_core, found_no_memory, seat_of, seats_set, takes_memory_at, txn_after, txn_of, txn_with}
+use Rattle.commit.specs.Runs.{beginning, empty_core, free_seat, led_to}
+use Rattle.commit.proofs.Deciding.{Passed, passed}
+use Rattle.commit.proofs.Living.{all_answered, all_seated_live}
+use Rattle.commit.proofs.Recording.{begin_live, epoch_next, log_with}
+
+-- what holds between two events
+pub record IsRunning (now : EngineState) : Type 0 where
+  pub epoch : IsEpoch now.core.declared now.core.start (log_of now.core)
+  pub within : length now.core.records ≤ now.core.limit
+  pub live : AreLive now.core now.seats
+
+-- the same of the commits alone
+pub record AreEpoch (core : CoreState) : Type 0 where
+  pub epoch : IsEpoch core.declared core.start (log_of core)
+  pub within : length core.records ≤ core.limit
+
+-- an accepted COMMIT was decided so
+accepted_by : (core : CoreState) (session : List ℕ) (t : OpenTransaction) (number : ℕ) (result : Result ℕ Refusal) → IsCommitAnswer core session t result → Committed number ≡ commit_answer result
+    → Passed core (record_of core session t) (outcome_of t).refused (length core.records == core.limit) number
+accepted_by core session t number (Ok n) decided is =
+    let same : n ≡ number = cc in
+    subst (Passed core (record_of core session t) (outcome_of t).refused (length core.records == core.limit)) same
+    (passed core (record_of core session t) (outcome_of t).refused (length core.records == core.limit) n decided)
+accepted_by core session t number (Err refusal) decided is = let no : ⊥ = cc in absurd no
+
+pub accepts : (core : CoreState) (session : List ℕ) (t : OpenTransaction) (number : ℕ) → IsCommitted core session t (Committed number)
+    → Passed core (record_of core session t) (outcome_of t).refused (length core.records == core.limit) number
+accepts core session t number h = accepted_by core session t number h.result h.decided h.is
+
+epoch_committed : (core : CoreState) (session : List ℕ) (t : OpenTransaction) (number : ℕ) → AreEpoch core → IsLive core t → IsCommitted core session t (Committed number) → AreEpoch (committed core session t)
+epoch_committed core session t number h live answered =
+    let p = accepts core session t number answered in
+    let same : number ≡ length core.records + 1 = p.answer.0 in
+    record {
+      epoch = subst (IsEpoch core.declared core.start) (sym (log_with core.records (record_of core session t)))
+          (epoch_next core session t live h.epoch (refl, p.answer.1, p.answer.2) p.satisfied);
+      within = (let within = h.within in let long = length-append core.records (record_of core session t ∷ []) in let other = eqb-false _ _ p.room in omega arith);
+    }
+
+epoch_decided : (core : CoreState) (session : List ℕ) (t : OpenTransaction) (answer : Answer) → AreEpoch core → IsLive core t → IsCommitted core session t answer → AreEpoch (decided_core core session t answer)
+epoch_decided core session t (Begun number) h live answered = h
+epoch_decided core session t (Replied reply) h live answered = h
+epoch_decided core session t (Committed number) h live answered = epoch_committed core session t number h live answered
+epoch_decided core session t RolledBack h live answered = h
+epoch_decided core session t (Refused refusal) h live answered = record { epoch = h.epoch; within = h.within }
+
+epoch_after : (core : CoreState) (session : List ℕ) (event : Event) (txn : Option OpenTransaction) (answer : Answer) → AreEpoch core → HoldsOf (IsLive core) txn → IsReply core session event txn answer
+    → AreEpoch (core_after core session event txn answer)
+epoch_after core session Begin None answer h live reply = record { epoch = h.epoch; within = h.within }
+epoch_after core session Begin (Some t) answer h live reply = h
+epoch_after core session (Run statement) txn answer h live reply = h
+epoch_after core session Commit None answer h live reply = h
+epoch_after core session Commit (Some t) answer h live reply = epoch_decided core session t answer h live reply
+epoch_after core session Rollback None answer h live reply = h
+epoch_after core session Rollback (Some t) answer h live reply = record { epoch = h.epoch; within = h.within }
+
+-- a transaction with a statement more is live as it was
+live_with : (core : CoreState) (statement : _) (txn : Option OpenTransaction) → HoldsOf (IsLive core) txn → HoldsOf (IsLive core) (txn_with statement txn)
+live_with core statement None live = tt
+live_with core statement (Some t) live = record { held = live.held; declared_is = live.declared_is; within = live.within; start_is = live.start_is }
+
+own_live : (core : CoreState) (session : List ℕ) (event : Event) (txn : Option OpenTransaction) (answer : Answer) → AreEpoch core → HoldsOf (IsLive core) txn
+    → HoldsOf (IsLive (core_after core session event txn answer)) (txn_after core event txn)
+own_live core session Begin None answer h live = begin_live core h.epoch.accepted
+own_live core session Begin (Some t) answer h live = live
+own_live core session (Run statement) txn answer h live = live_with core statement txn live
+own_live core session Commit None answer h live = tt
+own_live core session Commit (Some t) answer h live = tt
+own_live core session Rollback None answer h live = tt
+own_live core session Rollback (Some t) answer h live = tt
+
+-- what stands in a seat is live
+seat_live : (now : EngineState) (place : ℕ) (txn : Option OpenTransaction) → AreLive now.core now.seats → txn_of (slice_get now.seats place) ≡ txn → HoldsOf (IsLive now.core) txn
+seat_live now place None live e = tt
+seat_live now place (Some t) live e = live.each place t e
+
+-- a session's seat is there, and is its own
+pub record HasSeat (seats : List Seat) (session : List ℕ) (place : ℕ) : Type 0 where
+  pub seat : Seat
+  pub within : place < length seats
+  pub there : slice_get seats place ≡ Some seat
+  pub own : bytes_eq seat.session session ≡ true
+
+pub has_seat : (seats : List Seat) (session : List ℕ) (place : ℕ) → seat_of seats session ≡ Some place → HasSeat seats session place
+has_seat seats session place e =
+    let some : Seat = free_seat session in
+    let found = position-Some (λ (seat : Seat). bytes_eq seat.session session) seats place some e in
+    record { seat = get_or seats place some; within = found.0; there = slice_get-get_or seats place some found.0; own = found.1 }
+
+-- an event of a session that has a seat
+module _ (now : EngineState) (step : Step) (answer : Answer) where
+  -- what it leaves, by what stands in the seat
+  abbrev pub left_by : ℕ → Option Seat → EngineState
+  left_by place seat = record {
+    core = core_after now.core step.session step.event (txn_of seat) answer;
+    seats = seats_set now.seats place (txn_after now.core step.event (txn_of seat)) seat;
+  }
+
+  running_seated : (place : ℕ) (seat : Seat) → place < length now.seats → slice_get now.seats place ≡ Some seat → IsRunning now → IsReply now.core step.session step.event seat.txn answer
+      → IsRunning (left_by place (Some seat))
+  running_seated place seat within there h reply =
+      let commits : AreEpoch now.core = record { epoch = h.epoch; within = h.within } in
+      let own = seat_live now place seat.txn h.live (ap txn_of there) in
+      let left = epoch_after now.core step.session step.event seat.txn answer commits own reply in
+      record {
+        epoch = left.epoch;
+        within = left.within;
+        live = all_answered now step place seat (core_after now.core step.session step.event seat.txn answer) (record seat { txn = txn_after now.core step.event seat.txn })
+            h.live within there answer refl refl (own_live now.core step.session step.event seat.txn answer commits own);
+      }
+
+  running_at : (place : Option ℕ) → seat_of now.seats step.session ≡ place → IsRunning now → IsAnsweredAt now step.session step.event place answer → IsRunning (after_at now step.session step.event place answer)
+  running_at None e h reply = h
+  running_at (Some place) e h reply =
+      let seat = has_seat now.seats step.session place e in
+      subst (λ s. IsRunning (left_by place s)) (sym seat.there)
+      (running_seated place seat.seat seat.within seat.there h (subst (λ s. IsReply now.core step.session step.event (txn_of s) answer) seat.there reply))
+
+  pub running_after : IsRunning now → IsAnswered now step answer → IsRunning (after now step answer)
+  running_after h answered = go (found_no_memory answer) refl answered
+    where
+      go : (b : Bool) → found_no_memory answer ≡ b → IsAnswered now step answer → IsRunning (cond b now (after_at now step.session step.event (seat_of now.seats step.session) answer))
+      go true e a = h
+      go false e (inl none) = let yes : found_no_memory answer ≡ true = ap found_no_memory none.is in let no : ⊥ = cc in absurd no
+      go false e (inr at) = running_at (seat_of now.seats step.session) refl h at
+
+-- before the first event
+pub running_first : (limit : ℕ) (loaded : Shown) (all : List Step) → IsSound loaded.declared loaded.state → IsRunning (beginning limit loaded all)
+running_first limit loaded all sound = record {
+  epoch = record { admitted = sound; accepted = tt; history = tt };
+  within = omega arith;
+  live = all_seated_live (empty_core limit loaded) all (All-nil (λ (one : LiveSnapshot). one.ticket < 0)) refl;
+}
+
+-- ---- what was loaded stays
+
+abbrev pub loaded_of : CoreState → Shown
+loaded_of core = record { declared = core.declared; state = core.start }
+
+loaded_decided : (core : CoreState) (session : List ℕ) (t : OpenTransaction) (answer : Answer) → loaded_of (decided_core core session t answer) ≡ loaded_of core
+loaded_decided core session t (Begun number) = refl
+loaded_decided core session t (Replied reply) = refl
+loaded_decided core session t (Committed number) = refl
+loaded_decided core session t RolledBack = refl
+loaded_decided core session t (Refused refusal) = refl
+
+loaded_after : (core : CoreState) (session : List ℕ) (event : Event) (txn : Option OpenTransaction) (answer : Answer) → loaded_of (core_after core session event txn answer) ≡ loaded_of core
+loaded_after core session Begin None answer = refl
+loaded_after core session Begin (Some t) answer = refl
+loaded_after core session (Run statement) txn answer = refl
+loaded_after core session Commit None answer = refl
+loaded_after core session Commit (Some t) answer = loaded_decided core session t answer
+loaded_after core session Rollback None answer = refl
+loaded_after core session Rollback (Some t) answer = refl
+
+loaded_at : (now : EngineState) (step : Step) (answer : Answer) (place : Option ℕ) → loaded_of (after_at now step.session step.event place answer).core ≡ loaded_of now.core
+loaded_at now step answer None = refl
+loaded_at now step answer (Some place) = loaded_after now.core step.session step.event (txn_of (slice_get now.seats place)) answer
+
+loaded_step : (now : EngineState) (step : Step) (answer : Answer) → loaded_of (after now step answer).core ≡ loaded_of now.core
+loaded_step now step answer = go (found_no_memory answer)
+  where
+    go : (b : Bool) → loaded_of (cond b now (after_at now step.session step.event (seat_of now.seats step.session) answer)).core ≡ loaded_of now.core
+    go true = refl
+    go false = loaded_at now step answer (seat_of now.seats step.session)
+
+pub loaded_led : (now : EngineState) (steps : List Step) (answers : List Answer) → loaded_of (led_to now steps answers).core ≡ loaded_of now.core
+loaded_led now [] answers = refl
+loaded_led now (step ∷ rest) [] = refl
+loaded_led now (step ∷ rest) (answer ∷ more) = loaded_led (after now step answer) rest more ∙ loaded_step now step answer

@@ -1,0 +1,312 @@
+-- What transactions were told is what they answer alone: an event more, and a whole run.
+use Rattle.std.proofs.Common.{◌≡◌, ◌+◌, ◌<◌, ◌≤◌, ℕ, zero, suc, Bool, true, false, not, cond, List, [], ◌∷◌, ◌++◌, length, take, reverse, Option, Some, None, Result, Ok, Err, inl, inr, refl, sym, ap, ◌∙◌, subst, arith, append-nil, append_assoc}
+use Rattle.std.specs.Prelude.{Contains, nat_lt, slice_get, slice_set, ◌⊎◌}
+use Rattle.std.specs.List.{position, prefix_len}
+use Rattle.std.specs.Str.{bytes_eq}
+use Rattle.std.proofs.Math.Seq.{take-append_seam}
+use Rattle.std.proofs.lemmas.Bool.{cases_Bool}
+use Rattle.std.proofs.lemmas.List.{length-append, length-reverse, length-set, take-append-le}
+use Rattle.std.proofs.lemmas.Option.{slice_get_within}
+use Rattle.std.proofs.lemmas.Slice.Eq.{bytes_eq-Decides}
+use Rattle.value.specs.declared.refusals.Refusal.{Refusal}
+use Rattle.value.specs.declared.refusals.Refusal.TheVariants.{NoMemory}
+use Rattle.statement_syntax.specs.declared.statements.Statement.{Statement}
+use Rattle.statement_syntax.specs.declared.statements.Step.{Step}
+use Rattle.statement_syntax.specs.declared.statements.Event.{Event}
+use Rattle.statement_syntax.specs.declared.statements.Event.TheVariants.{Begin, Commit, Rollback, Run}
+use Rattle.answer.specs.declared.answers.Answer.{Answer}
+use Rattle.answer.specs.declared.answers.Answer.TheVariants.{Begun, Committed, Refused, Replied, RolledBack}
+use Rattle.answer.specs.declared.answers.Reply.{Reply}
+use Rattle.siread.proofs.Members.{in_cases, not_in_nil}
+use Rattle.alone.specs.declared.statements.Resolved.{Resolved}
+use Rattle.alone.specs.Alone.{Outcome, IsSound, transaction}
+use Rattle.alone.specs.Resolve.{resolved}
+use Rattle.alone.proofs.Lists.{each_at}
+use Rattle.delta.specs.Views.{Shown}
+use Rattle.serial.specs.declared.records.Record.{Record}
+use Rattle.serial.specs.Epoch.{answered, state_of}
+use Rattle.serial.proofs.Ranks.{clean}
+use Rattle.txn.specs.Transactions.{OpenTransaction, begun, outcome_of, run_of, step_of, with_statement}
+use Rattle.commit.specs.declared.seats.Seat.{Seat}
+use Rattle.commit.specs.Cores.{CoreState, IsLive, committed, log_of, newest_tables, record_of}
+use Rattle.commit.specs.Events.{EngineState, IsAnswered, IsAnsweredAt, IsCommitted, IsReply, after, after_at, answer_of, core_after, decided_core, found_no_memory, is_no_memory, seat_of, txn_after, txn_of}
+use Rattle.commit.specs.Runs.{AreAnswers, beginning, led_to}
+use Rattle.commit.specs.Told.{Replies, WasTold, WereToldAlone, replies_after, replies_at, replies_by, replies_to, replies_with, reply_in}
+use Rattle.commit.proofs.Living.{all_free, set_elsewhere, set_there, tables_stay}
+use Rattle.commit.proofs.Recording.{below, log_with, outcome_is}
+use Rattle.commit.proofs.Running.{IsRunning, accepts, has_seat, left_by, running_after, running_first, seat_live}
+
+-- an event that is not answered, or of a session that has no seat, tells nothing
+silent : (event : Event) (answer : Answer) (replies : Replies) → found_no_memory answer ≡ true → replies_with event answer replies ≡ replies
+silent Begin (Begun number) replies none = let no : ⊥ = cc in absurd no
+silent Begin (Replied reply) replies none = refl
+silent Begin (Committed number) replies none = refl
+silent Begin RolledBack replies none = refl
+silent Begin (Refused refusal) replies none = refl
+silent (Run statement) (Begun number) replies none = let no : ⊥ = cc in absurd no
+silent (Run statement) (Replied reply) replies none = let no : ⊥ = cc in absurd no
+silent (Run statement) (Committed number) replies none = let no : ⊥ = cc in absurd no
+silent (Run statement) RolledBack replies none = let no : ⊥ = cc in absurd no
+silent (Run statement) (Refused refusal) replies none = ap (λ b. replies ++ cond b [] (Err refusal ∷ [])) none ∙ append-nil replies
+silent Commit answer replies none = refl
+silent Rollback answer replies none = refl
+
+silent_by : (session : List ℕ) (step : Step) (answer : Answer) (replies : Replies) → found_no_memory answer ≡ true → replies_by session step answer replies ≡ replies
+silent_by session step answer replies none = go (bytes_eq step.session session)
+  where
+    go : (b : Bool) → cond b (replies_with step.event answer replies) replies ≡ replies
+    go true = silent step.event answer replies none
+    go false = refl
+
+-- nor does one of another session
+other_by : (session : List ℕ) (step : Step) (answer : Answer) (replies : Replies) → bytes_eq step.session session ≡ false → replies_by session step answer replies ≡ replies
+other_by session step answer replies other = ap (λ b. cond b (replies_with step.event answer replies) replies) other
+
+own_by : (session : List ℕ) (step : Step) (answer : Answer) (replies : Replies) → bytes_eq step.session session ≡ true → replies_by session step answer replies ≡ replies_with step.event answer replies
+own_by session step answer replies own = ap (λ b. cond b (replies_with step.event answer replies) replies) own
+
+-- one event more
+replies_more : (session : List ℕ) (replies : Replies) (steps : List Step) (answers : List Answer) (step : Step) (answer : Answer) → length answers ≡ length steps
+    → replies_after session replies (steps ++ step ∷ []) (answers ++ answer ∷ []) ≡ replies_by session step answer (replies_after session replies steps answers)
+replies_more session replies [] [] step answer long = refl
+replies_more session replies [] (b ∷ more) step answer long = absurd (omega (arith, long))
+replies_more session replies (s ∷ rest) [] step answer long = absurd (omega (arith, long))
+replies_more session replies (s ∷ rest) (b ∷ more) step answer long = replies_more session (replies_by session s b replies) rest more step answer (omega (arith, long))
+
+-- what stood in a list stands there still
+get_more : {X : Type 0} (xs ys : List X) (i : ℕ) (x : X) → slice_get xs i ≡ Some x → slice_get (xs ++ ys) i ≡ Some x
+get_more [] ys i x e = let no : ⊥ = cc in absurd no
+get_more (z ∷ zs) ys zero x e = e
+get_more (z ∷ zs) ys (suc i) x e = get_more zs ys i x e
+
+get_last : {X : Type 0} (xs : List X) (x : X) → slice_get (xs ++ x ∷ []) (length xs) ≡ Some x
+get_last [] x = refl
+get_last (z ∷ zs) x = get_last zs x
+
+-- another item of which the test says the same changes no place
+first_set : {X : Type 0} (p : X → Bool) (xs : List X) (i : ℕ) (x y : X) → slice_get xs i ≡ Some x → p y ≡ p x → prefix_len (λ z. not (p z)) (slice_set xs i y) ≡ prefix_len (λ z. not (p z)) xs
+first_set p [] i x y e same = refl
+first_set p (z ∷ zs) zero x y e same =
+    let here : z ≡ x = cc in
+    ap (λ b. cond (not b) (1 + prefix_len (λ z. not (p z)) zs) 0) (same ∙ ap p (sym here))
+first_set p (z ∷ zs) (suc i) x y e same = ap (λ n. cond (not (p z)) (1 + n) 0) (first_set p zs i x y e same)
+
+position_set : {X : Type 0} (p : X → Bool) (xs : List X) (i : ℕ) (x y : X) → slice_get xs i ≡ Some x → p y ≡ p x → position p (slice_set xs i y) ≡ position p xs
+position_set p xs i x y e same = λ k. cond (nat_lt (first_set p xs i x y e same k) (length-set xs i y k)) (Some (first_set p xs i x y e same k)) None
+
+-- that runs are joined
+abbrev Joined : Type 0
+Joined = (t : OpenTransaction) (statement : Resolved) → (run_of (with_statement t statement)).replies ≡ (run_of t).replies ++ (step_of t statement).reply ∷ []
+
+-- a reply is told as it is
+told_as : (reply : Result Reply Refusal) → found_no_memory (answer_of reply) ≡ false → reply_in (answer_of reply) ≡ reply ∷ []
+told_as (Ok reply) known = refl
+told_as (Err refusal) known = ap (λ b. cond b [] (Err refusal ∷ [])) known
+
+same_of : {X : Type 0} (x y : X) → Some x ≡ Some y → x ≡ y
+same_of x y e = cc
+
+-- what the transaction that is open then was told is what it answers
+module _ (joined : Joined) (core : CoreState) (session : List ℕ) (answer : Answer) (replies : Replies) where
+  told_open : (event : Event) (txn : Option OpenTransaction) (t : OpenTransaction) → ((u : OpenTransaction) → txn ≡ Some u → replies ≡ (run_of u).replies)
+      → found_no_memory answer ≡ false → IsReply core session event txn answer → txn_after core event txn ≡ Some t → replies_with event answer replies ≡ (run_of t).replies
+  told_open Begin None t before known reply open =
+      ap (λ a. replies_at a replies) reply ∙ ap (λ u. (run_of u).replies) (same_of _ t open)
+  told_open Begin (Some u) t before known reply open =
+      ap (λ a. replies_at a replies) reply ∙ before u refl ∙ ap (λ u. (run_of u).replies) (same_of u t open)
+  told_open (Run statement) None t before known reply open = let no : ⊥ = cc in absurd no
+  told_open (Run statement) (Some u) t before known reply open =
+      let next : Resolved = resolved u.declared statement in
+      ap (λ a. replies ++ reply_in a) reply
+      ∙ ap (λ r. replies ++ r) (told_as (step_of u next).reply (ap found_no_memory (sym reply) ∙ known))
+      ∙ ap (λ r. r ++ (step_of u next).reply ∷ []) (before u refl)
+      ∙ sym (joined u next)
+      ∙ ap (λ u. (run_of u).replies) (same_of (with_statement u next) t open)
+  told_open Commit txn t before known reply open = let no : ⊥ = cc in absurd no
+  told_open Rollback txn t before known reply open = let no : ⊥ = cc in absurd no
+
+-- what holds of the events so far
+pub record IsTelling (now : EngineState) (steps : List Step) (answers : List Answer) : Type 0 where
+  pub long : length answers ≡ length steps
+  pub open_ones : (session : List ℕ) (place : ℕ) (t : OpenTransaction) → seat_of now.seats session ≡ Some place → txn_of (slice_get now.seats place) ≡ Some t
+      → replies_to session steps answers ≡ (run_of t).replies
+  pub alone : WereToldAlone now.core steps answers
+
+same_bytes : (a b : List ℕ) → bytes_eq a b ≡ true → a ≡ b
+same_bytes a b = (bytes_eq-Decides a b).0
+
+module _ (joined : Joined) (now : EngineState) (steps : List Step) (answers : List Answer) (step : Step) (answer : Answer) (running : IsRunning now) (telling : IsTelling now steps answers) where
+  more : (session : List ℕ) → replies_to session (steps ++ step ∷ []) (answers ++ answer ∷ []) ≡ replies_by session step answer (replies_to session steps answers)
+  more session = replies_more session [] steps answers step answer telling.long
+
+  -- a record that was told its replies was told them
+  told_still : (commit : Record) (replies : Replies) → WasTold steps answers commit replies → WasTold (steps ++ step ∷ []) (answers ++ answer ∷ []) commit replies
+  told_still commit replies told =
+      let in_steps : told.place < length steps = slice_get_within steps told.place _ told.asked in
+      let in_answers : told.place < length answers = slice_get_within answers told.place _ told.accepted in
+      record {
+        place = told.place;
+        asked = get_more steps (step ∷ []) told.place _ told.asked;
+        accepted = get_more answers (answer ∷ []) told.place _ told.accepted;
+        told = (λ i. replies_to commit.session (take-append-le told.place steps (step ∷ []) (omega arith) i) (take-append-le told.place answers (answer ∷ []) (omega arith) i)) ∙ told.told;
+      }
+
+  alone_still : WereToldAlone now.core (steps ++ step ∷ []) (answers ++ answer ∷ [])
+  alone_still = λ commit m. told_still commit _ (telling.alone commit m)
+
+  -- the transaction that is committed was told what it answers
+  module _ (place : ℕ) (t : OpenTransaction) (number : ℕ) (seated : seat_of now.seats step.session ≡ Some place) (there : txn_of (slice_get now.seats place) ≡ Some t)
+      (commits : step.event ≡ Commit) (accepted : answer ≡ Committed number) (decided : IsCommitted now.core step.session t (Committed number)) where
+    abbrev commit : Record
+    commit = record_of now.core step.session t
+
+    live : IsLive now.core t
+    live = running.live.each place t there
+
+    own_told : WasTold (steps ++ step ∷ []) (answers ++ answer ∷ []) commit (outcome_of t).replies
+    own_told = record {
+      place = length steps;
+      asked = get_last steps step ∙ (λ i. Some (record { session = step.session; event = commits i }));
+      accepted = ap (slice_get (answers ++ answer ∷ [])) (sym telling.long) ∙ get_last answers answer ∙ ap Some accepted
+          ∙ ap (λ n. Some (Committed n)) (accepts now.core step.session t number decided).answer.0;
+      told = (λ i. replies_to step.session (take-append_seam steps (step ∷ []) i) ((ap (λ n. take n (answers ++ answer ∷ [])) (sym telling.long) ∙ take-append_seam answers (answer ∷ [])) i))
+          ∙ telling.open_ones step.session place t seated there;
+    }
+
+    alone_at : (other : Record) → other.snapshot < commit.number
+        → (answered now.core.declared now.core.start (log_of now.core) other).replies
+        ≡ (answered now.core.declared now.core.start (log_of (committed now.core step.session t)) other).replies
+    alone_at other earlier = ap (λ state. (transaction now.core.declared other.trace state).replies) (tables_stay now.core commit other.snapshot earlier)
+
+    alone_committed : WereToldAlone (committed now.core step.session t) (steps ++ step ∷ []) (answers ++ answer ∷ [])
+    alone_committed = λ other m. elim (in_cases commit (log_of now.core) other (subst (λ log. Contains log other) (log_with now.core.records commit) m)) [
+      | inl same ↦
+          subst (λ r. WasTold (steps ++ step ∷ []) (answers ++ answer ∷ []) r (answered now.core.declared now.core.start (log_of (committed now.core step.session t)) r).replies) same
+          (subst (WasTold (steps ++ step ∷ []) (answers ++ answer ∷ []) commit)
+          (ap (λ (o : Outcome). o.replies) (outcome_is now.core step.session t live) ∙ alone_at commit (let within = live.within in omega arith))
+          own_told)
+      | inr earlier ↦
+          let low : other.snapshot < other.number = (clean (log_of now.core) running.epoch.accepted).snapshots other earlier in
+          let high : other.number < length now.core.records + 1 = each_at (λ (w : Record). w.number < length now.core.records + 1) (log_of now.core) (below now.core running.epoch.accepted) other earlier in
+          subst (WasTold (steps ++ step ∷ []) (answers ++ answer ∷ []) other) (alone_at other (omega arith)) (told_still other _ (telling.alone other earlier))
+    ]
+
+  -- the records after an event
+  module _ (place : ℕ) (seated : seat_of now.seats step.session ≡ Some place) where
+    alone_decided : (t : OpenTransaction) (given : Answer) → txn_of (slice_get now.seats place) ≡ Some t → step.event ≡ Commit → answer ≡ given → IsCommitted now.core step.session t given
+        → WereToldAlone (decided_core now.core step.session t given) (steps ++ step ∷ []) (answers ++ answer ∷ [])
+    alone_decided t (Begun number) there commits is decided = alone_still
+    alone_decided t (Replied reply) there commits is decided = alone_still
+    alone_decided t (Committed number) there commits is decided = alone_committed place t number seated there commits is decided
+    alone_decided t RolledBack there commits is decided = alone_still
+    alone_decided t (Refused refusal) there commits is decided = alone_still
+
+    alone_after : (event : Event) (txn : Option OpenTransaction) → step.event ≡ event → txn_of (slice_get now.seats place) ≡ txn → IsReply now.core step.session event txn answer
+        → WereToldAlone (core_after now.core step.session event txn answer) (steps ++ step ∷ []) (answers ++ answer ∷ [])
+    alone_after Begin None is there reply = alone_still
+    alone_after Begin (Some t) is there reply = alone_still
+    alone_after (Run statement) txn is there reply = alone_still
+    alone_after Commit None is there reply = alone_still
+    alone_after Commit (Some t) is there reply = alone_decided t answer there is refl reply
+    alone_after Rollback None is there reply = alone_still
+    alone_after Rollback (Some t) is there reply = alone_still
+
+  -- the open transactions after an event of a session that has a seat
+  module _ (place : ℕ) (seat : Seat) (within : place < length now.seats) (seated : seat_of now.seats step.session ≡ Some place) (there : slice_get now.seats place ≡ Some seat)
+      (own : bytes_eq seat.session step.session ≡ true) (known : found_no_memory answer ≡ false) (reply : IsReply now.core step.session step.event seat.txn answer) where
+    abbrev left : Seat
+    left = record seat { txn = txn_after now.core step.event seat.txn }
+
+    seat_still : (session : List ℕ) → seat_of (slice_set now.seats place left) session ≡ seat_of now.seats session
+    seat_still session = position_set (λ (s : Seat). bytes_eq s.session session) now.seats place seat left there refl
+
+    open_own : (session : List ℕ) (q : ℕ) (t : OpenTransaction) → bytes_eq step.session session ≡ true → seat_of now.seats session ≡ Some q → txn_of (slice_get (slice_set now.seats place left) q) ≡ Some t
+        → replies_to session (steps ++ step ∷ []) (answers ++ answer ∷ []) ≡ (run_of t).replies
+    open_own session q t same at txn =
+        let is : step.session ≡ session = same_bytes step.session session same in
+        let here : q ≡ place = same_of q place (sym at ∙ ap (seat_of now.seats) (sym is) ∙ seated) in
+        let after : txn_after now.core step.event seat.txn ≡ Some t = sym (ap txn_of (set_there now.seats place left within)) ∙ ap (λ n. txn_of (slice_get (slice_set now.seats place left) n)) (sym here) ∙ txn in
+        more session ∙ own_by session step answer (replies_to session steps answers) same
+        ∙ told_open joined now.core step.session answer (replies_to session steps answers) step.event seat.txn t
+        (λ u e. telling.open_ones session q u at (ap (λ n. txn_of (slice_get now.seats n)) here ∙ ap txn_of there ∙ e)) known reply after
+
+    open_other : (session : List ℕ) (q : ℕ) (t : OpenTransaction) → bytes_eq step.session session ≡ false → seat_of now.seats session ≡ Some q → txn_of (slice_get (slice_set now.seats place left) q) ≡ Some t
+        → replies_to session (steps ++ step ∷ []) (answers ++ answer ∷ []) ≡ (run_of t).replies
+    open_other session q t other at txn =
+        let apart : q ≡ place → ⊥ = λ e.
+            let it = has_seat now.seats session q at in
+            let same_seat : it.seat ≡ seat = same_of it.seat seat (sym it.there ∙ ap (slice_get now.seats) e ∙ there) in
+            let a : seat.session ≡ step.session = same_bytes seat.session step.session own in
+            let b : it.seat.session ≡ session = same_bytes it.seat.session session it.own in
+            let yes : bytes_eq step.session session ≡ true = (bytes_eq-Decides step.session session).1 (sym a ∙ ap (λ (s : Seat). s.session) (sym same_seat) ∙ b) in
+            cc in
+        more session ∙ other_by session step answer (replies_to session steps answers) other
+        ∙ telling.open_ones session q t at (sym (ap txn_of (set_elsewhere now.seats q place left apart)) ∙ txn)
+
+    open_after : (session : List ℕ) (q : ℕ) (t : OpenTransaction) → seat_of (slice_set now.seats place left) session ≡ Some q → txn_of (slice_get (slice_set now.seats place left) q) ≡ Some t
+        → replies_to session (steps ++ step ∷ []) (answers ++ answer ∷ []) ≡ (run_of t).replies
+    open_after session q t at txn = elim (cases_Bool (bytes_eq step.session session)) [
+      | inl same ↦ open_own session q t same (sym (seat_still session) ∙ at) txn
+      | inr other ↦ open_other session q t other (sym (seat_still session) ∙ at) txn
+    ]
+
+  longer : length (answers ++ answer ∷ []) ≡ length (steps ++ step ∷ [])
+  longer = length-append answers (answer ∷ []) ∙ ap (λ n. n + 1) telling.long ∙ sym (length-append steps (step ∷ []))
+
+  -- where nothing changed
+  telling_still : ((session : List ℕ) (place : ℕ) → seat_of now.seats session ≡ Some place → replies_by session step answer (replies_to session steps answers) ≡ replies_to session steps answers)
+      → IsTelling now (steps ++ step ∷ []) (answers ++ answer ∷ [])
+  telling_still still = record {
+    long = longer;
+    open_ones = λ session place t at txn. more session ∙ still session place at ∙ telling.open_ones session place t at txn;
+    alone = alone_still;
+  }
+
+  telling_at : (place : Option ℕ) → seat_of now.seats step.session ≡ place → found_no_memory answer ≡ false → IsAnsweredAt now step.session step.event place answer
+      → IsTelling (after_at now step.session step.event place answer) (steps ++ step ∷ []) (answers ++ answer ∷ [])
+  telling_at None seated known reply =
+      telling_still (λ session place at. elim (cases_Bool (bytes_eq step.session session)) [
+        | inl same ↦ (let is : step.session ≡ session = same_bytes step.session session same in let it = ap (seat_of now.seats) is in let no : ⊥ = cc in absurd no)
+        | inr other ↦ other_by session step answer (replies_to session steps answers) other
+      ])
+  telling_at (Some place) seated known reply =
+      let it = has_seat now.seats step.session place seated in
+      subst (λ s. IsTelling (left_by now step answer place s) (steps ++ step ∷ []) (answers ++ answer ∷ [])) (sym it.there) (
+      let reply_there : IsReply now.core step.session step.event it.seat.txn answer = subst (λ s. IsReply now.core step.session step.event (txn_of s) answer) it.there reply in record {
+        long = longer;
+        open_ones = open_after place it.seat it.within seated it.there it.own known reply_there;
+        alone = alone_after place seated step.event it.seat.txn refl (ap txn_of it.there) reply_there;
+      })
+
+  telling_after : IsAnswered now step answer → IsTelling (after now step answer) (steps ++ step ∷ []) (answers ++ answer ∷ [])
+  telling_after answered = go (found_no_memory answer) refl answered
+    where
+      go : (b : Bool) → found_no_memory answer ≡ b → IsAnswered now step answer
+          → IsTelling (cond b now (after_at now step.session step.event (seat_of now.seats step.session) answer)) (steps ++ step ∷ []) (answers ++ answer ∷ [])
+      go true none a = telling_still (λ session place at. silent_by session step answer (replies_to session steps answers) none)
+      go false known (inl none) = let yes : found_no_memory answer ≡ true = ap found_no_memory none.is in let no : ⊥ = cc in absurd no
+      go false known (inr at) = telling_at (seat_of now.seats step.session) refl known at
+
+-- what holds at the end of a run
+pub record IsEnd (steps : List Step) (answers : List Answer) (left : EngineState) : Type 0 where
+  pub running : IsRunning left
+  pub telling : IsTelling left steps answers
+
+goes_on : Joined → (now : EngineState) (before rest : List Step) (given more : List Answer) → IsRunning now → IsTelling now before given → AreAnswers now rest more
+    → IsEnd (before ++ rest) (given ++ more) (led_to now rest more)
+goes_on joined now before [] given [] running telling answers =
+    subst (λ (X : Type 0). X) (λ i. IsEnd (sym (append-nil before) i) (sym (append-nil given) i) now) (record { running = running; telling = telling })
+goes_on joined now before [] given (a ∷ more) running telling answers = absurd answers
+goes_on joined now before (s ∷ rest) given [] running telling answers = absurd answers
+goes_on joined now before (s ∷ rest) given (a ∷ more) running telling answers =
+    subst (λ (X : Type 0). X) (λ i. IsEnd (append_assoc before (s ∷ []) rest i) (append_assoc given (a ∷ []) more i) (led_to (after now s a) rest more))
+    (goes_on joined (after now s a) (before ++ s ∷ []) rest (given ++ a ∷ []) more (running_after now s a running answers.0) (telling_after joined now before given s a running telling answers.0) answers.1)
+
+pub ends : Joined → (limit : ℕ) (loaded : Shown) (all steps : List Step) (answers : List Answer) → IsSound loaded.declared loaded.state → AreAnswers (beginning limit loaded all) steps answers
+    → IsEnd steps answers (led_to (beginning limit loaded all) steps answers)
+ends joined limit loaded all steps answers sound answered =
+    goes_on joined (beginning limit loaded all) [] steps [] answers (running_first limit loaded all sound) (record {
+      long = refl;
+      open_ones = λ session place t at txn. let free = all_free [] all (λ place. refl) place in let no : ⊥ = cc in absurd no;
+      alone = λ commit m. absurd (not_in_nil commit m);
+    }) answered
