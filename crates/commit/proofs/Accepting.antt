@@ -1,8 +1,8 @@
 -- One commit more: what is kept at hand is again what the commits determine.
-use Rattle.std.proofs.Common.{◌≡◌, ◌≢◌, ℕ, suc, ◌+◌, ◌<◌, ◌≤◌, Bool, true, false, cond, List, [], ◌∷◌, ◌++◌, None, map, length, reverse, refl, sym, ap, ◌∙◌, subst, arith}
+use Rattle.std.proofs.Common.{◌≡◌, ◌≢◌, ℕ, ◌+◌, ◌<◌, Bool, true, false, cond, List, [], ◌∷◌, ◌++◌, None, map, length, refl, sym, ap, ◌∙◌, subst, arith}
 use Rattle.std.specs.Prelude.{◌==◌, All, Contains, nat_eq}
 use Rattle.std.specs.List.{IsDistinct}
-use Rattle.std.proofs.lemmas.List.{length-append, length-map, length-reverse, reverse-append}
+use Rattle.std.proofs.lemmas.List.{length-append, length-map}
 use Rattle.std.proofs.lemmas.List.Elements.{All-from_recursion}
 use Rattle.std.proofs.lemmas.Bool.{eqb-false}
 use Rattle.table.specs.declared.rows.Change.{Change}
@@ -11,10 +11,9 @@ use Rattle.assertion.specs.Declarations.{Declared, layouts_in}
 use Rattle.assertion.specs.Meaning.{State}
 use Rattle.assertion.specs.Roots.{AreChangesOf, state_after_all}
 use Rattle.siread.specs.Keys.{place_of}
-use Rattle.alone.specs.Alone.{Outcome, run_on, transaction, transaction_keys}
+use Rattle.alone.specs.Alone.{run_on}
 use Rattle.alone.specs.States.{AreDue, AreInOrder, IsPut, IsState, net_change, row_in}
 use Rattle.alone.proofs.Induction.{change_exact}
-use Rattle.alone.proofs.KeyLists.{among_from}
 use Rattle.alone.proofs.Lists.{Each, each_at, each_from, each_weaker}
 use Rattle.alone.proofs.Nets.{net_exact, net_puts, put_net}
 use Rattle.alone.proofs.Orders.{due_changes, net_in_order}
@@ -22,18 +21,16 @@ use Rattle.delta.specs.Views.{Shown}
 use Rattle.serial.specs.declared.records.Record.{Record}
 use Rattle.serial.specs.Answer.{IsAnswer, Number}
 use Rattle.serial.specs.Commits.{HasNoWriteConflict, IsLog}
-use Rattle.serial.specs.Epoch.{IsEpoch, keys_of, newest, run_of, state_of}
+use Rattle.serial.specs.Epoch.{IsEpoch, newest, state_of}
 use Rattle.serial.specs.Order.{least_out, serial_order}
-use Rattle.serial.specs.Replay.{IsRecorded}
 use Rattle.serial.proofs.Changes.{share_row-at}
 use Rattle.serial.proofs.Kept.{order_is_distinct, places_more}
 use Rattle.serial.proofs.Newest.{newest_fits, unwritten}
-use Rattle.serial.proofs.Ranks.{log_falls, numbers_below}
-use Rattle.serial.proofs.Replays.{held_all}
+use Rattle.serial.proofs.Ranks.{log_falls}
 use Rattle.serial.proofs.Semantics.{history_nets}
 use Rattle.conflict.specs.Ordered.{put_number_before}
 use Rattle.conflict.proofs.Puts.{numbers_after}
-use Rattle.txn.specs.Transactions.{OpenTransaction, begun, keys_of as all_read, outcome_of, own_view}
+use Rattle.txn.specs.Transactions.{OpenTransaction, begun, outcome_of, own_view}
 use Rattle.commit.specs.Cores.{CoreState, IsLive, committed, log_of, newest_tables, record_of, with_begun, with_commit}
 use Rattle.commit.proofs.Tickets.{fewer, held_last}
 use Rattle.commit.proofs.Recording.{below, changes_are, epoch_next, log_with, newest_at}

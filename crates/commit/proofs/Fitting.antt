@@ -1,7 +1,6 @@
 -- The rows of committed tables and live views fit their columns.
-use Rattle.std.proofs.Common.{◌≡◌, ℕ, ◌≤◌, Bool, true, false, cond, List, [], ◌∷◌, refl, sym, ap, ◌∙◌, subst}
+use Rattle.std.proofs.Common.{◌≡◌, ℕ, Bool, true, false, cond, List, [], ◌∷◌, sym, subst}
 use Rattle.std.specs.Prelude.{nat_le}
-use Rattle.table.specs.declared.rows.Change.{Change}
 use Rattle.assertion.specs.Declarations.{Declared, layouts_in}
 use Rattle.assertion.specs.Meaning.{State}
 use Rattle.alone.specs.Alone.{run_on}
@@ -12,7 +11,7 @@ use Rattle.serial.specs.Epoch.{keys_of, newest, put_in, run_of, state_of}
 use Rattle.serial.specs.Replay.{IsHistory, held}
 use Rattle.txn.specs.Fitting.{RowsFit}
 use Rattle.txn.proofs.Fitting.{fit_after_all, net_fit, run_fits}
-use Rattle.commit.specs.Cores.{CoreState, log_of}
+use Rattle.commit.specs.Cores.{log_of}
 use Rattle.commit.specs.Events.{EngineState}
 use Rattle.commit.specs.Fitting.{AllFit, ShownFit}
 use Rattle.commit.proofs.Running.{IsRunning, loaded_of}

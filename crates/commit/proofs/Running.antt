@@ -1,31 +1,28 @@
 -- An event more: the commits were again each accepted over those before it, and the open transactions are live. Definitions alone.
-use Rattle.std.proofs.Common.{◌≡◌, ◌≢◌, ◌+◌, ◌<◌, ◌≤◌, ℕ, Bool, true, false, cond, eqb, List, [], ◌∷◌, ◌++◌, length, get_or, Option, Some, None, Result, Ok, Err, inl, inr, refl, sym, ap, ◌∙◌, subst, arith}
-use Rattle.std.specs.Prelude.{◌==◌, slice_get, slice_set, ◌⊎◌}
-use Rattle.std.specs.List.{position}
+use Rattle.std.proofs.Common.{◌≡◌, ◌+◌, ◌<◌, ◌≤◌, ℕ, Bool, true, false, cond, List, [], ◌∷◌, length, get_or, Option, Some, None, Result, Ok, Err, inl, inr, refl, sym, ap, ◌∙◌, subst, arith}
+use Rattle.std.specs.Prelude.{◌==◌, slice_get}
 use Rattle.std.specs.Str.{bytes_eq}
 use Rattle.std.proofs.lemmas.Bool.{eqb-false}
 use Rattle.std.proofs.lemmas.List.{length-append}
 use Rattle.std.proofs.lemmas.List.Elements.{All-nil}
 use Rattle.std.proofs.lemmas.List.Quantifiers.{position-Some}
-use Rattle.std.proofs.lemmas.Option.{slice_get-get_or, slice_get_within}
+use Rattle.std.proofs.lemmas.Option.{slice_get-get_or}
 use Rattle.value.specs.Ordered.{HoldsOf}
 use Rattle.value.specs.declared.refusals.Refusal.{Refusal}
-use Rattle.value.specs.declared.refusals.Refusal.TheVariants.{NoMemory, TooManySessions}
+use Rattle.statement_syntax.specs.declared.statements.Statement.{Statement}
 use Rattle.statement_syntax.specs.declared.statements.Step.{Step}
 use Rattle.statement_syntax.specs.declared.statements.Event.{Event}
 use Rattle.statement_syntax.specs.declared.statements.Event.TheVariants.{Begin, Commit, Rollback, Run}
 use Rattle.answer.specs.declared.answers.Answer.{Answer}
 use Rattle.answer.specs.declared.answers.Answer.TheVariants.{Begun, Committed, Refused, Replied, RolledBack}
 use Rattle.alone.specs.Alone.{IsSound}
-use Rattle.alone.specs.Resolve.{resolved}
 use Rattle.delta.specs.Views.{Shown}
 use Rattle.live.specs.declared.snapshots.LiveSnapshot.{LiveSnapshot}
-use Rattle.serial.specs.declared.records.Record.{Record}
 use Rattle.serial.specs.Epoch.{IsEpoch}
 use Rattle.txn.specs.Transactions.{OpenTransaction, outcome_of}
 use Rattle.commit.specs.declared.seats.Seat.{Seat}
 use Rattle.commit.specs.Cores.{CoreState, IsCommitAnswer, IsLive, committed, log_of, record_of}
-use Rattle.commit.specs.Events.{AreLive, EngineState, FindsNoMemory, IsAnswered, IsAnsweredAt, IsReply, IsCommitted, after, after_at, commit_answer, core_after, decided_core, found_no_memory, seat_of, seats_set, takes_memory_at, txn_after, txn_of, txn_with}
+use Rattle.commit.specs.Events.{AreLive, EngineState, IsAnswered, IsAnsweredAt, IsReply, IsCommitted, after, after_at, commit_answer, core_after, decided_core, found_no_memory, seat_of, seats_set, txn_after, txn_of, txn_with}
 use Rattle.commit.specs.Runs.{beginning, empty_core, free_seat, led_to}
 use Rattle.commit.proofs.Deciding.{Passed, passed}
 use Rattle.commit.proofs.Living.{all_answered, all_seated_live}
@@ -83,7 +80,7 @@ epoch_after core session Rollback None answer h live reply = h
 epoch_after core session Rollback (Some t) answer h live reply = record { epoch = h.epoch; within = h.within }
 
 -- a transaction with a statement more is live as it was
-live_with : (core : CoreState) (statement : _) (txn : Option OpenTransaction) → HoldsOf (IsLive core) txn → HoldsOf (IsLive core) (txn_with statement txn)
+live_with : (core : CoreState) (statement : Statement) (txn : Option OpenTransaction) → HoldsOf (IsLive core) txn → HoldsOf (IsLive core) (txn_with statement txn)
 live_with core statement None live = tt
 live_with core statement (Some t) live = record { held = live.held; declared_is = live.declared_is; within = live.within; start_is = live.start_is }
 

@@ -1,16 +1,14 @@
 -- What transactions were told is what they answer alone: an event more, and a whole run.
-use Rattle.std.proofs.Common.{◌≡◌, ◌+◌, ◌<◌, ◌≤◌, ℕ, zero, suc, Bool, true, false, not, cond, List, [], ◌∷◌, ◌++◌, length, take, reverse, Option, Some, None, Result, Ok, Err, inl, inr, refl, sym, ap, ◌∙◌, subst, arith, append-nil, append_assoc}
-use Rattle.std.specs.Prelude.{Contains, nat_lt, slice_get, slice_set, ◌⊎◌}
+use Rattle.std.proofs.Common.{◌≡◌, ◌+◌, ◌<◌, ℕ, zero, suc, Bool, true, false, not, cond, List, [], ◌∷◌, ◌++◌, length, take, Option, Some, None, Result, Ok, Err, inl, inr, refl, sym, ap, ◌∙◌, subst, arith, append-nil, append_assoc}
+use Rattle.std.specs.Prelude.{Contains, nat_lt, slice_get, slice_set}
 use Rattle.std.specs.List.{position, prefix_len}
 use Rattle.std.specs.Str.{bytes_eq}
 use Rattle.std.proofs.Math.Seq.{take-append_seam}
 use Rattle.std.proofs.lemmas.Bool.{cases_Bool}
-use Rattle.std.proofs.lemmas.List.{length-append, length-reverse, length-set, take-append-le}
+use Rattle.std.proofs.lemmas.List.{length-append, length-set, take-append-le}
 use Rattle.std.proofs.lemmas.Option.{slice_get_within}
 use Rattle.std.proofs.lemmas.Slice.Eq.{bytes_eq-Decides}
 use Rattle.value.specs.declared.refusals.Refusal.{Refusal}
-use Rattle.value.specs.declared.refusals.Refusal.TheVariants.{NoMemory}
-use Rattle.statement_syntax.specs.declared.statements.Statement.{Statement}
 use Rattle.statement_syntax.specs.declared.statements.Step.{Step}
 use Rattle.statement_syntax.specs.declared.statements.Event.{Event}
 use Rattle.statement_syntax.specs.declared.statements.Event.TheVariants.{Begin, Commit, Rollback, Run}
@@ -24,17 +22,17 @@ use Rattle.alone.specs.Resolve.{resolved}
 use Rattle.alone.proofs.Lists.{each_at}
 use Rattle.delta.specs.Views.{Shown}
 use Rattle.serial.specs.declared.records.Record.{Record}
-use Rattle.serial.specs.Epoch.{answered, state_of}
+use Rattle.serial.specs.Epoch.{answered}
 use Rattle.serial.proofs.Ranks.{clean}
-use Rattle.txn.specs.Transactions.{OpenTransaction, begun, outcome_of, run_of, step_of, with_statement}
+use Rattle.txn.specs.Transactions.{OpenTransaction, outcome_of, run_of, step_of, with_statement}
 use Rattle.commit.specs.declared.seats.Seat.{Seat}
-use Rattle.commit.specs.Cores.{CoreState, IsLive, committed, log_of, newest_tables, record_of}
-use Rattle.commit.specs.Events.{EngineState, IsAnswered, IsAnsweredAt, IsCommitted, IsReply, after, after_at, answer_of, core_after, decided_core, found_no_memory, is_no_memory, seat_of, txn_after, txn_of}
+use Rattle.commit.specs.Cores.{CoreState, IsLive, committed, log_of, record_of}
+use Rattle.commit.specs.Events.{EngineState, IsAnswered, IsAnsweredAt, IsCommitted, IsReply, after, after_at, answer_of, core_after, decided_core, found_no_memory, seat_of, txn_after, txn_of}
 use Rattle.commit.specs.Runs.{AreAnswers, beginning, led_to}
 use Rattle.commit.specs.Told.{Replies, WasTold, WereToldAlone, replies_after, replies_at, replies_by, replies_to, replies_with, reply_in}
 use Rattle.commit.proofs.Living.{all_free, set_elsewhere, set_there, tables_stay}
 use Rattle.commit.proofs.Recording.{below, log_with, outcome_is}
-use Rattle.commit.proofs.Running.{IsRunning, accepts, has_seat, left_by, running_after, running_first, seat_live}
+use Rattle.commit.proofs.Running.{IsRunning, accepts, has_seat, left_by, running_after, running_first}
 
 -- an event that is not answered, or of a session that has no seat, tells nothing
 silent : (event : Event) (answer : Answer) (replies : Replies) → found_no_memory answer ≡ true → replies_with event answer replies ≡ replies
@@ -110,20 +108,20 @@ same_of x y e = cc
 module _ (joined : Joined) (core : CoreState) (session : List ℕ) (answer : Answer) (replies : Replies) where
   told_open : (event : Event) (txn : Option OpenTransaction) (t : OpenTransaction) → ((u : OpenTransaction) → txn ≡ Some u → replies ≡ (run_of u).replies)
       → found_no_memory answer ≡ false → IsReply core session event txn answer → txn_after core event txn ≡ Some t → replies_with event answer replies ≡ (run_of t).replies
-  told_open Begin None t before known reply open =
-      ap (λ a. replies_at a replies) reply ∙ ap (λ u. (run_of u).replies) (same_of _ t open)
-  told_open Begin (Some u) t before known reply open =
-      ap (λ a. replies_at a replies) reply ∙ before u refl ∙ ap (λ u. (run_of u).replies) (same_of u t open)
-  told_open (Run statement) None t before known reply open = let no : ⊥ = cc in absurd no
-  told_open (Run statement) (Some u) t before known reply open =
+  told_open Begin None t before known reply is_open =
+      ap (λ a. replies_at a replies) reply ∙ ap (λ u. (run_of u).replies) (same_of _ t is_open)
+  told_open Begin (Some u) t before known reply is_open =
+      ap (λ a. replies_at a replies) reply ∙ before u refl ∙ ap (λ u. (run_of u).replies) (same_of u t is_open)
+  told_open (Run statement) None t before known reply is_open = let no : ⊥ = cc in absurd no
+  told_open (Run statement) (Some u) t before known reply is_open =
       let next : Resolved = resolved u.declared statement in
       ap (λ a. replies ++ reply_in a) reply
       ∙ ap (λ r. replies ++ r) (told_as (step_of u next).reply (ap found_no_memory (sym reply) ∙ known))
       ∙ ap (λ r. r ++ (step_of u next).reply ∷ []) (before u refl)
       ∙ sym (joined u next)
-      ∙ ap (λ u. (run_of u).replies) (same_of (with_statement u next) t open)
-  told_open Commit txn t before known reply open = let no : ⊥ = cc in absurd no
-  told_open Rollback txn t before known reply open = let no : ⊥ = cc in absurd no
+      ∙ ap (λ u. (run_of u).replies) (same_of (with_statement u next) t is_open)
+  told_open Commit txn t before known reply is_open = let no : ⊥ = cc in absurd no
+  told_open Rollback txn t before known reply is_open = let no : ⊥ = cc in absurd no
 
 -- what holds of the events so far
 pub record IsTelling (now : EngineState) (steps : List Step) (answers : List Answer) : Type 0 where
@@ -225,10 +223,10 @@ module _ (joined : Joined) (now : EngineState) (steps : List Step) (answers : Li
     open_own session q t same at txn =
         let is : step.session ≡ session = same_bytes step.session session same in
         let here : q ≡ place = same_of q place (sym at ∙ ap (seat_of now.seats) (sym is) ∙ seated) in
-        let after : txn_after now.core step.event seat.txn ≡ Some t = sym (ap txn_of (set_there now.seats place left within)) ∙ ap (λ n. txn_of (slice_get (slice_set now.seats place left) n)) (sym here) ∙ txn in
+        let open_then : txn_after now.core step.event seat.txn ≡ Some t = sym (ap txn_of (set_there now.seats place left within)) ∙ ap (λ n. txn_of (slice_get (slice_set now.seats place left) n)) (sym here) ∙ txn in
         more session ∙ own_by session step answer (replies_to session steps answers) same
         ∙ told_open joined now.core step.session answer (replies_to session steps answers) step.event seat.txn t
-        (λ u e. telling.open_ones session q u at (ap (λ n. txn_of (slice_get now.seats n)) here ∙ ap txn_of there ∙ e)) known reply after
+        (λ u e. telling.open_ones session q u at (ap (λ n. txn_of (slice_get now.seats n)) here ∙ ap txn_of there ∙ e)) known reply open_then
 
     open_other : (session : List ℕ) (q : ℕ) (t : OpenTransaction) → bytes_eq step.session session ≡ false → seat_of now.seats session ≡ Some q → txn_of (slice_get (slice_set now.seats place left) q) ≡ Some t
         → replies_to session (steps ++ step ∷ []) (answers ++ answer ∷ []) ≡ (run_of t).replies

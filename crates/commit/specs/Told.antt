@@ -1,5 +1,5 @@
 -- What a transaction was told: the replies to its statements, out of a list of events and their answers.
-use Rattle.std.specs.Prelude.{◌≡◌, ℕ, List, [], ◌∷◌, ◌++◌, take, slice_get, Option, Some, Result, Ok, Err, Contains, if◌then◌else◌}
+use Rattle.std.specs.Prelude.{◌≡◌, ℕ, List, [], ◌∷◌, ◌++◌, take, slice_get, Some, Result, Ok, Err, Contains, if◌then◌else◌}
 use Rattle.std.specs.Str.{bytes_eq}
 use Rattle.value.specs.declared.refusals.Refusal.{Refusal}
 use Rattle.statement_syntax.specs.declared.statements.Step.{Step}
@@ -67,5 +67,5 @@ pub record WasTold (steps : List Step) (answers : List Answer) (commit : Record)
 -- Each committed transaction was told what it answers alone on the tables of its snapshot. (It answers this in the
 -- serial replay too: `AnswersAgain` of `serial` speaks of the same outcome.)
 abbrev pub WereToldAlone : CoreState → List Step → List Answer → Type 0
-WereToldAlone c steps answers = (commit : Record) → Contains c.records commit
+WereToldAlone c steps answers = (commit : Record) → Contains (log_of c) commit
     → WasTold steps answers commit (answered c.declared c.start (log_of c) commit).replies

@@ -10,6 +10,7 @@ use Rattle.value.specs.ValueOrder.{value_cmp}
 use Rattle.value.specs.Ordered.{HoldsOf}
 use Rattle.value.specs.Results.{unless}
 use Rattle.value.proofs.OrderedLists.{All-put}
+use Rattle.value.proofs.Results.{ok_same}
 use Rattle.table.specs.declared.rows.Change.{Change}
 use Rattle.table.specs.declared.schemas.Column.{Column}
 use Rattle.table.specs.Faults.{are_typed, row_fault, row_refusal}
@@ -80,16 +81,13 @@ no_second : (a b : Option Refusal) → option_or a b ≡ None → b ≡ None
 no_second None b e = e
 no_second (Some r) b e = cc
 
-same_made : {A : Type 0} (x y : A) → Ok {E = Refusal} x ≡ Ok y → x ≡ y
-same_made x y e = cc
-
 row_fits : (columns : List Column) (row : RowValues) (typed : Bool) → are_typed columns row ≡ typed → (if typed then row_fault columns row else Some TypeMismatch) ≡ None → FitsColumns columns row
 row_fits columns row true typed e = FitsColumns-of columns row typed e
 row_fits columns row false typed e = cc
 
 inserted_fits : (layouts : List Layout) (place : Place) (row : RowValues) (name : List ℕ) (existing : Option RowValues) (effect : Effect) → FitsColumns (layout_at place.table layouts).columns row
     → inserted_at name place row existing ≡ Ok effect → Each (IsFitting layouts) effect.changes
-inserted_fits layouts place row name None effect fits e = subst (λ (f : Effect). Each (IsFitting layouts) f.changes) (same_made _ effect e) (fits, tt)
+inserted_fits layouts place row name None effect fits e = subst (λ (f : Effect). Each (IsFitting layouts) f.changes) (ok_same _ effect e) (fits, tt)
 inserted_fits layouts place row name (Some other) effect fits e = let no : ⊥ = cc in absurd no
 
 unless_made : {A : Type 0} (fault : Option Refusal) (made : Result A Refusal) (a : A) → unless fault made ≡ Ok a → (fault ≡ None) × (made ≡ Ok a)
@@ -130,7 +128,7 @@ update_fits : (layouts : List Layout) (table key : ℕ) (sets : List Setting) (r
     → update_effect (columns_of table layouts) table key sets rows ≡ Ok effect → Each (IsFitting layouts) effect.changes
 update_fits layouts table key sets rows effect fit e =
     let parts = unless_made (update_fault (columns_of table layouts) sets rows) _ effect e in
-    subst (λ (f : Effect). Each (IsFitting layouts) f.changes) (same_made _ effect parts.1) (renewals_fit layouts table key sets rows fit parts.0)
+    subst (λ (f : Effect). Each (IsFitting layouts) f.changes) (ok_same _ effect parts.1) (renewals_fit layouts table key sets rows fit parts.0)
 
 -- ---- statements alone
 
@@ -171,7 +169,7 @@ module _ (declared : Declared) where
       (All-filter (λ (row : RowValues). keeps row [] u.filter) (FitsColumns (columns_of u.table (layouts_in declared))) (rows_of u.table now.view) (old u.table))) old)
   step_fits start now (Delete d) old =
       effected_fits now _ (Ok (delete_effect d.table (key_of d.table (layouts_in declared)) (found_rows now.view d.table d.filter)))
-      (λ effect e. subst (λ (f : Effect). Each (IsFitting (layouts_in declared)) f.changes) (same_made _ effect e) (delete_fits (layouts_in declared) d.table (key_of d.table (layouts_in declared)) (found_rows now.view d.table d.filter))) old
+      (λ effect e. subst (λ (f : Effect). Each (IsFitting (layouts_in declared)) f.changes) (ok_same _ effect e) (delete_fits (layouts_in declared) d.table (key_of d.table (layouts_in declared)) (found_rows now.view d.table d.filter))) old
   step_fits start now (Select s) old = old
   step_fits start now (SetModes names mode) old = modes_fits start names (is_immediate mode) now old
   step_fits start now (Verdict name) old = verdict_fits (assertion_of name declared.assertions) name now old

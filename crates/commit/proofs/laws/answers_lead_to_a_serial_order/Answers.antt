@@ -1,4 +1,3 @@
-use Rattle.commit.specs.Cores.{log_of}
 use Rattle.commit.proofs.Fitting.{all_fit}
 use Rattle.commit.proofs.Running.{loaded_led}
 use Rattle.commit.proofs.Telling.{ends}
