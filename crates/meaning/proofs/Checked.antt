@@ -13,7 +13,7 @@ use Rattle.cond.specs.Bounds.{is_bounded}
 use Rattle.cond.specs.Eval as resolved
 use Rattle.assertion.specs.declared.assertions.Assertion.{Assertion}
 use Rattle.assertion.specs.declared.forms.Form.{Form}
-use Rattle.assertion.specs.Meaning.{State, rows_of, filtered_rows}
+use Rattle.assertion.specs.Meaning.{State, rows_of, key_of, filtered_rows}
 use Rattle.syntax.specs.declared.trees.Condition.{Condition}
 use Rattle.statement_syntax.specs.declared.definitions.Attributes.{Attributes}
 use Rattle.statement_syntax.specs.declared.statements.Assigned.{Assigned}
@@ -23,7 +23,7 @@ use Rattle.statement_syntax.specs.declared.statements.Which.{Which}
 use Rattle.statement_syntax.specs.declared.statements.Which.TheVariants.{All, Names}
 use Rattle.name_check.specs.Scopes.{Scope}
 use Rattle.name_check.specs.Names.{condition_fault}
-use Rattle.value.specs.Results.{and_then, each, found, provided, unless}
+use Rattle.value.specs.Results.{and_then, found, provided, unless}
 use Rattle.value.proofs.Results.{found_ok, provided_is, provided_ok, unless_is, unless_ok}
 use Rattle.form_check.specs.Forms.{form_of}
 use Rattle.form_check.specs.Queries.{Source, source_of, row_expression, row_filter}
@@ -36,17 +36,22 @@ use Rattle.assertcheck.specs.declared.updates.Setting.{Setting}
 use Rattle.assertcheck.specs.declared.updates.Update.{Update}
 use Rattle.assertcheck.specs.Assertions.{are_at_odds, attributes_of, of_form, checked}
 use Rattle.assertcheck.specs.Conditions.{target_of, sound_condition, where_fault, where_of}
-use Rattle.assertcheck.specs.Statements.{named_column, new_place, places_from, selected, select_of, unlisted}
+use Rattle.assertcheck.specs.Statements.{delete_of, named_column, new_place, places_from, selected, select_of, unlisted}
 use Rattle.assertcheck.specs.Updates.{assignable, not_key, update_of, value_of, names_fault, assigned_places, settings_of, fits, is_bounded_setting, sound_update, update_over}
+use Rattle.alone.specs.Reads.{where_key}
 use Rattle.meaning.specs.Meaning.{Reference, table_of, truth, passes, with_rows}
 use Rattle.meaning.specs.Laws as law
 use Rattle.meaning.specs.Laws.{seen, where_rows, Pairs, IsPlaceOf, IsListOf, Gives, written_value, given_value}
+use Rattle.meaning.specs.Keys as keys
+use Rattle.meaning.specs.Keys.{IsWrittenKey}
 use Rattle.meaning.proofs.Steps.{and_then_ok, ok_same}
 use Rattle.meaning.proofs.Rows.{row_expression_value, row_filter_keeps}
 use Rattle.meaning.proofs.Queries.{source_seen}
-use Rattle.meaning.proofs.Whole.{HasWrittenRoots-law, HasWrittenTruth-law, HasWrittenLeast-law}
+use Rattle.meaning.proofs.Whole.{key_at, HasWrittenRoots-law, HasWrittenTruth-law, HasWrittenLeast-law}
 use Rattle.meaning.proofs.Grown.{KeepsForm-law}
-use Rattle.meaning.proofs.Classes.{none_is, form_class, class_form}
+use Rattle.meaning.proofs.Keys.{WhereReads-law}
+use Rattle.meaning.proofs.CheckKeys.{table_is}
+use Rattle.meaning.proofs.Classes.{none_is, each_pairs, form_class, class_form}
 
 -- ---- assertions
 
@@ -142,21 +147,36 @@ filtered_of tables state name condition target restriction found is =
     ap (λ table. filter (λ row. passes (option_map (truth tables state) condition) (with_rows table (row ∷ []) [])) table.rows) (source_seen tables state name None target found)
     ∙ filter_agree (λ row. passes (option_map (truth tables state) condition) (with_rows (seen target.scope rows) (row ∷ []) [])) (λ row. resolved.keeps row [] restriction) (λ row. row_filter_keeps target.scope condition restriction is tables state row []) rows
 
-pub DeletesRows-law : law.DeletesRows
-DeletesRows-law tables name condition delete e state =
+-- and the key under which it reads
+key_read : (tables : Tables) (name : List ℕ) (condition : Option Condition) (target : Source) (restriction : Cond) → source_of tables name None ≡ Some target → row_filter target.scope condition ≡ Ok restriction
+    → IsWrittenKey tables name condition (where_key target.table (key_of target.table (layouts_of tables)) restriction)
+key_read tables name condition target restriction found is =
+    (target.table, target.scope, table_is tables name None target found, ap (λ key. where_key target.table key restriction) (key_at tables name None target found) ∙ WhereReads-law target.scope condition restriction is target.table)
+
+-- the parts of a DELETE that is taken
+record Deletes (tables : Tables) (name : List ℕ) (condition : Option Condition) (delete : Delete) : Type 0 where
+  target : Source
+  found : source_of tables name None ≡ Some target
+  restriction : Cond
+  keeps : row_filter target.scope condition ≡ Ok restriction
+  made : ◌≡◌ {A = Delete} (record { table = target.table; filter = restriction }) delete
+
+deletes : (tables : Tables) (name : List ℕ) (condition : Option Condition) (delete : Delete) → delete_of tables name condition ≡ Ok delete → Deletes tables name condition delete
+deletes tables name condition delete e =
     let make : Source → Cond → Delete = λ target restriction. record { table = target.table; filter = restriction } in
     let (target, (is, more)) = and_then_ok (target_of tables name) (λ target. and_then (where_of tables target.scope condition) (λ restriction. let r : Result Delete Refusal = Ok (make target restriction) in r)) delete e in
     let (restriction, (keeps, makes)) = and_then_ok (where_of tables target.scope condition) (λ restriction. let r : Result Delete Refusal = Ok (make target restriction) in r) delete more in
-    filtered_of tables state name condition target restriction (found_ok name (source_of tables name None) target is) (where_filter tables target.scope condition restriction keeps)
-    ∙ ap (λ (d : Delete). filtered_rows d.filter (rows_of d.table state)) (ok_same (make target restriction) delete makes)
+    record { target = target; found = found_ok name (source_of tables name None) target is; restriction = restriction; keeps = where_filter tables target.scope condition restriction keeps; made = ok_same (make target restriction) delete makes }
 
--- each of a list, one by one
-each_pairs : {X A : Type 0} (make : X → Result A Refusal) (P : X → A → Type 0) → ((x : X) (a : A) → make x ≡ Ok a → P x a) → (xs : List X) (made : List A) → each make xs ≡ Ok made → Pairs P xs made
-each_pairs {A = A} make P one [] made e = let none : List A = [] in subst (Pairs P []) (ok_same none made e) tt
-each_pairs {A = A} make P one (x ∷ xs) made e =
-    let (a, (is, more)) = and_then_ok (make x) (λ a. and_then (each make xs) (λ others. let r : Result (List A) Refusal = Ok (a ∷ others) in r)) made e in
-    let (others, (are, makes)) = and_then_ok (each make xs) (λ others. let r : Result (List A) Refusal = Ok (a ∷ others) in r) made more in
-    subst (Pairs P (x ∷ xs)) (ok_same (a ∷ others) made makes) (one x a is, each_pairs make P one xs others are)
+pub DeletesRows-law : law.DeletesRows
+DeletesRows-law tables name condition delete e state =
+    let d = deletes tables name condition delete e in
+    filtered_of tables state name condition d.target d.restriction d.found d.keeps ∙ ap (λ (d : Delete). filtered_rows d.filter (rows_of d.table state)) d.made
+
+pub DeleteReads-law : keys.DeleteReads
+DeleteReads-law tables name condition delete e =
+    let d = deletes tables name condition delete e in
+    subst (λ (d : Delete). IsWrittenKey tables name condition (where_key d.table (key_of d.table (layouts_of tables)) d.filter)) d.made (key_read tables name condition d.target d.restriction d.found d.keeps)
 
 -- the table of a statement
 scope_is : (tables : Tables) (state : State) (name : List ℕ) (target : Source) → source_of tables name None ≡ Some target → target.scope ≡ (table_of tables state name None).table
@@ -184,6 +204,11 @@ pub SelectsRows-law : law.SelectsRows
 SelectsRows-law tables columns name condition select e state =
     let s = selects tables columns name condition select e in
     filtered_of tables state name condition s.target s.restriction s.found s.keeps ∙ ap (λ (s : Select). filtered_rows s.filter (rows_of s.table state)) s.made
+
+pub SelectReads-law : keys.SelectReads
+SelectReads-law tables columns name condition select e =
+    let s = selects tables columns name condition select e in
+    subst (λ (s : Select). IsWrittenKey tables name condition (where_key s.table (key_of s.table (layouts_of tables)) s.filter)) s.made (key_read tables name condition s.target s.restriction s.found s.keeps)
 
 named_is : (scope : Scope) (name : List ℕ) (place : ℕ) → named_column scope.layout.columns name ≡ Ok place → IsPlaceOf scope name place
 named_is scope name place e = found_ok name (column_of name scope.layout.columns) place e
@@ -227,6 +252,11 @@ pub UpdatesRows-law : law.UpdatesRows
 UpdatesRows-law tables name sets condition update e state =
     let u = updates tables name sets condition update e in
     filtered_of tables state name condition u.target u.restriction u.found u.keeps ∙ ap (λ (u : Update). filtered_rows u.filter (rows_of u.table state)) u.made
+
+pub UpdateReads-law : keys.UpdateReads
+UpdateReads-law tables name sets condition update e =
+    let u = updates tables name sets condition update e in
+    subst (λ (u : Update). IsWrittenKey tables name condition (where_key u.table (key_of u.table (layouts_of tables)) u.filter)) u.made (key_read tables name condition u.target u.restriction u.found u.keeps)
 
 -- a test that refuses, or else hands on
 not_refused : (b : Bool) (refusal : Refusal) (c d : ℕ) → ◌≡◌ {A = Result ℕ Refusal} (if b then Err refusal else Ok c) (Ok d) → c ≡ d

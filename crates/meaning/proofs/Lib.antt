@@ -13,3 +13,5 @@ pub mod Standing
 pub mod Grown
 pub mod Checked
 pub mod Classes
+pub mod Keys
+pub mod CheckKeys

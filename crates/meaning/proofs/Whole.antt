@@ -99,7 +99,7 @@ roots_by tables state query source found g h is_g is_h =
     ∙ ap (λ g. roots_of_answers g table (answers_by table list keeps g (option_map (truth tables state) q.having) [])) is_g
     ∙ ap (λ h. roots_of_answers g table (answers_by table list keeps g (option_map (truth tables state) h) [])) is_h
 
-key_at : (tables : Tables) (table : List ℕ) (correlation_name : Option (List ℕ)) (source : Source) → source_of tables table correlation_name ≡ Some source → key_of source.table (layouts_of tables) ≡ source.scope.layout.key
+pub key_at : (tables : Tables) (table : List ℕ) (correlation_name : Option (List ℕ)) (source : Source) → source_of tables table correlation_name ≡ Some source → key_of source.table (layouts_of tables) ≡ source.scope.layout.key
 key_at tables table correlation_name source found =
     let (place, layout) = sourced_parts (unwrap_or correlation_name table) (position_of table tables) (layout_of table tables) source found in
     ap (λ (l : Layout). l.key) (layout_at table (record { columns = []; key = 0 }) tables source.table source.scope.layout place layout)
