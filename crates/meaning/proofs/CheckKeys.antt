@@ -22,27 +22,32 @@ use Rattle.numbering.specs.Results.{in_class, only_if}
 use Rattle.numbering.specs.Columns.{no_column, grouping_column}
 use Rattle.numbering.specs.Leaves.{Leaf, Leaves, numbered}
 use Rattle.form_check.specs.Queries.{Source, source_of, row_filter, selected_aggregate, may_be_selected}
-use Rattle.form_check.specs.Forms.{plain, plain_by, aggregate_of, row_where, by_row, having_over, by_group, by_clauses, not_exists, single, linked, linked_where}
+use Rattle.form_check.specs.Forms.{form_of, plain, plain_by, aggregate_of, row_where, by_row, having_over, by_group, by_clauses, not_exists, single, linked, linked_where}
 use Rattle.siread.specs.declared.keys.LockKey.TheVariants as key
-use Rattle.alone.specs.Checks.{keys_for, link_key}
+use Rattle.siread.specs.declared.keys.LockKey.{LockKey}
+use Rattle.alone.specs.Checks.{keys_for, link_key, tables_in}
 use Rattle.meaning.specs.Class as class
-use Rattle.meaning.specs.Class.{Piece, Pieces, pieces_in, IsDenied}
+use Rattle.meaning.specs.Class.{Piece, Pieces, pieces_in, IfWritten, IsOverRows, IsDenied}
 use Rattle.meaning.specs.Laws.{Pairs}
 use Rattle.meaning.specs.Keys as written
-use Rattle.meaning.specs.Keys.{IsTable, IsLinkKey, IsLinkedRead, IsWholeRead, where_pieces, ReadsRow, ReadsGroup, ReadsTables, ReadsAsWritten}
+use Rattle.meaning.specs.Keys.{IsTable, IsLinkKey, IsTableKey, InWhere, InSingle, where_pieces, ReadsRow, ReadsGroup, ReadsAsWritten, ReadsWhole}
 use Rattle.meaning.proofs.Steps.{and_then_ok, in_class_ok, only_if_ok, ok_same, ok_pair}
 use Rattle.meaning.proofs.Queries.{plain_by_ok}
 use Rattle.meaning.proofs.Links.{linked_where_ok}
 use Rattle.meaning.proofs.Rooted.{sourced_parts}
 use Rattle.meaning.proofs.Whole.{by_clauses_ok}
 use Rattle.meaning.proofs.Standing.{leaf_of, condition_numbers}
-use Rattle.meaning.proofs.Classes.{source_read, each_pairs, each_mapped, where_class, form_cases}
+use Rattle.meaning.proofs.Classes.{source_read, each_pairs, each_mapped, over_filter, where_class, form_cases}
 
 -- the table of a name
 pub table_is : (tables : Tables) (name : List ℕ) (correlation_name : Option (List ℕ)) (source : Source) → source_of tables name correlation_name ≡ Some source → IsTable tables name correlation_name source.table source.scope
 table_is tables name correlation_name source found =
     let exposed_name = unwrap_or correlation_name name in
     record { placed = (sourced_parts exposed_name (position_of name tables) (layout_of name tables) source found).0; reads = source_read exposed_name (position_of name tables) (layout_of name tables) source found }
+
+-- what a check and VERDICT read
+abbrev Reads : Tables → Condition → Form → Type 0
+Reads tables c form = ReadsAsWritten tables c (keys_for form) × ReadsWhole tables c (map key.Table (tables_in form))
 
 -- ---- slots one after the other
 
@@ -59,7 +64,7 @@ pieces_made make Q f one leaves ps made same e =
 
 -- ---- single conditions
 
-whole_read : (tables : Tables) (p : Piece) (q : Subquery Whole) → plain tables (leaf_of p) ≡ Ok q → IsWholeRead tables p (key.Table q.table)
+whole_read : (tables : Tables) (p : Piece) (q : Subquery Whole) → plain tables (leaf_of p) ≡ Ok q → InSingle (IsTableKey tables) p (key.Table q.table)
 whole_read tables class.Rows q e = cc
 whole_read tables (class.Of f c) q e = cc
 whole_read tables (class.Exists query) q e = cc
@@ -69,16 +74,14 @@ whole_read tables (class.Value query) q e =
     let (no_group, (no_having, (function, (lists, (restriction, (filters, makes)))))) = plain_by_ok source (selected_aggregate source.scope c.select_list) c.keeps c.group c.having q more in
     (source.table, (table_is tables c.table c.correlation_name source found).placed, ap (λ (q : Subquery Whole). key.Table q.table) (sym makes))
 
-single_reads : (tables : Tables) (c : Condition) (form : Form) → single tables c ≡ Ok form → ReadsTables tables c (keys_for form)
+single_reads : (tables : Tables) (c : Condition) (form : Form) → single tables c ≡ Ok form → Reads tables c form
 single_reads tables c form e =
     let (m, (is, more)) = and_then_ok (numbered no_column c []) (λ m. and_then (each (plain tables) m.1) (λ queries. let r : Result Form Refusal = Ok (Single m.0 queries) in r)) form e in
     let (queries, (are, makes)) = and_then_ok (each (plain tables) m.1) (λ queries. let r : Result Form Refusal = Ok (Single m.0 queries) in r) form more in
     let (columns, leaves) = (condition_numbers no_column c).says [] m.0 m.1 is in
-    let read_tables : List ℕ = map (λ (q : Subquery Whole). q.table) queries in
-    subst (λ form. ReadsTables tables c (keys_for form)) (ok_same (Single m.0 queries) form makes) (record {
-      queried = pairs_mapped (IsWholeRead tables) key.Table (pieces_in c) read_tables (pieces_made (plain tables) (λ p t. IsWholeRead tables p (key.Table t)) (λ (q : Subquery Whole). q.table) (whole_read tables) m.1 (pieces_in c) queries leaves are);
-      none = λ v. refl;
-    })
+    let places : List ℕ = map (λ (q : Subquery Whole). q.table) queries in
+    let queried = pairs_mapped (InSingle (IsTableKey tables)) key.Table (pieces_in c) places (pieces_made (plain tables) (λ p t. InSingle (IsTableKey tables) p (key.Table t)) (λ (q : Subquery Whole). q.table) (whole_read tables) m.1 (pieces_in c) queries leaves are) in
+    subst (Reads tables c) (ok_same (Single m.0 queries) form makes) (inr (inr (record { queried = queried; none = λ v. refl })), inr queried)
 
 -- ---- by rows
 
@@ -97,89 +100,125 @@ link_read tables root k query child a q found e =
       is = ap (link_key k) (sym makes);
     }
 
-linked_read : (tables : Tables) (root : Scope) (k : Value) (p : Piece) (q : Subquery Link) → linked tables root (leaf_of p) ≡ Ok q → IsLinkedRead tables root k p (link_key k q)
-linked_read tables root k class.Rows q e = cc
-linked_read tables root k (class.Of f c) q e = cc
-linked_read tables root k (class.Exists query) q e =
+link_table : (tables : Tables) (root : Scope) (query : Query) (child : Source) (a : Aggregate) (q : Subquery Link) → source_of tables (out-Query query).table (out-Query query).correlation_name ≡ Some child
+    → linked_where child root a (out-Query query).keeps (out-Query query).group (out-Query query).having ≡ Ok q → IsTableKey tables query (key.Table q.table)
+link_table tables root query child a q found e =
     let c = out-Query query in
-    let (child, (found, more)) = in_class_ok (source_of tables c.table c.correlation_name) (λ child. only_if (may_be_selected (own_column child.scope) c.select_list) (linked_where child root CountRows c.keeps c.group c.having)) q e in
-    let (lists, rest) = only_if_ok (may_be_selected (own_column child.scope) c.select_list) (linked_where child root CountRows c.keeps c.group c.having) q more in
-    link_read tables root k query child CountRows q found rest
-linked_read tables root k (class.Value query) q e =
-    let c = out-Query query in
-    let (child, (found, more)) = in_class_ok (source_of tables c.table c.correlation_name) (λ child. in_class (selected_aggregate child.scope c.select_list) (λ a. linked_where child root a c.keeps c.group c.having)) q e in
-    let (a, (lists, rest)) = in_class_ok (selected_aggregate child.scope c.select_list) (λ a. linked_where child root a c.keeps c.group c.having) q more in
-    link_read tables root k query child a q found rest
+    let (no_group, (no_having, (condition, (keeps, (link, (one, (restriction, (are, makes)))))))) = linked_where_ok child root a c.keeps c.group c.having q e in
+    (child.table, (table_is tables c.table c.correlation_name child found).placed, ap (λ (q : Subquery Link). key.Table q.table) (sym makes))
 
-where_reads : (tables : Tables) (root : Scope) (k : Value) (keeps : Option Condition) (made : Cond) (leaves : Leaves) (queries : List (Subquery Link)) → row_where root keeps ≡ Ok (made, leaves) → each (linked tables root) leaves ≡ Ok queries
-    → Pairs (IsLinkedRead tables root k) (where_pieces keeps) (map (link_key k) queries)
-where_reads tables root k None made leaves queries is are =
-    let none : Leaves = [] in
-    pieces_made (linked tables root) (IsLinkedRead tables root k) (link_key k) (linked_read tables root k) leaves [] queries (sym (ok_pair (cond_of.And []) made none leaves is).1) are
-where_reads tables root k (Some c) made leaves queries is are =
-    pieces_made (linked tables root) (IsLinkedRead tables root k) (link_key k) (linked_read tables root k) leaves (pieces_in c) queries ((condition_numbers (own_column root) c).says [] made leaves is).1 are
+mapped_tables : (queries : List (Subquery Link)) → map key.Table (map (λ (q : Subquery Link). q.table) queries) ≡ map (λ (q : Subquery Link). key.Table q.table) queries
+mapped_tables [] = refl
+mapped_tables (q ∷ queries) = ap (λ rest. key.Table q.table ∷ rest) (mapped_tables queries)
+
+-- what is read for a linked query
+module _ (tables : Tables) (root : Scope) (P : Query → LockKey → Type 0) (read : Subquery Link → LockKey)
+    (one : (query : Query) (child : Source) (a : Aggregate) (q : Subquery Link) → source_of tables (out-Query query).table (out-Query query).correlation_name ≡ Some child
+    → linked_where child root a (out-Query query).keeps (out-Query query).group (out-Query query).having ≡ Ok q → P query (read q)) where
+  linked_read : (p : Piece) (q : Subquery Link) → linked tables root (leaf_of p) ≡ Ok q → InWhere P p (read q)
+  linked_read class.Rows q e = cc
+  linked_read (class.Of f c) q e = cc
+  linked_read (class.Exists query) q e =
+      let c = out-Query query in
+      let (child, (found, more)) = in_class_ok (source_of tables c.table c.correlation_name) (λ child. only_if (may_be_selected (own_column child.scope) c.select_list) (linked_where child root CountRows c.keeps c.group c.having)) q e in
+      let (lists, rest) = only_if_ok (may_be_selected (own_column child.scope) c.select_list) (linked_where child root CountRows c.keeps c.group c.having) q more in
+      one query child CountRows q found rest
+  linked_read (class.Value query) q e =
+      let c = out-Query query in
+      let (child, (found, more)) = in_class_ok (source_of tables c.table c.correlation_name) (λ child. in_class (selected_aggregate child.scope c.select_list) (λ a. linked_where child root a c.keeps c.group c.having)) q e in
+      let (a, (lists, rest)) = in_class_ok (selected_aggregate child.scope c.select_list) (λ a. linked_where child root a c.keeps c.group c.having) q more in
+      one query child a q found rest
+
+  where_reads : (keeps : Option Condition) (made : Cond) (leaves : Leaves) (queries : List (Subquery Link)) → row_where root keeps ≡ Ok (made, leaves) → each (linked tables root) leaves ≡ Ok queries → Pairs (InWhere P) (where_pieces keeps) (map read queries)
+  where_reads None made leaves queries is are =
+      let none : Leaves = [] in
+      pieces_made (linked tables root) (InWhere P) read linked_read leaves [] queries (sym (ok_pair (cond_of.And []) made none leaves is).1) are
+  where_reads (Some c) made leaves queries is are =
+      pieces_made (linked tables root) (InWhere P) read linked_read leaves (pieces_in c) queries ((condition_numbers (own_column root) c).says [] made leaves is).1 are
 
 row_reads : (tables : Tables) (c : Condition) (query : Query) → IsDenied c query → (source : Source) → source_of tables (out-Query query).table (out-Query query).correlation_name ≡ Some source → (out-Query query).group ≡ None → (form : Form) → by_row tables source (out-Query query) ≡ Ok form
-    → ReadsRow tables c (keys_for form)
+    → Reads tables c form
 row_reads tables c query denied source found no_group form e =
     let q = out-Query query in
     let scope = source.scope in
+    let of_table = table_is tables q.table q.correlation_name source found in
     let (lists, rest) = only_if_ok (may_be_selected (own_column scope) q.select_list) (and_then (row_where scope q.keeps) (λ made. and_then (each (linked tables scope) made.1) (λ queries. let r : Result Form Refusal = Ok (ByRow source.table made.0 queries) in r))) form e in
     let (m, (is, more)) = and_then_ok (row_where scope q.keeps) (λ made. and_then (each (linked tables scope) made.1) (λ queries. let r : Result Form Refusal = Ok (ByRow source.table made.0 queries) in r)) form rest in
     let (queries, (are, makes)) = and_then_ok (each (linked tables scope) m.1) (λ queries. let r : Result Form Refusal = Ok (ByRow source.table m.0 queries) in r) form more in
-    subst (λ form. ReadsRow tables c (keys_for form)) (ok_same (ByRow source.table m.0 queries) form makes) (record {
+    let places : List ℕ = map (λ (q : Subquery Link). q.table) queries in
+    let checks : ReadsRow tables c (keys_for (ByRow source.table m.0 queries)) = record {
       query = query;
       denied = denied;
       ungrouped = ap is_some no_group;
       table = source.table;
       scope = scope;
-      of_table = table_is tables q.table q.correlation_name source found;
+      of_table = of_table;
       others = λ k. map (link_key k) queries;
       row = λ k. refl;
-      linked = λ k. where_reads tables scope k q.keeps m.0 m.1 queries is are;
+      linked = λ k. where_reads tables scope (IsLinkKey tables scope k) (link_key k) (link_read tables scope k) q.keeps m.0 m.1 queries is are;
       whole = refl;
-    })
+    } in
+    let named = where_reads tables scope (IsTableKey tables) (λ q. key.Table q.table) (link_table tables scope) q.keeps m.0 m.1 queries is are in
+    let verdict : Pairs (InWhere (IsTableKey tables)) (class.Exists query ∷ where_pieces q.keeps) (key.Table source.table ∷ map key.Table places) =
+    ((source.table, of_table.placed, refl), subst (Pairs (InWhere (IsTableKey tables)) (where_pieces q.keeps)) (sym (mapped_tables queries)) named) in
+    subst (Reads tables c) (ok_same (ByRow source.table m.0 queries) form makes) (inl checks, inl (query, denied, verdict))
 
 -- ---- by groups
 
+-- a condition over the rows of one table has no query
+no_queries : (scope : Scope) (keeps : Option Condition) → IfWritten (IsOverRows scope) keeps → where_pieces keeps ≡ []
+no_queries scope None h = refl
+no_queries scope (Some c) h = h.alone
+
 group_reads : (tables : Tables) (c : Condition) (query : Query) → IsDenied c query → (source : Source) → source_of tables (out-Query query).table (out-Query query).correlation_name ≡ Some source → (column : ColumnName) (having : Condition) → (out-Query query).group ≡ Some column → (form : Form)
-    → by_group source (out-Query query) column having ≡ Ok form → ReadsGroup tables c (keys_for form)
+    → by_group source (out-Query query) column having ≡ Ok form → Reads tables c form
 group_reads tables c query denied source found column having grouped form e =
     let q = out-Query query in
     let scope = source.scope in
+    let of_table = table_is tables q.table q.correlation_name source found in
     let (group, (own, more)) = in_class_ok (own_column scope column) (λ group. only_if (may_be_selected (grouping_column scope group) q.select_list) (and_then (row_filter scope q.keeps) (λ restriction. having_over source group restriction having))) form e in
     let (lists, rest) = only_if_ok (may_be_selected (grouping_column scope group) q.select_list) (and_then (row_filter scope q.keeps) (λ restriction. having_over source group restriction having)) form more in
     let (restriction, (filters, over)) = and_then_ok (row_filter scope q.keeps) (λ restriction. having_over source group restriction having) form rest in
     let (m, (is, made)) = and_then_ok (numbered (grouping_column scope group) having []) (λ made. and_then (each (aggregate_of scope) made.1) (λ aggregates. let r : Result Form Refusal = Ok (ByGroup source.table restriction group made.0 aggregates) in r)) form over in
     let (aggregates, (are, makes)) = and_then_ok (each (aggregate_of scope) m.1) (λ aggregates. let r : Result Form Refusal = Ok (ByGroup source.table restriction group m.0 aggregates) in r) form made in
-    subst (λ form. ReadsGroup tables c (keys_for form)) (ok_same (ByGroup source.table restriction group m.0 aggregates) form makes) (record {
+    let checks : ReadsGroup tables c (keys_for (ByGroup source.table restriction group m.0 aggregates)) = record {
       query = query;
       denied = denied;
       name = column;
       grouped = grouped;
       table = source.table;
       scope = scope;
-      of_table = table_is tables q.table q.correlation_name source found;
+      of_table = of_table;
       column = group;
       is_own = own;
       group = λ v. refl;
       whole = refl;
-    })
+    } in
+    let none : List LockKey = [] in
+    let verdict : Pairs (InWhere (IsTableKey tables)) (class.Exists query ∷ where_pieces q.keeps) (key.Table source.table ∷ []) =
+    ((source.table, of_table.placed, refl), subst (λ ps. Pairs (InWhere (IsTableKey tables)) ps none) (sym (no_queries scope q.keeps (over_filter scope q.keeps (restriction, filters)))) tt) in
+    subst (Reads tables c) (ok_same (ByGroup source.table restriction group m.0 aggregates) form makes) (inr (inl checks), inl (query, denied, verdict))
 
 -- ---- all
 
-exists_reads : (tables : Tables) (c : Condition) (query : Query) → IsDenied c query → (form : Form) → not_exists tables (out-Query query) ≡ Ok form → ReadsAsWritten tables c (keys_for form)
+exists_reads : (tables : Tables) (c : Condition) (query : Query) → IsDenied c query → (form : Form) → not_exists tables (out-Query query) ≡ Ok form → Reads tables c form
 exists_reads tables c query denied form e =
     let q = out-Query query in
     let (source, (found, more)) = in_class_ok (source_of tables q.table q.correlation_name) (λ source. by_clauses tables source q q.group q.having) form e in
     ⊎_elim
-    (λ rows. inl (row_reads tables c query denied source found rows.0 form rows.1.1))
-    (λ groups. inr (inl (group_reads tables c query denied source found groups.0 groups.1.0 groups.1.1.0 form groups.1.1.1.1)))
+    (λ rows. row_reads tables c query denied source found rows.0 form rows.1.1)
+    (λ groups. group_reads tables c query denied source found groups.0 groups.1.0 groups.1.1.0 form groups.1.1.1.1)
     (by_clauses_ok tables source q q.group q.having form more)
 
-pub CheckReads-law : written.CheckReads
-CheckReads-law tables c form e =
+form_reads : (tables : Tables) (c : Condition) (form : Form) → form_of tables c ≡ Ok form → Reads tables c form
+form_reads tables c form e =
     ⊎_elim
     (λ denied. exists_reads tables c denied.0 denied.1 form denied.2)
-    (λ is. inr (inr (single_reads tables c form is)))
+    (single_reads tables c form)
     (form_cases tables c form e)
+
+pub CheckReads-law : written.CheckReads
+CheckReads-law tables c form e = (form_reads tables c form e).0
+
+pub VerdictReads-law : written.VerdictReads
+VerdictReads-law tables c form e = (form_reads tables c form e).1

@@ -76,7 +76,7 @@ rows_over scope c over =
     let (made, is) = (condition_numbers (own_column scope) c).finds [] over.columns in
     (made, ap (λ r. and_then r (λ m. alone m.0 m.1)) is ∙ ap (λ ps. alone made (map leaf_of ps)) over.alone)
 
-over_filter : (scope : Scope) (c : Option Condition) → Answers (row_filter scope c) → IfWritten (IsOverRows scope) c
+pub over_filter : (scope : Scope) (c : Option Condition) → Answers (row_filter scope c) → IfWritten (IsOverRows scope) c
 over_filter scope None h = tt
 over_filter scope (Some c) h = over_rows scope c h
 

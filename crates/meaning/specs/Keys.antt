@@ -1,5 +1,5 @@
 -- Under which keys a WHERE and a check of an assertion read, over the written tree.
-use Rattle.std.specs.Prelude.{◌≡◌, ◌⊎◌, ℕ, ◌==◌, IsNone, List, [], ◌∷◌, filter_map, find, Option, Some, None, Ok}
+use Rattle.std.specs.Prelude.{◌≡◌, ◌⊎◌, ℕ, ◌==◌, IsNone, List, [], ◌∷◌, map, filter_map, find, Option, Some, None, Ok}
 use Rattle.std.specs.Option.{option_or}
 use Rattle.value.specs.declared.values.Value.{Value}
 use Rattle.value.specs.declared.values.Value.TheVariants.{Int, Text}
@@ -29,7 +29,7 @@ use Rattle.assertcheck.specs.Statements.{delete_of, select_of}
 use Rattle.assertcheck.specs.Updates.{update_of}
 use Rattle.siread.specs.declared.keys.LockKey.{LockKey}
 use Rattle.siread.specs.declared.keys.LockKey.TheVariants as key
-use Rattle.alone.specs.Checks.{keys_for}
+use Rattle.alone.specs.Checks.{keys_for, tables_in}
 use Rattle.alone.specs.Reads.{Equality, where_key}
 use Rattle.meaning.specs.Class.{Piece, Pieces, Exists, Value as Worth, pieces_in, read_by}
 use Rattle.meaning.specs.Class.{IsColumnAt, IsLinkedWhere, IsDenied}
@@ -101,17 +101,20 @@ pub record IsLinkKey (tables : Tables) (root : Scope) (k : Value) (query : Query
   pub linked : IsLinkedWhere scope root column condition
   pub is : read ≡ key.Column table column k
 
--- a query in a condition over a row
-abbrev pub IsLinkedRead : Tables → Scope → Value → Piece → LockKey → Type 0
-IsLinkedRead tables root k (Exists query) read = IsLinkKey tables root k query read
-IsLinkedRead tables root k (Worth query) read = IsLinkKey tables root k query read
-IsLinkedRead tables root k other read = ⊥
-
--- a query in a single condition: its table
-abbrev pub IsWholeRead : Tables → Piece → LockKey → Type 0
-IsWholeRead tables (Worth query) read =
+-- its whole table
+abbrev pub IsTableKey : Tables → Query → LockKey → Type 0
+IsTableKey tables query read =
     (table : ℕ) × (position_of (out-Query query).table tables ≡ Some table) × (read ≡ key.Table table)
-IsWholeRead tables other read = ⊥
+
+-- what is read for a query in a WHERE, and for one in a single condition, where it stands for its value
+abbrev pub InWhere : (Query → LockKey → Type 0) → Piece → LockKey → Type 0
+InWhere P (Exists query) read = P query read
+InWhere P (Worth query) read = P query read
+InWhere P other read = ⊥
+
+abbrev pub InSingle : (Query → LockKey → Type 0) → Piece → LockKey → Type 0
+InSingle P (Worth query) read = P query read
+InSingle P other read = ⊥
 
 -- the queries in a WHERE
 abbrev pub where_pieces : Option Condition → Pieces
@@ -128,7 +131,8 @@ pub record ReadsRow (tables : Tables) (condition : Condition) (reads : Root → 
   pub of_table : IsTable tables (out-Query query).table (out-Query query).correlation_name table scope
   pub others : Value → List LockKey
   pub row : (k : Value) → reads (root.Of k) ≡ key.Row (record { table = table; key = k }) ∷ others k
-  pub linked : (k : Value) → Pairs (IsLinkedRead tables scope k) (where_pieces (out-Query query).keeps) (others k)
+  pub linked : (k : Value)
+      → Pairs (InWhere (IsLinkKey tables scope k)) (where_pieces (out-Query query).keeps) (others k)
   pub whole : reads root.All ≡ []
 
 -- with GROUP BY: the rows of the group
@@ -147,12 +151,19 @@ pub record ReadsGroup (tables : Tables) (condition : Condition) (reads : Root �
 
 -- a single condition: what each query in it reads, from the left
 pub record ReadsTables (tables : Tables) (condition : Condition) (reads : Root → List LockKey) : Type 0 where
-  pub queried : Pairs (IsWholeRead tables) (pieces_in condition) (reads root.All)
+  pub queried : Pairs (InSingle (IsTableKey tables)) (pieces_in condition) (reads root.All)
   pub none : (v : Value) → reads (root.Of v) ≡ []
 
 abbrev pub ReadsAsWritten : Tables → Condition → (Root → List LockKey) → Type 0
 ReadsAsWritten tables condition reads =
     ReadsRow tables condition reads ⊎ (ReadsGroup tables condition reads ⊎ ReadsTables tables condition reads)
+
+-- VERDICT reads whole tables: of the query under NOT EXISTS and of those in its WHERE, or of those in a single condition
+abbrev pub ReadsWhole : Tables → Condition → List LockKey → Type 0
+ReadsWhole tables condition reads =
+    ((query : Query) × IsDenied condition query
+    × Pairs (InWhere (IsTableKey tables)) (Exists query ∷ where_pieces (out-Query query).keeps) reads)
+    ⊎ Pairs (InSingle (IsTableKey tables)) (pieces_in condition) reads
 
 -- ---- the laws
 
@@ -181,7 +192,11 @@ UpdateReads = (tables : Tables) (name : List ℕ) (sets : List Assignment) (cond
     → IsWrittenKey tables name condition
     (where_key update.table (key_of update.table (layouts_of tables)) update.filter)
 
--- a check at a root reads under the keys of the assertion's text
+-- a check at a root reads under the keys of the assertion's text, and VERDICT the tables of its text
 abbrev pub CheckReads : Type 0
 CheckReads = (tables : Tables) (condition : Condition) (form : Form) → form_of tables condition ≡ Ok form
     → ReadsAsWritten tables condition (keys_for form)
+
+abbrev pub VerdictReads : Type 0
+VerdictReads = (tables : Tables) (condition : Condition) (form : Form) → form_of tables condition ≡ Ok form
+    → ReadsWhole tables condition (map key.Table (tables_in form))

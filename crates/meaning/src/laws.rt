@@ -1,6 +1,6 @@
 //! What holds of the written meaning and the resolved one.
 
-ghost use Rattle.meaning.specs.Keys.{CheckReads, DeleteReads, SelectReads, UpdateReads, WhereReads};
+ghost use Rattle.meaning.specs.Keys.{CheckReads, DeleteReads, SelectReads, UpdateReads, VerdictReads, WhereReads};
 ghost use Rattle.meaning.specs.Laws.{GivesValues, KeepsRows};
 ghost use Rattle.meaning.specs.Laws.{DeletesRows, ListsColumns, SelectsRows, UpdatesColumns, UpdatesRows};
 ghost use Rattle.meaning.specs.Laws.{HasFormInClass, HasWrittenLeast, HasWrittenRoots, HasWrittenTruth, KeepsForm};
@@ -47,11 +47,12 @@ pub fn assertion_means_what_is_written()
     ensures exact { TakesExactly }
 {}
 
-/// A WHERE over the rows of one table reads under the key of its text, and a check of an assertion at a root under the
-/// keys of the assertion's text.
+/// A WHERE over the rows of one table reads under the key of its text, a check of an assertion at a root under the keys
+/// of the assertion's text, and VERDICT the tables of its text.
 pub fn keys_are_as_written()
     ensures conditions { WhereReads }
     ensures checks { CheckReads }
+    ensures verdicts { VerdictReads }
 {}
 
 /// A DELETE, a SELECT and an UPDATE that are taken read under the key of their table and their WHERE as it is written.
