@@ -111,7 +111,13 @@ TURNS = [
          "(λ a. cond_of.And (leaves_of.exchanged a)) sql.all_of"
          " (λ a. sym (truth-And (leaves_of.exchanged a) ∙ all_exchanged a))")],
      "proofs/Standing", [
-        ("then_numbers cond_of.And ", "then_numbers (λ a. cond_of.And (leaves_of.exchanged a)) ")]),
+        ("then_numbers cond_of.And ", "then_numbers (λ a. cond_of.And (leaves_of.exchanged a)) ")],
+     "proofs/Keys", [
+        ("(out-Cond made ≡ Cond-F.And cs))", "(out-Cond made ≡ Cond-F.And (leaves_of.exchanged cs)))"),
+        ("then_ok cond_of.And (all", "then_ok (λ cs. cond_of.And (leaves_of.exchanged cs)) (all"),
+        ("shown_cond (Cond-F.And cs) made (cond.rolls-And cs ∙ makes)",
+         "shown_cond (Cond-F.And (leaves_of.exchanged cs)) made (cond.rolls-And (leaves_of.exchanged cs) ∙ makes)"),
+        ("record { shown = Cond-F.And cs;", "record { shown = Cond-F.And (leaves_of.exchanged cs);")]),
     ("the last equality is taken for the first", "specs/Reads", [
         ("option_or (equality_in (out-Cond part)) (first_equality rest)",
          "option_or (first_equality rest) (equality_in (out-Cond part))")]),

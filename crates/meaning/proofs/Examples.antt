@@ -1,5 +1,7 @@
--- Worked rows: names, and the written bad roots and truth of an assertion of each form, computed.
-use Rattle.std.proofs.Common.{◌≡◌, ℕ, pos, true, List, [], ◌∷◌, Some, None, refl, ap, ◌∙◌}
+-- Worked rows: names, the written bad roots and truth of an assertion of each form, and the key of a WHERE, computed.
+use Rattle.std.proofs.Common.{◌≡◌, ℕ, pos, true, List, [], ◌∷◌, Option, Some, None, refl, ap, ◌∙◌}
+use Rattle.std.specs.Prelude.{◌==◌, filter_map, find}
+use Rattle.std.specs.Option.{option_or}
 use Rattle.value.specs.declared.values.Value.{Value}
 use Rattle.value.specs.declared.values.Value.TheVariants.{Null, Int}
 use Rattle.value.specs.declared.values.Root.TheVariants as root
@@ -15,11 +17,17 @@ use Rattle.cond.specs.Values.{compared}
 use Rattle.assertion.specs.Meaning.{State}
 use Rattle.syntax.specs.declared.trees.Aggregate.TheVariants as function
 use Rattle.syntax.specs.declared.trees.ColumnName.{ColumnName}
-use Rattle.syntax.specs.declared.trees.Condition.{Condition, roll-Condition, out-roll-Condition}
+use Rattle.syntax.specs.declared.trees.Condition.{Condition, roll-Condition, out-Condition, out-roll-Condition}
 use Rattle.syntax.specs.declared.trees.Condition.TheOpen.{Condition-F, Expression-F, SelectList-F, Query-F}
-use Rattle.syntax.specs.declared.trees.Expression.{Expression, roll-Expression}
+use Rattle.syntax.specs.declared.trees.Expression.{Expression, roll-Expression, out-Expression, out-roll-Expression}
 use Rattle.syntax.specs.declared.trees.SelectList.{SelectList, roll-SelectList}
 use Rattle.syntax.specs.declared.trees.Query.{Query, roll-Query, out-roll-Query}
+use Rattle.syntax.specs.Grammar.{and_layer}
+use Rattle.name_check.specs.Scopes.{Scope}
+use Rattle.siread.specs.declared.keys.LockKey.{LockKey}
+use Rattle.siread.specs.declared.keys.LockKey.TheVariants as key
+use Rattle.alone.specs.Reads.{Equality}
+use Rattle.meaning.specs.Keys as keys
 use Rattle.meaning.specs.Meaning as written
 use Rattle.meaning.specs.Meaning.{References, Valued, Answer, answers, simple, first_value, column_values, rows_counted, set_of_column, only_value, is_any, written_bad_roots, written_truth}
 use Rattle.meaning.specs.Laws.{seen}
@@ -240,3 +248,62 @@ single_unknown = single_truth nobody (roll-Expression (Expression-F.Aggregate fu
 
 single_satisfied : written_bad_roots both nobody (at_most (roll-Expression (Expression-F.Aggregate function.Sum (bare I))) 4) ≡ []
 single_satisfied = single_roots nobody (roll-Expression (Expression-F.Aggregate function.Sum (bare I))) 4 Unknown single_unknown
+
+-- ---- keys
+
+-- WHERE over D, the second table, whose key is I
+abbrev d_scope : Scope
+d_scope = record { exposed_name = D ∷ []; layout = of_d }
+
+abbrev name_layer : ℕ → Expression-F Condition Expression SelectList Query
+name_layer name = Expression-F.Column (bare name)
+
+abbrev number_layer : ℕ → Expression-F Condition Expression SelectList Query
+number_layer n = Expression-F.Number (pos n)
+
+abbrev by_sides : Comparison → Expression-F Condition Expression SelectList Query → Expression-F Condition Expression SelectList Query → Option Equality
+by_sides Equal left right = option_or (keys.equality (keys.column d_scope left) (keys.literal right)) (keys.equality (keys.column d_scope right) (keys.literal left))
+by_sides other left right = None
+
+abbrev comparison : Expression-F Condition Expression SelectList Query → Comparison → Expression-F Condition Expression SelectList Query → Condition
+comparison left sign right = compare (roll-Expression left) sign (roll-Expression right)
+
+-- the equality of a comparison
+equality_is : (left : Expression-F Condition Expression SelectList Query) (right : Expression-F Condition Expression SelectList Query) → keys.equality_of d_scope (out-Condition (comparison left Equal right)) ≡ by_sides Equal left right
+equality_is left right =
+    ap (keys.equality_of d_scope) (out-roll-Condition (Condition-F.Compare (roll-Expression left) Equal (roll-Expression right)))
+    ∙ ap (λ l. by_sides Equal l (out-Expression (roll-Expression right))) (out-roll-Expression left) ∙ ap (by_sides Equal left) (out-roll-Expression right)
+
+none_greater : (left : Expression-F Condition Expression SelectList Query) (right : Expression-F Condition Expression SelectList Query) → keys.equality_of d_scope (out-Condition (comparison left Greater right)) ≡ None
+none_greater left right = ap (keys.equality_of d_scope) (out-roll-Condition (Condition-F.Compare (roll-Expression left) Greater (roll-Expression right)))
+
+abbrev key_by : List Equality → LockKey
+key_by es = keys.first_key 1 (find (λ e. e.column == 0) es) es
+
+-- two parts that AND joins
+both_keys : (a b : Condition) (d e : Option Equality) → keys.equality_of d_scope (out-Condition a) ≡ d → keys.equality_of d_scope (out-Condition b) ≡ e
+    → keys.written_key 1 d_scope (Some (roll-Condition (Condition-F.And (a ∷ b ∷ [])))) ≡ key_by (filter_map (λ o. o) (d ∷ e ∷ []))
+both_keys a b d e first second =
+    let whole = roll-Condition (Condition-F.And (a ∷ b ∷ [])) in
+    ap (λ layer. key_by (filter_map (λ part. keys.equality_of d_scope (out-Condition part)) (and_layer whole layer))) (out-roll-Condition (Condition-F.And (a ∷ b ∷ [])))
+    ∙ ap (λ d. key_by (filter_map (λ o. o) (d ∷ keys.equality_of d_scope (out-Condition b) ∷ []))) first
+    ∙ ap (λ e. key_by (filter_map (λ o. o) (d ∷ e ∷ []))) second
+
+-- S = 7 AND 3 = I: the key is found behind another column, and either way round
+key_first : keys.written_key 1 d_scope (Some (roll-Condition (Condition-F.And (comparison (name_layer S) Equal (number_layer 7) ∷ comparison (number_layer 3) Equal (name_layer I) ∷ [])))) ≡ key.Row (record { table = 1; key = number 3 })
+key_first = both_keys (comparison (name_layer S) Equal (number_layer 7)) (comparison (number_layer 3) Equal (name_layer I)) (Some (record { column = 1; value = number 7 })) (Some (record { column = 0; value = number 3 })) (equality_is (name_layer S) (number_layer 7)) (equality_is (number_layer 3) (name_layer I))
+
+-- S = 7 AND O = 1: the first column of the two, so the text with its parts exchanged reads under another key
+column_first : keys.written_key 1 d_scope (Some (roll-Condition (Condition-F.And (comparison (name_layer S) Equal (number_layer 7) ∷ comparison (name_layer O) Equal (number_layer 1) ∷ [])))) ≡ key.Column 1 1 (number 7)
+column_first = both_keys (comparison (name_layer S) Equal (number_layer 7)) (comparison (name_layer O) Equal (number_layer 1)) (Some (record { column = 1; value = number 7 })) (Some (record { column = 2; value = number 1 })) (equality_is (name_layer S) (number_layer 7)) (equality_is (name_layer O) (number_layer 1))
+
+column_exchanged : keys.written_key 1 d_scope (Some (roll-Condition (Condition-F.And (comparison (name_layer O) Equal (number_layer 1) ∷ comparison (name_layer S) Equal (number_layer 7) ∷ [])))) ≡ key.Column 1 2 (number 1)
+column_exchanged = both_keys (comparison (name_layer O) Equal (number_layer 1)) (comparison (name_layer S) Equal (number_layer 7)) (Some (record { column = 2; value = number 1 })) (Some (record { column = 1; value = number 7 })) (equality_is (name_layer O) (number_layer 1)) (equality_is (name_layer S) (number_layer 7))
+
+-- I > 3 AND S = O: neither is column = literal
+no_equality : keys.written_key 1 d_scope (Some (roll-Condition (Condition-F.And (comparison (name_layer I) Greater (number_layer 3) ∷ comparison (name_layer S) Equal (name_layer O) ∷ [])))) ≡ key.Table 1
+no_equality = both_keys (comparison (name_layer I) Greater (number_layer 3)) (comparison (name_layer S) Equal (name_layer O)) None None (none_greater (name_layer I) (number_layer 3)) (equality_is (name_layer S) (name_layer O))
+
+-- no WHERE
+no_where : keys.written_key 1 d_scope None ≡ key.Table 1
+no_where = refl
