@@ -185,9 +185,10 @@ def keep_laws(meaning):
     for path in (meaning / "proofs/laws").iterdir():
         if path.name not in LAWS:
             shutil.rmtree(path)
-    (meaning / "proofs/Checked.antt").unlink()
     lib = meaning / "proofs/Lib.antt"
-    lib.write_text(lib.read_text().replace("pub mod Checked\n", ""))
+    for module in ["Checked", "StatementKeys"]:
+        (meaning / f"proofs/{module}.antt").unlink()
+        lib.write_text(lib.read_text().replace(f"pub mod {module}\n", ""))
     laws = meaning / "src/laws.rt"
     pieces = re.split(r"(?=^///)(?<=\{\}\n\n)", laws.read_text(), flags=re.M)
     head, first = pieces[0].split("///", 1)

@@ -13,7 +13,7 @@ use Rattle.cond.specs.Bounds.{is_bounded}
 use Rattle.cond.specs.Eval as resolved
 use Rattle.assertion.specs.declared.assertions.Assertion.{Assertion}
 use Rattle.assertion.specs.declared.forms.Form.{Form}
-use Rattle.assertion.specs.Meaning.{State, rows_of, key_of, filtered_rows}
+use Rattle.assertion.specs.Meaning.{State, rows_of, filtered_rows}
 use Rattle.syntax.specs.declared.trees.Condition.{Condition}
 use Rattle.statement_syntax.specs.declared.definitions.Attributes.{Attributes}
 use Rattle.statement_syntax.specs.declared.statements.Assigned.{Assigned}
@@ -38,19 +38,14 @@ use Rattle.assertcheck.specs.Assertions.{are_at_odds, attributes_of, of_form, ch
 use Rattle.assertcheck.specs.Conditions.{target_of, sound_condition, where_fault, where_of}
 use Rattle.assertcheck.specs.Statements.{delete_of, named_column, new_place, places_from, selected, select_of, unlisted}
 use Rattle.assertcheck.specs.Updates.{assignable, not_key, update_of, value_of, names_fault, assigned_places, settings_of, fits, is_bounded_setting, sound_update, update_over}
-use Rattle.alone.specs.Reads.{where_key}
 use Rattle.meaning.specs.Meaning.{Reference, table_of, truth, passes, with_rows}
 use Rattle.meaning.specs.Laws as law
 use Rattle.meaning.specs.Laws.{seen, where_rows, Pairs, IsPlaceOf, IsListOf, Gives, written_value, given_value}
-use Rattle.meaning.specs.Keys as keys
-use Rattle.meaning.specs.Keys.{IsWrittenKey}
 use Rattle.meaning.proofs.Steps.{and_then_ok, ok_same}
 use Rattle.meaning.proofs.Rows.{row_expression_value, row_filter_keeps}
 use Rattle.meaning.proofs.Queries.{source_seen}
-use Rattle.meaning.proofs.Whole.{key_at, HasWrittenRoots-law, HasWrittenTruth-law, HasWrittenLeast-law}
+use Rattle.meaning.proofs.Whole.{HasWrittenRoots-law, HasWrittenTruth-law, HasWrittenLeast-law}
 use Rattle.meaning.proofs.Grown.{KeepsForm-law}
-use Rattle.meaning.proofs.Keys.{WhereReads-law}
-use Rattle.meaning.proofs.CheckKeys.{table_is}
 use Rattle.meaning.proofs.Classes.{none_is, each_pairs, form_class, class_form}
 
 -- ---- assertions
@@ -147,21 +142,15 @@ filtered_of tables state name condition target restriction found is =
     ap (λ table. filter (λ row. passes (option_map (truth tables state) condition) (with_rows table (row ∷ []) [])) table.rows) (source_seen tables state name None target found)
     ∙ filter_agree (λ row. passes (option_map (truth tables state) condition) (with_rows (seen target.scope rows) (row ∷ []) [])) (λ row. resolved.keeps row [] restriction) (λ row. row_filter_keeps target.scope condition restriction is tables state row []) rows
 
--- and the key under which it reads
-key_read : (tables : Tables) (name : List ℕ) (condition : Option Condition) (target : Source) (restriction : Cond) → source_of tables name None ≡ Some target → row_filter target.scope condition ≡ Ok restriction
-    → IsWrittenKey tables name condition (where_key target.table (key_of target.table (layouts_of tables)) restriction)
-key_read tables name condition target restriction found is =
-    (target.table, target.scope, table_is tables name None target found, ap (λ key. where_key target.table key restriction) (key_at tables name None target found) ∙ WhereReads-law target.scope condition restriction is target.table)
-
 -- the parts of a DELETE that is taken
-record Deletes (tables : Tables) (name : List ℕ) (condition : Option Condition) (delete : Delete) : Type 0 where
-  target : Source
-  found : source_of tables name None ≡ Some target
-  restriction : Cond
-  keeps : row_filter target.scope condition ≡ Ok restriction
-  made : ◌≡◌ {A = Delete} (record { table = target.table; filter = restriction }) delete
+pub record Deletes (tables : Tables) (name : List ℕ) (condition : Option Condition) (delete : Delete) : Type 0 where
+  pub target : Source
+  pub found : source_of tables name None ≡ Some target
+  pub restriction : Cond
+  pub keeps : row_filter target.scope condition ≡ Ok restriction
+  pub made : ◌≡◌ {A = Delete} (record { table = target.table; filter = restriction }) delete
 
-deletes : (tables : Tables) (name : List ℕ) (condition : Option Condition) (delete : Delete) → delete_of tables name condition ≡ Ok delete → Deletes tables name condition delete
+pub deletes : (tables : Tables) (name : List ℕ) (condition : Option Condition) (delete : Delete) → delete_of tables name condition ≡ Ok delete → Deletes tables name condition delete
 deletes tables name condition delete e =
     let make : Source → Cond → Delete = λ target restriction. record { table = target.table; filter = restriction } in
     let (target, (is, more)) = and_then_ok (target_of tables name) (λ target. and_then (where_of tables target.scope condition) (λ restriction. let r : Result Delete Refusal = Ok (make target restriction) in r)) delete e in
@@ -173,26 +162,21 @@ DeletesRows-law tables name condition delete e state =
     let d = deletes tables name condition delete e in
     filtered_of tables state name condition d.target d.restriction d.found d.keeps ∙ ap (λ (d : Delete). filtered_rows d.filter (rows_of d.table state)) d.made
 
-pub DeleteReads-law : keys.DeleteReads
-DeleteReads-law tables name condition delete e =
-    let d = deletes tables name condition delete e in
-    subst (λ (d : Delete). IsWrittenKey tables name condition (where_key d.table (key_of d.table (layouts_of tables)) d.filter)) d.made (key_read tables name condition d.target d.restriction d.found d.keeps)
-
 -- the table of a statement
 scope_is : (tables : Tables) (state : State) (name : List ℕ) (target : Source) → source_of tables name None ≡ Some target → target.scope ≡ (table_of tables state name None).table
 scope_is tables state name target found = sym (ap (λ (r : Reference). r.table) (source_seen tables state name None target found))
 
 -- the parts of a SELECT that is taken
-record Selects (tables : Tables) (columns : Which) (name : List ℕ) (condition : Option Condition) (select : Select) : Type 0 where
-  target : Source
-  found : source_of tables name None ≡ Some target
-  places : List ℕ
-  select_list : selected target.scope.layout.columns columns ≡ Ok places
-  restriction : Cond
-  keeps : row_filter target.scope condition ≡ Ok restriction
-  made : ◌≡◌ {A = Select} (record { table = target.table; columns = places; filter = restriction }) select
+pub record Selects (tables : Tables) (columns : Which) (name : List ℕ) (condition : Option Condition) (select : Select) : Type 0 where
+  pub target : Source
+  pub found : source_of tables name None ≡ Some target
+  pub places : List ℕ
+  pub select_list : selected target.scope.layout.columns columns ≡ Ok places
+  pub restriction : Cond
+  pub keeps : row_filter target.scope condition ≡ Ok restriction
+  pub made : ◌≡◌ {A = Select} (record { table = target.table; columns = places; filter = restriction }) select
 
-selects : (tables : Tables) (columns : Which) (name : List ℕ) (condition : Option Condition) (select : Select) → select_of tables columns name condition ≡ Ok select → Selects tables columns name condition select
+pub selects : (tables : Tables) (columns : Which) (name : List ℕ) (condition : Option Condition) (select : Select) → select_of tables columns name condition ≡ Ok select → Selects tables columns name condition select
 selects tables columns name condition select e =
     let make : Source → List ℕ → Cond → Select = λ target places restriction. record { table = target.table; columns = places; filter = restriction } in
     let (target, (is, more)) = and_then_ok (target_of tables name) (λ target. and_then (selected target.scope.layout.columns columns) (λ places. and_then (where_of tables target.scope condition) (λ restriction. let r : Result Select Refusal = Ok (make target places restriction) in r))) select e in
@@ -204,11 +188,6 @@ pub SelectsRows-law : law.SelectsRows
 SelectsRows-law tables columns name condition select e state =
     let s = selects tables columns name condition select e in
     filtered_of tables state name condition s.target s.restriction s.found s.keeps ∙ ap (λ (s : Select). filtered_rows s.filter (rows_of s.table state)) s.made
-
-pub SelectReads-law : keys.SelectReads
-SelectReads-law tables columns name condition select e =
-    let s = selects tables columns name condition select e in
-    subst (λ (s : Select). IsWrittenKey tables name condition (where_key s.table (key_of s.table (layouts_of tables)) s.filter)) s.made (key_read tables name condition s.target s.restriction s.found s.keeps)
 
 named_is : (scope : Scope) (name : List ℕ) (place : ℕ) → named_column scope.layout.columns name ≡ Ok place → IsPlaceOf scope name place
 named_is scope name place e = found_ok name (column_of name scope.layout.columns) place e
@@ -224,18 +203,18 @@ ListsColumns-law tables columns name condition select e state =
     (subst (λ scope. IsListOf scope columns s.places) (scope_is tables state name s.target s.found) (selected_are s.target.scope columns s.places s.select_list))
 
 -- the parts of an UPDATE that is taken
-record Updates (tables : Tables) (name : List ℕ) (sets : List Assignment) (condition : Option Condition) (update : Update) : Type 0 where
-  target : Source
-  found : source_of tables name None ≡ Some target
-  columns : List ℕ
-  assigned : assigned_places target.scope.layout [] sets ≡ Ok columns
-  settings : List Setting
-  set : settings_of target.scope columns sets ≡ Ok settings
-  restriction : Cond
-  keeps : row_filter target.scope condition ≡ Ok restriction
-  made : ◌≡◌ {A = Update} (record { table = target.table; sets = settings; filter = restriction }) update
+pub record Updates (tables : Tables) (name : List ℕ) (sets : List Assignment) (condition : Option Condition) (update : Update) : Type 0 where
+  pub target : Source
+  pub found : source_of tables name None ≡ Some target
+  pub columns : List ℕ
+  pub assigned : assigned_places target.scope.layout [] sets ≡ Ok columns
+  pub settings : List Setting
+  pub set : settings_of target.scope columns sets ≡ Ok settings
+  pub restriction : Cond
+  pub keeps : row_filter target.scope condition ≡ Ok restriction
+  pub made : ◌≡◌ {A = Update} (record { table = target.table; sets = settings; filter = restriction }) update
 
-updates : (tables : Tables) (name : List ℕ) (sets : List Assignment) (condition : Option Condition) (update : Update) → update_of tables name sets condition ≡ Ok update → Updates tables name sets condition update
+pub updates : (tables : Tables) (name : List ℕ) (sets : List Assignment) (condition : Option Condition) (update : Update) → update_of tables name sets condition ≡ Ok update → Updates tables name sets condition update
 updates tables name sets condition update e =
     let make : Source → List Setting → Cond → Update = λ target settings restriction. record { table = target.table; sets = settings; filter = restriction } in
     let (target, (is, more)) = and_then_ok (target_of tables name) (λ target. and_then (assigned_places target.scope.layout [] sets) (λ columns. unless (names_fault tables target.scope sets condition) (update_over target columns sets condition))) update e in
@@ -252,11 +231,6 @@ pub UpdatesRows-law : law.UpdatesRows
 UpdatesRows-law tables name sets condition update e state =
     let u = updates tables name sets condition update e in
     filtered_of tables state name condition u.target u.restriction u.found u.keeps ∙ ap (λ (u : Update). filtered_rows u.filter (rows_of u.table state)) u.made
-
-pub UpdateReads-law : keys.UpdateReads
-UpdateReads-law tables name sets condition update e =
-    let u = updates tables name sets condition update e in
-    subst (λ (u : Update). IsWrittenKey tables name condition (where_key u.table (key_of u.table (layouts_of tables)) u.filter)) u.made (key_read tables name condition u.target u.restriction u.found u.keeps)
 
 -- a test that refuses, or else hands on
 not_refused : (b : Bool) (refusal : Refusal) (c d : ℕ) → ◌≡◌ {A = Result ℕ Refusal} (if b then Err refusal else Ok c) (Ok d) → c ≡ d

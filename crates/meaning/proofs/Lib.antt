@@ -15,3 +15,4 @@ pub mod Checked
 pub mod Classes
 pub mod Keys
 pub mod CheckKeys
+pub mod StatementKeys

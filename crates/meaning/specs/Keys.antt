@@ -6,7 +6,7 @@ use Rattle.value.specs.declared.values.Value.TheVariants.{Int, Text}
 use Rattle.value.specs.declared.values.Root.{Root}
 use Rattle.value.specs.declared.values.Root.TheVariants as root
 use Rattle.value.specs.declared.comparisons.Comparison.TheVariants.{Equal}
-use Rattle.table.specs.Rows.{Tables, position_of, layouts_of}
+use Rattle.table.specs.Rows.{Tables, position_of}
 use Rattle.cond.specs.declared.conds.Cond.{Cond}
 use Rattle.syntax.specs.declared.trees.ColumnName.{ColumnName}
 use Rattle.syntax.specs.declared.trees.Condition.{Condition, out-Condition}
@@ -16,9 +16,11 @@ use Rattle.syntax.specs.declared.trees.SelectList.{SelectList}
 use Rattle.syntax.specs.declared.trees.Query.{Query, out-Query}
 use Rattle.syntax.specs.Grammar.{and_layer}
 use Rattle.statement_syntax.specs.declared.statements.Assignment.{Assignment}
+use Rattle.statement_syntax.specs.declared.statements.Statement.TheVariants as statement
 use Rattle.statement_syntax.specs.declared.statements.Which.{Which}
 use Rattle.assertion.specs.declared.forms.Form.{Form}
-use Rattle.assertion.specs.Meaning.{key_of}
+use Rattle.assertion.specs.Declarations.{Declared}
+use Rattle.assertion.specs.Meaning.{State}
 use Rattle.name_check.specs.Scopes.{Scope, own_column}
 use Rattle.form_check.specs.Forms.{form_of}
 use Rattle.form_check.specs.Queries.{row_filter}
@@ -29,8 +31,10 @@ use Rattle.assertcheck.specs.Statements.{delete_of, select_of}
 use Rattle.assertcheck.specs.Updates.{update_of}
 use Rattle.siread.specs.declared.keys.LockKey.{LockKey}
 use Rattle.siread.specs.declared.keys.LockKey.TheVariants as key
+use Rattle.alone.specs.Alone.{Standing, Step, stepped}
 use Rattle.alone.specs.Checks.{keys_for, tables_in}
 use Rattle.alone.specs.Reads.{Equality, where_key}
+use Rattle.alone.specs.Resolve.{resolved}
 use Rattle.meaning.specs.Class.{Piece, Pieces, Exists, Value as Worth, pieces_in, read_by}
 use Rattle.meaning.specs.Class.{IsColumnAt, IsLinkedWhere, IsDenied}
 use Rattle.meaning.specs.Laws.{Pairs}
@@ -172,25 +176,31 @@ abbrev pub WhereReads : Type 0
 WhereReads = (scope : Scope) (condition : Option Condition) (made : Cond) → row_filter scope condition ≡ Ok made
     → (table : ℕ) → where_key table scope.layout.key made ≡ written_key table scope condition
 
--- so do a DELETE, a SELECT and an UPDATE that are taken
-abbrev pub DeleteReads : Type 0
-DeleteReads = (tables : Tables) (name : List ℕ) (condition : Option Condition) (delete : Delete)
-    → delete_of tables name condition ≡ Ok delete
-    → IsWrittenKey tables name condition
-    (where_key delete.table (key_of delete.table (layouts_of tables)) delete.filter)
+-- a SELECT that is taken reads under the key of its text, and a DELETE and an UPDATE too, before what their checks read
+abbrev pub StepReads : Tables → List ℕ → Option Condition → Step → Type 0
+StepReads tables name condition step =
+    (read : LockKey) × (checks : List LockKey) × IsWrittenKey tables name condition read × (step.reads ≡ read ∷ checks)
 
 abbrev pub SelectReads : Type 0
-SelectReads = (tables : Tables) (columns : Which) (name : List ℕ) (condition : Option Condition) (select : Select)
-    → select_of tables columns name condition ≡ Ok select
-    → IsWrittenKey tables name condition
-    (where_key select.table (key_of select.table (layouts_of tables)) select.filter)
+SelectReads = (declared : Declared) (start : State) (now : Standing)
+    → (columns : Which) (name : List ℕ) (condition : Option Condition) (select : Select)
+    → select_of declared.tables columns name condition ≡ Ok select
+    → (read : LockKey) × IsWrittenKey declared.tables name condition read
+    × ((stepped declared start now (resolved declared (statement.Select columns name condition))).reads ≡ read ∷ [])
+
+abbrev pub DeleteReads : Type 0
+DeleteReads = (declared : Declared) (start : State) (now : Standing)
+    → (name : List ℕ) (condition : Option Condition) (delete : Delete)
+    → delete_of declared.tables name condition ≡ Ok delete
+    → StepReads declared.tables name condition
+    (stepped declared start now (resolved declared (statement.Delete name condition)))
 
 abbrev pub UpdateReads : Type 0
-UpdateReads = (tables : Tables) (name : List ℕ) (sets : List Assignment) (condition : Option Condition)
-    → (update : Update)
-    → update_of tables name sets condition ≡ Ok update
-    → IsWrittenKey tables name condition
-    (where_key update.table (key_of update.table (layouts_of tables)) update.filter)
+UpdateReads = (declared : Declared) (start : State) (now : Standing)
+    → (name : List ℕ) (sets : List Assignment) (condition : Option Condition) (update : Update)
+    → update_of declared.tables name sets condition ≡ Ok update
+    → StepReads declared.tables name condition
+    (stepped declared start now (resolved declared (statement.Update name sets condition)))
 
 -- a check at a root reads under the keys of the assertion's text, and VERDICT the tables of its text
 abbrev pub CheckReads : Type 0

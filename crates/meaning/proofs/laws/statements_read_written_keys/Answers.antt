@@ -1,4 +1,4 @@
-use Rattle.meaning.proofs.Checked.{DeleteReads-law, SelectReads-law, UpdateReads-law}
+use Rattle.meaning.proofs.StatementKeys.{DeleteReads-law, SelectReads-law, UpdateReads-law}
 use Rattle.meaning.proofs.laws.statements_read_written_keys.Goals as goal
 
 pub returns-clause-delete : goal.returns-clause-delete
