@@ -162,7 +162,8 @@ abbrev pub ReadsAsWritten : Tables → Condition → (Root → List LockKey) →
 ReadsAsWritten tables condition reads =
     ReadsRow tables condition reads ⊎ (ReadsGroup tables condition reads ⊎ ReadsTables tables condition reads)
 
--- VERDICT reads whole tables: of the query under NOT EXISTS and of those in its WHERE, or of those in a single condition
+-- VERDICT reads whole tables: of the query under NOT EXISTS and of those in its WHERE, or of those in a single
+-- condition
 abbrev pub ReadsWhole : Tables → Condition → List LockKey → Type 0
 ReadsWhole tables condition reads =
     ((query : Query) × IsDenied condition query
