@@ -12,17 +12,17 @@ use Rattle.assertion.specs.declared.queries.Query.{Query as Subquery}
 use Rattle.assertion.specs.declared.queries.Link.{Link}
 use Rattle.assertion.specs.declared.queries.Whole.{Whole}
 use Rattle.assertion.specs.declared.forms.Form.{Form}
-use Rattle.assertion.specs.declared.forms.Form.TheVariants.{ByRow, ByGroup, Single}
+use Rattle.assertion.specs.declared.forms.Form.TheVariants.{ByRow, ByGroup}
 use Rattle.syntax.specs.declared.trees.ColumnName.{ColumnName}
 use Rattle.syntax.specs.declared.trees.Condition.{Condition}
 use Rattle.syntax.specs.declared.trees.Query.{Query, out-Query}
 use Rattle.name_check.specs.Scopes.{Scope, own_column}
-use Rattle.value.specs.Results.{and_then, each}
+use Rattle.value.specs.Results.{each}
 use Rattle.numbering.specs.Results.{in_class, only_if}
-use Rattle.numbering.specs.Columns.{no_column, grouping_column}
-use Rattle.numbering.specs.Leaves.{Leaf, Leaves, numbered}
-use Rattle.form_check.specs.Queries.{Source, source_of, row_filter, selected_aggregate, may_be_selected}
-use Rattle.form_check.specs.Forms.{form_of, plain, plain_by, aggregate_of, row_where, by_row, having_over, by_group, by_clauses, not_exists, single, linked, linked_where}
+use Rattle.numbering.specs.Columns.{no_column}
+use Rattle.numbering.specs.Leaves.{Leaf, Leaves}
+use Rattle.form_check.specs.Queries.{Source, source_of, selected_aggregate, may_be_selected}
+use Rattle.form_check.specs.Forms.{form_of, plain, plain_by, row_where, by_row, by_group, by_clauses, not_exists, single, linked, linked_where}
 use Rattle.siread.specs.declared.keys.LockKey.TheVariants as key
 use Rattle.siread.specs.declared.keys.LockKey.{LockKey}
 use Rattle.alone.specs.Checks.{keys_for, link_key, tables_in}
@@ -31,10 +31,11 @@ use Rattle.meaning.specs.Class.{Piece, Pieces, pieces_in, IfWritten, IsOverRows,
 use Rattle.meaning.specs.Laws.{Pairs}
 use Rattle.meaning.specs.Keys as written
 use Rattle.meaning.specs.Keys.{IsTable, IsLinkKey, IsTableKey, InWhere, InSingle, where_pieces, ReadsRow, ReadsGroup, ReadsAsWritten, ReadsWhole}
-use Rattle.meaning.proofs.Steps.{and_then_ok, in_class_ok, only_if_ok, ok_same, ok_pair}
+use Rattle.meaning.proofs.Steps.{in_class_ok, only_if_ok, ok_pair}
 use Rattle.meaning.proofs.Queries.{plain_by_ok}
 use Rattle.meaning.proofs.Links.{linked_where_ok}
 use Rattle.meaning.proofs.Rooted.{sourced_parts}
+use Rattle.meaning.proofs.Made.{single_made, row_made, group_made}
 use Rattle.meaning.proofs.Whole.{by_clauses_ok}
 use Rattle.meaning.proofs.Standing.{leaf_of, condition_numbers}
 use Rattle.meaning.proofs.Classes.{source_read, each_pairs, each_mapped, over_filter, where_class, form_cases}
@@ -76,12 +77,11 @@ whole_read tables (class.Value query) q e =
 
 single_reads : (tables : Tables) (c : Condition) (form : Form) → single tables c ≡ Ok form → Reads tables c form
 single_reads tables c form e =
-    let (m, (is, more)) = and_then_ok (numbered no_column c []) (λ m. and_then (each (plain tables) m.1) (λ queries. let r : Result Form Refusal = Ok (Single m.0 queries) in r)) form e in
-    let (queries, (are, makes)) = and_then_ok (each (plain tables) m.1) (λ queries. let r : Result Form Refusal = Ok (Single m.0 queries) in r) form more in
-    let (columns, leaves) = (condition_numbers no_column c).says [] m.0 m.1 is in
-    let places : List ℕ = map (λ (q : Subquery Whole). q.table) queries in
-    let queried = pairs_mapped (InSingle (IsTableKey tables)) key.Table (pieces_in c) places (pieces_made (plain tables) (λ p t. InSingle (IsTableKey tables) p (key.Table t)) (λ (q : Subquery Whole). q.table) (whole_read tables) m.1 (pieces_in c) queries leaves are) in
-    subst (Reads tables c) (ok_same (Single m.0 queries) form makes) (inr (inr (record { queried = queried; none = λ v. refl })), inr queried)
+    let m = single_made tables c form e in
+    let (columns, leaves) = (condition_numbers no_column c).says [] m.made m.leaves m.numbers in
+    let places : List ℕ = map (λ (q : Subquery Whole). q.table) m.queries in
+    let queried = pairs_mapped (InSingle (IsTableKey tables)) key.Table (pieces_in c) places (pieces_made (plain tables) (λ p t. InSingle (IsTableKey tables) p (key.Table t)) (λ (q : Subquery Whole). q.table) (whole_read tables) m.leaves (pieces_in c) m.queries leaves m.are) in
+    subst (Reads tables c) m.is (inr (inr (record { queried = queried; none = λ v. refl })), inr queried)
 
 -- ---- by rows
 
@@ -142,26 +142,24 @@ row_reads tables c query denied source found no_group form e =
     let q = out-Query query in
     let scope = source.scope in
     let of_table = table_is tables q.table q.correlation_name source found in
-    let (lists, rest) = only_if_ok (may_be_selected (own_column scope) q.select_list) (and_then (row_where scope q.keeps) (λ made. and_then (each (linked tables scope) made.1) (λ queries. let r : Result Form Refusal = Ok (ByRow source.table made.0 queries) in r))) form e in
-    let (m, (is, more)) = and_then_ok (row_where scope q.keeps) (λ made. and_then (each (linked tables scope) made.1) (λ queries. let r : Result Form Refusal = Ok (ByRow source.table made.0 queries) in r)) form rest in
-    let (queries, (are, makes)) = and_then_ok (each (linked tables scope) m.1) (λ queries. let r : Result Form Refusal = Ok (ByRow source.table m.0 queries) in r) form more in
-    let places : List ℕ = map (λ (q : Subquery Link). q.table) queries in
-    let checks : ReadsRow tables c (keys_for (ByRow source.table m.0 queries)) = record {
+    let m = row_made tables source q form e in
+    let places : List ℕ = map (λ (q : Subquery Link). q.table) m.queries in
+    let checks : ReadsRow tables c (keys_for (ByRow source.table m.made m.queries)) = record {
       query = query;
       denied = denied;
       ungrouped = ap is_some no_group;
       table = source.table;
       scope = scope;
       of_table = of_table;
-      others = λ k. map (link_key k) queries;
+      others = λ k. map (link_key k) m.queries;
       row = λ k. refl;
-      linked = λ k. where_reads tables scope (IsLinkKey tables scope k) (link_key k) (link_read tables scope k) q.keeps m.0 m.1 queries is are;
+      linked = λ k. where_reads tables scope (IsLinkKey tables scope k) (link_key k) (link_read tables scope k) q.keeps m.made m.leaves m.queries m.keeps m.are;
       whole = refl;
     } in
-    let named = where_reads tables scope (IsTableKey tables) (λ q. key.Table q.table) (link_table tables scope) q.keeps m.0 m.1 queries is are in
+    let named = where_reads tables scope (IsTableKey tables) (λ q. key.Table q.table) (link_table tables scope) q.keeps m.made m.leaves m.queries m.keeps m.are in
     let verdict : Pairs (InWhere (IsTableKey tables)) (class.Exists query ∷ where_pieces q.keeps) (key.Table source.table ∷ map key.Table places) =
-    ((source.table, of_table.placed, refl), subst (Pairs (InWhere (IsTableKey tables)) (where_pieces q.keeps)) (sym (mapped_tables queries)) named) in
-    subst (Reads tables c) (ok_same (ByRow source.table m.0 queries) form makes) (inl checks, inl (query, denied, verdict))
+    ((source.table, of_table.placed, refl), subst (Pairs (InWhere (IsTableKey tables)) (where_pieces q.keeps)) (sym (mapped_tables m.queries)) named) in
+    subst (Reads tables c) m.is (inl checks, inl (query, denied, verdict))
 
 -- ---- by groups
 
@@ -176,12 +174,8 @@ group_reads tables c query denied source found column having grouped form e =
     let q = out-Query query in
     let scope = source.scope in
     let of_table = table_is tables q.table q.correlation_name source found in
-    let (group, (own, more)) = in_class_ok (own_column scope column) (λ group. only_if (may_be_selected (grouping_column scope group) q.select_list) (and_then (row_filter scope q.keeps) (λ restriction. having_over source group restriction having))) form e in
-    let (lists, rest) = only_if_ok (may_be_selected (grouping_column scope group) q.select_list) (and_then (row_filter scope q.keeps) (λ restriction. having_over source group restriction having)) form more in
-    let (restriction, (filters, over)) = and_then_ok (row_filter scope q.keeps) (λ restriction. having_over source group restriction having) form rest in
-    let (m, (is, made)) = and_then_ok (numbered (grouping_column scope group) having []) (λ made. and_then (each (aggregate_of scope) made.1) (λ aggregates. let r : Result Form Refusal = Ok (ByGroup source.table restriction group made.0 aggregates) in r)) form over in
-    let (aggregates, (are, makes)) = and_then_ok (each (aggregate_of scope) m.1) (λ aggregates. let r : Result Form Refusal = Ok (ByGroup source.table restriction group m.0 aggregates) in r) form made in
-    let checks : ReadsGroup tables c (keys_for (ByGroup source.table restriction group m.0 aggregates)) = record {
+    let m = group_made source q column having form e in
+    let checks : ReadsGroup tables c (keys_for (ByGroup source.table m.restriction m.group m.made m.aggregates)) = record {
       query = query;
       denied = denied;
       name = column;
@@ -189,15 +183,15 @@ group_reads tables c query denied source found column having grouped form e =
       table = source.table;
       scope = scope;
       of_table = of_table;
-      column = group;
-      is_own = own;
+      column = m.group;
+      is_own = m.own;
       group = λ v. refl;
       whole = refl;
     } in
     let none : List LockKey = [] in
     let verdict : Pairs (InWhere (IsTableKey tables)) (class.Exists query ∷ where_pieces q.keeps) (key.Table source.table ∷ []) =
-    ((source.table, of_table.placed, refl), subst (λ ps. Pairs (InWhere (IsTableKey tables)) ps none) (sym (no_queries scope q.keeps (over_filter scope q.keeps (restriction, filters)))) tt) in
-    subst (Reads tables c) (ok_same (ByGroup source.table restriction group m.0 aggregates) form makes) (inr (inl checks), inl (query, denied, verdict))
+    ((source.table, of_table.placed, refl), subst (λ ps. Pairs (InWhere (IsTableKey tables)) ps none) (sym (no_queries scope q.keeps (over_filter scope q.keeps (m.restriction, m.keeps)))) tt) in
+    subst (Reads tables c) m.is (inr (inl checks), inl (query, denied, verdict))
 
 -- ---- all
 

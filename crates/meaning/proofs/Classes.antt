@@ -44,6 +44,7 @@ use Rattle.meaning.proofs.Steps.{and_then_ok, in_class_ok, only_if_ok, ok_same}
 use Rattle.meaning.proofs.Rows.{alone_ok}
 use Rattle.meaning.proofs.Queries.{plain_by_ok}
 use Rattle.meaning.proofs.Groups.{in_group_is}
+use Rattle.meaning.proofs.Made.{single_made, row_made, group_made}
 use Rattle.meaning.proofs.Whole.{by_clauses_ok}
 use Rattle.meaning.proofs.Standing.{leaf_of, MayStand, condition_numbers, some_is, columns_of, pieces_at, each_append, condition_pieces_rolled}
 
@@ -303,10 +304,9 @@ no_columns (c ∷ cs) h = let k : false ≡ true = h.0 in cc
 
 pub single_class : (tables : Tables) (c : Condition) → Answers (single tables c) → IsSingle tables c
 single_class tables c (form, e) =
-    let (m, (is, more)) = and_then_ok (numbered no_column c []) (λ m. and_then (each (plain tables) m.1) (λ queries. let r : Result Form Refusal = Ok (Single m.0 queries) in r)) form e in
-    let (queries, (are, makes)) = and_then_ok (each (plain tables) m.1) (λ queries. let r : Result Form Refusal = Ok (Single m.0 queries) in r) form more in
-    let (columns, leaves) = (condition_numbers no_column c).says [] m.0 m.1 is in
-    record { columns = no_columns (columns_in c) columns; queries = pieces_of (plain tables) (IsPlainPiece tables) (plain_leaf_is tables) m.1 (pieces_in c) leaves (queries, are) }
+    let m = single_made tables c form e in
+    let (columns, leaves) = (condition_numbers no_column c).says [] m.made m.leaves m.numbers in
+    record { columns = no_columns (columns_in c) columns; queries = pieces_of (plain tables) (IsPlainPiece tables) (plain_leaf_is tables) m.leaves (pieces_in c) leaves (m.queries, m.are) }
 
 pub class_single : (tables : Tables) (c : Condition) → IsSingle tables c → Answers (single tables c)
 class_single tables c h =
@@ -338,13 +338,10 @@ group_class : (source : Source) (query : Clauses) (column : ColumnName) (having 
     → (group : ℕ) × ((own_column source.scope column ≡ Some group) × (IsSimpleList (IsColumnAt source.scope group) (out-SelectList query.select_list) × (IfWritten (IsOverRows source.scope) query.keeps × (Each (IsColumnAt source.scope group) (columns_in having) × Each (IsSetFunction source.scope) (pieces_in having)))))
 group_class source query column having (form, e) =
     let scope = source.scope in
-    let (group, (own, more)) = in_class_ok (own_column scope column) (λ group. only_if (may_be_selected (grouping_column scope group) query.select_list) (and_then (row_filter scope query.keeps) (λ restriction. having_over source group restriction having))) form e in
-    let (lists, rest) = only_if_ok (may_be_selected (grouping_column scope group) query.select_list) (and_then (row_filter scope query.keeps) (λ restriction. having_over source group restriction having)) form more in
-    let (restriction, (filters, over)) = and_then_ok (row_filter scope query.keeps) (λ restriction. having_over source group restriction having) form rest in
-    let (m, (is, made)) = and_then_ok (numbered (grouping_column scope group) having []) (λ made. and_then (each (aggregate_of scope) made.1) (λ aggregates. let r : Result Form Refusal = Ok (ByGroup source.table restriction group made.0 aggregates) in r)) form over in
-    let (aggregates, (are, makes)) = and_then_ok (each (aggregate_of scope) m.1) (λ aggregates. let r : Result Form Refusal = Ok (ByGroup source.table restriction group m.0 aggregates) in r) form made in
-    let (columns, leaves) = (condition_numbers (grouping_column scope group) having).says [] m.0 m.1 is in
-    (group, (own, (group_list scope group query.select_list lists, (over_filter scope query.keeps (restriction, filters), (each_other (MayStand (grouping_column scope group)) (IsColumnAt scope group) (λ c h. grouped_at group (own_column scope c) h) (columns_in having) columns, pieces_of (aggregate_of scope) (IsSetFunction scope) (set_leaf scope) m.1 (pieces_in having) leaves (aggregates, are))))))
+    let m = group_made source query column having form e in
+    let group = m.group in
+    let (columns, leaves) = (condition_numbers (grouping_column scope group) having).says [] m.made m.leaves m.numbers in
+    (group, (m.own, (group_list scope group query.select_list m.lists, (over_filter scope query.keeps (m.restriction, m.keeps), (each_other (MayStand (grouping_column scope group)) (IsColumnAt scope group) (λ c h. grouped_at group (own_column scope c) h) (columns_in having) columns, pieces_of (aggregate_of scope) (IsSetFunction scope) (set_leaf scope) m.leaves (pieces_in having) leaves (m.aggregates, m.are))))))
 
 class_group : (source : Source) (query : Clauses) (column : ColumnName) (having : Condition) (group : ℕ) → own_column source.scope column ≡ Some group → IsSimpleList (IsColumnAt source.scope group) (out-SelectList query.select_list) → IfWritten (IsOverRows source.scope) query.keeps
     → Each (IsColumnAt source.scope group) (columns_in having) → Each (IsSetFunction source.scope) (pieces_in having) → Answers (by_group source query column having)
@@ -583,11 +580,8 @@ class_row_where tables root (Some c) h =
 
 row_class : (tables : Tables) (source : Source) (query : Clauses) → Answers (by_row tables source query) → IsSimpleList (IsOwn source.scope) (out-SelectList query.select_list) × IfWritten (IsRowWhere tables source.scope) query.keeps
 row_class tables source query (form, e) =
-    let scope = source.scope in
-    let (lists, rest) = only_if_ok (may_be_selected (own_column scope) query.select_list) (and_then (row_where scope query.keeps) (λ made. and_then (each (linked tables scope) made.1) (λ queries. let r : Result Form Refusal = Ok (ByRow source.table made.0 queries) in r))) form e in
-    let (m, (is, more)) = and_then_ok (row_where scope query.keeps) (λ made. and_then (each (linked tables scope) made.1) (λ queries. let r : Result Form Refusal = Ok (ByRow source.table made.0 queries) in r)) form rest in
-    let (queries, (are, makes)) = and_then_ok (each (linked tables scope) m.1) (λ queries. let r : Result Form Refusal = Ok (ByRow source.table m.0 queries) in r) form more in
-    (own_list scope query.select_list lists, row_where_class tables scope query.keeps m.0 m.1 is (queries, are))
+    let m = row_made tables source query form e in
+    (own_list source.scope query.select_list m.lists, row_where_class tables source.scope query.keeps m.made m.leaves m.keeps (m.queries, m.are))
 
 class_row : (tables : Tables) (source : Source) (query : Clauses) → IsSimpleList (IsOwn source.scope) (out-SelectList query.select_list) → IfWritten (IsRowWhere tables source.scope) query.keeps → Answers (by_row tables source query)
 class_row tables source query lists keeps =

@@ -4,6 +4,7 @@ pub mod Examples
 pub mod Numbering
 pub mod Rows
 pub mod Queries
+pub mod Made
 pub mod Singles
 pub mod Groups
 pub mod Links
