@@ -1,5 +1,5 @@
 -- Worked rows: names, the written bad roots and truth of an assertion of each form, and the key of a WHERE, computed.
-use Rattle.std.proofs.Common.{◌≡◌, ℕ, pos, true, List, [], ◌∷◌, Option, Some, None, refl, ap, ◌∙◌}
+use Rattle.std.proofs.Common.{◌≡◌, ℕ, pos, true, List, [], ◌∷◌, Option, Some, None, refl, ap, ◌∙◌, sym}
 use Rattle.std.specs.Prelude.{◌==◌, filter_map, find}
 use Rattle.std.specs.Option.{option_or}
 use Rattle.value.specs.declared.values.Value.{Value}
@@ -12,8 +12,18 @@ use Rattle.threeval.specs.declared.Truth.{Truth}
 use Rattle.threeval.specs.declared.Truth.TheVariants.{True, False, Unknown}
 use Rattle.threeval.specs.Truths.{and_of, not_of, known}
 use Rattle.table.specs.declared.schemas.Column.{Column}
-use Rattle.table.specs.Rows.{Layout, Tables}
+use Rattle.table.specs.Rows.{RowValues, Layout, Tables}
+use Rattle.cond.specs.declared.exprs.Expr.TheOpen.{Expr-F}
+use Rattle.cond.specs.declared.exprs.Expr.TheVariants as expr
+use Rattle.cond.specs.declared.exprs.Expr.TheViews.{out-Expr}
+use Rattle.cond.specs.declared.conds.Cond.{Cond}
+use Rattle.cond.specs.declared.conds.Cond.TheOpen.{Cond-F}
+use Rattle.cond.specs.declared.conds.Cond.TheVariants as cond
+use Rattle.cond.specs.declared.conds.Cond.TheViews as cond_of
+use Rattle.cond.specs.declared.conds.Cond.TheViews.{out-Cond}
+use Rattle.cond.specs.Eval as resolved
 use Rattle.cond.specs.Values.{compared}
+use Rattle.cond.proofs.EvalLemmas.{truth-And}
 use Rattle.assertion.specs.Meaning.{State}
 use Rattle.syntax.specs.declared.trees.Aggregate.TheVariants as function
 use Rattle.syntax.specs.declared.trees.ColumnName.{ColumnName}
@@ -26,11 +36,13 @@ use Rattle.syntax.specs.Grammar.{and_layer}
 use Rattle.name_check.specs.Scopes.{Scope}
 use Rattle.siread.specs.declared.keys.LockKey.{LockKey}
 use Rattle.siread.specs.declared.keys.LockKey.TheVariants as key
+use Rattle.alone.specs.Reads as reads
 use Rattle.alone.specs.Reads.{Equality}
 use Rattle.meaning.specs.Keys as keys
 use Rattle.meaning.specs.Meaning as written
 use Rattle.meaning.specs.Meaning.{References, Valued, Answer, answers, simple, first_value, column_values, rows_counted, set_of_column, only_value, is_any, written_bad_roots, written_truth}
 use Rattle.meaning.specs.Laws.{seen}
+use Rattle.meaning.proofs.Keys.{in_parts, where_key_is, shown_expr, shown_cond}
 use Rattle.meaning.proofs.Nodes.{clauses, number_is, column_is, count_is, set_is, value_is, compare_is, both_is, denies_is, star_is, one_is, filtered_is, grouped_is}
 
 abbrev column_at : ℕ → Column
@@ -307,3 +319,41 @@ no_equality = both_keys (comparison (name_layer I) Greater (number_layer 3)) (co
 -- no WHERE
 no_where : keys.written_key 1 d_scope None ≡ key.Table 1
 no_where = refl
+
+-- truth does not tell the key: S = 7 AND O = 1 and O = 1 AND S = 7 are alike on every row, and read under two keys
+two_alike : (s t : Truth) → and_of s (and_of t True) ≡ and_of t (and_of s True)
+two_alike True True = refl
+two_alike True False = refl
+two_alike True Unknown = refl
+two_alike False True = refl
+two_alike False False = refl
+two_alike False Unknown = refl
+two_alike Unknown True = refl
+two_alike Unknown False = refl
+two_alike Unknown Unknown = refl
+
+exchanged_alike : (row : RowValues) (a b : Cond) → resolved.truth row [] (cond_of.And (a ∷ b ∷ [])) ≡ resolved.truth row [] (cond_of.And (b ∷ a ∷ []))
+exchanged_alike row a b = truth-And row [] (a ∷ b ∷ []) ∙ two_alike (resolved.truth row [] a) (resolved.truth row [] b) ∙ sym (truth-And row [] (b ∷ a ∷ []))
+
+abbrev set_to : ℕ → ℕ → Cond
+set_to column n = cond.Compare Equal (expr.Column column) (expr.Literal (number n))
+
+set_is_equality : (column n : ℕ) → reads.equality_in (out-Cond (set_to column n)) ≡ Some (record { column = column; value = number n })
+set_is_equality column n =
+    ap reads.equality_in (shown_cond (Cond-F.Compare Equal (expr.Column column) (expr.Literal (number n))) (set_to column n) (cond.rolls-Compare Equal (expr.Column column) (expr.Literal (number n))))
+    ∙ ap (λ x. reads.sides x (out-Expr (expr.Literal (number n)))) (shown_expr (Expr-F.Column column) (expr.Column column) (expr.rolls-Column column))
+    ∙ ap (reads.sides (Expr-F.Column column)) (shown_expr (Expr-F.Literal (number n)) (expr.Literal (number n)) (expr.rolls-Literal (number n)))
+
+-- two parts of a resolved AND
+key_of_two : (a b : Cond) (d e : Option Equality) → reads.equality_in (out-Cond a) ≡ d → reads.equality_in (out-Cond b) ≡ e → reads.where_key 1 0 (cond_of.And (a ∷ b ∷ [])) ≡ key_by (filter_map (λ o. o) (d ∷ e ∷ []))
+key_of_two a b d e first second =
+    let whole = cond_of.And (a ∷ b ∷ []) in
+    where_key_is 1 0 whole
+    ∙ ap (λ y. key_by (in_parts (reads.parts_in whole y))) (shown_cond (Cond-F.And (a ∷ b ∷ [])) whole (cond.rolls-And (a ∷ b ∷ [])))
+    ∙ (λ i. key_by (filter_map (λ o. o) (first i ∷ second i ∷ [])))
+
+resolved_key : reads.where_key 1 0 (cond_of.And (set_to 1 7 ∷ set_to 2 1 ∷ [])) ≡ key.Column 1 1 (number 7)
+resolved_key = key_of_two (set_to 1 7) (set_to 2 1) (Some (record { column = 1; value = number 7 })) (Some (record { column = 2; value = number 1 })) (set_is_equality 1 7) (set_is_equality 2 1)
+
+exchanged_key : reads.where_key 1 0 (cond_of.And (set_to 2 1 ∷ set_to 1 7 ∷ [])) ≡ key.Column 1 2 (number 1)
+exchanged_key = key_of_two (set_to 2 1) (set_to 1 7) (Some (record { column = 2; value = number 1 })) (Some (record { column = 1; value = number 7 })) (set_is_equality 2 1) (set_is_equality 1 7)

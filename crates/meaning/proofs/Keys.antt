@@ -74,11 +74,11 @@ sides_are (Expr-F.Product parts) y = no_sides y
 
 -- ---- the equalities of resolved parts, as a list
 
-abbrev before_all : Option Equality → List Equality → List Equality
+abbrev pub before_all : Option Equality → List Equality → List Equality
 before_all None rest = rest
 before_all (Some e) rest = e ∷ rest
 
-abbrev in_parts : List Cond → List Equality
+abbrev pub in_parts : List Cond → List Equality
 in_parts parts = filter_map (λ part. reads.equality_in (out-Cond part)) parts
 
 first_on_is : (key : ℕ) (parts : List Cond) → reads.first_on key parts ≡ find (λ e. e.column == key) (in_parts parts)
@@ -98,17 +98,17 @@ key_is table None (part ∷ parts) =
       | Some e ↦ refl
     ]
 
-where_key_is : (table key : ℕ) (made : Cond) → reads.where_key table key made ≡ written.first_key table (find (λ e. e.column == key) (in_parts (reads.top_parts made))) (in_parts (reads.top_parts made))
+pub where_key_is : (table key : ℕ) (made : Cond) → reads.where_key table key made ≡ written.first_key table (find (λ e. e.column == key) (in_parts (reads.top_parts made))) (in_parts (reads.top_parts made))
 where_key_is table key made =
     key_is table (reads.first_on key (reads.top_parts made)) (reads.top_parts made)
     ∙ ap (λ row. written.first_key table row (in_parts (reads.top_parts made))) (first_on_is key (reads.top_parts made))
 
 -- ---- what is made of a layer
 
-shown_expr : (y : Expr-F Expr) (made : Expr) → roll-Expr y ≡ made → out-Expr made ≡ y
+pub shown_expr : (y : Expr-F Expr) (made : Expr) → roll-Expr y ≡ made → out-Expr made ≡ y
 shown_expr y made e = ap out-Expr (sym e) ∙ out-roll-Expr y
 
-shown_cond : (y : Cond-F Cond) (made : Cond) → roll-Cond y ≡ made → out-Cond made ≡ y
+pub shown_cond : (y : Cond-F Cond) (made : Cond) → roll-Cond y ≡ made → out-Cond made ≡ y
 shown_cond y made e = ap out-Cond (sym e) ∙ out-roll-Cond y
 
 abbrev ExpressionLayer : Type 0
