@@ -2,11 +2,11 @@
 """Turns one definition of how an assertion's form or the key of a read is made, and sees that a law of what is written
 refuses it.
 
-A must-fail edit turns code, which its own contract refuses. A slip made alike in code and definition passes that contract,
-and only the law that ties the form, or the key, to what is written can find it. So in a copy of the repository the
-definitions of numbering and form_check, and those of keys in alone, are put into the crate `meaning` (the code is then
-left out of it), one of them is turned, and the crate is checked again: it has to be refused. First it is checked with
-nothing turned, and has to be proved.
+A must-fail edit turns code, which its own contract refuses. A slip made alike in code and definition passes that
+contract, and only the law that ties the form, or the key, to what is written can find it. So in a copy of the
+repository the definitions of numbering and form_check, and those of keys in alone, are put into the crate `meaning`
+(the code is then left out of it), one of them is turned, and the crate is checked again: it has to be refused. First
+it is checked with nothing turned, and has to be proved.
 
 A turn may change lines of proofs too, so that a law that still holds is proved of what is turned: then it is refused by
 the other laws alone.
@@ -44,7 +44,8 @@ EXCHANGED = """    two_exchanged : (s t : Truth) → and_of t (and_of s True) �
     two_exchanged Unknown Unknown = refl
 
     all_exchanged : (parts : List Cond)
-        → sql.all_of (map (resolved.truth row slots) (leaves_of.exchanged parts)) ≡ sql.all_of (map (resolved.truth row slots) parts)
+        → sql.all_of (map (resolved.truth row slots) (leaves_of.exchanged parts))
+        ≡ sql.all_of (map (resolved.truth row slots) parts)
     all_exchanged [] = refl
     all_exchanged (a ∷ []) = refl
     all_exchanged (a ∷ b ∷ []) = two_exchanged (resolved.truth row slots a) (resolved.truth row slots b)
@@ -102,9 +103,11 @@ TURNS = [
         ("and_then (row_filter source.scope keeps) (λ filter.", "and_then (row_filter source.scope None) (λ filter.")]),
     ("the two parts of an AND are exchanged", "specs/Leaves", [
         ("-- a condition, likewise\n",
-         "abbrev pub exchanged : List Cond → List Cond\nexchanged (a ∷ b ∷ []) = b ∷ a ∷ []\nexchanged other = other\n\n"
+         "abbrev pub exchanged : List Cond → List Cond\n"
+         "exchanged (a ∷ b ∷ []) = b ∷ a ∷ []\nexchanged other = other\n\n"
          "-- a condition, likewise\n"),
-        ("then_made cond_of.And (all parts leaves)", "then_made (λ made. cond_of.And (exchanged made)) (all parts leaves)")],
+        ("then_made cond_of.And (all parts leaves)",
+         "then_made (λ made. cond_of.And (exchanged made)) (all parts leaves)")],
      "proofs/Numbering", [
         ("    and_true : (t : Truth) →", EXCHANGED + "    and_true : (t : Truth) →"),
         ("cond_of.And sql.all_of (λ a. sym (truth-And a))",
