@@ -1,14 +1,21 @@
 #!/usr/bin/env python3
-"""Turns one definition of how an assertion's form is made, and sees that the law of the written meaning refuses it.
+"""Turns one definition of how an assertion's form or the key of a read is made, and sees that a law of what is written
+refuses it.
 
-A must-fail edit turns code, which its own contract refuses. A slip made alike in code and definition passes that contract,
-and only the law that ties the form to what is written can find it. So in a copy of the repository the definitions of
-numbering and form_check are put into the crate `meaning` (the code is then left out of it), one of them is turned, and
-the crate is checked again: it has to be refused. First it is checked with nothing turned, and has to be proved.
+A must-fail edit turns code, which its own contract refuses. A slip made alike in code and definition passes that
+contract, and only the law that ties the form, or the key, to what is written can find it. So in a copy of the
+repository the definitions of numbering and form_check, and those of keys in alone, are put into the crate `meaning`
+(the code is then left out of it), one of them is turned, and the crate is checked again: it has to be refused. First
+it is checked with nothing turned, and has to be proved.
 
-    turned_definitions.py FOLDER        FOLDER: for the copy (about 2 GB; it is written over)
+A turn may change lines of proofs too, so that a law that still holds is proved of what is turned: then it is refused by
+the other laws alone.
 
-The crates have to be built (`rt check` in crates/meaning). It prints a line for each turn, and last how many were refused.
+    turned_definitions.py FOLDER [WORD ..]  FOLDER: for the copy (about 2 GB; it is written over)
+                                            WORD: only the turns with one of these in their name
+
+The crates have to be built (`rt check` in crates/meaning). It prints a line for each turn, with the laws that refuse it
+and the first error, and last how many were refused.
 """
 import re
 import shutil
@@ -17,57 +24,121 @@ import sys
 from pathlib import Path
 
 REPOSITORY = Path(__file__).resolve().parent.parent
-MODULES = {"numbering": ["Results", "Columns", "Leaves"], "form_check": ["Queries", "Links", "Forms"]}
-LAWS = ["rows_are_as_written", "class_has_forms", "form_means_what_is_written"]
+MODULES = {
+    "numbering": ["Results", "Columns", "Leaves"],
+    "form_check": ["Queries", "Links", "Forms"],
+    "alone": ["Reads", "Checks"],
+}
+LAWS = ["rows_are_as_written", "class_has_forms", "form_means_what_is_written", "keys_are_as_written"]
 
-# what is turned, the module, and pairs of the text there and what stands for it
+# Exchanging the two parts of an AND keeps each truth, and this is the proof.
+EXCHANGED = """    two_exchanged : (s t : Truth) → and_of t (and_of s True) ≡ and_of s (and_of t True)
+    two_exchanged True True = refl
+    two_exchanged True False = refl
+    two_exchanged True Unknown = refl
+    two_exchanged False True = refl
+    two_exchanged False False = refl
+    two_exchanged False Unknown = refl
+    two_exchanged Unknown True = refl
+    two_exchanged Unknown False = refl
+    two_exchanged Unknown Unknown = refl
+
+    all_exchanged : (parts : List Cond)
+        → sql.all_of (map (resolved.truth row slots) (leaves_of.exchanged parts))
+        ≡ sql.all_of (map (resolved.truth row slots) parts)
+    all_exchanged [] = refl
+    all_exchanged (a ∷ []) = refl
+    all_exchanged (a ∷ b ∷ []) = two_exchanged (resolved.truth row slots a) (resolved.truth row slots b)
+    all_exchanged (a ∷ b ∷ c ∷ rest) = refl
+
+"""
+
+# what is turned, and for each file pairs of the text there and what stands for it
 TURNS = [
-    ("slots are put in the other order", "Leaves", [
+    ("slots are put in the other order", "specs/Leaves", [
         ("both make left right leaves = and_then (left leaves) (λ l. then_made (make l.0) (right l.1))",
          "both make left right leaves = and_then (right leaves) (λ r. then_made (λ l. make l r.0) (left r.1))")]),
-    ("the second of two links is dropped", "Links", [
+    ("the second of two links is dropped", "specs/Links", [
         ("only_one (column ∷ other ∷ rest) = None", "only_one (column ∷ other ∷ rest) = Some column")]),
-    ("a part about the root filters the child", "Links", [
+    ("a part about the root filters the child", "specs/Links", [
         ("each (row_condition child) (own_parts child root parts)",
          "each (row_condition root) (own_parts child root parts)")]),
-    ("HAVING is of unfiltered rows", "Forms", [
+    ("HAVING is of unfiltered rows", "specs/Forms", [
         ("and_then (row_filter source.scope query.keeps) (λ restriction. having_over source group restriction having)",
          "and_then (row_filter source.scope None) (λ restriction. having_over source group restriction having)")]),
-    ("a name of both tables is the root's", "Links", [
+    ("a name of both tables is the root's", "specs/Links", [
         ("if is_name_of name.qualifier name.name child then None else own_column root name", "own_column root name")]),
-    ("NOT is lost", "Leaves", [
+    ("NOT is lost", "specs/Leaves", [
         ("then_made cond_of.Not (part.1 leaves)", "part.1 leaves")]),
-    ("EXISTS may list COUNT(*)", "Queries", [
+    ("EXISTS may list COUNT(*)", "specs/Queries", [
         ("expression_may_stand place other = false",
          "expression_may_stand place Expression-F.CountRows = true\nexpression_may_stand place other = false")]),
-    ("the ends of BETWEEN are exchanged", "Leaves", [
+    ("the ends of BETWEEN are exchanged", "specs/Leaves", [
         ("both (between_of s.0) low high s.1", "both (between_of s.0) high low s.1")]),
-    ("HAVING without GROUP BY is forgotten", "Forms", [
+    ("HAVING without GROUP BY is forgotten", "specs/Forms", [
         ("by_clauses tables source query None (Some having) = Err OutsideClass",
          "by_clauses tables source query None (Some having) = by_row tables source query")]),
-    ("GROUP BY without HAVING is forgotten", "Forms", [
+    ("GROUP BY without HAVING is forgotten", "specs/Forms", [
         ("by_clauses tables source query (Some column) None = Err OutsideClass",
          "by_clauses tables source query (Some column) None = by_row tables source query")]),
-    ("a link may be to any column of the root", "Links", [
+    ("a link may be to any column of the root", "specs/Links", [
         ("is_key root (Some column) = column == root.layout.key", "is_key root (Some column) = column == column")]),
-    ("a link may be by <=", "Links", [
+    ("a link may be by <=", "specs/Links", [
         ("link_in child root (Condition-F.Compare left Equal right) =",
          "link_in child root (Condition-F.Compare left AtMost right) ="),
         ("Comparison.TheVariants.{Equal}", "Comparison.TheVariants.{AtMost}")]),
-    ("COUNT is taken for SUM", "Queries", [
+    ("COUNT is taken for SUM", "specs/Queries", [
         ("of_column function.Count column = Count column", "of_column function.Count column = Sum column")]),
-    ("any own column is the grouping column", "Columns", [
+    ("any own column is the grouping column", "specs/Columns", [
         ("in_group group (Some column) = if column == group then Some 0 else None",
          "in_group group (Some column) = Some 0")]),
-    ("OR is taken for AND", "Leaves", [
+    ("OR is taken for AND", "specs/Leaves", [
         ("condition_step place (Condition-F.Or parts) leaves = then_made cond_of.Or (all parts leaves)",
          "condition_step place (Condition-F.Or parts) leaves = then_made cond_of.And (all parts leaves)")]),
-    ("IS TRUE, FALSE or UNKNOWN is lost", "Leaves", [
+    ("IS TRUE, FALSE or UNKNOWN is lost", "specs/Leaves", [
         ("then_made (λ c. cond_of.Is c truth) (part.1 leaves)", "part.1 leaves")]),
-    ("a correlation name is forgotten", "Queries", [
+    ("a correlation name is forgotten", "specs/Queries", [
         ("sourced (unwrap_or correlation_name table)", "sourced table")]),
-    ("WHERE of a query of its own is forgotten", "Forms", [
+    ("WHERE of a query of its own is forgotten", "specs/Forms", [
         ("and_then (row_filter source.scope keeps) (λ filter.", "and_then (row_filter source.scope None) (λ filter.")]),
+    ("the two parts of an AND are exchanged", "specs/Leaves", [
+        ("-- a condition, likewise\n",
+         "abbrev pub exchanged : List Cond → List Cond\n"
+         "exchanged (a ∷ b ∷ []) = b ∷ a ∷ []\nexchanged other = other\n\n"
+         "-- a condition, likewise\n"),
+        ("then_made cond_of.And (all parts leaves)",
+         "then_made (λ made. cond_of.And (exchanged made)) (all parts leaves)")],
+     "proofs/Numbering", [
+        ("    and_true : (t : Truth) →", EXCHANGED + "    and_true : (t : Truth) →"),
+        ("cond_of.And sql.all_of (λ a. sym (truth-And a))",
+         "(λ a. cond_of.And (leaves_of.exchanged a)) sql.all_of"
+         " (λ a. sym (truth-And (leaves_of.exchanged a) ∙ all_exchanged a))")],
+     "proofs/Standing", [
+        ("then_numbers cond_of.And ", "then_numbers (λ a. cond_of.And (leaves_of.exchanged a)) ")],
+     "proofs/Keys", [
+        ("(out-Cond made ≡ Cond-F.And cs))", "(out-Cond made ≡ Cond-F.And (leaves_of.exchanged cs)))"),
+        ("then_ok cond_of.And (all", "then_ok (λ cs. cond_of.And (leaves_of.exchanged cs)) (all"),
+        ("shown_cond (Cond-F.And cs) made (cond.rolls-And cs ∙ makes)",
+         "shown_cond (Cond-F.And (leaves_of.exchanged cs)) made (cond.rolls-And (leaves_of.exchanged cs) ∙ makes)"),
+        ("record { shown = Cond-F.And cs;", "record { shown = Cond-F.And (leaves_of.exchanged cs);")]),
+    ("the last equality is taken for the first", "specs/Reads", [
+        ("option_or (equality_in (out-Cond part)) (first_equality rest)",
+         "option_or (first_equality rest) (equality_in (out-Cond part))")]),
+    ("the key is no better than another column", "specs/Reads", [
+        ("if is_on column (equality_in (out-Cond part)) then equality_in (out-Cond part) else first_on column rest",
+         "None")]),
+    ("an inequality is taken for an equality", "specs/Reads", [
+        ("equal_sides Equal a b = sides (out-Expr a) (out-Expr b)\nequal_sides other a b = None",
+         "equal_sides other a b = sides (out-Expr a) (out-Expr b)")]),
+    ("a literal on the left is not seen", "specs/Reads", [
+        ("sides (Expr-F.Literal v) (Expr-F.Column i) = Some (record { column = i; value = v })\n", "")]),
+    ("a check by rows reads the whole of a linked table", "specs/Checks", [
+        ("link_key k q = InColumn q.table (link_column q.grouping) k", "link_key k q = WholeTable q.table")]),
+    ("a check by groups reads the whole table", "specs/Checks", [
+        ("(Of v) = InColumn table group v ∷ []", "(Of v) = WholeTable table ∷ []")]),
+    ("a single condition reads a row of each group too", "specs/Checks", [
+        ("keys_for (Single condition queries) (Of v) = []",
+         "keys_for (Single condition queries) (Of v) = map WholeTable (map (λ q. q.table) queries)")]),
 ]
 
 
@@ -117,9 +188,10 @@ def keep_laws(meaning):
     for path in (meaning / "proofs/laws").iterdir():
         if path.name not in LAWS:
             shutil.rmtree(path)
-    (meaning / "proofs/Checked.antt").unlink()
     lib = meaning / "proofs/Lib.antt"
-    lib.write_text(lib.read_text().replace("pub mod Checked\n", ""))
+    for module in ["Checked", "StatementKeys"]:
+        (meaning / f"proofs/{module}.antt").unlink()
+        lib.write_text(lib.read_text().replace(f"pub mod {module}\n", ""))
     laws = meaning / "src/laws.rt"
     pieces = re.split(r"(?=^///)(?<=\{\}\n\n)", laws.read_text(), flags=re.M)
     head, first = pieces[0].split("///", 1)
@@ -130,36 +202,49 @@ def keep_laws(meaning):
 
 
 def check(meaning):
-    """Whether the crate is proved, and the first error; a definition that can't be read ends the run."""
+    """The laws that are not proved, and the first error; a definition that can't be read ends the run."""
     run = subprocess.run(["rt", "check", "--jobs", "1"], cwd=meaning, capture_output=True, text=True, timeout=900)
     told = run.stdout + run.stderr
     errors = [line for line in told.splitlines() if " error: " in line]
     if any(line.startswith("./specs/") for line in errors):
         sys.exit(f"a definition can't be read: {errors[0]}")
-    return "\nlogic=proved " in told, errors[0] if errors else told[-300:]
+    if "\nlogic=proved " in told:
+        return [], ""
+    laws = [law for law in LAWS if f"fn meaning::laws::{law}: proved" not in told]
+    return laws, errors[0] if errors else told[-300:]
+
+
+def turn(meaning, what, files):
+    """Turns the files, as a list of a name and its pairs; gives back what stood there."""
+    before = {}
+    for name, pairs in zip(files[::2], files[1::2]):
+        path = meaning / f"{name}.antt"
+        text = before[path] = path.read_text()
+        for old, new in pairs:
+            if text.count(old) != 1:
+                sys.exit(f"{what}: the text stands {text.count(old)} times in {name}: {old}")
+            text = text.replace(old, new)
+        path.write_text(text)
+    return before
 
 
 def main():
     meaning = copy_to(Path(sys.argv[1]).resolve())
-    proved, error = check(meaning)
-    if not proved:
+    words = sys.argv[2:] or [""]
+    turns = [(what, files) for what, *files in TURNS if any(word in what for word in words)]
+    laws, error = check(meaning)
+    if error:
         sys.exit(f"nothing is turned, and it is not proved: {error}")
     print("nothing turned: proved", flush=True)
     refused = 0
-    for what, module, pairs in TURNS:
-        path = meaning / f"specs/{module}.antt"
-        before = path.read_text()
-        text = before
-        for old, new in pairs:
-            if text.count(old) != 1:
-                sys.exit(f"{what}: the text stands {text.count(old)} times in {module}: {old}")
-            text = text.replace(old, new)
-        path.write_text(text)
-        proved, error = check(meaning)
-        path.write_text(before)
-        refused += not proved
-        print(f"{what}: {'PROVED' if proved else 'refused, ' + error[:160]}", flush=True)
-    print(f"{refused} of {len(TURNS)} turns refused")
+    for what, files in turns:
+        before = turn(meaning, what, files)
+        laws, error = check(meaning)
+        for path, text in before.items():
+            path.write_text(text)
+        refused += bool(error)
+        print(f"{what}: {'refused by ' + ', '.join(laws) + '; ' + error[:160] if error else 'PROVED'}", flush=True)
+    print(f"{refused} of {len(turns)} turns refused")
 
 
 if __name__ == "__main__":

@@ -23,7 +23,7 @@ use Rattle.statement_syntax.specs.declared.statements.Which.{Which}
 use Rattle.statement_syntax.specs.declared.statements.Which.TheVariants.{All, Names}
 use Rattle.name_check.specs.Scopes.{Scope}
 use Rattle.name_check.specs.Names.{condition_fault}
-use Rattle.value.specs.Results.{and_then, each, found, provided, unless}
+use Rattle.value.specs.Results.{and_then, found, provided, unless}
 use Rattle.value.proofs.Results.{found_ok, provided_is, provided_ok, unless_is, unless_ok}
 use Rattle.form_check.specs.Forms.{form_of}
 use Rattle.form_check.specs.Queries.{Source, source_of, row_expression, row_filter}
@@ -36,7 +36,7 @@ use Rattle.assertcheck.specs.declared.updates.Setting.{Setting}
 use Rattle.assertcheck.specs.declared.updates.Update.{Update}
 use Rattle.assertcheck.specs.Assertions.{are_at_odds, attributes_of, of_form, checked}
 use Rattle.assertcheck.specs.Conditions.{target_of, sound_condition, where_fault, where_of}
-use Rattle.assertcheck.specs.Statements.{named_column, new_place, places_from, selected, select_of, unlisted}
+use Rattle.assertcheck.specs.Statements.{delete_of, named_column, new_place, places_from, selected, select_of, unlisted}
 use Rattle.assertcheck.specs.Updates.{assignable, not_key, update_of, value_of, names_fault, assigned_places, settings_of, fits, is_bounded_setting, sound_update, update_over}
 use Rattle.meaning.specs.Meaning.{Reference, table_of, truth, passes, with_rows}
 use Rattle.meaning.specs.Laws as law
@@ -46,7 +46,7 @@ use Rattle.meaning.proofs.Rows.{row_expression_value, row_filter_keeps}
 use Rattle.meaning.proofs.Queries.{source_seen}
 use Rattle.meaning.proofs.Whole.{HasWrittenRoots-law, HasWrittenTruth-law, HasWrittenLeast-law}
 use Rattle.meaning.proofs.Grown.{KeepsForm-law}
-use Rattle.meaning.proofs.Classes.{none_is, form_class, class_form}
+use Rattle.meaning.proofs.Classes.{none_is, each_pairs, form_class, class_form}
 
 -- ---- assertions
 
@@ -142,37 +142,41 @@ filtered_of tables state name condition target restriction found is =
     ap (λ table. filter (λ row. passes (option_map (truth tables state) condition) (with_rows table (row ∷ []) [])) table.rows) (source_seen tables state name None target found)
     ∙ filter_agree (λ row. passes (option_map (truth tables state) condition) (with_rows (seen target.scope rows) (row ∷ []) [])) (λ row. resolved.keeps row [] restriction) (λ row. row_filter_keeps target.scope condition restriction is tables state row []) rows
 
-pub DeletesRows-law : law.DeletesRows
-DeletesRows-law tables name condition delete e state =
+-- the parts of a DELETE that is taken
+pub record Deletes (tables : Tables) (name : List ℕ) (condition : Option Condition) (delete : Delete) : Type 0 where
+  pub target : Source
+  pub found : source_of tables name None ≡ Some target
+  pub restriction : Cond
+  pub keeps : row_filter target.scope condition ≡ Ok restriction
+  pub made : ◌≡◌ {A = Delete} (record { table = target.table; filter = restriction }) delete
+
+pub deletes : (tables : Tables) (name : List ℕ) (condition : Option Condition) (delete : Delete) → delete_of tables name condition ≡ Ok delete → Deletes tables name condition delete
+deletes tables name condition delete e =
     let make : Source → Cond → Delete = λ target restriction. record { table = target.table; filter = restriction } in
     let (target, (is, more)) = and_then_ok (target_of tables name) (λ target. and_then (where_of tables target.scope condition) (λ restriction. let r : Result Delete Refusal = Ok (make target restriction) in r)) delete e in
     let (restriction, (keeps, makes)) = and_then_ok (where_of tables target.scope condition) (λ restriction. let r : Result Delete Refusal = Ok (make target restriction) in r) delete more in
-    filtered_of tables state name condition target restriction (found_ok name (source_of tables name None) target is) (where_filter tables target.scope condition restriction keeps)
-    ∙ ap (λ (d : Delete). filtered_rows d.filter (rows_of d.table state)) (ok_same (make target restriction) delete makes)
+    record { target = target; found = found_ok name (source_of tables name None) target is; restriction = restriction; keeps = where_filter tables target.scope condition restriction keeps; made = ok_same (make target restriction) delete makes }
 
--- each of a list, one by one
-each_pairs : {X A : Type 0} (make : X → Result A Refusal) (P : X → A → Type 0) → ((x : X) (a : A) → make x ≡ Ok a → P x a) → (xs : List X) (made : List A) → each make xs ≡ Ok made → Pairs P xs made
-each_pairs {A = A} make P one [] made e = let none : List A = [] in subst (Pairs P []) (ok_same none made e) tt
-each_pairs {A = A} make P one (x ∷ xs) made e =
-    let (a, (is, more)) = and_then_ok (make x) (λ a. and_then (each make xs) (λ others. let r : Result (List A) Refusal = Ok (a ∷ others) in r)) made e in
-    let (others, (are, makes)) = and_then_ok (each make xs) (λ others. let r : Result (List A) Refusal = Ok (a ∷ others) in r) made more in
-    subst (Pairs P (x ∷ xs)) (ok_same (a ∷ others) made makes) (one x a is, each_pairs make P one xs others are)
+pub DeletesRows-law : law.DeletesRows
+DeletesRows-law tables name condition delete e state =
+    let d = deletes tables name condition delete e in
+    filtered_of tables state name condition d.target d.restriction d.found d.keeps ∙ ap (λ (d : Delete). filtered_rows d.filter (rows_of d.table state)) d.made
 
 -- the table of a statement
 scope_is : (tables : Tables) (state : State) (name : List ℕ) (target : Source) → source_of tables name None ≡ Some target → target.scope ≡ (table_of tables state name None).table
 scope_is tables state name target found = sym (ap (λ (r : Reference). r.table) (source_seen tables state name None target found))
 
 -- the parts of a SELECT that is taken
-record Selects (tables : Tables) (columns : Which) (name : List ℕ) (condition : Option Condition) (select : Select) : Type 0 where
-  target : Source
-  found : source_of tables name None ≡ Some target
-  places : List ℕ
-  select_list : selected target.scope.layout.columns columns ≡ Ok places
-  restriction : Cond
-  keeps : row_filter target.scope condition ≡ Ok restriction
-  made : ◌≡◌ {A = Select} (record { table = target.table; columns = places; filter = restriction }) select
+pub record Selects (tables : Tables) (columns : Which) (name : List ℕ) (condition : Option Condition) (select : Select) : Type 0 where
+  pub target : Source
+  pub found : source_of tables name None ≡ Some target
+  pub places : List ℕ
+  pub select_list : selected target.scope.layout.columns columns ≡ Ok places
+  pub restriction : Cond
+  pub keeps : row_filter target.scope condition ≡ Ok restriction
+  pub made : ◌≡◌ {A = Select} (record { table = target.table; columns = places; filter = restriction }) select
 
-selects : (tables : Tables) (columns : Which) (name : List ℕ) (condition : Option Condition) (select : Select) → select_of tables columns name condition ≡ Ok select → Selects tables columns name condition select
+pub selects : (tables : Tables) (columns : Which) (name : List ℕ) (condition : Option Condition) (select : Select) → select_of tables columns name condition ≡ Ok select → Selects tables columns name condition select
 selects tables columns name condition select e =
     let make : Source → List ℕ → Cond → Select = λ target places restriction. record { table = target.table; columns = places; filter = restriction } in
     let (target, (is, more)) = and_then_ok (target_of tables name) (λ target. and_then (selected target.scope.layout.columns columns) (λ places. and_then (where_of tables target.scope condition) (λ restriction. let r : Result Select Refusal = Ok (make target places restriction) in r))) select e in
@@ -199,18 +203,18 @@ ListsColumns-law tables columns name condition select e state =
     (subst (λ scope. IsListOf scope columns s.places) (scope_is tables state name s.target s.found) (selected_are s.target.scope columns s.places s.select_list))
 
 -- the parts of an UPDATE that is taken
-record Updates (tables : Tables) (name : List ℕ) (sets : List Assignment) (condition : Option Condition) (update : Update) : Type 0 where
-  target : Source
-  found : source_of tables name None ≡ Some target
-  columns : List ℕ
-  assigned : assigned_places target.scope.layout [] sets ≡ Ok columns
-  settings : List Setting
-  set : settings_of target.scope columns sets ≡ Ok settings
-  restriction : Cond
-  keeps : row_filter target.scope condition ≡ Ok restriction
-  made : ◌≡◌ {A = Update} (record { table = target.table; sets = settings; filter = restriction }) update
+pub record Updates (tables : Tables) (name : List ℕ) (sets : List Assignment) (condition : Option Condition) (update : Update) : Type 0 where
+  pub target : Source
+  pub found : source_of tables name None ≡ Some target
+  pub columns : List ℕ
+  pub assigned : assigned_places target.scope.layout [] sets ≡ Ok columns
+  pub settings : List Setting
+  pub set : settings_of target.scope columns sets ≡ Ok settings
+  pub restriction : Cond
+  pub keeps : row_filter target.scope condition ≡ Ok restriction
+  pub made : ◌≡◌ {A = Update} (record { table = target.table; sets = settings; filter = restriction }) update
 
-updates : (tables : Tables) (name : List ℕ) (sets : List Assignment) (condition : Option Condition) (update : Update) → update_of tables name sets condition ≡ Ok update → Updates tables name sets condition update
+pub updates : (tables : Tables) (name : List ℕ) (sets : List Assignment) (condition : Option Condition) (update : Update) → update_of tables name sets condition ≡ Ok update → Updates tables name sets condition update
 updates tables name sets condition update e =
     let make : Source → List Setting → Cond → Update = λ target settings restriction. record { table = target.table; sets = settings; filter = restriction } in
     let (target, (is, more)) = and_then_ok (target_of tables name) (λ target. and_then (assigned_places target.scope.layout [] sets) (λ columns. unless (names_fault tables target.scope sets condition) (update_over target columns sets condition))) update e in

@@ -39,10 +39,12 @@ use Rattle.std.proofs.lemmas.Bool.Decides.{nat_tests}
 use Rattle.std.proofs.lemmas.Option.{same_Some}
 use Rattle.meaning.proofs.Links.{one_test, linked_column_is, either_is, linked_where_ok, only_one_is}
 use Rattle.meaning.specs.Laws as law
-use Rattle.meaning.proofs.Steps.{and_then_ok, in_class_ok, only_if_ok}
+use Rattle.meaning.specs.Laws.{Pairs}
+use Rattle.meaning.proofs.Steps.{and_then_ok, in_class_ok, only_if_ok, ok_same}
 use Rattle.meaning.proofs.Rows.{alone_ok}
 use Rattle.meaning.proofs.Queries.{plain_by_ok}
 use Rattle.meaning.proofs.Groups.{in_group_is}
+use Rattle.meaning.proofs.Made.{single_made, row_made, group_made}
 use Rattle.meaning.proofs.Whole.{by_clauses_ok}
 use Rattle.meaning.proofs.Standing.{leaf_of, MayStand, condition_numbers, some_is, columns_of, pieces_at, each_append, condition_pieces_rolled}
 
@@ -75,7 +77,7 @@ rows_over scope c over =
     let (made, is) = (condition_numbers (own_column scope) c).finds [] over.columns in
     (made, ap (λ r. and_then r (λ m. alone m.0 m.1)) is ∙ ap (λ ps. alone made (map leaf_of ps)) over.alone)
 
-over_filter : (scope : Scope) (c : Option Condition) → Answers (row_filter scope c) → IfWritten (IsOverRows scope) c
+pub over_filter : (scope : Scope) (c : Option Condition) → Answers (row_filter scope c) → IfWritten (IsOverRows scope) c
 over_filter scope None h = tt
 over_filter scope (Some c) h = over_rows scope c h
 
@@ -99,9 +101,17 @@ of_each {A = A} make P one (x ∷ xs) h =
     let (others, are) = of_each make P one xs h.1 in
     (a ∷ others, ap (λ r. and_then r (λ a. and_then (each make xs) (λ others. let r : Result (List A) Refusal = Ok (a ∷ others) in r))) is ∙ ap (λ r. and_then r (λ others. let r : Result (List A) Refusal = Ok (a ∷ others) in r)) are)
 
-each_mapped : {X Y A : Type 0} (make : Y → Result A Refusal) (f : X → Y) (xs : List X) → each make (map f xs) ≡ each (λ x. make (f x)) xs
+pub each_mapped : {X Y A : Type 0} (make : Y → Result A Refusal) (f : X → Y) (xs : List X) → each make (map f xs) ≡ each (λ x. make (f x)) xs
 each_mapped make f [] = refl
 each_mapped {A = A} make f (x ∷ xs) = ap (λ r. and_then (make (f x)) (λ a. and_then r (λ others. let r : Result (List A) Refusal = Ok (a ∷ others) in r))) (each_mapped make f xs)
+
+-- each of a list, one by one
+pub each_pairs : {X A : Type 0} (make : X → Result A Refusal) (P : X → A → Type 0) → ((x : X) (a : A) → make x ≡ Ok a → P x a) → (xs : List X) (made : List A) → each make xs ≡ Ok made → Pairs P xs made
+each_pairs {A = A} make P one [] made e = let none : List A = [] in subst (Pairs P []) (ok_same none made e) tt
+each_pairs {A = A} make P one (x ∷ xs) made e =
+    let (a, (is, more)) = and_then_ok (make x) (λ a. and_then (each make xs) (λ others. let r : Result (List A) Refusal = Ok (a ∷ others) in r)) made e in
+    let (others, (are, makes)) = and_then_ok (each make xs) (λ others. let r : Result (List A) Refusal = Ok (a ∷ others) in r) made more in
+    subst (Pairs P (x ∷ xs)) (ok_same (a ∷ others) made makes) (one x a is, each_pairs make P one xs others are)
 
 -- what stands in the slots of pieces
 pieces_of : {A : Type 0} (make : Leaf → Result A Refusal) (P : Piece → Type 0) → ((p : Piece) → Answers (make (leaf_of p)) → P p) → (leaves : Leaves) (ps : Pieces) → leaves ≡ map leaf_of ps → Answers (each make leaves) → Each P ps
@@ -116,7 +126,7 @@ each_other P Q one (x ∷ xs) h = (one x h.0, each_other P Q one xs h.1)
 
 -- ---- the table that a query reads
 
-source_read : (name : List ℕ) (p : Option ℕ) (l : Option Layout) (source : Source) → sourced name p l ≡ Some source → option_map (named_as name) l ≡ Some source.scope
+pub source_read : (name : List ℕ) (p : Option ℕ) (l : Option Layout) (source : Source) → sourced name p l ≡ Some source → option_map (named_as name) l ≡ Some source.scope
 source_read name None l source e = cc
 source_read name (Some t) None source e = cc
 source_read name (Some t) (Some l) source e =
@@ -294,10 +304,9 @@ no_columns (c ∷ cs) h = let k : false ≡ true = h.0 in cc
 
 pub single_class : (tables : Tables) (c : Condition) → Answers (single tables c) → IsSingle tables c
 single_class tables c (form, e) =
-    let (m, (is, more)) = and_then_ok (numbered no_column c []) (λ m. and_then (each (plain tables) m.1) (λ queries. let r : Result Form Refusal = Ok (Single m.0 queries) in r)) form e in
-    let (queries, (are, makes)) = and_then_ok (each (plain tables) m.1) (λ queries. let r : Result Form Refusal = Ok (Single m.0 queries) in r) form more in
-    let (columns, leaves) = (condition_numbers no_column c).says [] m.0 m.1 is in
-    record { columns = no_columns (columns_in c) columns; queries = pieces_of (plain tables) (IsPlainPiece tables) (plain_leaf_is tables) m.1 (pieces_in c) leaves (queries, are) }
+    let m = single_made tables c form e in
+    let (columns, leaves) = (condition_numbers no_column c).says [] m.made m.leaves m.numbers in
+    record { columns = no_columns (columns_in c) columns; queries = pieces_of (plain tables) (IsPlainPiece tables) (plain_leaf_is tables) m.leaves (pieces_in c) leaves (m.queries, m.are) }
 
 pub class_single : (tables : Tables) (c : Condition) → IsSingle tables c → Answers (single tables c)
 class_single tables c h =
@@ -329,13 +338,10 @@ group_class : (source : Source) (query : Clauses) (column : ColumnName) (having 
     → (group : ℕ) × ((own_column source.scope column ≡ Some group) × (IsSimpleList (IsColumnAt source.scope group) (out-SelectList query.select_list) × (IfWritten (IsOverRows source.scope) query.keeps × (Each (IsColumnAt source.scope group) (columns_in having) × Each (IsSetFunction source.scope) (pieces_in having)))))
 group_class source query column having (form, e) =
     let scope = source.scope in
-    let (group, (own, more)) = in_class_ok (own_column scope column) (λ group. only_if (may_be_selected (grouping_column scope group) query.select_list) (and_then (row_filter scope query.keeps) (λ restriction. having_over source group restriction having))) form e in
-    let (lists, rest) = only_if_ok (may_be_selected (grouping_column scope group) query.select_list) (and_then (row_filter scope query.keeps) (λ restriction. having_over source group restriction having)) form more in
-    let (restriction, (filters, over)) = and_then_ok (row_filter scope query.keeps) (λ restriction. having_over source group restriction having) form rest in
-    let (m, (is, made)) = and_then_ok (numbered (grouping_column scope group) having []) (λ made. and_then (each (aggregate_of scope) made.1) (λ aggregates. let r : Result Form Refusal = Ok (ByGroup source.table restriction group made.0 aggregates) in r)) form over in
-    let (aggregates, (are, makes)) = and_then_ok (each (aggregate_of scope) m.1) (λ aggregates. let r : Result Form Refusal = Ok (ByGroup source.table restriction group m.0 aggregates) in r) form made in
-    let (columns, leaves) = (condition_numbers (grouping_column scope group) having).says [] m.0 m.1 is in
-    (group, (own, (group_list scope group query.select_list lists, (over_filter scope query.keeps (restriction, filters), (each_other (MayStand (grouping_column scope group)) (IsColumnAt scope group) (λ c h. grouped_at group (own_column scope c) h) (columns_in having) columns, pieces_of (aggregate_of scope) (IsSetFunction scope) (set_leaf scope) m.1 (pieces_in having) leaves (aggregates, are))))))
+    let m = group_made source query column having form e in
+    let group = m.group in
+    let (columns, leaves) = (condition_numbers (grouping_column scope group) having).says [] m.made m.leaves m.numbers in
+    (group, (m.own, (group_list scope group query.select_list m.lists, (over_filter scope query.keeps (m.restriction, m.keeps), (each_other (MayStand (grouping_column scope group)) (IsColumnAt scope group) (λ c h. grouped_at group (own_column scope c) h) (columns_in having) columns, pieces_of (aggregate_of scope) (IsSetFunction scope) (set_leaf scope) m.leaves (pieces_in having) leaves (m.aggregates, m.are))))))
 
 class_group : (source : Source) (query : Clauses) (column : ColumnName) (having : Condition) (group : ℕ) → own_column source.scope column ≡ Some group → IsSimpleList (IsColumnAt source.scope group) (out-SelectList query.select_list) → IfWritten (IsOverRows source.scope) query.keeps
     → Each (IsColumnAt source.scope group) (columns_in having) → Each (IsSetFunction source.scope) (pieces_in having) → Answers (by_group source query column having)
@@ -366,7 +372,7 @@ named (Expression-F.Sum parts) column e = cc
 named (Expression-F.Product parts) column e = cc
 
 module _ (child root : Scope) where
-  link_names : (part : Condition) (left right : Expression) → out-Condition part ≡ Condition-F.Compare left Equal right → (l r : Option ColumnName) → name_in (out-Expression left) ≡ l → name_in (out-Expression right) ≡ r → (c : ℕ) → link_between child root l r ≡ Some c → IsLink child root part
+  link_names : (part : Condition) (left right : Expression) → out-Condition part ≡ Condition-F.Compare left Equal right → (l r : Option ColumnName) → name_in (out-Expression left) ≡ l → name_in (out-Expression right) ≡ r → (c : ℕ) → link_between child root l r ≡ Some c → IsLink child root c part
   link_names part left right out None r e f c is = cc
   link_names part left right out (Some l) None e f c is = cc
   link_names part left right out (Some l) (Some r) e f c is = record {
@@ -375,12 +381,12 @@ module _ (child root : Scope) where
     equality = out;
     sides =
         ⊎_elim
-        (λ one. let (none, (key, own)) = linked_column_is child root l r c one in inl ((l, named (out-Expression left) l e, ap is_some own), (r, named (out-Expression right) r f, (none, key))))
-        (λ two. let (none, (key, own)) = linked_column_is child root r l c two in inr ((r, named (out-Expression right) r f, ap is_some own), (l, named (out-Expression left) l e, (none, key))))
+        (λ one. let (none, (key, own)) = linked_column_is child root l r c one in inl ((l, named (out-Expression left) l e, own), (r, named (out-Expression right) r f, (none, key))))
+        (λ two. let (none, (key, own)) = linked_column_is child root r l c two in inr ((r, named (out-Expression right) r f, own), (l, named (out-Expression left) l e, (none, key))))
         (either_is (linked_column child root l r) (linked_column child root r l) c is);
   }
 
-  link_layer : (part : Condition) (layer : Condition-F Condition Expression SelectList Query) → out-Condition part ≡ layer → (c : ℕ) → link_in child root layer ≡ Some c → IsLink child root part
+  link_layer : (part : Condition) (layer : Condition-F Condition Expression SelectList Query) → out-Condition part ≡ layer → (c : ℕ) → link_in child root layer ≡ Some c → IsLink child root c part
   link_layer part (Condition-F.Or parts) out c e = cc
   link_layer part (Condition-F.And parts) out c e = cc
   link_layer part (Condition-F.Not inner) out c e = cc
@@ -396,7 +402,7 @@ module _ (child root : Scope) where
   link_layer part (Condition-F.Between x low high) out c e = cc
   link_layer part (Condition-F.In x list) out c e = cc
 
-  link_is : (part : Condition) (c : ℕ) → link_of child root part ≡ Some c → IsLink child root part
+  link_is : (part : Condition) (c : ℕ) → link_of child root part ≡ Some c → IsLink child root c part
   link_is part c e = link_layer part (out-Condition part) refl c e
 
   inner_first : (l r : ColumnName) (c : ℕ) → own_column child l ≡ Some c → is_name_of r.qualifier r.name child ≡ false → own_column root r ≡ Some root.layout.key → linked_column child root l r ≡ Some c
@@ -407,23 +413,17 @@ module _ (child root : Scope) where
   inner_hidden : (l r : ColumnName) (c : ℕ) → own_column child r ≡ Some c → linked_column child root l r ≡ None
   inner_hidden l r c own = ap (λ b. if is_key root (if b then None else own_column root r) then own_column child l else None) (one_test (is_name_of r.qualifier r.name child) (named_in r.name child) c own).0
 
-  is_link : (part : Condition) → IsLink child root part → (c : ℕ) × (link_of child root part ≡ Some c)
-  is_link part h =
+  is_link : (part : Condition) (c : ℕ) → IsLink child root c part → link_of child root part ≡ Some c
+  is_link part c h =
       ⊎_elim
       (λ one.
       let l = one.0.0 in let r = one.1.0 in
-      let (c, own) = some_is no_column (own_column child l) one.0.2 in (
-        c,
-        ap (link_in child root) h.equality ∙ ap (λ x. link_between child root (name_in x) (name_in (out-Expression h.right))) one.0.1 ∙ ap (λ x. link_between child root (Some l) (name_in x)) one.1.1
-            ∙ ap (λ o. either o (linked_column child root r l)) (inner_first l r c own one.1.2.0 one.1.2.1),
-      ))
+      ap (link_in child root) h.equality ∙ ap (λ x. link_between child root (name_in x) (name_in (out-Expression h.right))) one.0.1 ∙ ap (λ x. link_between child root (Some l) (name_in x)) one.1.1
+      ∙ ap (λ o. either o (linked_column child root r l)) (inner_first l r c one.0.2 one.1.2.0 one.1.2.1))
       (λ two.
       let r = two.0.0 in let l = two.1.0 in
-      let (c, own) = some_is no_column (own_column child r) two.0.2 in (
-        c,
-        ap (link_in child root) h.equality ∙ ap (λ x. link_between child root (name_in x) (name_in (out-Expression h.right))) two.1.1 ∙ ap (λ x. link_between child root (Some l) (name_in x)) two.0.1
-            ∙ ap (λ o. either o (linked_column child root r l)) (inner_hidden l r c own) ∙ inner_first r l c own two.1.2.0 two.1.2.1,
-      ))
+      ap (link_in child root) h.equality ∙ ap (λ x. link_between child root (name_in x) (name_in (out-Expression h.right))) two.1.1 ∙ ap (λ x. link_between child root (Some l) (name_in x)) two.0.1
+      ∙ ap (λ o. either o (linked_column child root r l)) (inner_hidden l r c two.0.2) ∙ inner_first r l c two.0.2 two.1.2.0 two.1.2.1)
       h.sides
 
   -- a link names a column that is not the child's, so it is not over the child's rows
@@ -440,8 +440,8 @@ module _ (child root : Scope) where
   hidden : (name : ColumnName) → IsOwn child name → is_name_of name.qualifier name.name child ≡ false → ⊥
   hidden name own none = let e : is_some (own_column child name) ≡ false = ap (λ b. is_some (if b then named_in name.name child else None)) none in let k : true ≡ false = sym own ∙ e in cc
 
-  not_both : (part : Condition) → IsOverRows child part → IsLink child root part → ⊥
-  not_both part over h =
+  not_both : (part : Condition) (c : ℕ) → IsOverRows child part → IsLink child root c part → ⊥
+  not_both part c over h =
       let (on_left, on_right) = (each_append (IsOwn child) (columns_of h.left) (columns_of h.right)).0 (subst (Each (IsOwn child)) (sides_columns part h.left h.right h.equality) over.columns) in
       ⊎_elim
       (λ one. hidden one.1.0 (subst (Each (IsOwn child)) (name_columns h.right one.1.0 one.1.1) on_right).0 one.1.2.0)
@@ -450,7 +450,7 @@ module _ (child root : Scope) where
 
   no_link : (part : Condition) → IsOverRows child part → link_of child root part ≡ None
   no_link part over =
-      let case : (o : Option ℕ) → link_of child root part ≡ o → o ≡ None = λ o. elim o as (λ o. link_of child root part ≡ o → o ≡ None) [ None ↦ λ e. refl | Some c ↦ λ e. absurd (not_both part over (link_is part c e)) ]
+      let case : (o : Option ℕ) → link_of child root part ≡ o → o ≡ None = λ o. elim o as (λ o. link_of child root part ≡ o → o ≡ None) [ None ↦ λ e. refl | Some c ↦ λ e. absurd (not_both part c over (link_is part c e)) ]
       in case (link_of child root part) refl
 
   -- ---- the parts of a linked WHERE
@@ -463,18 +463,19 @@ module _ (child root : Scope) where
         | Some c ↦ λ e. cc
       ] in case (link_of child root part) e
 
-  abbrev Split : List Condition → Type 0
-  Split parts = (before : List Condition) × ((link : Condition) × ((behind : List Condition) × ((parts ≡ before ++ link ∷ behind) × (IsLink child root link × Each (IsOverRows child) (before ++ behind)))))
+  abbrev Split : ℕ → List Condition → Type 0
+  Split c parts = (before : List Condition) × ((link : Condition) × ((behind : List Condition) × ((parts ≡ before ++ link ∷ behind) × (IsLink child root c link × Each (IsOverRows child) (before ++ behind)))))
 
-  split : (parts : List Condition) (c : ℕ) → links_in child root parts ≡ c ∷ [] → Each (IsOverRows child) (own_parts child root parts) → Split parts
+  split : (parts : List Condition) (c : ℕ) → links_in child root parts ≡ c ∷ [] → Each (IsOverRows child) (own_parts child root parts) → Split c parts
   split [] c e h = cc
   split (part ∷ parts) c e h =
-      let case : (o : Option ℕ) → link_of child root part ≡ o → option_to_list o ++ links_in child root parts ≡ c ∷ [] → Each (IsOverRows child) (cond (is_none o) (part ∷ own_parts child root parts) (own_parts child root parts)) → Split (part ∷ parts) = λ o. elim o as (λ o. link_of child root part ≡ o → option_to_list o ++ links_in child root parts ≡ c ∷ [] → Each (IsOverRows child) (cond (is_none o) (part ∷ own_parts child root parts) (own_parts child root parts)) → Split (part ∷ parts)) [
+      let case : (o : Option ℕ) → link_of child root part ≡ o → option_to_list o ++ links_in child root parts ≡ c ∷ [] → Each (IsOverRows child) (cond (is_none o) (part ∷ own_parts child root parts) (own_parts child root parts)) → Split c (part ∷ parts) = λ o. elim o as (λ o. link_of child root part ≡ o → option_to_list o ++ links_in child root parts ≡ c ∷ [] → Each (IsOverRows child) (cond (is_none o) (part ∷ own_parts child root parts) (own_parts child root parts)) → Split c (part ∷ parts)) [
         | None ↦ λ n e h. let (before, (link, (behind, (is, (links, others))))) = split parts c e h.1 in (part ∷ before, (link, (behind, (ap (λ ps. part ∷ ps) is, (links, (h.0, others))))))
         | Some d ↦ λ s e h.
             let rest : links_in child root parts ≡ [] = ap (λ (cs : List ℕ). elim cs [ [] ↦ [] | x ∷ xs ↦ xs ]) e in
+            let same : d ≡ c = ap (λ (cs : List ℕ). elim cs [ [] ↦ c | x ∷ xs ↦ x ]) e in
             let nothing : List Condition = [] in
-            (nothing, (part, (parts, (refl, (link_is part d s, subst (Each (IsOverRows child)) (none_left parts rest) h)))))
+            (nothing, (part, (parts, (refl, (subst (λ c. IsLink child root c part) same (link_is part d s), subst (Each (IsOverRows child)) (none_left parts rest) h)))))
       ] in case (link_of child root part) refl e h
 
   own_lists : (parts : List Condition) → Each (IsOverRows child) parts → (links_in child root parts ≡ []) × (own_parts child root parts ≡ parts)
@@ -494,35 +495,31 @@ module _ (child root : Scope) where
       let rest = before ++ link ∷ behind in
       (ap (λ o. option_to_list o ++ links_in child root rest) none ∙ links, ap (λ o. cond (is_none o) (part ∷ own_parts child root rest) (own_parts child root rest)) none ∙ ap (λ ps. part ∷ ps) own)
 
-  where_class : (condition : Condition) (c : ℕ) → only_one (links_in child root (top_parts condition)) ≡ Some c → Answers (filter_parts child root (top_parts condition)) → IsLinkedWhere child root condition
+  pub where_class : (condition : Condition) (c : ℕ) → only_one (links_in child root (top_parts condition)) ≡ Some c → Answers (filter_parts child root (top_parts condition)) → IsLinkedWhere child root c condition
   where_class condition c one restriction =
       let (before, (link, (behind, (is, (links, others))))) = split (top_parts condition) c (only_one_is (links_in child root (top_parts condition)) c one) (each_of (row_condition child) (IsOverRows child) (over_rows child) (own_parts child root (top_parts condition)) restriction) in
       record { before = before; link = link; behind = behind; parts = is; links = links; others = others }
 
-  class_where : (condition : Condition) → IsLinkedWhere child root condition → (c : ℕ) × ((only_one (links_in child root (top_parts condition)) ≡ Some c) × Answers (filter_parts child root (top_parts condition)))
-  class_where condition h =
-      let (c, is) = is_link h.link h.links in
-      let (links, own) = join h.before h.behind h.link c is h.others in (
-        c,
-        (
-          ap (λ ps. only_one (links_in child root ps)) h.parts ∙ ap only_one links,
-          subst (λ ps. Answers (each (row_condition child) (own_parts child root ps))) (sym h.parts) (subst (λ ps. Answers (each (row_condition child) ps)) (sym own) (of_each (row_condition child) (IsOverRows child) (rows_over child) (h.before ++ h.behind) h.others)),
-        ),
+  class_where : (condition : Condition) (c : ℕ) → IsLinkedWhere child root c condition → (only_one (links_in child root (top_parts condition)) ≡ Some c) × Answers (filter_parts child root (top_parts condition))
+  class_where condition c h =
+      let (links, own) = join h.before h.behind h.link c (is_link h.link c h.links) h.others in (
+        ap (λ ps. only_one (links_in child root ps)) h.parts ∙ ap only_one links,
+        subst (λ ps. Answers (each (row_condition child) (own_parts child root ps))) (sym h.parts) (subst (λ ps. Answers (each (row_condition child) ps)) (sym own) (of_each (row_condition child) (IsOverRows child) (rows_over child) (h.before ++ h.behind) h.others)),
       )
 
 -- ---- by rows
 
 abbrev Made : Source → Scope → Option Condition → Option ColumnName → Option Condition → Type 0
-Made child root keeps g h = (condition : Condition) × ((keeps ≡ Some condition) × (IsLinkedWhere child.scope root condition × (IsNone g × IsNone h)))
+Made child root keeps g h = (condition : Condition) × ((keeps ≡ Some condition) × ((column : ℕ) × (IsLinkedWhere child.scope root column condition × (IsNone g × IsNone h))))
 
 linked_where_class : (child : Source) (root : Scope) (a : Aggregate) (keeps : Option Condition) (g : Option ColumnName) (h : Option Condition) → Answers (linked_where child root a keeps g h) → Made child root keeps g h
 linked_where_class child root a keeps g h (q, e) =
     let (no_group, (no_having, (condition, (is, (link, (one, (restriction, (are, makes)))))))) = linked_where_ok child root a keeps g h q e in
-    (condition, (is, (where_class child.scope root condition link one (restriction, are), (ap is_some no_group, ap is_some no_having))))
+    (condition, (is, (link, (where_class child.scope root condition link one (restriction, are), (ap is_some no_group, ap is_some no_having)))))
 
 class_linked_where : (child : Source) (root : Scope) (a : Aggregate) (keeps : Option Condition) (g : Option ColumnName) (h : Option Condition) → Made child root keeps g h → Answers (linked_where child root a keeps g h)
-class_linked_where child root a keeps g h (condition, (is, (linked, (no_group, no_having)))) =
-    let (link, (one, (restriction, are))) = class_where child.scope root condition linked in
+class_linked_where child root a keeps g h (condition, (is, (link, (linked, (no_group, no_having))))) =
+    let (one, (restriction, are)) = class_where child.scope root condition link linked in
     let make : ℕ → List Cond → Subquery Link = λ link restriction. record { table = child.table; filter = cond_of.And restriction; grouping = Column link; aggregate = a } in (
       make link restriction,
       ap (λ k. linked_where child root a k g h) is ∙ ap (λ g. linked_where child root a (Some condition) g h) (none_is g no_group) ∙ ap (λ h. linked_where child root a (Some condition) None h) (none_is h no_having)
@@ -537,14 +534,14 @@ linked_leaf_class tables root (class.Exists query) (q, e) =
     let c = out-Query query in
     let (child, (found, more)) = in_class_ok (source_of tables c.table c.correlation_name) (λ child. only_if (may_be_selected (own_column child.scope) c.select_list) (linked_where child root CountRows c.keeps c.group c.having)) q e in
     let (lists, rest) = only_if_ok (may_be_selected (own_column child.scope) c.select_list) (linked_where child root CountRows c.keeps c.group c.having) q more in
-    let (condition, (is, (where_is, (g, h)))) = linked_where_class child root CountRows c.keeps c.group c.having (q, rest) in
-    record { scope = child.scope; condition = condition; reads = reads_scope tables query child found; lists = own_list child.scope c.select_list lists; filter = is; linked = where_is; ungrouped = g; whole = h }
+    let (condition, (is, (column, (where_is, (g, h))))) = linked_where_class child root CountRows c.keeps c.group c.having (q, rest) in
+    record { scope = child.scope; condition = condition; reads = reads_scope tables query child found; lists = own_list child.scope c.select_list lists; filter = is; column = column; linked = where_is; ungrouped = g; whole = h }
 linked_leaf_class tables root (class.Value query) (q, e) =
     let c = out-Query query in
     let (child, (found, more)) = in_class_ok (source_of tables c.table c.correlation_name) (λ child. in_class (selected_aggregate child.scope c.select_list) (λ a. linked_where child root a c.keeps c.group c.having)) q e in
     let (a, (lists, rest)) = in_class_ok (selected_aggregate child.scope c.select_list) (λ a. linked_where child root a c.keeps c.group c.having) q more in
-    let (condition, (is, (where_is, (g, h)))) = linked_where_class child root a c.keeps c.group c.having (q, rest) in
-    record { scope = child.scope; condition = condition; reads = reads_scope tables query child found; lists = set_list child.scope c.select_list (ap is_some lists); filter = is; linked = where_is; ungrouped = g; whole = h }
+    let (condition, (is, (column, (where_is, (g, h))))) = linked_where_class child root a c.keeps c.group c.having (q, rest) in
+    record { scope = child.scope; condition = condition; reads = reads_scope tables query child found; lists = set_list child.scope c.select_list (ap is_some lists); filter = is; column = column; linked = where_is; ungrouped = g; whole = h }
 
 class_linked_leaf : (tables : Tables) (root : Scope) (p : Piece) → IsLinkedPiece tables root p → Answers (linked tables root (leaf_of p))
 class_linked_leaf tables root class.Rows h = absurd h
@@ -553,7 +550,7 @@ class_linked_leaf tables root (class.Exists query) h =
     let c = out-Query query in
     let (t, reads) = scope_reads tables query h.scope h.reads in
     let child : Source = record { table = t; scope = h.scope } in
-    let (q, is) = class_linked_where child root CountRows c.keeps c.group c.having (h.condition, (h.filter, (h.linked, (h.ungrouped, h.whole)))) in (
+    let (q, is) = class_linked_where child root CountRows c.keeps c.group c.having (h.condition, (h.filter, (h.column, (h.linked, (h.ungrouped, h.whole))))) in (
       q,
       ap (λ o. in_class o (λ child. only_if (may_be_selected (own_column child.scope) c.select_list) (linked_where child root CountRows c.keeps c.group c.having))) reads
           ∙ ap (λ b. only_if b (linked_where child root CountRows c.keeps c.group c.having)) (list_own h.scope c.select_list h.lists) ∙ is,
@@ -563,7 +560,7 @@ class_linked_leaf tables root (class.Value query) h =
     let (t, reads) = scope_reads tables query h.scope h.reads in
     let child : Source = record { table = t; scope = h.scope } in
     let (a, lists) = some_is no_column (selected_aggregate h.scope c.select_list) (list_set h.scope c.select_list h.lists) in
-    let (q, is) = class_linked_where child root a c.keeps c.group c.having (h.condition, (h.filter, (h.linked, (h.ungrouped, h.whole)))) in (
+    let (q, is) = class_linked_where child root a c.keeps c.group c.having (h.condition, (h.filter, (h.column, (h.linked, (h.ungrouped, h.whole))))) in (
       q,
       ap (λ o. in_class o (λ child. in_class (selected_aggregate child.scope c.select_list) (λ a. linked_where child root a c.keeps c.group c.having))) reads
           ∙ ap (λ o. in_class o (λ a. linked_where child root a c.keeps c.group c.having)) lists ∙ is,
@@ -583,11 +580,8 @@ class_row_where tables root (Some c) h =
 
 row_class : (tables : Tables) (source : Source) (query : Clauses) → Answers (by_row tables source query) → IsSimpleList (IsOwn source.scope) (out-SelectList query.select_list) × IfWritten (IsRowWhere tables source.scope) query.keeps
 row_class tables source query (form, e) =
-    let scope = source.scope in
-    let (lists, rest) = only_if_ok (may_be_selected (own_column scope) query.select_list) (and_then (row_where scope query.keeps) (λ made. and_then (each (linked tables scope) made.1) (λ queries. let r : Result Form Refusal = Ok (ByRow source.table made.0 queries) in r))) form e in
-    let (m, (is, more)) = and_then_ok (row_where scope query.keeps) (λ made. and_then (each (linked tables scope) made.1) (λ queries. let r : Result Form Refusal = Ok (ByRow source.table made.0 queries) in r)) form rest in
-    let (queries, (are, makes)) = and_then_ok (each (linked tables scope) m.1) (λ queries. let r : Result Form Refusal = Ok (ByRow source.table m.0 queries) in r) form more in
-    (own_list scope query.select_list lists, row_where_class tables scope query.keeps m.0 m.1 is (queries, are))
+    let m = row_made tables source query form e in
+    (own_list source.scope query.select_list m.lists, row_where_class tables source.scope query.keeps m.made m.leaves m.keeps (m.queries, m.are))
 
 class_row : (tables : Tables) (source : Source) (query : Clauses) → IsSimpleList (IsOwn source.scope) (out-SelectList query.select_list) → IfWritten (IsRowWhere tables source.scope) query.keeps → Answers (by_row tables source query)
 class_row tables source query lists keeps =
@@ -630,33 +624,42 @@ class_groups tables query h =
 
 -- ---- all
 
-denied_class : (tables : Tables) (c part : Condition) (layer : Condition-F Condition Expression SelectList Query) → out-Condition c ≡ Condition-F.Not part → out-Condition part ≡ layer → Answers (denied tables c layer) → IsInClass tables c
-denied_class tables c part (Condition-F.Or parts) n p h = inr (inr (single_class tables c h))
-denied_class tables c part (Condition-F.And parts) n p h = inr (inr (single_class tables c h))
-denied_class tables c part (Condition-F.Not inner) n p h = inr (inr (single_class tables c h))
-denied_class tables c part (Condition-F.Is inner wanted) n p h = inr (inr (single_class tables c h))
-denied_class tables c part (Condition-F.Exists query) n p h =
-    let denies : IsDenied c query = record { part = part; denies = n; exists = p } in
-    ⊎_elim (λ rows. inl (query, denies, rows)) (λ groups. inr (inl (query, denies, groups))) (exists_class tables query h)
-denied_class tables c part (Condition-F.Compare left comparison right) n p h = inr (inr (single_class tables c h))
-denied_class tables c part (Condition-F.IsNull x) n p h = inr (inr (single_class tables c h))
-denied_class tables c part (Condition-F.Between x low high) n p h = inr (inr (single_class tables c h))
-denied_class tables c part (Condition-F.In x list) n p h = inr (inr (single_class tables c h))
+-- a form is that of a query under NOT EXISTS, or a single one
+abbrev pub Cases : Tables → Condition → Form → Type 0
+Cases tables c form = ((query : Query) × IsDenied c query × (not_exists tables (out-Query query) ≡ Ok form)) ⊎ (single tables c ≡ Ok form)
 
-whole_class : (tables : Tables) (c : Condition) (layer : Condition-F Condition Expression SelectList Query) → out-Condition c ≡ layer → Answers (form_in tables c layer) → IsInClass tables c
-whole_class tables c (Condition-F.Or parts) e h = inr (inr (single_class tables c h))
-whole_class tables c (Condition-F.And parts) e h = inr (inr (single_class tables c h))
-whole_class tables c (Condition-F.Not part) e h = denied_class tables c part (out-Condition part) e refl h
-whole_class tables c (Condition-F.Is inner wanted) e h = inr (inr (single_class tables c h))
-whole_class tables c (Condition-F.Exists query) e h = inr (inr (single_class tables c h))
-whole_class tables c (Condition-F.Compare left comparison right) e h = inr (inr (single_class tables c h))
-whole_class tables c (Condition-F.IsNull x) e h = inr (inr (single_class tables c h))
-whole_class tables c (Condition-F.Between x low high) e h = inr (inr (single_class tables c h))
-whole_class tables c (Condition-F.In x list) e h = inr (inr (single_class tables c h))
+denied_cases : (tables : Tables) (c part : Condition) (layer : Condition-F Condition Expression SelectList Query) → out-Condition c ≡ Condition-F.Not part → out-Condition part ≡ layer → (form : Form) → denied tables c layer ≡ Ok form → Cases tables c form
+denied_cases tables c part (Condition-F.Or parts) n p form e = inr e
+denied_cases tables c part (Condition-F.And parts) n p form e = inr e
+denied_cases tables c part (Condition-F.Not inner) n p form e = inr e
+denied_cases tables c part (Condition-F.Is inner wanted) n p form e = inr e
+denied_cases tables c part (Condition-F.Exists query) n p form e = inl (query, record { part = part; denies = n; exists = p }, e)
+denied_cases tables c part (Condition-F.Compare left comparison right) n p form e = inr e
+denied_cases tables c part (Condition-F.IsNull x) n p form e = inr e
+denied_cases tables c part (Condition-F.Between x low high) n p form e = inr e
+denied_cases tables c part (Condition-F.In x list) n p form e = inr e
+
+whole_cases : (tables : Tables) (c : Condition) (layer : Condition-F Condition Expression SelectList Query) → out-Condition c ≡ layer → (form : Form) → form_in tables c layer ≡ Ok form → Cases tables c form
+whole_cases tables c (Condition-F.Or parts) out form e = inr e
+whole_cases tables c (Condition-F.And parts) out form e = inr e
+whole_cases tables c (Condition-F.Not part) out form e = denied_cases tables c part (out-Condition part) out refl form e
+whole_cases tables c (Condition-F.Is inner wanted) out form e = inr e
+whole_cases tables c (Condition-F.Exists query) out form e = inr e
+whole_cases tables c (Condition-F.Compare left comparison right) out form e = inr e
+whole_cases tables c (Condition-F.IsNull x) out form e = inr e
+whole_cases tables c (Condition-F.Between x low high) out form e = inr e
+whole_cases tables c (Condition-F.In x list) out form e = inr e
+
+pub form_cases : (tables : Tables) (c : Condition) (form : Form) → form_of tables c ≡ Ok form → Cases tables c form
+form_cases tables c form e = whole_cases tables c (out-Condition c) refl form e
 
 -- a condition that has a form is in the class
 pub form_class : (tables : Tables) (c : Condition) → Answers (form_of tables c) → IsInClass tables c
-form_class tables c h = whole_class tables c (out-Condition c) refl h
+form_class tables c (form, e) =
+    ⊎_elim
+    (λ d. ⊎_elim (λ rows. inl (d.0, d.1, rows)) (λ groups. inr (inl (d.0, d.1, groups))) (exists_class tables d.0 (form, d.2)))
+    (λ is. inr (inr (single_class tables c (form, is))))
+    (form_cases tables c form e)
 
 -- NOT EXISTS of a query has the form that its query has
 denied_form : (tables : Tables) (c : Condition) (query : Query) → IsDenied c query → Answers (not_exists tables (out-Query query)) → Answers (form_of tables c)

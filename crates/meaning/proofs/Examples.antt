@@ -1,5 +1,7 @@
--- Worked rows: names, and the written bad roots and truth of an assertion of each form, computed.
-use Rattle.std.proofs.Common.{◌≡◌, ℕ, pos, true, List, [], ◌∷◌, Some, None, refl, ap, ◌∙◌}
+-- Worked rows: names, the written bad roots and truth of an assertion of each form, and the key of a WHERE, computed.
+use Rattle.std.proofs.Common.{◌≡◌, ℕ, pos, true, List, [], ◌∷◌, Option, Some, None, refl, ap, ◌∙◌, sym}
+use Rattle.std.specs.Prelude.{◌==◌, filter_map, find}
+use Rattle.std.specs.Option.{option_or}
 use Rattle.value.specs.declared.values.Value.{Value}
 use Rattle.value.specs.declared.values.Value.TheVariants.{Null, Int}
 use Rattle.value.specs.declared.values.Root.TheVariants as root
@@ -10,19 +12,37 @@ use Rattle.threeval.specs.declared.Truth.{Truth}
 use Rattle.threeval.specs.declared.Truth.TheVariants.{True, False, Unknown}
 use Rattle.threeval.specs.Truths.{and_of, not_of, known}
 use Rattle.table.specs.declared.schemas.Column.{Column}
-use Rattle.table.specs.Rows.{Layout, Tables}
+use Rattle.table.specs.Rows.{RowValues, Layout, Tables}
+use Rattle.cond.specs.declared.exprs.Expr.TheOpen.{Expr-F}
+use Rattle.cond.specs.declared.exprs.Expr.TheVariants as expr
+use Rattle.cond.specs.declared.exprs.Expr.TheViews.{out-Expr}
+use Rattle.cond.specs.declared.conds.Cond.{Cond}
+use Rattle.cond.specs.declared.conds.Cond.TheOpen.{Cond-F}
+use Rattle.cond.specs.declared.conds.Cond.TheVariants as cond
+use Rattle.cond.specs.declared.conds.Cond.TheViews as cond_of
+use Rattle.cond.specs.declared.conds.Cond.TheViews.{out-Cond}
+use Rattle.cond.specs.Eval as resolved
 use Rattle.cond.specs.Values.{compared}
+use Rattle.cond.proofs.EvalLemmas.{truth-And}
 use Rattle.assertion.specs.Meaning.{State}
 use Rattle.syntax.specs.declared.trees.Aggregate.TheVariants as function
 use Rattle.syntax.specs.declared.trees.ColumnName.{ColumnName}
-use Rattle.syntax.specs.declared.trees.Condition.{Condition, roll-Condition, out-roll-Condition}
+use Rattle.syntax.specs.declared.trees.Condition.{Condition, roll-Condition, out-Condition, out-roll-Condition}
 use Rattle.syntax.specs.declared.trees.Condition.TheOpen.{Condition-F, Expression-F, SelectList-F, Query-F}
-use Rattle.syntax.specs.declared.trees.Expression.{Expression, roll-Expression}
+use Rattle.syntax.specs.declared.trees.Expression.{Expression, roll-Expression, out-Expression, out-roll-Expression}
 use Rattle.syntax.specs.declared.trees.SelectList.{SelectList, roll-SelectList}
 use Rattle.syntax.specs.declared.trees.Query.{Query, roll-Query, out-roll-Query}
+use Rattle.syntax.specs.Grammar.{and_layer}
+use Rattle.name_check.specs.Scopes.{Scope}
+use Rattle.siread.specs.declared.keys.LockKey.{LockKey}
+use Rattle.siread.specs.declared.keys.LockKey.TheVariants as key
+use Rattle.alone.specs.Reads as reads
+use Rattle.alone.specs.Reads.{Equality}
+use Rattle.meaning.specs.Keys as keys
 use Rattle.meaning.specs.Meaning as written
 use Rattle.meaning.specs.Meaning.{References, Valued, Answer, answers, simple, first_value, column_values, rows_counted, set_of_column, only_value, is_any, written_bad_roots, written_truth}
 use Rattle.meaning.specs.Laws.{seen}
+use Rattle.meaning.proofs.Keys.{in_parts, where_key_is, shown_expr, shown_cond}
 use Rattle.meaning.proofs.Nodes.{clauses, number_is, column_is, count_is, set_is, value_is, compare_is, both_is, denies_is, star_is, one_is, filtered_is, grouped_is}
 
 abbrev column_at : ℕ → Column
@@ -240,3 +260,100 @@ single_unknown = single_truth nobody (roll-Expression (Expression-F.Aggregate fu
 
 single_satisfied : written_bad_roots both nobody (at_most (roll-Expression (Expression-F.Aggregate function.Sum (bare I))) 4) ≡ []
 single_satisfied = single_roots nobody (roll-Expression (Expression-F.Aggregate function.Sum (bare I))) 4 Unknown single_unknown
+
+-- ---- keys
+
+-- WHERE over D, the second table, whose key is I
+abbrev d_scope : Scope
+d_scope = record { exposed_name = D ∷ []; layout = of_d }
+
+abbrev name_layer : ℕ → Expression-F Condition Expression SelectList Query
+name_layer name = Expression-F.Column (bare name)
+
+abbrev number_layer : ℕ → Expression-F Condition Expression SelectList Query
+number_layer n = Expression-F.Number (pos n)
+
+abbrev by_sides : Comparison → Expression-F Condition Expression SelectList Query → Expression-F Condition Expression SelectList Query → Option Equality
+by_sides Equal left right = option_or (keys.equality (keys.column d_scope left) (keys.literal right)) (keys.equality (keys.column d_scope right) (keys.literal left))
+by_sides other left right = None
+
+abbrev comparison : Expression-F Condition Expression SelectList Query → Comparison → Expression-F Condition Expression SelectList Query → Condition
+comparison left sign right = compare (roll-Expression left) sign (roll-Expression right)
+
+-- the equality of a comparison
+equality_is : (left : Expression-F Condition Expression SelectList Query) (right : Expression-F Condition Expression SelectList Query) → keys.equality_of d_scope (out-Condition (comparison left Equal right)) ≡ by_sides Equal left right
+equality_is left right =
+    ap (keys.equality_of d_scope) (out-roll-Condition (Condition-F.Compare (roll-Expression left) Equal (roll-Expression right)))
+    ∙ ap (λ l. by_sides Equal l (out-Expression (roll-Expression right))) (out-roll-Expression left) ∙ ap (by_sides Equal left) (out-roll-Expression right)
+
+none_greater : (left : Expression-F Condition Expression SelectList Query) (right : Expression-F Condition Expression SelectList Query) → keys.equality_of d_scope (out-Condition (comparison left Greater right)) ≡ None
+none_greater left right = ap (keys.equality_of d_scope) (out-roll-Condition (Condition-F.Compare (roll-Expression left) Greater (roll-Expression right)))
+
+abbrev key_by : List Equality → LockKey
+key_by es = keys.first_key 1 (find (λ e. e.column == 0) es) es
+
+-- two parts that AND joins
+both_keys : (a b : Condition) (d e : Option Equality) → keys.equality_of d_scope (out-Condition a) ≡ d → keys.equality_of d_scope (out-Condition b) ≡ e
+    → keys.written_key 1 d_scope (Some (roll-Condition (Condition-F.And (a ∷ b ∷ [])))) ≡ key_by (filter_map (λ o. o) (d ∷ e ∷ []))
+both_keys a b d e first second =
+    let whole = roll-Condition (Condition-F.And (a ∷ b ∷ [])) in
+    ap (λ layer. key_by (filter_map (λ part. keys.equality_of d_scope (out-Condition part)) (and_layer whole layer))) (out-roll-Condition (Condition-F.And (a ∷ b ∷ [])))
+    ∙ ap (λ d. key_by (filter_map (λ o. o) (d ∷ keys.equality_of d_scope (out-Condition b) ∷ []))) first
+    ∙ ap (λ e. key_by (filter_map (λ o. o) (d ∷ e ∷ []))) second
+
+-- S = 7 AND 3 = I: the key is found behind another column, and either way round
+key_first : keys.written_key 1 d_scope (Some (roll-Condition (Condition-F.And (comparison (name_layer S) Equal (number_layer 7) ∷ comparison (number_layer 3) Equal (name_layer I) ∷ [])))) ≡ key.Row (record { table = 1; key = number 3 })
+key_first = both_keys (comparison (name_layer S) Equal (number_layer 7)) (comparison (number_layer 3) Equal (name_layer I)) (Some (record { column = 1; value = number 7 })) (Some (record { column = 0; value = number 3 })) (equality_is (name_layer S) (number_layer 7)) (equality_is (number_layer 3) (name_layer I))
+
+-- S = 7 AND O = 1: the first column of the two, so the text with its parts exchanged reads under another key
+column_first : keys.written_key 1 d_scope (Some (roll-Condition (Condition-F.And (comparison (name_layer S) Equal (number_layer 7) ∷ comparison (name_layer O) Equal (number_layer 1) ∷ [])))) ≡ key.Column 1 1 (number 7)
+column_first = both_keys (comparison (name_layer S) Equal (number_layer 7)) (comparison (name_layer O) Equal (number_layer 1)) (Some (record { column = 1; value = number 7 })) (Some (record { column = 2; value = number 1 })) (equality_is (name_layer S) (number_layer 7)) (equality_is (name_layer O) (number_layer 1))
+
+column_exchanged : keys.written_key 1 d_scope (Some (roll-Condition (Condition-F.And (comparison (name_layer O) Equal (number_layer 1) ∷ comparison (name_layer S) Equal (number_layer 7) ∷ [])))) ≡ key.Column 1 2 (number 1)
+column_exchanged = both_keys (comparison (name_layer O) Equal (number_layer 1)) (comparison (name_layer S) Equal (number_layer 7)) (Some (record { column = 2; value = number 1 })) (Some (record { column = 1; value = number 7 })) (equality_is (name_layer O) (number_layer 1)) (equality_is (name_layer S) (number_layer 7))
+
+-- I > 3 AND S = O: neither is column = literal
+no_equality : keys.written_key 1 d_scope (Some (roll-Condition (Condition-F.And (comparison (name_layer I) Greater (number_layer 3) ∷ comparison (name_layer S) Equal (name_layer O) ∷ [])))) ≡ key.Table 1
+no_equality = both_keys (comparison (name_layer I) Greater (number_layer 3)) (comparison (name_layer S) Equal (name_layer O)) None None (none_greater (name_layer I) (number_layer 3)) (equality_is (name_layer S) (name_layer O))
+
+-- no WHERE
+no_where : keys.written_key 1 d_scope None ≡ key.Table 1
+no_where = refl
+
+-- truth does not tell the key: S = 7 AND O = 1 and O = 1 AND S = 7 are alike on every row, and read under two keys
+two_alike : (s t : Truth) → and_of s (and_of t True) ≡ and_of t (and_of s True)
+two_alike True True = refl
+two_alike True False = refl
+two_alike True Unknown = refl
+two_alike False True = refl
+two_alike False False = refl
+two_alike False Unknown = refl
+two_alike Unknown True = refl
+two_alike Unknown False = refl
+two_alike Unknown Unknown = refl
+
+exchanged_alike : (row : RowValues) (a b : Cond) → resolved.truth row [] (cond_of.And (a ∷ b ∷ [])) ≡ resolved.truth row [] (cond_of.And (b ∷ a ∷ []))
+exchanged_alike row a b = truth-And row [] (a ∷ b ∷ []) ∙ two_alike (resolved.truth row [] a) (resolved.truth row [] b) ∙ sym (truth-And row [] (b ∷ a ∷ []))
+
+abbrev set_to : ℕ → ℕ → Cond
+set_to column n = cond.Compare Equal (expr.Column column) (expr.Literal (number n))
+
+set_is_equality : (column n : ℕ) → reads.equality_in (out-Cond (set_to column n)) ≡ Some (record { column = column; value = number n })
+set_is_equality column n =
+    ap reads.equality_in (shown_cond (Cond-F.Compare Equal (expr.Column column) (expr.Literal (number n))) (set_to column n) (cond.rolls-Compare Equal (expr.Column column) (expr.Literal (number n))))
+    ∙ ap (λ x. reads.sides x (out-Expr (expr.Literal (number n)))) (shown_expr (Expr-F.Column column) (expr.Column column) (expr.rolls-Column column))
+    ∙ ap (reads.sides (Expr-F.Column column)) (shown_expr (Expr-F.Literal (number n)) (expr.Literal (number n)) (expr.rolls-Literal (number n)))
+
+-- two parts of a resolved AND
+key_of_two : (a b : Cond) (d e : Option Equality) → reads.equality_in (out-Cond a) ≡ d → reads.equality_in (out-Cond b) ≡ e → reads.where_key 1 0 (cond_of.And (a ∷ b ∷ [])) ≡ key_by (filter_map (λ o. o) (d ∷ e ∷ []))
+key_of_two a b d e first second =
+    let whole = cond_of.And (a ∷ b ∷ []) in
+    where_key_is 1 0 whole
+    ∙ ap (λ y. key_by (in_parts (reads.parts_in whole y))) (shown_cond (Cond-F.And (a ∷ b ∷ [])) whole (cond.rolls-And (a ∷ b ∷ [])))
+    ∙ (λ i. key_by (filter_map (λ o. o) (first i ∷ second i ∷ [])))
+
+resolved_key : reads.where_key 1 0 (cond_of.And (set_to 1 7 ∷ set_to 2 1 ∷ [])) ≡ key.Column 1 1 (number 7)
+resolved_key = key_of_two (set_to 1 7) (set_to 2 1) (Some (record { column = 1; value = number 7 })) (Some (record { column = 2; value = number 1 })) (set_is_equality 1 7) (set_is_equality 2 1)
+
+exchanged_key : reads.where_key 1 0 (cond_of.And (set_to 2 1 ∷ set_to 1 7 ∷ [])) ≡ key.Column 1 2 (number 1)
+exchanged_key = key_of_two (set_to 2 1) (set_to 1 7) (Some (record { column = 2; value = number 1 })) (Some (record { column = 1; value = number 7 })) (set_is_equality 2 1) (set_is_equality 1 7)

@@ -4,6 +4,7 @@ pub mod Examples
 pub mod Numbering
 pub mod Rows
 pub mod Queries
+pub mod Made
 pub mod Singles
 pub mod Groups
 pub mod Links
@@ -13,3 +14,6 @@ pub mod Standing
 pub mod Grown
 pub mod Checked
 pub mod Classes
+pub mod Keys
+pub mod CheckKeys
+pub mod StatementKeys

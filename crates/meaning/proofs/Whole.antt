@@ -1,9 +1,8 @@
 -- Assertions of every form.
-use Rattle.std.proofs.Common.{◌≡◌, ℕ, true, false, Option, Some, None, Result, Ok, List, [], ◌∷◌, map, refl, ap, sym, ◌∙◌, subst, ⊎_elim, inl, inr}
+use Rattle.std.proofs.Common.{◌≡◌, ℕ, true, false, Option, Some, None, Ok, List, [], ◌∷◌, map, refl, ap, sym, ◌∙◌, subst, ⊎_elim, inl, inr}
 use Rattle.std.specs.Prelude.{◌⊎◌, unwrap_or, option_map, if◌then◌else◌}
 use Rattle.value.specs.declared.values.Root.{Root}
 use Rattle.value.specs.declared.values.Root.TheVariants.{All}
-use Rattle.value.specs.declared.refusals.Refusal.{Refusal}
 use Rattle.value.specs.ValueOrder.{root_cmp}
 use Rattle.value.specs.Ordered.{least, lesser}
 use Rattle.value.proofs.OrderedLists.{has, has-itself}
@@ -13,7 +12,6 @@ use Rattle.threeval.specs.declared.Truth.TheVariants.{False}
 use Rattle.threeval.specs.Truths.{not_of, is_of, known}
 use Rattle.table.specs.Rows.{Layout, Tables, layout_of, position_of, layouts_of}
 use Rattle.assertion.specs.declared.forms.Form.{Form}
-use Rattle.assertion.specs.declared.forms.Form.TheVariants.{ByRow, ByGroup}
 use Rattle.assertion.specs.Meaning.{State, rows_of, key_of, bad_roots, verdict_of, truth_of_roots, row_roots}
 use Rattle.assertion.proofs.ListLemmas.{has-contains, contains-has}
 use Rattle.assertion.proofs.RootLists.{has-least_of, least-lowest, least-only}
@@ -25,17 +23,14 @@ use Rattle.syntax.specs.declared.trees.Expression.{Expression}
 use Rattle.syntax.specs.declared.trees.SelectList.{SelectList}
 use Rattle.syntax.specs.declared.trees.Query.{Query, out-Query}
 use Rattle.name_check.specs.Scopes.{own_column}
-use Rattle.value.specs.Results.{and_then, each}
-use Rattle.numbering.specs.Results.{only_if}
-use Rattle.numbering.specs.Columns.{grouping_column}
-use Rattle.numbering.specs.Leaves.{numbered}
-use Rattle.form_check.specs.Queries.{Source, source_of, row_filter, may_be_selected}
-use Rattle.form_check.specs.Forms.{Clauses, linked, aggregate_of, row_where, by_row, having_over, by_group, by_clauses, not_exists, single, denied, form_in}
+use Rattle.form_check.specs.Queries.{Source, source_of}
+use Rattle.form_check.specs.Forms.{Clauses, by_row, by_group, by_clauses, not_exists, single, denied, form_in}
 use Rattle.meaning.specs.Meaning as written
 use Rattle.meaning.specs.Meaning.{References, Valued, Answer, is_any, truth, valued, select_list, answers, table_of, grouping, root_of, roots_of_answers, query_roots, roots_in, denied_roots, written_truth, written_bad_roots}
 use Rattle.meaning.specs.Laws as law
 use Rattle.meaning.specs.Laws.{seen}
-use Rattle.meaning.proofs.Steps.{and_then_ok, in_class_ok, only_if_ok, ok_same}
+use Rattle.meaning.proofs.Steps.{in_class_ok}
+use Rattle.meaning.proofs.Made.{row_made, group_made}
 use Rattle.meaning.proofs.Queries.{answers_by, answers_at, source_seen}
 use Rattle.meaning.proofs.Singles.{single_is}
 use Rattle.meaning.proofs.Groups.{group_roots_are}
@@ -99,7 +94,7 @@ roots_by tables state query source found g h is_g is_h =
     ∙ ap (λ g. roots_of_answers g table (answers_by table list keeps g (option_map (truth tables state) q.having) [])) is_g
     ∙ ap (λ h. roots_of_answers g table (answers_by table list keeps g (option_map (truth tables state) h) [])) is_h
 
-key_at : (tables : Tables) (table : List ℕ) (correlation_name : Option (List ℕ)) (source : Source) → source_of tables table correlation_name ≡ Some source → key_of source.table (layouts_of tables) ≡ source.scope.layout.key
+pub key_at : (tables : Tables) (table : List ℕ) (correlation_name : Option (List ℕ)) (source : Source) → source_of tables table correlation_name ≡ Some source → key_of source.table (layouts_of tables) ≡ source.scope.layout.key
 key_at tables table correlation_name source found =
     let (place, layout) = sourced_parts (unwrap_or correlation_name table) (position_of table tables) (layout_of table tables) source found in
     ap (λ (l : Layout). l.key) (layout_at table (record { columns = []; key = 0 }) tables source.table source.scope.layout place layout)
@@ -108,47 +103,31 @@ row_agrees : (tables : Tables) (state : State) (query : Query) (source : Source)
     → (r : Root) → has root_cmp r (query_roots tables state query (out-Query query)) ≡ has root_cmp r (bad_roots (layouts_of tables) form state)
 row_agrees tables state query source form found no_group no_having e r =
     let q = out-Query query in
-    let (lists, rest) = only_if_ok (may_be_selected (own_column source.scope) q.select_list) (and_then (row_where source.scope q.keeps) (λ made. and_then (each (linked tables source.scope) made.1) (λ queries. let r : Result Form Refusal = Ok (ByRow source.table made.0 queries) in r))) form e in
-    let (m, (is, more)) = and_then_ok (row_where source.scope q.keeps) (λ made. and_then (each (linked tables source.scope) made.1) (λ queries. let r : Result Form Refusal = Ok (ByRow source.table made.0 queries) in r)) form rest in
-    let (queries, (are, makes)) = and_then_ok (each (linked tables source.scope) m.1) (λ queries. let r : Result Form Refusal = Ok (ByRow source.table m.0 queries) in r) form more in
+    let m = row_made tables source q form e in
     ap (has root_cmp r) (
     roots_by tables state query source found None None no_group no_having
-    ∙ row_roots_are tables state source.scope source.table (select_list tables state q.select_list) q.keeps m.0 m.1 queries (plain_list tables state (own_column source.scope) q.select_list lists) is are
-    ∙ ap (λ key. row_roots state source.table key m.0 queries) (sym (key_at tables q.table q.correlation_name source found)))
-    ∙ ap (λ form. has root_cmp r (bad_roots (layouts_of tables) form state)) (ok_same (ByRow source.table m.0 queries) form makes)
+    ∙ row_roots_are tables state source.scope source.table (select_list tables state q.select_list) q.keeps m.made m.leaves m.queries (plain_list tables state (own_column source.scope) q.select_list m.lists) m.keeps m.are
+    ∙ ap (λ key. row_roots state source.table key m.made m.queries) (sym (key_at tables q.table q.correlation_name source found)))
+    ∙ ap (λ form. has root_cmp r (bad_roots (layouts_of tables) form state)) m.is
 
 group_agrees : (tables : Tables) (state : State) (query : Query) (source : Source) (column : ColumnName) (having : Condition) (form : Form) → source_of tables (out-Query query).table (out-Query query).correlation_name ≡ Some source → (out-Query query).group ≡ Some column → (out-Query query).having ≡ Some having → by_group source (out-Query query) column having ≡ Ok form
     → (r : Root) → has root_cmp r (query_roots tables state query (out-Query query)) ≡ has root_cmp r (bad_roots (layouts_of tables) form state)
 group_agrees tables state query source column having form found is_group is_having e r =
     let q = out-Query query in
-    let (group, (own, more)) = in_class_ok (own_column source.scope column) (λ group. only_if (may_be_selected (grouping_column source.scope group) q.select_list) (and_then (row_filter source.scope q.keeps) (λ restriction. having_over source group restriction having))) form e in
-    let (lists, rest) = only_if_ok (may_be_selected (grouping_column source.scope group) q.select_list) (and_then (row_filter source.scope q.keeps) (λ restriction. having_over source group restriction having)) form more in
-    let (restriction, (filters, over)) = and_then_ok (row_filter source.scope q.keeps) (λ restriction. having_over source group restriction having) form rest in
-    let (m, (is, made)) = and_then_ok (numbered (grouping_column source.scope group) having []) (λ made. and_then (each (aggregate_of source.scope) made.1) (λ aggregates. let r : Result Form Refusal = Ok (ByGroup source.table restriction group made.0 aggregates) in r)) form over in
-    let (aggregates, (are, makes)) = and_then_ok (each (aggregate_of source.scope) m.1) (λ aggregates. let r : Result Form Refusal = Ok (ByGroup source.table restriction group m.0 aggregates) in r) form made in
+    let m = group_made source q column having form e in
     ap (has root_cmp r) (roots_by tables state query source found (Some column) (Some having) is_group is_having)
-    ∙ group_roots_are tables state source.scope (rows_of source.table state) source.scope.layout.key (select_list tables state q.select_list) q.keeps restriction column group having m.0 m.1 aggregates filters own is are r
-    ∙ ap (λ form. has root_cmp r (bad_roots (layouts_of tables) form state)) (ok_same (ByGroup source.table restriction group m.0 aggregates) form makes)
+    ∙ group_roots_are tables state source.scope (rows_of source.table state) source.scope.layout.key (select_list tables state q.select_list) q.keeps m.restriction column m.group having m.made m.leaves m.aggregates m.keeps m.own m.numbers m.are r
+    ∙ ap (λ form. has root_cmp r (bad_roots (layouts_of tables) form state)) m.is
 
 -- a form that NOT EXISTS makes has the truth of its roots
 abbrev IsOfRoots : Tables → State → Form → Type 0
 IsOfRoots tables state form = verdict_of (layouts_of tables) form state ≡ truth_of_roots (bad_roots (layouts_of tables) form state)
 
 by_row_of_roots : (tables : Tables) (state : State) (source : Source) (query : Clauses) (form : Form) → by_row tables source query ≡ Ok form → IsOfRoots tables state form
-by_row_of_roots tables state source query form e =
-    let (lists, rest) = only_if_ok (may_be_selected (own_column source.scope) query.select_list) (and_then (row_where source.scope query.keeps) (λ made. and_then (each (linked tables source.scope) made.1) (λ queries. let r : Result Form Refusal = Ok (ByRow source.table made.0 queries) in r))) form e in
-    let (m, (is, more)) = and_then_ok (row_where source.scope query.keeps) (λ made. and_then (each (linked tables source.scope) made.1) (λ queries. let r : Result Form Refusal = Ok (ByRow source.table made.0 queries) in r)) form rest in
-    let (queries, (are, makes)) = and_then_ok (each (linked tables source.scope) m.1) (λ queries. let r : Result Form Refusal = Ok (ByRow source.table m.0 queries) in r) form more in
-    subst (IsOfRoots tables state) (ok_same (ByRow source.table m.0 queries) form makes) refl
+by_row_of_roots tables state source query form e = subst (IsOfRoots tables state) (row_made tables source query form e).is refl
 
 by_group_of_roots : (tables : Tables) (state : State) (source : Source) (query : Clauses) (column : ColumnName) (having : Condition) (form : Form) → by_group source query column having ≡ Ok form → IsOfRoots tables state form
-by_group_of_roots tables state source query column having form e =
-    let (group, (own, more)) = in_class_ok (own_column source.scope column) (λ group. only_if (may_be_selected (grouping_column source.scope group) query.select_list) (and_then (row_filter source.scope query.keeps) (λ restriction. having_over source group restriction having))) form e in
-    let (lists, rest) = only_if_ok (may_be_selected (grouping_column source.scope group) query.select_list) (and_then (row_filter source.scope query.keeps) (λ restriction. having_over source group restriction having)) form more in
-    let (restriction, (filters, over)) = and_then_ok (row_filter source.scope query.keeps) (λ restriction. having_over source group restriction having) form rest in
-    let (m, (is, made)) = and_then_ok (numbered (grouping_column source.scope group) having []) (λ made. and_then (each (aggregate_of source.scope) made.1) (λ aggregates. let r : Result Form Refusal = Ok (ByGroup source.table restriction group made.0 aggregates) in r)) form over in
-    let (aggregates, (are, makes)) = and_then_ok (each (aggregate_of source.scope) m.1) (λ aggregates. let r : Result Form Refusal = Ok (ByGroup source.table restriction group m.0 aggregates) in r) form made in
-    subst (IsOfRoots tables state) (ok_same (ByGroup source.table restriction group m.0 aggregates) form makes) refl
+by_group_of_roots tables state source query column having form e = subst (IsOfRoots tables state) (group_made source query column having form e).is refl
 
 exists_agrees : (tables : Tables) (query : Query) (form : Form) → not_exists tables (out-Query query) ≡ Ok form → (state : State) → Agrees tables state form (query_roots tables state query (out-Query query)) (not_of (known (is_any (answers tables state query []))))
 exists_agrees tables query form e state =

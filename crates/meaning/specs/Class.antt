@@ -201,23 +201,24 @@ IsOuterKey child root name =
     IsFalse (is_name_of name.qualifier name.name child) × (own_column root name ≡ Some root.layout.key)
 
 -- a column of the child on one side, and the key of the row around on the other
-abbrev pub JoinsKey : Scope → Scope → Expression → Expression → Type 0
-JoinsKey child root inner outer = IsColumn (IsOwn child) inner × IsColumn (IsOuterKey child root) outer
+abbrev pub JoinsKey : Scope → Scope → ℕ → Expression → Expression → Type 0
+JoinsKey child root column inner outer =
+    IsColumn (IsColumnAt child column) inner × IsColumn (IsOuterKey child root) outer
 
 -- d.column = r.key, either way round
-pub record IsLink (child root : Scope) (part : Condition) : Type 0 where
+pub record IsLink (child root : Scope) (column : ℕ) (part : Condition) : Type 0 where
   pub left : Expression
   pub right : Expression
   pub equality : out-Condition part ≡ Condition-F.Compare left Equal right
-  pub sides : JoinsKey child root left right ⊎ JoinsKey child root right left
+  pub sides : JoinsKey child root column left right ⊎ JoinsKey child root column right left
 
--- a WHERE of which AND joins one link and conditions over the child's rows
-pub record IsLinkedWhere (child root : Scope) (condition : Condition) : Type 0 where
+-- a WHERE of which AND joins one link, by this column, and conditions over the child's rows
+pub record IsLinkedWhere (child root : Scope) (column : ℕ) (condition : Condition) : Type 0 where
   pub before : List Condition
   pub link : Condition
   pub behind : List Condition
   pub parts : and_layer condition (out-Condition condition) ≡ before ++ link ∷ behind
-  pub links : IsLink child root link
+  pub links : IsLink child root column link
   pub others : Each (IsOverRows child) (before ++ behind)
 
 -- what a query over a table may list
@@ -231,7 +232,8 @@ pub record IsLinkedQuery (tables : Tables) (root : Scope) (Lists : MayList) (que
   pub reads : read_by tables (out-Query query).table (out-Query query).correlation_name ≡ Some scope
   pub lists : Lists scope (out-SelectList (out-Query query).select_list)
   pub filter : (out-Query query).keeps ≡ Some condition
-  pub linked : IsLinkedWhere scope root condition
+  pub column : ℕ
+  pub linked : IsLinkedWhere scope root column condition
   pub ungrouped : IsNone (out-Query query).group
   pub whole : IsNone (out-Query query).having
 

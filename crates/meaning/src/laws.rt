@@ -1,5 +1,6 @@
 //! What holds of the written meaning and the resolved one.
 
+ghost use Rattle.meaning.specs.Keys.{CheckReads, DeleteReads, SelectReads, UpdateReads, VerdictReads, WhereReads};
 ghost use Rattle.meaning.specs.Laws.{GivesValues, KeepsRows};
 ghost use Rattle.meaning.specs.Laws.{DeletesRows, ListsColumns, SelectsRows, UpdatesColumns, UpdatesRows};
 ghost use Rattle.meaning.specs.Laws.{HasFormInClass, HasWrittenLeast, HasWrittenRoots, HasWrittenTruth, KeepsForm};
@@ -44,4 +45,20 @@ pub fn assertion_means_what_is_written()
     ensures written { TakesWritten }
     ensures later { StaysWritten }
     ensures exact { TakesExactly }
+{}
+
+/// A WHERE over the rows of one table reads under the key of its text, a check of an assertion at a root under the keys
+/// of the assertion's text, and VERDICT the tables of its text.
+pub fn keys_are_as_written()
+    ensures conditions { WhereReads }
+    ensures checks { CheckReads }
+    ensures verdicts { VerdictReads }
+{}
+
+/// A DELETE, a SELECT and an UPDATE that are taken read under the key of their table and their WHERE as they are
+/// written, and else under the keys of their checks alone.
+pub fn statements_read_written_keys()
+    ensures delete { DeleteReads }
+    ensures select { SelectReads }
+    ensures update { UpdateReads }
 {}

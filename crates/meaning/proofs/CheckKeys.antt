@@ -1,0 +1,218 @@
+-- A check at a root reads under the keys of the assertion's text.
+use Rattle.std.proofs.Common.{◌≡◌, ℕ, map, Option, Some, None, Result, Ok, List, [], ◌∷◌, refl, ap, sym, ◌∙◌, subst, ⊎_elim, inl, inr}
+use Rattle.std.specs.Prelude.{is_some, unwrap_or}
+use Rattle.value.specs.declared.values.Value.{Value}
+use Rattle.value.specs.declared.refusals.Refusal.{Refusal}
+use Rattle.table.specs.Rows.{Tables, layout_of, position_of}
+use Rattle.table.specs.declared.aggregates.Aggregate.{Aggregate}
+use Rattle.table.specs.declared.aggregates.Aggregate.TheVariants.{CountRows}
+use Rattle.cond.specs.declared.conds.Cond.{Cond}
+use Rattle.cond.specs.declared.conds.Cond.TheViews as cond_of
+use Rattle.assertion.specs.declared.queries.Query.{Query as Subquery}
+use Rattle.assertion.specs.declared.queries.Link.{Link}
+use Rattle.assertion.specs.declared.queries.Whole.{Whole}
+use Rattle.assertion.specs.declared.forms.Form.{Form}
+use Rattle.assertion.specs.declared.forms.Form.TheVariants.{ByRow, ByGroup}
+use Rattle.syntax.specs.declared.trees.ColumnName.{ColumnName}
+use Rattle.syntax.specs.declared.trees.Condition.{Condition}
+use Rattle.syntax.specs.declared.trees.Query.{Query, out-Query}
+use Rattle.name_check.specs.Scopes.{Scope, own_column}
+use Rattle.value.specs.Results.{each}
+use Rattle.numbering.specs.Results.{in_class, only_if}
+use Rattle.numbering.specs.Columns.{no_column}
+use Rattle.numbering.specs.Leaves.{Leaf, Leaves}
+use Rattle.form_check.specs.Queries.{Source, source_of, selected_aggregate, may_be_selected}
+use Rattle.form_check.specs.Forms.{form_of, plain, plain_by, row_where, by_row, by_group, by_clauses, not_exists, single, linked, linked_where}
+use Rattle.siread.specs.declared.keys.LockKey.TheVariants as key
+use Rattle.siread.specs.declared.keys.LockKey.{LockKey}
+use Rattle.alone.specs.Checks.{keys_for, link_key, tables_in}
+use Rattle.meaning.specs.Class as class
+use Rattle.meaning.specs.Class.{Piece, Pieces, pieces_in, IfWritten, IsOverRows, IsDenied}
+use Rattle.meaning.specs.Laws.{Pairs}
+use Rattle.meaning.specs.Keys as written
+use Rattle.meaning.specs.Keys.{IsTable, IsLinkKey, IsTableKey, InWhere, InSingle, where_pieces, ReadsRow, ReadsGroup, ReadsAsWritten, ReadsWhole}
+use Rattle.meaning.proofs.Steps.{in_class_ok, only_if_ok, ok_pair}
+use Rattle.meaning.proofs.Queries.{plain_by_ok}
+use Rattle.meaning.proofs.Links.{linked_where_ok}
+use Rattle.meaning.proofs.Rooted.{sourced_parts}
+use Rattle.meaning.proofs.Made.{single_made, row_made, group_made}
+use Rattle.meaning.proofs.Whole.{by_clauses_ok}
+use Rattle.meaning.proofs.Standing.{leaf_of, condition_numbers}
+use Rattle.meaning.proofs.Classes.{source_read, each_pairs, each_mapped, over_filter, where_class, form_cases}
+
+-- the table of a name
+pub table_is : (tables : Tables) (name : List ℕ) (correlation_name : Option (List ℕ)) (source : Source) → source_of tables name correlation_name ≡ Some source → IsTable tables name correlation_name source.table source.scope
+table_is tables name correlation_name source found =
+    let exposed_name = unwrap_or correlation_name name in
+    record { placed = (sourced_parts exposed_name (position_of name tables) (layout_of name tables) source found).0; reads = source_read exposed_name (position_of name tables) (layout_of name tables) source found }
+
+-- what a check and VERDICT read
+abbrev Reads : Tables → Condition → Form → Type 0
+Reads tables c form = ReadsAsWritten tables c (keys_for form) × ReadsWhole tables c (map key.Table (tables_in form))
+
+-- ---- slots one after the other
+
+pairs_mapped : {X Y Z : Type 0} (Q : X → Z → Type 0) (f : Y → Z) (xs : List X) (ys : List Y) → Pairs (λ x y. Q x (f y)) xs ys → Pairs Q xs (map f ys)
+pairs_mapped Q f [] [] h = tt
+pairs_mapped Q f [] (y ∷ ys) h = absurd h
+pairs_mapped Q f (x ∷ xs) [] h = absurd h
+pairs_mapped Q f (x ∷ xs) (y ∷ ys) h = (h.0, pairs_mapped Q f xs ys h.1)
+
+-- each piece beside what is made of what stands in its slot
+pieces_made : {A Z : Type 0} (make : Leaf → Result A Refusal) (Q : Piece → Z → Type 0) (f : A → Z) → ((p : Piece) (a : A) → make (leaf_of p) ≡ Ok a → Q p (f a)) → (leaves : Leaves) (ps : Pieces) (made : List A) → leaves ≡ map leaf_of ps → each make leaves ≡ Ok made → Pairs Q ps (map f made)
+pieces_made make Q f one leaves ps made same e =
+    pairs_mapped Q f ps made (each_pairs (λ p. make (leaf_of p)) (λ p a. Q p (f a)) one ps made (sym (each_mapped make leaf_of ps) ∙ ap (each make) (sym same) ∙ e))
+
+-- ---- single conditions
+
+whole_read : (tables : Tables) (p : Piece) (q : Subquery Whole) → plain tables (leaf_of p) ≡ Ok q → InSingle (IsTableKey tables) p (key.Table q.table)
+whole_read tables class.Rows q e = cc
+whole_read tables (class.Of f c) q e = cc
+whole_read tables (class.Exists query) q e = cc
+whole_read tables (class.Value query) q e =
+    let c = out-Query query in
+    let (source, (found, more)) = in_class_ok (source_of tables c.table c.correlation_name) (λ source. plain_by source (selected_aggregate source.scope c.select_list) c.keeps c.group c.having) q e in
+    let (no_group, (no_having, (function, (lists, (restriction, (filters, makes)))))) = plain_by_ok source (selected_aggregate source.scope c.select_list) c.keeps c.group c.having q more in
+    (source.table, (table_is tables c.table c.correlation_name source found).placed, ap (λ (q : Subquery Whole). key.Table q.table) (sym makes))
+
+single_reads : (tables : Tables) (c : Condition) (form : Form) → single tables c ≡ Ok form → Reads tables c form
+single_reads tables c form e =
+    let m = single_made tables c form e in
+    let (columns, leaves) = (condition_numbers no_column c).says [] m.made m.leaves m.numbers in
+    let places : List ℕ = map (λ (q : Subquery Whole). q.table) m.queries in
+    let queried = pairs_mapped (InSingle (IsTableKey tables)) key.Table (pieces_in c) places (pieces_made (plain tables) (λ p t. InSingle (IsTableKey tables) p (key.Table t)) (λ (q : Subquery Whole). q.table) (whole_read tables) m.leaves (pieces_in c) m.queries leaves m.are) in
+    subst (Reads tables c) m.is (inr (inr (record { queried = queried; none = λ v. refl })), inr queried)
+
+-- ---- by rows
+
+link_read : (tables : Tables) (root : Scope) (k : Value) (query : Query) (child : Source) (a : Aggregate) (q : Subquery Link) → source_of tables (out-Query query).table (out-Query query).correlation_name ≡ Some child
+    → linked_where child root a (out-Query query).keeps (out-Query query).group (out-Query query).having ≡ Ok q → IsLinkKey tables root k query (link_key k q)
+link_read tables root k query child a q found e =
+    let c = out-Query query in
+    let (no_group, (no_having, (condition, (keeps, (link, (one, (restriction, (are, makes)))))))) = linked_where_ok child root a c.keeps c.group c.having q e in record {
+      table = child.table;
+      scope = child.scope;
+      reads = table_is tables c.table c.correlation_name child found;
+      condition = condition;
+      filter = keeps;
+      column = link;
+      linked = where_class child.scope root condition link one (restriction, are);
+      is = ap (link_key k) (sym makes);
+    }
+
+link_table : (tables : Tables) (root : Scope) (query : Query) (child : Source) (a : Aggregate) (q : Subquery Link) → source_of tables (out-Query query).table (out-Query query).correlation_name ≡ Some child
+    → linked_where child root a (out-Query query).keeps (out-Query query).group (out-Query query).having ≡ Ok q → IsTableKey tables query (key.Table q.table)
+link_table tables root query child a q found e =
+    let c = out-Query query in
+    let (no_group, (no_having, (condition, (keeps, (link, (one, (restriction, (are, makes)))))))) = linked_where_ok child root a c.keeps c.group c.having q e in
+    (child.table, (table_is tables c.table c.correlation_name child found).placed, ap (λ (q : Subquery Link). key.Table q.table) (sym makes))
+
+mapped_tables : (queries : List (Subquery Link)) → map key.Table (map (λ (q : Subquery Link). q.table) queries) ≡ map (λ (q : Subquery Link). key.Table q.table) queries
+mapped_tables [] = refl
+mapped_tables (q ∷ queries) = ap (λ rest. key.Table q.table ∷ rest) (mapped_tables queries)
+
+-- what is read for a linked query
+module _ (tables : Tables) (root : Scope) (P : Query → LockKey → Type 0) (read : Subquery Link → LockKey)
+    (one : (query : Query) (child : Source) (a : Aggregate) (q : Subquery Link) → source_of tables (out-Query query).table (out-Query query).correlation_name ≡ Some child
+    → linked_where child root a (out-Query query).keeps (out-Query query).group (out-Query query).having ≡ Ok q → P query (read q)) where
+  linked_read : (p : Piece) (q : Subquery Link) → linked tables root (leaf_of p) ≡ Ok q → InWhere P p (read q)
+  linked_read class.Rows q e = cc
+  linked_read (class.Of f c) q e = cc
+  linked_read (class.Exists query) q e =
+      let c = out-Query query in
+      let (child, (found, more)) = in_class_ok (source_of tables c.table c.correlation_name) (λ child. only_if (may_be_selected (own_column child.scope) c.select_list) (linked_where child root CountRows c.keeps c.group c.having)) q e in
+      let (lists, rest) = only_if_ok (may_be_selected (own_column child.scope) c.select_list) (linked_where child root CountRows c.keeps c.group c.having) q more in
+      one query child CountRows q found rest
+  linked_read (class.Value query) q e =
+      let c = out-Query query in
+      let (child, (found, more)) = in_class_ok (source_of tables c.table c.correlation_name) (λ child. in_class (selected_aggregate child.scope c.select_list) (λ a. linked_where child root a c.keeps c.group c.having)) q e in
+      let (a, (lists, rest)) = in_class_ok (selected_aggregate child.scope c.select_list) (λ a. linked_where child root a c.keeps c.group c.having) q more in
+      one query child a q found rest
+
+  where_reads : (keeps : Option Condition) (made : Cond) (leaves : Leaves) (queries : List (Subquery Link)) → row_where root keeps ≡ Ok (made, leaves) → each (linked tables root) leaves ≡ Ok queries → Pairs (InWhere P) (where_pieces keeps) (map read queries)
+  where_reads None made leaves queries is are =
+      let none : Leaves = [] in
+      pieces_made (linked tables root) (InWhere P) read linked_read leaves [] queries (sym (ok_pair (cond_of.And []) made none leaves is).1) are
+  where_reads (Some c) made leaves queries is are =
+      pieces_made (linked tables root) (InWhere P) read linked_read leaves (pieces_in c) queries ((condition_numbers (own_column root) c).says [] made leaves is).1 are
+
+row_reads : (tables : Tables) (c : Condition) (query : Query) → IsDenied c query → (source : Source) → source_of tables (out-Query query).table (out-Query query).correlation_name ≡ Some source → (out-Query query).group ≡ None → (form : Form) → by_row tables source (out-Query query) ≡ Ok form
+    → Reads tables c form
+row_reads tables c query denied source found no_group form e =
+    let q = out-Query query in
+    let scope = source.scope in
+    let of_table = table_is tables q.table q.correlation_name source found in
+    let m = row_made tables source q form e in
+    let places : List ℕ = map (λ (q : Subquery Link). q.table) m.queries in
+    let checks : ReadsRow tables c (keys_for (ByRow source.table m.made m.queries)) = record {
+      query = query;
+      denied = denied;
+      ungrouped = ap is_some no_group;
+      table = source.table;
+      scope = scope;
+      of_table = of_table;
+      others = λ k. map (link_key k) m.queries;
+      row = λ k. refl;
+      linked = λ k. where_reads tables scope (IsLinkKey tables scope k) (link_key k) (link_read tables scope k) q.keeps m.made m.leaves m.queries m.keeps m.are;
+      whole = refl;
+    } in
+    let named = where_reads tables scope (IsTableKey tables) (λ q. key.Table q.table) (link_table tables scope) q.keeps m.made m.leaves m.queries m.keeps m.are in
+    let verdict : Pairs (InWhere (IsTableKey tables)) (class.Exists query ∷ where_pieces q.keeps) (key.Table source.table ∷ map key.Table places) =
+    ((source.table, of_table.placed, refl), subst (Pairs (InWhere (IsTableKey tables)) (where_pieces q.keeps)) (sym (mapped_tables m.queries)) named) in
+    subst (Reads tables c) m.is (inl checks, inl (query, denied, verdict))
+
+-- ---- by groups
+
+-- a condition over the rows of one table has no query
+no_queries : (scope : Scope) (keeps : Option Condition) → IfWritten (IsOverRows scope) keeps → where_pieces keeps ≡ []
+no_queries scope None h = refl
+no_queries scope (Some c) h = h.alone
+
+group_reads : (tables : Tables) (c : Condition) (query : Query) → IsDenied c query → (source : Source) → source_of tables (out-Query query).table (out-Query query).correlation_name ≡ Some source → (column : ColumnName) (having : Condition) → (out-Query query).group ≡ Some column → (form : Form)
+    → by_group source (out-Query query) column having ≡ Ok form → Reads tables c form
+group_reads tables c query denied source found column having grouped form e =
+    let q = out-Query query in
+    let scope = source.scope in
+    let of_table = table_is tables q.table q.correlation_name source found in
+    let m = group_made source q column having form e in
+    let checks : ReadsGroup tables c (keys_for (ByGroup source.table m.restriction m.group m.made m.aggregates)) = record {
+      query = query;
+      denied = denied;
+      name = column;
+      grouped = grouped;
+      table = source.table;
+      scope = scope;
+      of_table = of_table;
+      column = m.group;
+      is_own = m.own;
+      group = λ v. refl;
+      whole = refl;
+    } in
+    let none : List LockKey = [] in
+    let verdict : Pairs (InWhere (IsTableKey tables)) (class.Exists query ∷ where_pieces q.keeps) (key.Table source.table ∷ []) =
+    ((source.table, of_table.placed, refl), subst (λ ps. Pairs (InWhere (IsTableKey tables)) ps none) (sym (no_queries scope q.keeps (over_filter scope q.keeps (m.restriction, m.keeps)))) tt) in
+    subst (Reads tables c) m.is (inr (inl checks), inl (query, denied, verdict))
+
+-- ---- all
+
+exists_reads : (tables : Tables) (c : Condition) (query : Query) → IsDenied c query → (form : Form) → not_exists tables (out-Query query) ≡ Ok form → Reads tables c form
+exists_reads tables c query denied form e =
+    let q = out-Query query in
+    let (source, (found, more)) = in_class_ok (source_of tables q.table q.correlation_name) (λ source. by_clauses tables source q q.group q.having) form e in
+    ⊎_elim
+    (λ rows. row_reads tables c query denied source found rows.0 form rows.1.1)
+    (λ groups. group_reads tables c query denied source found groups.0 groups.1.0 groups.1.1.0 form groups.1.1.1.1)
+    (by_clauses_ok tables source q q.group q.having form more)
+
+form_reads : (tables : Tables) (c : Condition) (form : Form) → form_of tables c ≡ Ok form → Reads tables c form
+form_reads tables c form e =
+    ⊎_elim
+    (λ denied. exists_reads tables c denied.0 denied.1 form denied.2)
+    (single_reads tables c form)
+    (form_cases tables c form e)
+
+pub CheckReads-law : written.CheckReads
+CheckReads-law tables c form e = (form_reads tables c form e).0
+
+pub VerdictReads-law : written.VerdictReads
+VerdictReads-law tables c form e = (form_reads tables c form e).1

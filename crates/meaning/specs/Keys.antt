@@ -1,0 +1,213 @@
+-- Under which keys a WHERE and a check of an assertion read, over the written tree.
+use Rattle.std.specs.Prelude.{◌≡◌, ◌⊎◌, ℕ, ◌==◌, IsNone, List, [], ◌∷◌, map, filter_map, find, Option, Some, None, Ok}
+use Rattle.std.specs.Option.{option_or}
+use Rattle.value.specs.declared.values.Value.{Value}
+use Rattle.value.specs.declared.values.Value.TheVariants.{Int, Text}
+use Rattle.value.specs.declared.values.Root.{Root}
+use Rattle.value.specs.declared.values.Root.TheVariants as root
+use Rattle.value.specs.declared.comparisons.Comparison.TheVariants.{Equal}
+use Rattle.table.specs.Rows.{Tables, position_of}
+use Rattle.cond.specs.declared.conds.Cond.{Cond}
+use Rattle.syntax.specs.declared.trees.ColumnName.{ColumnName}
+use Rattle.syntax.specs.declared.trees.Condition.{Condition, out-Condition}
+use Rattle.syntax.specs.declared.trees.Condition.TheOpen.{Condition-F, Expression-F}
+use Rattle.syntax.specs.declared.trees.Expression.{Expression, out-Expression}
+use Rattle.syntax.specs.declared.trees.SelectList.{SelectList}
+use Rattle.syntax.specs.declared.trees.Query.{Query, out-Query}
+use Rattle.syntax.specs.Grammar.{and_layer}
+use Rattle.statement_syntax.specs.declared.statements.Assignment.{Assignment}
+use Rattle.statement_syntax.specs.declared.statements.Statement.TheVariants as statement
+use Rattle.statement_syntax.specs.declared.statements.Which.{Which}
+use Rattle.assertion.specs.declared.forms.Form.{Form}
+use Rattle.assertion.specs.Declarations.{Declared}
+use Rattle.assertion.specs.Meaning.{State}
+use Rattle.name_check.specs.Scopes.{Scope, own_column}
+use Rattle.form_check.specs.Forms.{form_of}
+use Rattle.form_check.specs.Queries.{row_filter}
+use Rattle.assertcheck.specs.declared.deletes.Delete.{Delete}
+use Rattle.assertcheck.specs.declared.selects.Select.{Select}
+use Rattle.assertcheck.specs.declared.updates.Update.{Update}
+use Rattle.assertcheck.specs.Statements.{delete_of, select_of}
+use Rattle.assertcheck.specs.Updates.{update_of}
+use Rattle.siread.specs.declared.keys.LockKey.{LockKey}
+use Rattle.siread.specs.declared.keys.LockKey.TheVariants as key
+use Rattle.alone.specs.Alone.{Standing, Step, stepped}
+use Rattle.alone.specs.Checks.{keys_for, tables_in}
+use Rattle.alone.specs.Reads.{Equality, where_key}
+use Rattle.alone.specs.Resolve.{resolved}
+use Rattle.meaning.specs.Class.{Piece, Pieces, Exists, Value as Worth, pieces_in, read_by}
+use Rattle.meaning.specs.Class.{IsColumnAt, IsLinkedWhere, IsDenied}
+use Rattle.meaning.specs.Laws.{Pairs}
+
+-- ---- WHERE
+
+-- a number, with or without a sign, or a text
+abbrev pub literal : Expression-F Condition Expression SelectList Query → Option Value
+literal (Expression-F.Number n) = Some (Int n)
+literal (Expression-F.Text t) = Some (Text t)
+literal other = None
+
+-- a column of the table
+abbrev pub column : Scope → Expression-F Condition Expression SelectList Query → Option ℕ
+column scope (Expression-F.Column name) = own_column scope name
+column scope other = None
+
+-- column = literal
+abbrev pub equality : Option ℕ → Option Value → Option Equality
+equality None value = None
+equality (Some column) None = None
+equality (Some column) (Some value) = Some (record { column = column; value = value })
+
+-- either way round
+abbrev pub equality_of : Scope → Condition-F Condition Expression SelectList Query → Option Equality
+equality_of scope (Condition-F.Compare left Equal right) =
+    option_or (equality (column scope (out-Expression left)) (literal (out-Expression right)))
+    (equality (column scope (out-Expression right)) (literal (out-Expression left)))
+equality_of scope other = None
+
+-- those among the parts that AND joins at the top, from the left; a WHERE that is missing has none
+abbrev pub equalities : Scope → Option Condition → List Equality
+equalities scope None = []
+equalities scope (Some condition) =
+    filter_map (λ part. equality_of scope (out-Condition part)) (and_layer condition (out-Condition condition))
+
+-- the row of the first key = literal, else the rows of the first column = literal, else the table
+abbrev pub first_key : ℕ → Option Equality → List Equality → LockKey
+first_key table (Some row) all = key.Row (record { table = table; key = row.value })
+first_key table None (first ∷ rest) = key.Column table first.column first.value
+first_key table None [] = key.Table table
+
+abbrev pub written_key : ℕ → Scope → Option Condition → LockKey
+written_key table scope condition =
+    first_key table (find (λ e. e.column == scope.layout.key) (equalities scope condition)) (equalities scope condition)
+
+-- a table that is named, by its place and as names see it
+pub record IsTable (tables : Tables) (name : List ℕ) (correlation_name : Option (List ℕ)) (table : ℕ) (scope : Scope) :
+    Type 0 where
+  pub placed : position_of name tables ≡ Some table
+  pub reads : read_by tables name correlation_name ≡ Some scope
+
+-- the key of a statement's table and WHERE
+abbrev pub IsWrittenKey : Tables → List ℕ → Option Condition → LockKey → Type 0
+IsWrittenKey tables name condition read =
+    (table : ℕ) × (scope : Scope) × IsTable tables name None table scope × (read ≡ written_key table scope condition)
+
+-- ---- checks of assertions
+
+-- the rows of a query's table that its link joins to a key
+pub record IsLinkKey (tables : Tables) (root : Scope) (k : Value) (query : Query) (read : LockKey) : Type 0 where
+  pub table : ℕ
+  pub scope : Scope
+  pub reads : IsTable tables (out-Query query).table (out-Query query).correlation_name table scope
+  pub condition : Condition
+  pub filter : (out-Query query).keeps ≡ Some condition
+  pub column : ℕ
+  pub linked : IsLinkedWhere scope root column condition
+  pub is : read ≡ key.Column table column k
+
+-- its whole table
+abbrev pub IsTableKey : Tables → Query → LockKey → Type 0
+IsTableKey tables query read =
+    (table : ℕ) × (position_of (out-Query query).table tables ≡ Some table) × (read ≡ key.Table table)
+
+-- what is read for a query in a WHERE, and for one in a single condition, where it stands for its value
+abbrev pub InWhere : (Query → LockKey → Type 0) → Piece → LockKey → Type 0
+InWhere P (Exists query) read = P query read
+InWhere P (Worth query) read = P query read
+InWhere P other read = ⊥
+
+abbrev pub InSingle : (Query → LockKey → Type 0) → Piece → LockKey → Type 0
+InSingle P (Worth query) read = P query read
+InSingle P other read = ⊥
+
+-- the queries in a WHERE
+abbrev pub where_pieces : Option Condition → Pieces
+where_pieces None = []
+where_pieces (Some condition) = pieces_in condition
+
+-- NOT EXISTS (SELECT .. FROM t WHERE c): the row of t at the root, and what each query in c reads, from the left
+pub record ReadsRow (tables : Tables) (condition : Condition) (reads : Root → List LockKey) : Type 0 where
+  pub query : Query
+  pub denied : IsDenied condition query
+  pub ungrouped : IsNone (out-Query query).group
+  pub table : ℕ
+  pub scope : Scope
+  pub of_table : IsTable tables (out-Query query).table (out-Query query).correlation_name table scope
+  pub others : Value → List LockKey
+  pub row : (k : Value) → reads (root.Of k) ≡ key.Row (record { table = table; key = k }) ∷ others k
+  pub linked : (k : Value)
+      → Pairs (InWhere (IsLinkKey tables scope k)) (where_pieces (out-Query query).keeps) (others k)
+  pub whole : reads root.All ≡ []
+
+-- with GROUP BY: the rows of the group
+pub record ReadsGroup (tables : Tables) (condition : Condition) (reads : Root → List LockKey) : Type 0 where
+  pub query : Query
+  pub denied : IsDenied condition query
+  pub name : ColumnName
+  pub grouped : (out-Query query).group ≡ Some name
+  pub table : ℕ
+  pub scope : Scope
+  pub of_table : IsTable tables (out-Query query).table (out-Query query).correlation_name table scope
+  pub column : ℕ
+  pub is_own : IsColumnAt scope column name
+  pub group : (v : Value) → reads (root.Of v) ≡ key.Column table column v ∷ []
+  pub whole : reads root.All ≡ []
+
+-- a single condition: what each query in it reads, from the left
+pub record ReadsTables (tables : Tables) (condition : Condition) (reads : Root → List LockKey) : Type 0 where
+  pub queried : Pairs (InSingle (IsTableKey tables)) (pieces_in condition) (reads root.All)
+  pub none : (v : Value) → reads (root.Of v) ≡ []
+
+abbrev pub ReadsAsWritten : Tables → Condition → (Root → List LockKey) → Type 0
+ReadsAsWritten tables condition reads =
+    ReadsRow tables condition reads ⊎ (ReadsGroup tables condition reads ⊎ ReadsTables tables condition reads)
+
+-- VERDICT reads whole tables: of the query under NOT EXISTS and of those in its WHERE, or of those in a single
+-- condition
+abbrev pub ReadsWhole : Tables → Condition → List LockKey → Type 0
+ReadsWhole tables condition reads =
+    ((query : Query) × IsDenied condition query
+    × Pairs (InWhere (IsTableKey tables)) (Exists query ∷ where_pieces (out-Query query).keeps) reads)
+    ⊎ Pairs (InSingle (IsTableKey tables)) (pieces_in condition) reads
+
+-- ---- the laws
+
+-- a WHERE over the rows of one table reads under the key of its text
+abbrev pub WhereReads : Type 0
+WhereReads = (scope : Scope) (condition : Option Condition) (made : Cond) → row_filter scope condition ≡ Ok made
+    → (table : ℕ) → where_key table scope.layout.key made ≡ written_key table scope condition
+
+-- a SELECT that is taken reads under the key of its text, and a DELETE and an UPDATE too, before what their checks read
+abbrev pub StepReads : Tables → List ℕ → Option Condition → Step → Type 0
+StepReads tables name condition step =
+    (read : LockKey) × (checks : List LockKey) × IsWrittenKey tables name condition read × (step.reads ≡ read ∷ checks)
+
+abbrev pub SelectReads : Type 0
+SelectReads = (declared : Declared) (start : State) (now : Standing)
+    → (columns : Which) (name : List ℕ) (condition : Option Condition) (select : Select)
+    → select_of declared.tables columns name condition ≡ Ok select
+    → (read : LockKey) × IsWrittenKey declared.tables name condition read
+    × ((stepped declared start now (resolved declared (statement.Select columns name condition))).reads ≡ read ∷ [])
+
+abbrev pub DeleteReads : Type 0
+DeleteReads = (declared : Declared) (start : State) (now : Standing)
+    → (name : List ℕ) (condition : Option Condition) (delete : Delete)
+    → delete_of declared.tables name condition ≡ Ok delete
+    → StepReads declared.tables name condition
+    (stepped declared start now (resolved declared (statement.Delete name condition)))
+
+abbrev pub UpdateReads : Type 0
+UpdateReads = (declared : Declared) (start : State) (now : Standing)
+    → (name : List ℕ) (sets : List Assignment) (condition : Option Condition) (update : Update)
+    → update_of declared.tables name sets condition ≡ Ok update
+    → StepReads declared.tables name condition
+    (stepped declared start now (resolved declared (statement.Update name sets condition)))
+
+-- a check at a root reads under the keys of the assertion's text, and VERDICT the tables of its text
+abbrev pub CheckReads : Type 0
+CheckReads = (tables : Tables) (condition : Condition) (form : Form) → form_of tables condition ≡ Ok form
+    → ReadsAsWritten tables condition (keys_for form)
+
+abbrev pub VerdictReads : Type 0
+VerdictReads = (tables : Tables) (condition : Condition) (form : Form) → form_of tables condition ≡ Ok form
+    → ReadsWhole tables condition (map key.Table (tables_in form))
