@@ -10,6 +10,7 @@ use Rattle.value.specs.Ordered.{HasKey, at, put}
 use Rattle.value.proofs.ValueOrders.{value_cmp_total, value_exact}
 use Rattle.value.proofs.OrderedLists.{at-put, IsAscending-put, equal_from}
 use Rattle.pages.specs.Reach.{key_of, value_of as entry_value, entry_of}
+use Rattle.table.specs.declared.aggregates.Aggregate.{Aggregate}
 use Rattle.groups.specs.declared.members.Member.{Member}
 use Rattle.groups.specs.Figures.{Figures}
 use Rattle.groups.specs.Steps.{no_figures, one_more, one_less, put_entry, total_entry, figures_at, entries_more, entries_less}
@@ -32,9 +33,9 @@ nothing_of (v ∷ vs) n e z = absurd (not_zero n (length vs) e z)
 something_of : (n k : ℕ) → n ≡ k → (n == 0) ≡ false → 0 < k
 something_of n k e z = grind (arith, nat_tests)
 
-entry-right : (vs : List Value) (g : Value) (t : Figures) → IsTotalOf vs t → IsEntryOf vs (total_in (total_entry g t))
-entry-right vs g t k =
-    let case : (b : Bool) → (t.rows == 0) ≡ b → IsEntryOf vs (total_in (if b then None else Some (record { group = g; total = t }))) = λ b. elim b as (λ b. (t.rows == 0) ≡ b → IsEntryOf vs (total_in (if b then None else Some (record { group = g; total = t })))) [
+entry-right : (a : Aggregate) (vs : List Value) (g : Value) (t : Figures) → IsTotalOf a vs t → IsEntryOf a vs (total_in (total_entry g t))
+entry-right a vs g t k =
+    let case : (b : Bool) → (t.rows == 0) ≡ b → IsEntryOf a vs (total_in (if b then None else Some (record { group = g; total = t }))) = λ b. elim b as (λ b. (t.rows == 0) ≡ b → IsEntryOf a vs (total_in (if b then None else Some (record { group = g; total = t })))) [
       | true ↦ λ e. nothing_of vs t.rows k.rows e
       | false ↦ λ e. (k, something_of t.rows (length vs) k.rows e)
     ]
@@ -44,61 +45,61 @@ entry-key : (g : Value) (t : Figures) → HasKey value_cmp group_in g (total_ent
 entry-key g t = elim (t.rows == 0) as (λ b. HasKey value_cmp group_in g (if b then None else Some (record { group = g; total = t }))) [ true ↦ tt | false ↦ refl ]
 
 -- what stands for a group, or where nothing stands the total of no rows, is the total of its rows
-pub figures-right : (vs : List Value) (o : Option Figures) → IsEntryOf vs o → IsTotalOf vs (unwrap_or o no_figures)
-figures-right vs None e = subst (λ us. IsTotalOf us no_figures) (sym e) IsTotalOf-none
-figures-right vs (Some t) k = k.0
+pub figures-right : (a : Aggregate) (vs : List Value) (o : Option Figures) → IsEntryOf a vs o → IsTotalOf a vs (unwrap_or o no_figures)
+figures-right a vs None e = subst (λ us. IsTotalOf a us no_figures) (sym e) (IsTotalOf-none a)
+figures-right a vs (Some t) k = k.0
 
 -- the totals after one is set
-AreTotalsOf-put : (g : Value) (t : Figures) (old new : Members) (es : Entries) → IsTotalOf (new g) t → ((v : Value) → eq_by_cmp value_cmp v g ≡ false → new v ≡ old v) → AreTotalsOf old es → AreTotalsOf new (put_entry g (total_entry g t) es)
-AreTotalsOf-put g t old new es here elsewhere k = record {
+AreTotalsOf-put : (a : Aggregate) (g : Value) (t : Figures) (old new : Members) (es : Entries) → IsTotalOf a (new g) t → ((v : Value) → eq_by_cmp value_cmp v g ≡ false → new v ≡ old v) → AreTotalsOf a old es → AreTotalsOf a new (put_entry g (total_entry g t) es)
+AreTotalsOf-put a g t old new es here elsewhere k = record {
   in_order = IsAscending-put value_cmp_total group_in g (total_entry g t) es (entry-key g t) k.in_order;
   right = λ v.
-      let case : (b : Bool) → eq_by_cmp value_cmp v g ≡ b → IsEntryOf (new v) (total_in (cond b (total_entry g t) (entry_at v es))) = λ b. elim b as (λ b. eq_by_cmp value_cmp v g ≡ b → IsEntryOf (new v) (total_in (cond b (total_entry g t) (entry_at v es)))) [
-        | true ↦ λ e. subst (λ u. IsEntryOf (new u) (total_in (total_entry g t))) (sym (value_exact v g (equal_from (value_cmp v g) e))) (entry-right (new g) g t here)
-        | false ↦ λ e. subst (λ us. IsEntryOf us (total_at v es)) (sym (elsewhere v e)) (k.right v)
+      let case : (b : Bool) → eq_by_cmp value_cmp v g ≡ b → IsEntryOf a (new v) (total_in (cond b (total_entry g t) (entry_at v es))) = λ b. elim b as (λ b. eq_by_cmp value_cmp v g ≡ b → IsEntryOf a (new v) (total_in (cond b (total_entry g t) (entry_at v es)))) [
+        | true ↦ λ e. subst (λ u. IsEntryOf a (new u) (total_in (total_entry g t))) (sym (value_exact v g (equal_from (value_cmp v g) e))) (entry-right a (new g) g t here)
+        | false ↦ λ e. subst (λ us. IsEntryOf a us (total_at v es)) (sym (elsewhere v e)) (k.right v)
       ]
-      in subst (λ o. IsEntryOf (new v) (total_in o)) (sym (at-put value_cmp_total group_in g (total_entry g t) es (entry-key g t) k.in_order v)) (case (eq_by_cmp value_cmp v g) refl);
+      in subst (λ o. IsEntryOf a (new v) (total_in o)) (sym (at-put value_cmp_total group_in g (total_entry g t) es (entry-key g t) k.in_order v)) (case (eq_by_cmp value_cmp v g) refl);
 }
 
 -- the totals of the same lists
-pub AreTotalsOf-along : (old new : Members) (es : Entries) → ((v : Value) → new v ≡ old v) → AreTotalsOf old es → AreTotalsOf new es
-AreTotalsOf-along old new es e k = record { in_order = k.in_order; right = λ v. subst (λ vs. IsEntryOf vs (total_at v es)) (sym (e v)) (k.right v) }
+pub AreTotalsOf-along : (a : Aggregate) (old new : Members) (es : Entries) → ((v : Value) → new v ≡ old v) → AreTotalsOf a old es → AreTotalsOf a new es
+AreTotalsOf-along a old new es e k = record { in_order = k.in_order; right = λ v. subst (λ vs. IsEntryOf a vs (total_at v es)) (sym (e v)) (k.right v) }
 
 -- the totals with one row more, if there is one
-pub AreTotalsOf-more : (m : Member) (fewer more : Members) (es : Entries) → HaveOneMore (Some m) fewer more → AreTotalsOf fewer es → AreWithin more → AreTotalsOf more (entries_more m es)
-AreTotalsOf-more m fewer more es h k w =
-    AreTotalsOf-put m.group (one_more m.value (figures_at m.group es)) fewer more es
-    (IsTotalOf-more m.value (fewer m.group) (more m.group) (figures_at m.group es) h.here (figures-right (fewer m.group) (total_at m.group es) (k.right m.group)) (w m.group))
+pub AreTotalsOf-more : (a : Aggregate) (m : Member) (fewer more : Members) (es : Entries) → HaveOneMore (Some m) fewer more → AreTotalsOf a fewer es → AreWithin more → AreTotalsOf a more (entries_more a m es)
+AreTotalsOf-more a m fewer more es h k w =
+    AreTotalsOf-put a m.group (one_more a m.value (figures_at m.group es)) fewer more es
+    (IsTotalOf-more a m.value (fewer m.group) (more m.group) (figures_at m.group es) h.here (figures-right a (fewer m.group) (total_at m.group es) (k.right m.group)) (w m.group))
     h.elsewhere k
 
 -- the totals with one row less
-pub AreTotalsOf-less : (m : Member) (fewer more : Members) (es : Entries) → HaveOneMore (Some m) fewer more → AreTotalsOf more es → AreWithin fewer → AreTotalsOf fewer (entries_less m es)
-AreTotalsOf-less m fewer more es h k w =
-    AreTotalsOf-put m.group (one_less m.value (figures_at m.group es)) more fewer es
-    (IsTotalOf-less m.value (fewer m.group) (more m.group) (figures_at m.group es) h.here (figures-right (more m.group) (total_at m.group es) (k.right m.group)) (w m.group))
+pub AreTotalsOf-less : (a : Aggregate) (m : Member) (fewer more : Members) (es : Entries) → HaveOneMore (Some m) fewer more → AreTotalsOf a more es → AreWithin fewer → AreTotalsOf a fewer (entries_less a m es)
+AreTotalsOf-less a m fewer more es h k w =
+    AreTotalsOf-put a m.group (one_less a m.value (figures_at m.group es)) more fewer es
+    (IsTotalOf-less a m.value (fewer m.group) (more m.group) (figures_at m.group es) h.here (figures-right a (more m.group) (total_at m.group es) (k.right m.group)) (w m.group))
     (λ v e. sym (h.elsewhere v e)) k
 
 -- the entries after one row goes and one comes
-abbrev pub entries_without : Option Member → Entries → Entries
-entries_without None es = es
-entries_without (Some m) es = entries_less m es
+abbrev pub entries_without : Aggregate → Option Member → Entries → Entries
+entries_without a None es = es
+entries_without a (Some m) es = entries_less a m es
 
-abbrev pub entries_with : Option Member → Entries → Entries
-entries_with None es = es
-entries_with (Some m) es = entries_more m es
+abbrev pub entries_with : Aggregate → Option Member → Entries → Entries
+entries_with a None es = es
+entries_with a (Some m) es = entries_more a m es
 
-gone-right : (o : Option Member) (between before : Members) (es : Entries) → HaveOneMore o between before → AreTotalsOf before es → AreWithin between → AreTotalsOf between (entries_without o es)
-gone-right None between before es h k w = AreTotalsOf-along before between es (λ v. sym (h v)) k
-gone-right (Some m) between before es h k w = AreTotalsOf-less m between before es h k w
+gone-right : (a : Aggregate) (o : Option Member) (between before : Members) (es : Entries) → HaveOneMore o between before → AreTotalsOf a before es → AreWithin between → AreTotalsOf a between (entries_without a o es)
+gone-right a None between before es h k w = AreTotalsOf-along a before between es (λ v. sym (h v)) k
+gone-right a (Some m) between before es h k w = AreTotalsOf-less a m between before es h k w
 
-come-right : (o : Option Member) (between after : Members) (es : Entries) → HaveOneMore o between after → AreTotalsOf between es → AreWithin after → AreTotalsOf after (entries_with o es)
-come-right None between after es h k w = AreTotalsOf-along between after es h k
-come-right (Some m) between after es h k w = AreTotalsOf-more m between after es h k w
+come-right : (a : Aggregate) (o : Option Member) (between after : Members) (es : Entries) → HaveOneMore o between after → AreTotalsOf a between es → AreWithin after → AreTotalsOf a after (entries_with a o es)
+come-right a None between after es h k w = AreTotalsOf-along a between after es h k
+come-right a (Some m) between after es h k w = AreTotalsOf-more a m between after es h k w
 
 -- totals of groups become those of the groups with one row gone and one come
-pub AreTotalsOf-change : (add remove : Option Member) (before after : Members) (es : Entries) → IsChange add remove before after → AreTotalsOf before es → AreWithin after → AreTotalsOf after (entries_with add (entries_without remove es))
-AreTotalsOf-change add remove before after es c k w =
-    come-right add c.between after (entries_without remove es) c.come (gone-right remove c.between before es c.gone k (within_fewer add c.between after c.come w)) w
+pub AreTotalsOf-change : (a : Aggregate) (add remove : Option Member) (before after : Members) (es : Entries) → IsChange add remove before after → AreTotalsOf a before es → AreWithin after → AreTotalsOf a after (entries_with a add (entries_without a remove es))
+AreTotalsOf-change a add remove before after es c k w =
+    come-right a add c.between after (entries_without a remove es) c.come (gone-right a remove c.between before es c.gone k (within_fewer add c.between after c.come w)) w
 
 -- the total of a group, and the entries after one is put
 pub total_at-entry : (g : Value) (es : List (Value × Figures)) → option_map entry_value (at value_cmp key_of g es) ≡ total_at g (map entry_from es)

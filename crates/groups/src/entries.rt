@@ -4,6 +4,7 @@ ghost use Rattle.std.specs.Prelude.{◌≡◌, ◌==◌, [], None, Some, List, m
 ghost use Rattle.std.specs.Option.{option_copied};
 ghost use Rattle.value.specs.declared.refusals.Refusal.TheVariants.{NoMemory};
 ghost use Rattle.value.specs.declared.values.Value.{Value as values};
+ghost use Rattle.table.specs.declared.aggregates.Aggregate.{Aggregate as functions};
 ghost use Rattle.table.specs.Aggregates.{aggregate as aggregate_of};
 ghost use Rattle.table.specs.Rows.{RowValues};
 ghost use Rattle.cond.specs.Kinds.{kind_of_aggregate};
@@ -40,7 +41,7 @@ impl Totals {
     /// The totals of groups without rows. It takes no memory.
     pub fn new(alloc: Global) -> Totals
         ensures value { result ≡ [] }
-        ensures totals { AreTotalsOf (λ group. []) result }
+        ensures totals { (asked : functions) → AreTotalsOf asked (λ group. []) result }
     {
         Totals {
             pages: Pages::new(alloc),
@@ -51,23 +52,23 @@ impl Totals {
     pub fn get(&self, group: &Value) -> Option<&Total>
         ensures value { option_copied result ≡ total_at group.now self.now }
         // It is that of the group's rows, and a group without rows has none.
-        ensures entry { (members : Members) → AreTotalsOf members self.now
-            → IsEntryOf (members group.now) (option_copied result) }
+        ensures entry { (asked : functions) (members : Members) → AreTotalsOf asked members self.now
+            → IsEntryOf asked (members group.now) (option_copied result) }
     {
         self.pages.get(group)
     }
 
-    /// What a set function gives of a group's rows, also where it has none. MIN or MAX of texts copies one, and
-    /// nothing else takes memory.
+    /// What a set function gives of a group's rows, also where it has none, where the totals are what it asks for. MIN
+    /// or MAX of texts copies one, and nothing else takes memory.
     pub fn answer(&self, group: &Value, aggregate: Aggregate) -> Result<SlotValue, Refusal>
         ensures only_memory { IsOkUnless result NoMemory }
         ensures kind { IfOk result (λ answer. kind_of answer ≡ kind_of_aggregate aggregate) }
         // It is what the set function gives of the group's rows from scratch.
         ensures answer { IfOk result (λ answer. (rows : values → List RowValues)
-            → AreTotalsOf (λ v. map (value_for aggregate) (rows v)) self.now
+            → AreTotalsOf aggregate (λ v. map (value_for aggregate) (rows v)) self.now
             → value_of answer ≡ aggregate_of aggregate (rows group.now)) }
         ensures within { IfOk result (λ answer. (members : Members)
-            → AreTotalsOf members self.now → IsWithin (members group.now) → IsWithinKind answer) }
+            → AreTotalsOf aggregate members self.now → IsWithin (members group.now) → IsWithinKind answer) }
     {
         match self.get(group) {
             Some(total) => total.answer(aggregate),
@@ -75,42 +76,47 @@ impl Totals {
         }
     }
 
-    /// The totals after one row goes and then one comes, either of which may be none. These stay as they are, also
-    /// where the answer is NoMemory.
-    pub fn with(&self, add: &Option<Member>, remove: &Option<Member>) -> Result<Totals, Refusal>
+    /// The totals after one row goes and then one comes, either of which may be none, for the set function that is
+    /// asked for. These stay as they are, also where the answer is NoMemory.
+    pub fn with(
+        &self,
+        asked: Aggregate,
+        add: &Option<Member>,
+        remove: &Option<Member>,
+    ) -> Result<Totals, Refusal>
         ensures only_memory { IsOkUnless result NoMemory }
         // Totals of some groups become those of the groups with that change.
         ensures totals { IfOk result (λ totals. (before after : Members) → IsChange add.now remove.now before after
-            → AreTotalsOf before self.now → AreWithin after → AreTotalsOf after totals) }
+            → AreTotalsOf asked before self.now → AreWithin after → AreTotalsOf asked after totals) }
     {
         match (remove, add) {
             (None, None) => self.copy(),
-            (None, Some(new)) => self.more(new),
-            (Some(old), None) => self.less(old),
-            (Some(old), Some(new)) => self.less(old)?.more(new),
+            (None, Some(new)) => self.more(asked, new),
+            (Some(old), None) => self.less(asked, old),
+            (Some(old), Some(new)) => self.less(asked, old)?.more(asked, new),
         }
     }
 
     /// The totals with one row more.
-    fn more(&self, member: &Member) -> Result<Totals, Refusal>
+    fn more(&self, asked: Aggregate, member: &Member) -> Result<Totals, Refusal>
         ensures only_memory { IsOkUnless result NoMemory }
-        ensures more { IfOk result (λ totals. totals ≡ entries_more member.now self.now) }
+        ensures more { IfOk result (λ totals. totals ≡ entries_more asked member.now self.now) }
     {
         let total = match self.get(&member.group) {
-            Some(total) => total.more(&member.value)?,
-            None => Total::new(self.pages.allocator()).more(&member.value)?,
+            Some(total) => total.more(asked, &member.value)?,
+            None => Total::new(self.pages.allocator()).more(asked, &member.value)?,
         };
         self.put(&member.group, total)
     }
 
     /// The totals with one row less.
-    fn less(&self, member: &Member) -> Result<Totals, Refusal>
+    fn less(&self, asked: Aggregate, member: &Member) -> Result<Totals, Refusal>
         ensures only_memory { IsOkUnless result NoMemory }
-        ensures less { IfOk result (λ totals. totals ≡ entries_less member.now self.now) }
+        ensures less { IfOk result (λ totals. totals ≡ entries_less asked member.now self.now) }
     {
         let total = match self.get(&member.group) {
-            Some(total) => total.less(&member.value)?,
-            None => Total::new(self.pages.allocator()).less(&member.value)?,
+            Some(total) => total.less(asked, &member.value)?,
+            None => Total::new(self.pages.allocator()).less(asked, &member.value)?,
         };
         self.put(&member.group, total)
     }
