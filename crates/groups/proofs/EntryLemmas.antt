@@ -1,5 +1,5 @@
 -- The totals of groups stay right as a row comes or goes.
-use Rattle.std.proofs.Common.{◌≡◌, ℕ, ◌<◌, suc, Bool, true, false, cond, List, [], ◌∷◌, Option, Some, None, length, map, refl, sym, ◌∙◌, ap, subst, arith}
+use Rattle.std.proofs.Common.{◌≡◌, ℕ, ◌+◌, ◌<◌, suc, Bool, true, false, cond, List, [], ◌∷◌, Option, Some, None, length, map, refl, sym, ◌∙◌, ap, subst, arith}
 use Rattle.std.specs.Prelude.{◌==◌, if◌then◌else◌, unwrap_or}
 use Rattle.std.specs.Option.{option_map}
 use Rattle.std.proofs.lemmas.Bool.Decides.{nat_tests}
@@ -13,11 +13,11 @@ use Rattle.pages.specs.Reach.{key_of, value_of as entry_value, entry_of}
 use Rattle.table.specs.declared.aggregates.Aggregate.{Aggregate}
 use Rattle.groups.specs.declared.members.Member.{Member}
 use Rattle.groups.specs.Figures.{Figures}
-use Rattle.groups.specs.Steps.{no_figures, one_more, one_less, put_entry, total_entry, figures_at, entries_more, entries_less}
-use Rattle.groups.specs.Totals.{Entry, Entries, Members, entry_from, group_in, entry_at, total_at, IsTotalOf, IsEntryOf, AreTotalsOf, HaveOneMore, AreWithin, IsChange}
+use Rattle.groups.specs.Steps.{no_figures, one_more, one_less, put_entry, total_entry, figures_at, entries_more, entries_less, entries_moved}
+use Rattle.groups.specs.Totals.{Entry, Entries, Members, entry_from, group_in, entry_at, total_at, IsTotalOf, IsEntryOf, AreTotalsOf, IsOneMore, HaveOneMore, IsWithin, AreWithin, IsChange}
 use Rattle.groups.proofs.Carried.{at-made, put-made}
-use Rattle.groups.proofs.MemberLemmas.{within_fewer}
-use Rattle.groups.proofs.TotalLemmas.{IsTotalOf-more, IsTotalOf-less, IsTotalOf-none}
+use Rattle.groups.proofs.MemberLemmas.{longer, within_fewer}
+use Rattle.groups.proofs.TotalLemmas.{IsTotalOf-more, IsTotalOf-less, IsTotalOf-none, IsTotalOf-same}
 
 abbrev total_in : Option Entry → Option Figures
 total_in o = option_map (λ (entry : Entry). entry.total) o
@@ -43,6 +43,10 @@ entry-right a vs g t k =
 
 entry-key : (g : Value) (t : Figures) → HasKey value_cmp group_in g (total_entry g t)
 entry-key g t = elim (t.rows == 0) as (λ b. HasKey value_cmp group_in g (if b then None else Some (record { group = g; total = t }))) [ true ↦ tt | false ↦ refl ]
+
+-- a list with one item more than another is not empty
+not_empty : (n : ℕ) (vs : List Value) → length vs ≡ n + 1 → vs ≡ [] → ⊥
+not_empty n vs l e = let zero : length vs ≡ 0 = ap length e in omega (arith, l, zero)
 
 -- what stands for a group, or where nothing stands the total of no rows, is the total of its rows
 pub figures-right : (a : Aggregate) (vs : List Value) (o : Option Figures) → IsEntryOf a vs o → IsTotalOf a vs (unwrap_or o no_figures)
@@ -100,6 +104,38 @@ come-right a (Some m) between after es h k w = AreTotalsOf-more a m between afte
 pub AreTotalsOf-change : (a : Aggregate) (add remove : Option Member) (before after : Members) (es : Entries) → IsChange add remove before after → AreTotalsOf a before es → AreWithin after → AreTotalsOf a after (entries_with a add (entries_without a remove es))
 AreTotalsOf-change a add remove before after es c k w =
     come-right a add c.between after (entries_without a remove es) c.come (gone-right a remove c.between before es c.gone k (within_fewer add c.between after c.come w)) w
+
+-- totals of groups become those of the groups where a row of a group gets another value
+pub AreTotalsOf-moved : (a : Aggregate) (old new : Member) (before after : Members) (es : Entries) → old.group ≡ new.group → IsChange (Some new) (Some old) before after → AreTotalsOf a before es → AreWithin after → AreTotalsOf a after (entries_moved a old.group old.value new.value es)
+AreTotalsOf-moved a old new before after es same c k w =
+    let g : Value = old.group in
+    let t : Figures = figures_at g es in
+    let here : IsOneMore new.value (c.between g) (after g) = subst (λ v. IsOneMore new.value (c.between v) (after v)) (sym same) c.come.here in
+    let within : IsWithin (c.between g) = within_fewer (Some new) c.between after c.come w g in
+    AreTotalsOf-put a g (one_more a new.value (one_less a old.value t)) before after es
+    (IsTotalOf-more a new.value (c.between g) (after g) (one_less a old.value t) here (IsTotalOf-less a old.value (c.between g) (before g) t c.gone.here (figures-right a (before g) (total_at g es) (k.right g)) within) (w g))
+    (λ v e. c.come.elsewhere v (subst (λ u. eq_by_cmp value_cmp v u ≡ false) same e) ∙ sym (c.gone.elsewhere v e))
+    k
+
+-- and where it gets the same value they are those that they were
+pub AreTotalsOf-same : (a : Aggregate) (old new : Member) (before after : Members) (es : Entries) → old.group ≡ new.group → old.value ≡ new.value → IsChange (Some new) (Some old) before after → AreTotalsOf a before es → AreTotalsOf a after es
+AreTotalsOf-same a old new before after es same value c k =
+    let g : Value = old.group in
+    let come : IsOneMore old.value (c.between g) (after g) = subst (λ x. IsOneMore x (c.between g) (after g)) (sym value) (subst (λ v. IsOneMore new.value (c.between v) (after v)) (sym same) c.come.here) in
+    let stays : (v : Value) → eq_by_cmp value_cmp v g ≡ false → after v ≡ before v = λ v e. c.come.elsewhere v (subst (λ u. eq_by_cmp value_cmp v u ≡ false) same e) ∙ sym (c.gone.elsewhere v e) in
+    let entry : (o : Option Figures) → IsEntryOf a (before g) o → IsEntryOf a (after g) o = λ o. elim o as (λ o. IsEntryOf a (before g) o → IsEntryOf a (after g) o) [
+      | None ↦ λ none. absurd (not_empty _ _ (longer old.value (c.between g) (before g) c.gone.here) none)
+      | Some t ↦ λ e. (IsTotalOf-same a old.value (c.between g) (before g) (after g) t c.gone.here come e.0, omega (arith, longer old.value (c.between g) (after g) come))
+    ]
+    in record {
+      in_order = k.in_order;
+      right = λ v.
+          let case : (b : Bool) → eq_by_cmp value_cmp v g ≡ b → IsEntryOf a (after v) (total_at v es) = λ b. elim b as (λ b. eq_by_cmp value_cmp v g ≡ b → IsEntryOf a (after v) (total_at v es)) [
+            | true ↦ λ e. subst (λ u. IsEntryOf a (after u) (total_at u es)) (sym (value_exact v g (equal_from (value_cmp v g) e))) (entry (total_at g es) (k.right g))
+            | false ↦ λ e. subst (λ us. IsEntryOf a us (total_at v es)) (sym (stays v e)) (k.right v)
+          ]
+          in case (eq_by_cmp value_cmp v g) refl;
+    }
 
 -- the total of a group, and the entries after one is put
 pub total_at-entry : (g : Value) (es : List (Value × Figures)) → option_map entry_value (at value_cmp key_of g es) ≡ total_at g (map entry_from es)

@@ -1,5 +1,5 @@
 -- A total stays that of its rows as one comes or goes.
-use Rattle.std.proofs.Common.{◌≡◌, ℕ, ◌+◌, ◌-◌, ◌<◌, ◌≤◌, ◌^◌, Bool, true, false, cond, List, [], refl, ◌∙◌, ap, arith}
+use Rattle.std.proofs.Common.{◌≡◌, ℕ, ◌+◌, ◌-◌, ◌<◌, ◌≤◌, ◌^◌, Bool, true, false, cond, List, [], refl, sym, ◌∙◌, ap, arith}
 use Rattle.std.specs.Prelude.{◌&&◌, ℤ, pos, negsuc, ◌+ℤ◌, ◌-ℤ◌, unsigned_abs, count_by, if◌then◌else◌}
 use Rattle.std.specs.Int.{w128, saturate_signed}
 use Rattle.std.proofs.Math.Nat.{min-eq_left}
@@ -91,6 +91,23 @@ IsTotalOf-less a x vs ws t m k w = record {
   where
     taken : (s n a b : ℤ) → s ≡ b → b ≡ n +ℤ a → s -ℤ n ≡ a
     taken s n a b e f = omega (arith, ints, e, f)
+
+-- the counts, and a total, stay where one value goes and the same comes
+AreCountsIf-same : (b : Bool) (x : Value) (us vs ws : List Value) (cs : List Count) → IsOneMore x us vs → IsOneMore x us ws → AreCountsIf b vs cs → AreCountsIf b ws cs
+AreCountsIf-same false x us vs ws cs m n k = tt
+AreCountsIf-same true x us vs ws cs m n k = record {
+  in_order = k.in_order;
+  positive = k.positive;
+  right = λ v. k.right v ∙ counted (alike v) x us vs m ∙ sym (counted (alike v) x us ws n);
+}
+
+pub IsTotalOf-same : (a : Aggregate) (x : Value) (us vs ws : List Value) (t : Figures) → IsOneMore x us vs → IsOneMore x us ws → IsTotalOf a vs t → IsTotalOf a ws t
+IsTotalOf-same a x us vs ws t m n k = record {
+  rows = k.rows ∙ longer x us vs m ∙ sym (longer x us ws n);
+  there = k.there ∙ counted is_there x us vs m ∙ sym (counted is_there x us ws n);
+  sum = k.sum ∙ summed x us vs m ∙ sym (summed x us ws n);
+  values = AreCountsIf-same (is_extreme a) x us vs ws t.values m n k.values;
+}
 
 -- the total of no rows
 pub IsTotalOf-none : (a : Aggregate) → IsTotalOf a [] no_figures

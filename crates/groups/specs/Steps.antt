@@ -65,3 +65,8 @@ entries_more asked m entries =
 abbrev pub entries_less : Aggregate → Member → Entries → Entries
 entries_less asked m entries =
     put_entry m.group (total_entry m.group (one_less asked m.value (figures_at m.group entries))) entries
+
+-- the entries with one value for another in a group
+abbrev pub entries_moved : Aggregate → Value → Value → Value → Entries → Entries
+entries_moved asked group old new entries =
+    put_entry group (total_entry group (one_more asked new (one_less asked old (figures_at group entries)))) entries

@@ -10,7 +10,7 @@ ghost use Rattle.table.specs.Rows.{RowValues};
 ghost use Rattle.cond.specs.Kinds.{kind_of_aggregate};
 ghost use Rattle.cond.specs.Slots.{IsWithinKind, kind_of, value_of};
 ghost use Rattle.groups.specs.Answers.{value_for};
-ghost use Rattle.groups.specs.Steps.{put_entry, total_entry, entries_more, entries_less};
+ghost use Rattle.groups.specs.Steps.{put_entry, total_entry, figures_at, entries_more, entries_less, entries_moved};
 ghost use Rattle.groups.specs.Totals.{Members, total_at, IsEntryOf, AreTotalsOf, AreWithin, IsWithin, IsChange};
 
 use crate::members::Member;
@@ -18,9 +18,10 @@ use crate::totals::Total;
 use cond::SlotValue;
 use pages::Pages;
 use std::alloc::Global;
+use std::cmp::Ordering;
 use std::marker::Model;
 use table::Aggregate;
-use value::{Refusal, Value};
+use value::{Refusal, Value, order};
 
 /// The total of each group that has a row, in the order of the groups.
 #[derive(Debug, Drop)]
@@ -93,8 +94,53 @@ impl Totals {
             (None, None) => self.copy(),
             (None, Some(new)) => self.more(asked, new),
             (Some(old), None) => self.less(asked, old),
-            (Some(old), Some(new)) => self.less(asked, old)?.more(asked, new),
+            (Some(old), Some(new)) => self.replaced(asked, old, new),
         }
+    }
+
+    /// The totals after one row goes and one comes.
+    fn replaced(&self, asked: Aggregate, old: &Member, new: &Member) -> Result<Totals, Refusal>
+        ensures only_memory { IsOkUnless result NoMemory }
+        ensures totals { IfOk result (λ totals. (before after : Members)
+            → IsChange (Some new.now) (Some old.now) before after
+            → AreTotalsOf asked before self.now → AreWithin after → AreTotalsOf asked after totals) }
+    {
+        match order(&old.group, &new.group) {
+            Ordering::Equal => self.revalued(asked, old, new),
+            Ordering::Less | Ordering::Greater => self.less(asked, old)?.more(asked, new),
+        }
+    }
+
+    /// The totals after a row of a group gets another value: its total is looked up and put once.
+    fn revalued(&self, asked: Aggregate, old: &Member, new: &Member) -> Result<Totals, Refusal>
+        requires same { old.now.group ≡ new.now.group }
+        ensures only_memory { IsOkUnless result NoMemory }
+        ensures totals { IfOk result (λ totals. (before after : Members)
+            → IsChange (Some new.now) (Some old.now) before after
+            → AreTotalsOf asked before self.now → AreWithin after → AreTotalsOf asked after totals) }
+    {
+        match order(&old.value, &new.value) {
+            Ordering::Equal => self.copy(),
+            Ordering::Less | Ordering::Greater => self.moved(
+                asked, &old.group, &old.value, &new.value,
+            ),
+        }
+    }
+
+    /// The totals with another value for a row of a group.
+    fn moved(
+        &self,
+        asked: Aggregate,
+        group: &Value,
+        old: &Value,
+        new: &Value,
+    ) -> Result<Totals, Refusal>
+        ensures only_memory { IsOkUnless result NoMemory }
+        ensures moved { IfOk result (λ totals. totals ≡ entries_moved asked group.now old.now new.now self.now) }
+    {
+        let without = self.total(group)?.less(asked, old)?;
+        let total = without.more(asked, new)?;
+        self.put(group, total)
     }
 
     /// The totals with one row more.
@@ -102,10 +148,7 @@ impl Totals {
         ensures only_memory { IsOkUnless result NoMemory }
         ensures more { IfOk result (λ totals. totals ≡ entries_more asked member.now self.now) }
     {
-        let total = match self.get(&member.group) {
-            Some(total) => total.more(asked, &member.value)?,
-            None => Total::new(self.pages.allocator()).more(asked, &member.value)?,
-        };
+        let total = self.total(&member.group)?.more(asked, &member.value)?;
         self.put(&member.group, total)
     }
 
@@ -114,11 +157,19 @@ impl Totals {
         ensures only_memory { IsOkUnless result NoMemory }
         ensures less { IfOk result (λ totals. totals ≡ entries_less asked member.now self.now) }
     {
-        let total = match self.get(&member.group) {
-            Some(total) => total.less(asked, &member.value)?,
-            None => Total::new(self.pages.allocator()).less(asked, &member.value)?,
-        };
+        let total = self.total(&member.group)?.less(asked, &member.value)?;
         self.put(&member.group, total)
+    }
+
+    /// The total of a group; that of no rows where none stands for it.
+    fn total(&self, group: &Value) -> Result<Total, Refusal>
+        ensures only_memory { IsOkUnless result NoMemory }
+        ensures total { IfOk result (λ total. total ≡ figures_at group.now self.now) }
+    {
+        match self.get(group) {
+            Some(total) => total.copy(),
+            None => Ok(Total::new(self.pages.allocator())),
+        }
     }
 
     /// The totals with this one for a group, or none where it is of no rows.
