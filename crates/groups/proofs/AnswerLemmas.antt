@@ -47,14 +47,14 @@ sum-slot (v ∷ vs) n e =
     in case (n == 0) refl
 
 -- what a set function gives by the total of the rows' values
-pub answer-right : (a : Aggregate) (rows : List RowValues) (t : Figures) → IsTotalOf (map (value_for a) rows) t → value_in_slot (answer_from a t) ≡ aggregate a rows
+pub answer-right : (a : Aggregate) (rows : List RowValues) (t : Figures) → IsTotalOf a (map (value_for a) rows) t → value_in_slot (answer_from a t) ≡ aggregate a rows
 answer-right CountRows rows t k = ap (λ n. Int (pos n)) (k.rows ∙ length-map rows (value_for CountRows))
 answer-right (Count c) rows t k = ap (λ n. Int (pos n)) (k.there ∙ sym (length-filter is_there (map (value_in c) rows)))
 answer-right (Sum c) rows t k =
     ap (λ z. value_in_slot (sum_slot t.there z)) (k.sum ∙ sym (sum-there (map (value_in c) rows)))
     ∙ sum-slot (values_in c rows) t.there (k.there ∙ sym (length-filter is_there (map (value_in c) rows)))
-answer-right (Min c) rows t k = ap (λ o. unwrap_or o Null) (least-right (map (value_in c) rows) t k)
-answer-right (Max c) rows t k = ap (λ o. unwrap_or o Null) (greatest-right (map (value_in c) rows) t k)
+answer-right (Min c) rows t k = ap (λ o. unwrap_or o Null) (least-right (map (value_in c) rows) t.values k.values)
+answer-right (Max c) rows t k = ap (λ o. unwrap_or o Null) (greatest-right (map (value_in c) rows) t.values k.values)
 
 -- the least of small values is small
 least_small : (R : Value → Value → Ordering) (vs : List Value) → AreSmall vs → magnitude (unwrap_or (least R vs) Null) ≤ 10 ^ 15
@@ -72,12 +72,12 @@ there_small : (vs : List Value) → AreSmall vs → AreSmall (filter is_there vs
 there_small vs h = All-filter is_there (λ (v : Value). magnitude v ≤ 10 ^ 15) vs h
 
 -- what a set function gives by a total of rows within bounds is within the bound of its slot
-pub answer-within : (a : Aggregate) (vs : List Value) (t : Figures) → IsTotalOf vs t → IsWithin vs → IsWithinKind (answer_from a t)
+pub answer-within : (a : Aggregate) (vs : List Value) (t : Figures) → IsTotalOf a vs t → IsWithin vs → IsWithinKind (answer_from a t)
 answer-within CountRows vs t k w = omega (arith, w.short, k.rows)
 answer-within (Count c) vs t k w = omega (arith, w.short, k.there, count_by-le-length is_there vs)
 answer-within (Sum c) vs t k w = elim (t.there == 0) as (λ b. IsWithinKind (slot.Sum (if b then None else Some t.sum))) [
   | true ↦ omega arith
   | false ↦ rw k.sum (omega (arith, sum_within vs w))
 ]
-answer-within (Min c) vs t k w = rw (least-right vs t k) (omega (arith, least_small value_cmp (filter is_there vs) (there_small vs w.small)))
-answer-within (Max c) vs t k w = rw (greatest-right vs t k) (omega (arith, least_small (λ v w. value_cmp w v) (filter is_there vs) (there_small vs w.small)))
+answer-within (Min c) vs t k w = rw (least-right vs t.values k.values) (omega (arith, least_small value_cmp (filter is_there vs) (there_small vs w.small)))
+answer-within (Max c) vs t k w = rw (greatest-right vs t.values k.values) (omega (arith, least_small (λ v w. value_cmp w v) (filter is_there vs) (there_small vs w.small)))

@@ -14,8 +14,7 @@ use Rattle.value.proofs.OrderedLists.{has, first, least-first, All-at}
 use Rattle.table.specs.Aggregates.{is_there}
 use Rattle.pages.specs.Reach.{key_of}
 use Rattle.groups.specs.Counts.{Count as Counted, count_from, value_of, count_in, first_value, last_value}
-use Rattle.groups.specs.Figures.{Figures}
-use Rattle.groups.specs.Totals.{IsTotalOf}
+use Rattle.groups.specs.Totals.{AreCountsOf}
 use Rattle.groups.proofs.Greatest.{last, least-last}
 
 -- what stands at a key, by the keys alone
@@ -63,10 +62,10 @@ among v (w ∷ ws) =
     none_more n = ap (nat_lt 0) (omega arith)
 
 -- the counted values are those that are there
-same_members : (vs : List Value) (t : Figures) → IsTotalOf vs t → (v : Value) → is_some (at value_cmp (λ k. k) v (map value_of t.values)) ≡ has value_cmp v (filter is_there vs)
-same_members vs t k v =
-    at-keys v t.values ∙ counted (at value_cmp value_of v t.values) (All-at value_cmp value_of (λ (c : Counted). 0 < c.count) v t.values k.positive)
-    ∙ ap (nat_lt 0) (k.counts v) ∙ sym (among v vs)
+same_members : (vs : List Value) (cs : List Counted) → AreCountsOf vs cs → (v : Value) → is_some (at value_cmp (λ k. k) v (map value_of cs)) ≡ has value_cmp v (filter is_there vs)
+same_members vs cs k v =
+    at-keys v cs ∙ counted (at value_cmp value_of v cs) (All-at value_cmp value_of (λ (c : Counted). 0 < c.count) v cs k.positive)
+    ∙ ap (nat_lt 0) (k.right v) ∙ sym (among v vs)
 
 first-keys : (cs : List Counted) → first (map value_of cs) ≡ first_value cs
 first-keys [] = refl
@@ -77,11 +76,11 @@ last-keys [] = refl
 last-keys (c ∷ []) = refl
 last-keys (c ∷ d ∷ cs) = last-keys (d ∷ cs)
 
-pub least-right : (vs : List Value) (t : Figures) → IsTotalOf vs t → first_value t.values ≡ least value_cmp (filter is_there vs)
-least-right vs t k = sym (least-first value_cmp_total value_exact (map value_of t.values) (filter is_there vs) (same_members vs t k) ∙ first-keys t.values)
+pub least-right : (vs : List Value) (cs : List Counted) → AreCountsOf vs cs → first_value cs ≡ least value_cmp (filter is_there vs)
+least-right vs cs k = sym (least-first value_cmp_total value_exact (map value_of cs) (filter is_there vs) (same_members vs cs k) ∙ first-keys cs)
 
-pub greatest-right : (vs : List Value) (t : Figures) → IsTotalOf vs t → last_value t.values ≡ least (λ v w. value_cmp w v) (filter is_there vs)
-greatest-right vs t k = sym (least-last value_cmp_total value_exact (map value_of t.values) (filter is_there vs) (ascending-keys t.values k.in_order) (same_members vs t k) ∙ last-keys t.values)
+pub greatest-right : (vs : List Value) (cs : List Counted) → AreCountsOf vs cs → last_value cs ≡ least (λ v w. value_cmp w v) (filter is_there vs)
+greatest-right vs cs k = sym (least-last value_cmp_total value_exact (map value_of cs) (filter is_there vs) (ascending-keys cs k.in_order) (same_members vs cs k) ∙ last-keys cs)
 
 -- the first and the last of the counts
 abbrev no_entry : Option (Value × ℕ)

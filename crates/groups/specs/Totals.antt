@@ -1,25 +1,44 @@
 -- Totals: of the values of one group's rows, and of all groups; and the groups before and after a row goes or comes.
-use Rattle.std.specs.Prelude.{◌≡◌, ◌≤◌, ◌<◌, ◌^◌, false, ◌&&◌, List, [], ◌∷◌, ◌++◌, length, count_by, All, Option, Some, None}
+use Rattle.std.specs.Prelude.{◌≡◌, ◌≤◌, ◌<◌, ◌^◌, Bool, true, false, ◌&&◌, List, [], ◌∷◌, ◌++◌, length, count_by, All, Option, Some, None}
 use Rattle.std.specs.Option.{option_map}
 use Rattle.std.specs.Ordering.{eq_by_cmp}
 use Rattle.value.specs.declared.values.Value.{Value}
 use Rattle.value.specs.ValueOrder.{value_cmp}
 use Rattle.value.specs.Ordered as ordered
+use Rattle.table.specs.declared.aggregates.Aggregate.{Aggregate}
+use Rattle.table.specs.declared.aggregates.Aggregate.TheVariants.{CountRows, Count as CountOf, Sum, Min, Max}
 use Rattle.table.specs.Aggregates.{is_there, sum_of}
 use Rattle.cond.specs.Slots.{magnitude}
 use Rattle.groups.specs.declared.members.Member.{Member}
 use Rattle.groups.specs.Counts.{Count, value_of, count_at}
 use Rattle.groups.specs.Figures.{Figures}
 
--- the total of a list of values, one for each row: how many rows, how many values are not NULL, their sum, and how
--- often each stands
-pub record IsTotalOf (vs : List Value) (t : Figures) : Type 0 where
+-- how often each value that is not NULL stands in a list
+pub record AreCountsOf (vs : List Value) (counts : List Count) : Type 0 where
+  pub in_order : ordered.IsAscending value_cmp value_of counts
+  pub positive : All (λ (c : Count). 0 < c.count) counts
+  pub right : (v : Value) → count_at v counts ≡ count_by (λ w. is_there w && eq_by_cmp value_cmp v w) vs
+
+-- whether a set function gives one of the values, the least or the greatest; the others give a number
+abbrev pub is_extreme : Aggregate → Bool
+is_extreme CountRows = false
+is_extreme (CountOf column) = false
+is_extreme (Sum column) = false
+is_extreme (Min column) = true
+is_extreme (Max column) = true
+
+-- the values are counted, each for itself, where one of them is asked for
+abbrev pub AreCountsIf : Bool → List Value → List Count → Type 0
+AreCountsIf false vs counts = Unit {0}
+AreCountsIf true vs counts = AreCountsOf vs counts
+
+-- the total of a list of values, one for each row, for a set function: how many rows, how many values are not NULL and
+-- their sum, and, where one of the values is asked for, how often each stands
+pub record IsTotalOf (asked : Aggregate) (vs : List Value) (t : Figures) : Type 0 where
   pub rows : t.rows ≡ length vs
   pub there : t.there ≡ count_by is_there vs
   pub sum : t.sum ≡ sum_of vs
-  pub in_order : ordered.IsAscending value_cmp value_of t.values
-  pub positive : All (λ (c : Count). 0 < c.count) t.values
-  pub counts : (v : Value) → count_at v t.values ≡ count_by (λ w. is_there w && eq_by_cmp value_cmp v w) vs
+  pub values : AreCountsIf (is_extreme asked) vs t.values
 
 -- a group and its total
 pub record Entry : Type 0 where
@@ -49,14 +68,14 @@ abbrev pub Members : Type 0
 Members = Value → List Value
 
 -- what stands for a group is the total of its rows, and nothing stands for a group without rows
-abbrev pub IsEntryOf : List Value → Option Figures → Type 0
-IsEntryOf vs None = vs ≡ []
-IsEntryOf vs (Some t) = IsTotalOf vs t × (0 < length vs)
+abbrev pub IsEntryOf : Aggregate → List Value → Option Figures → Type 0
+IsEntryOf asked vs None = vs ≡ []
+IsEntryOf asked vs (Some t) = IsTotalOf asked vs t × (0 < length vs)
 
--- the entries are the totals of these groups
-pub record AreTotalsOf (members : Members) (entries : Entries) : Type 0 where
+-- the entries are the totals of these groups that a set function asks for
+pub record AreTotalsOf (asked : Aggregate) (members : Members) (entries : Entries) : Type 0 where
   pub in_order : ordered.IsAscending value_cmp group_in entries
-  pub right : (v : Value) → IsEntryOf (members v) (total_at v entries)
+  pub right : (v : Value) → IsEntryOf asked (members v) (total_at v entries)
 
 -- a list has an item once more than another, somewhere
 pub record IsOneMore {X : Type 0} (x : X) (fewer more : List X) : Type 0 where

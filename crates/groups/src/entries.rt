@@ -4,12 +4,13 @@ ghost use Rattle.std.specs.Prelude.{◌≡◌, ◌==◌, [], None, Some, List, m
 ghost use Rattle.std.specs.Option.{option_copied};
 ghost use Rattle.value.specs.declared.refusals.Refusal.TheVariants.{NoMemory};
 ghost use Rattle.value.specs.declared.values.Value.{Value as values};
+ghost use Rattle.table.specs.declared.aggregates.Aggregate.{Aggregate as functions};
 ghost use Rattle.table.specs.Aggregates.{aggregate as aggregate_of};
 ghost use Rattle.table.specs.Rows.{RowValues};
 ghost use Rattle.cond.specs.Kinds.{kind_of_aggregate};
 ghost use Rattle.cond.specs.Slots.{IsWithinKind, kind_of, value_of};
 ghost use Rattle.groups.specs.Answers.{value_for};
-ghost use Rattle.groups.specs.Steps.{put_entry, total_entry, entries_more, entries_less};
+ghost use Rattle.groups.specs.Steps.{put_entry, total_entry, figures_at, entries_more, entries_less, entries_moved};
 ghost use Rattle.groups.specs.Totals.{Members, total_at, IsEntryOf, AreTotalsOf, AreWithin, IsWithin, IsChange};
 
 use crate::members::Member;
@@ -17,9 +18,10 @@ use crate::totals::Total;
 use cond::SlotValue;
 use pages::Pages;
 use std::alloc::Global;
+use std::cmp::Ordering;
 use std::marker::Model;
 use table::Aggregate;
-use value::{Refusal, Value};
+use value::{Refusal, Value, order};
 
 /// The total of each group that has a row, in the order of the groups.
 #[derive(Debug, Drop)]
@@ -40,7 +42,7 @@ impl Totals {
     /// The totals of groups without rows. It takes no memory.
     pub fn new(alloc: Global) -> Totals
         ensures value { result ≡ [] }
-        ensures totals { AreTotalsOf (λ group. []) result }
+        ensures totals { (asked : functions) → AreTotalsOf asked (λ group. []) result }
     {
         Totals {
             pages: Pages::new(alloc),
@@ -51,23 +53,23 @@ impl Totals {
     pub fn get(&self, group: &Value) -> Option<&Total>
         ensures value { option_copied result ≡ total_at group.now self.now }
         // It is that of the group's rows, and a group without rows has none.
-        ensures entry { (members : Members) → AreTotalsOf members self.now
-            → IsEntryOf (members group.now) (option_copied result) }
+        ensures entry { (asked : functions) (members : Members) → AreTotalsOf asked members self.now
+            → IsEntryOf asked (members group.now) (option_copied result) }
     {
         self.pages.get(group)
     }
 
-    /// What a set function gives of a group's rows, also where it has none. MIN or MAX of texts copies one, and
-    /// nothing else takes memory.
+    /// What a set function gives of a group's rows, also where it has none, where the totals are what it asks for. MIN
+    /// or MAX of texts copies one, and nothing else takes memory.
     pub fn answer(&self, group: &Value, aggregate: Aggregate) -> Result<SlotValue, Refusal>
         ensures only_memory { IsOkUnless result NoMemory }
         ensures kind { IfOk result (λ answer. kind_of answer ≡ kind_of_aggregate aggregate) }
         // It is what the set function gives of the group's rows from scratch.
         ensures answer { IfOk result (λ answer. (rows : values → List RowValues)
-            → AreTotalsOf (λ v. map (value_for aggregate) (rows v)) self.now
+            → AreTotalsOf aggregate (λ v. map (value_for aggregate) (rows v)) self.now
             → value_of answer ≡ aggregate_of aggregate (rows group.now)) }
         ensures within { IfOk result (λ answer. (members : Members)
-            → AreTotalsOf members self.now → IsWithin (members group.now) → IsWithinKind answer) }
+            → AreTotalsOf aggregate members self.now → IsWithin (members group.now) → IsWithinKind answer) }
     {
         match self.get(group) {
             Some(total) => total.answer(aggregate),
@@ -75,44 +77,99 @@ impl Totals {
         }
     }
 
-    /// The totals after one row goes and then one comes, either of which may be none. These stay as they are, also
-    /// where the answer is NoMemory.
-    pub fn with(&self, add: &Option<Member>, remove: &Option<Member>) -> Result<Totals, Refusal>
+    /// The totals after one row goes and then one comes, either of which may be none, for the set function that is
+    /// asked for. These stay as they are, also where the answer is NoMemory.
+    pub fn with(
+        &self,
+        asked: Aggregate,
+        add: &Option<Member>,
+        remove: &Option<Member>,
+    ) -> Result<Totals, Refusal>
         ensures only_memory { IsOkUnless result NoMemory }
         // Totals of some groups become those of the groups with that change.
         ensures totals { IfOk result (λ totals. (before after : Members) → IsChange add.now remove.now before after
-            → AreTotalsOf before self.now → AreWithin after → AreTotalsOf after totals) }
+            → AreTotalsOf asked before self.now → AreWithin after → AreTotalsOf asked after totals) }
     {
         match (remove, add) {
             (None, None) => self.copy(),
-            (None, Some(new)) => self.more(new),
-            (Some(old), None) => self.less(old),
-            (Some(old), Some(new)) => self.less(old)?.more(new),
+            (None, Some(new)) => self.more(asked, new),
+            (Some(old), None) => self.less(asked, old),
+            (Some(old), Some(new)) => self.replaced(asked, old, new),
         }
     }
 
-    /// The totals with one row more.
-    fn more(&self, member: &Member) -> Result<Totals, Refusal>
+    /// The totals after one row goes and one comes.
+    fn replaced(&self, asked: Aggregate, old: &Member, new: &Member) -> Result<Totals, Refusal>
         ensures only_memory { IsOkUnless result NoMemory }
-        ensures more { IfOk result (λ totals. totals ≡ entries_more member.now self.now) }
+        ensures totals { IfOk result (λ totals. (before after : Members)
+            → IsChange (Some new.now) (Some old.now) before after
+            → AreTotalsOf asked before self.now → AreWithin after → AreTotalsOf asked after totals) }
     {
-        let total = match self.get(&member.group) {
-            Some(total) => total.more(&member.value)?,
-            None => Total::new(self.pages.allocator()).more(&member.value)?,
-        };
+        match order(&old.group, &new.group) {
+            Ordering::Equal => self.revalued(asked, old, new),
+            Ordering::Less | Ordering::Greater => self.less(asked, old)?.more(asked, new),
+        }
+    }
+
+    /// The totals after a row of a group gets another value: its total is looked up and put once.
+    fn revalued(&self, asked: Aggregate, old: &Member, new: &Member) -> Result<Totals, Refusal>
+        requires same { old.now.group ≡ new.now.group }
+        ensures only_memory { IsOkUnless result NoMemory }
+        ensures totals { IfOk result (λ totals. (before after : Members)
+            → IsChange (Some new.now) (Some old.now) before after
+            → AreTotalsOf asked before self.now → AreWithin after → AreTotalsOf asked after totals) }
+    {
+        match order(&old.value, &new.value) {
+            Ordering::Equal => self.copy(),
+            Ordering::Less | Ordering::Greater => self.moved(
+                asked, &old.group, &old.value, &new.value,
+            ),
+        }
+    }
+
+    /// The totals with another value for a row of a group.
+    fn moved(
+        &self,
+        asked: Aggregate,
+        group: &Value,
+        old: &Value,
+        new: &Value,
+    ) -> Result<Totals, Refusal>
+        ensures only_memory { IsOkUnless result NoMemory }
+        ensures moved { IfOk result (λ totals. totals ≡ entries_moved asked group.now old.now new.now self.now) }
+    {
+        let without = self.total(group)?.less(asked, old)?;
+        let total = without.more(asked, new)?;
+        self.put(group, total)
+    }
+
+    /// The totals with one row more.
+    fn more(&self, asked: Aggregate, member: &Member) -> Result<Totals, Refusal>
+        ensures only_memory { IsOkUnless result NoMemory }
+        ensures more { IfOk result (λ totals. totals ≡ entries_more asked member.now self.now) }
+    {
+        let total = self.total(&member.group)?.more(asked, &member.value)?;
         self.put(&member.group, total)
     }
 
     /// The totals with one row less.
-    fn less(&self, member: &Member) -> Result<Totals, Refusal>
+    fn less(&self, asked: Aggregate, member: &Member) -> Result<Totals, Refusal>
         ensures only_memory { IsOkUnless result NoMemory }
-        ensures less { IfOk result (λ totals. totals ≡ entries_less member.now self.now) }
+        ensures less { IfOk result (λ totals. totals ≡ entries_less asked member.now self.now) }
     {
-        let total = match self.get(&member.group) {
-            Some(total) => total.less(&member.value)?,
-            None => Total::new(self.pages.allocator()).less(&member.value)?,
-        };
+        let total = self.total(&member.group)?.less(asked, &member.value)?;
         self.put(&member.group, total)
+    }
+
+    /// The total of a group; that of no rows where none stands for it.
+    fn total(&self, group: &Value) -> Result<Total, Refusal>
+        ensures only_memory { IsOkUnless result NoMemory }
+        ensures total { IfOk result (λ total. total ≡ figures_at group.now self.now) }
+    {
+        match self.get(group) {
+            Some(total) => total.copy(),
+            None => Ok(Total::new(self.pages.allocator())),
+        }
     }
 
     /// The totals with this one for a group, or none where it is of no rows.

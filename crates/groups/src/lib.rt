@@ -5,22 +5,25 @@
 //! none of them COUNT is 0 and the others are NULL. Evaluated from scratch they read the whole group. Here each group
 //! has a `Total` that is carried on as one row goes or comes (incremental view maintenance: Gupta, Mumick and
 //! Subrahmanian, "Maintaining Views Incrementally", 1993): the number of rows, the number of values that are not
-//! NULL, their sum, and the multiset of them, since the least value may go and the next one has then to be known.
+//! NULL and their sum; and for MIN and MAX alone the multiset of the values, since the least one may go and the next
+//! one has then to be known.
 //!
 //! - A group is named by a value, and NULL is one like another, as GROUP BY wants it. Its rows count by one value
 //!   each, that of the column under the set function.
 //! - `Totals` has a `Total` for each group that has a row, and nothing for one that has none. `Totals::with` makes
 //!   the totals after one row goes and one comes, each a `Member`: its group and its value. A row that moves between
-//!   groups, or whose value changes, is both. The old totals stay whole.
-//! - `Totals::get` lends the total of a group, `Totals::answer` and `Total::answer` what a set function gives.
+//!   groups, or whose value changes, is both. It is told for which set function the totals are: what that one asks for
+//!   is carried on. The old totals stay whole.
+//! - `Totals::get` lends the total of a group, `Totals::answer` and `Total::answer` what a set function gives by totals
+//!   that are carried on for it.
 //!
-//! What the layer above may rest on: totals that are those of some groups are, after `with`, those of the groups with
-//! that change; what stands for a group is the total of its rows, and nothing stands for a group without rows; what a
-//! set function gives by them is what it gives of the group's rows from scratch, MIN and MAX after removals too;
-//! `get` takes no memory; a copy is equal to its original; and NoMemory is the only error. No call has a premise: the
-//! contract of `with` says what follows where the groups after it are within bounds, which are fewer than 2^63 rows
-//! with numbers within 10^15. There no number passes its width (a sum stays within 2^113), and what is answered fits
-//! a slot of a condition.
+//! What the layer above may rest on: totals of some groups for a set function are, after `with`, those of the groups
+//! with that change; what stands for a group is the total of its rows, and nothing stands for a group without rows;
+//! what a set function gives by them is what it gives of the group's rows from scratch, MIN and MAX after removals
+//! too; `get` takes no memory; a copy is equal to its original; and NoMemory is the only error. No call has a premise:
+//! the contract of `with` says what follows where the groups after it are within bounds, which are fewer than 2^63
+//! rows with numbers within 10^15. There no number passes its width (a sum stays within 2^113), and what is answered
+//! fits a slot of a condition.
 //!
 //! That the groups of a table's rows have such a change wherever the table has a changed row, and are within bounds
 //! where its rows are, is the law [`members_follow_rows`]; and that a column makes the groups of GROUP BY is
@@ -32,7 +35,7 @@
 //! more or less). The set functions themselves are `table/specs/Aggregates`.
 //!
 //! Totals stand under their groups in `pages::Pages`, and so do the values of a multiset, each with its number: a
-//! change makes the paths to one group and to one value anew, and shares the rest.
+//! change makes the path to one group anew, and for MIN and MAX that to one value, and shares the rest.
 #![tactic(auto)]
 
 mod counts;

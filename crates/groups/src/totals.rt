@@ -8,8 +8,8 @@ ghost use Rattle.table.specs.Rows.{RowValues};
 ghost use Rattle.cond.specs.Kinds.{kind_of_aggregate};
 ghost use Rattle.cond.specs.Slots.{IsWithinKind, kind_of, value_of};
 ghost use Rattle.groups.specs.Answers.{answer_from, value_for};
-ghost use Rattle.groups.specs.Steps.{no_figures, there_of, one_more, one_less};
-ghost use Rattle.groups.specs.Totals.{IsTotalOf, IsWithin};
+ghost use Rattle.groups.specs.Steps.{no_figures, there_of, one_more, one_less, values_more as values_more_of, values_less as values_less_of};
+ghost use Rattle.groups.specs.Totals.{is_extreme as is_extreme_of, IsTotalOf, IsWithin};
 
 use crate::counts::Counts;
 use cond::SlotValue;
@@ -18,8 +18,8 @@ use std::marker::Model;
 use table::Aggregate;
 use value::{Refusal, Value};
 
-/// What set functions need of a group's rows: how many there are, and of their values that are not NULL how many,
-/// their sum, and how often each stands.
+/// What a set function needs of a group's rows: how many there are, and of their values that are not NULL how many and
+/// their sum; and for MIN and MAX how often each of them stands.
 #[derive(Debug, Drop)]
 pub struct Total {
     rows: u64,
@@ -63,15 +63,17 @@ impl Total {
         self.rows == 0
     }
 
-    /// What a set function gives of the rows. MIN or MAX of texts copies one, and nothing else takes memory.
+    /// What a set function gives of the rows, where the total is what it asks for. MIN or MAX of texts copies one, and
+    /// nothing else takes memory.
     pub fn answer(&self, aggregate: Aggregate) -> Result<SlotValue, Refusal>
         ensures only_memory { IsOkUnless result NoMemory }
         ensures kind { IfOk result (λ answer. kind_of answer ≡ kind_of_aggregate aggregate) }
         // It is what the set function gives of the rows from scratch.
         ensures answer { IfOk result (λ answer. (rows : List RowValues)
-            → IsTotalOf (map (value_for aggregate) rows) self.now → value_of answer ≡ aggregate_of aggregate rows) }
+            → IsTotalOf aggregate (map (value_for aggregate) rows) self.now
+            → value_of answer ≡ aggregate_of aggregate rows) }
         ensures within { IfOk result (λ answer. (vs : List values)
-            → IsTotalOf vs self.now → IsWithin vs → IsWithinKind answer) }
+            → IsTotalOf aggregate vs self.now → IsWithin vs → IsWithinKind answer) }
     {
         self.figure(aggregate)
     }
@@ -98,28 +100,28 @@ impl Total {
     }
 
     /// The total with one row more, which has this value.
-    pub(crate) fn more(&self, value: &Value) -> Result<Total, Refusal>
+    pub(crate) fn more(&self, asked: Aggregate, value: &Value) -> Result<Total, Refusal>
         ensures only_memory { IsOkUnless result NoMemory }
-        ensures more { IfOk result (λ total. total ≡ one_more value.now self.now) }
+        ensures more { IfOk result (λ total. total ≡ one_more asked value.now self.now) }
     {
         Ok(Total {
             rows: self.rows.saturating_add(1),
             there: self.there.saturating_add(there(value)),
             sum: self.sum.saturating_add(number(value)),
-            values: self.values.more(value)?,
+            values: values_more(&self.values, asked, value)?,
         })
     }
 
     /// The total with one row less, which has this value.
-    pub(crate) fn less(&self, value: &Value) -> Result<Total, Refusal>
+    pub(crate) fn less(&self, asked: Aggregate, value: &Value) -> Result<Total, Refusal>
         ensures only_memory { IsOkUnless result NoMemory }
-        ensures less { IfOk result (λ total. total ≡ one_less value.now self.now) }
+        ensures less { IfOk result (λ total. total ≡ one_less asked value.now self.now) }
     {
         Ok(Total {
             rows: self.rows.saturating_sub(1),
             there: self.there.saturating_sub(there(value)),
             sum: self.sum.saturating_sub(number(value)),
-            values: self.values.less(value)?,
+            values: values_less(&self.values, asked, value)?,
         })
     }
 
@@ -134,6 +136,40 @@ impl Total {
             sum: self.sum,
             values: self.values.copy()?,
         })
+    }
+}
+
+/// The values with this one once more, where one of them is asked for.
+fn values_more(values: &Counts, asked: Aggregate, value: &Value) -> Result<Counts, Refusal>
+    ensures only_memory { IsOkUnless result NoMemory }
+    ensures more { IfOk result (λ counts. counts ≡ values_more_of asked value.now values.now) }
+{
+    if is_extreme(asked) {
+        values.more(value)
+    } else {
+        values.copy()
+    }
+}
+
+/// The values with this one once less, where one of them is asked for.
+fn values_less(values: &Counts, asked: Aggregate, value: &Value) -> Result<Counts, Refusal>
+    ensures only_memory { IsOkUnless result NoMemory }
+    ensures less { IfOk result (λ counts. counts ≡ values_less_of asked value.now values.now) }
+{
+    if is_extreme(asked) {
+        values.less(value)
+    } else {
+        values.copy()
+    }
+}
+
+/// Whether a set function gives one of the values, the least or the greatest, and no number.
+fn is_extreme(aggregate: Aggregate) -> bool
+    ensures { result ≡ is_extreme_of aggregate }
+{
+    match aggregate {
+        Aggregate::CountRows | Aggregate::Count(_) | Aggregate::Sum(_) => false,
+        Aggregate::Min(_) | Aggregate::Max(_) => true,
     }
 }
 

@@ -27,7 +27,7 @@ use std::alloc::Global;
 use std::cmp::Ordering;
 use std::process::Abort;
 use std::test::Fail;
-use table::{Change, Row};
+use table::{Aggregate, Change, Row};
 use threeval::Truth;
 use txn::{Closed, Txn, Unclosed};
 use value::{Comparison, Refusal, Root, Text, Value, compare, order};
@@ -132,7 +132,7 @@ fn totals(alloc: Global) -> Result<Totals, Refusal> {
         group: Value::Int(7),
         value: Value::Int(1),
     });
-    Totals::new(alloc).with(&member, &None)
+    Totals::new(alloc).with(Aggregate::Min(0), &member, &None)
 }
 
 #[test]

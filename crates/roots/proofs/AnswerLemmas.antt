@@ -21,7 +21,7 @@ use Rattle.roots.specs.Bad.{answers}
 use Rattle.roots.specs.declared.grouped.Grouping.{Grouping}
 use Rattle.roots.specs.Summaries.{summed_up, group_query, queries_of, summaries_of, group_rows, members}
 use Rattle.roots.proofs.MaintainedLemmas.{members-within, totals-at}
-use Rattle.roots.specs.Maintained.{AreMaintained, IsSmallState}
+use Rattle.roots.specs.Maintained.{AreMaintained, AreTotalsFor, IsSmallState}
 
 -- the set function at a place that groups are summed up for
 summed-at : (sets : List Aggregate) (i : ℕ) → i < length (summed_up sets) → get_or (summed_up sets) i CountRows ≡ get_or sets i CountRows
@@ -55,12 +55,15 @@ slot-query : (form : Form) (i : ℕ) (s : Query Grouping) → i < length (querie
 slot-query form i s h e = e ∙ ap (λ queries. get_or queries i s) (slots-summed form i h)
 
 module _ (form : Form) (i : ℕ) (s : Query Grouping) (v : SlotValue) (h : i < length (queries_of form)) (is : s ≡ get_or (summaries_of form) i s) where
+  -- the totals at the slot's place are those that its query asks for
+  right : (state : State) (totals : List Entries) (es : Entries) → AreMaintained state form totals → es ≡ get_or totals i es → AreTotalsFor state s es
+  right state totals es k e = subst (λ (q : Query Grouping). AreTotalsFor state q es) (sym is) (totals-at state (summaries_of form) (length (summaries_of form)) totals i es k (slot-within form i h) e s)
+
   -- what is answered from totals within bounds is within the bound of its slot
   pub answer-within : (state : State) (totals : List Entries) (es : Entries) (group : Value) → IsSmallState state → AreMaintained state form totals → es ≡ get_or totals i es
-      → ((members : Members) → AreTotalsOf members es → IsWithin (members group) → IsWithinKind v) → IsWithinKind v
+      → ((members : Members) → AreTotalsOf s.aggregate members es → IsWithin (members group) → IsWithinKind v) → IsWithinKind v
   answer-within state totals es group small k e f =
-      let summary : Query Grouping = get_or (summaries_of form) i s in
-      f (members state summary) (totals-at state (summaries_of form) (length (summaries_of form)) totals i es k (slot-within form i h) e s) (members-within state summary small group)
+      f (members state s) (right state totals es k e) (members-within state s small group)
 
   -- the kinds of the slots, with one more
   pub kinds-more : (slots more : SlotValues) → kind_of v ≡ kind_of_aggregate s.aggregate → more ≡ slots ++ v ∷ []
@@ -73,11 +76,10 @@ module _ (form : Form) (i : ℕ) (s : Query Grouping) (v : SlotValue) (h : i < l
 
   -- the values of the slots, with one more
   pub values-more : (state : State) (totals : List Entries) (es : Entries) (group : Value) (slots more : SlotValues) → AreMaintained state form totals → es ≡ get_or totals i es
-      → ((rows : Value → List RowValues) → AreTotalsOf (λ g. map (value_for s.aggregate) (rows g)) es → value_of v ≡ aggregate s.aggregate (rows group))
+      → ((rows : Value → List RowValues) → AreTotalsOf s.aggregate (λ g. map (value_for s.aggregate) (rows g)) es → value_of v ≡ aggregate s.aggregate (rows group))
       → more ≡ slots ++ v ∷ [] → values_of slots ≡ answers state (take i (queries_of form)) group → values_of more ≡ answers state (take (i + 1) (queries_of form)) group
   values-more state totals es group slots more k e f g so_far =
       let queries : List (Query Grouping) = queries_of form in
-      let right : AreTotalsOf (members state s) es = subst (λ (q : Query Grouping). AreTotalsOf (members state q) es) (sym is) (totals-at state (summaries_of form) (length (summaries_of form)) totals i es k (slot-within form i h) e s) in
       ap values_of g ∙ map-append value_of slots (v ∷ []) ∙ ap (λ vs. vs ++ value_of v ∷ []) so_far
-      ∙ ap (λ x. answers state (take i queries) group ++ x ∷ []) (f (group_rows state s) right ∙ ap (query_answer state group) (slot-query form i s h is))
+      ∙ ap (λ x. answers state (take i queries) group ++ x ∷ []) (f (group_rows state s) (right state totals es k e) ∙ ap (query_answer state group) (slot-query form i s h is))
       ∙ sym (ap (λ qs. answers state qs group) (take_more queries i s h) ∙ map-append (query_answer state group) (take i queries) (get_or queries i s ∷ []))

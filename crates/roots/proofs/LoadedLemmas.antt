@@ -38,7 +38,7 @@ use Rattle.roots.specs.Maintained.{IsSmallRoot}
 pub record AreDone (s : Query Grouping) (all left : List RowValues) (made : Entries) : Type 0 where
   pub done : List RowValues
   pub split : all ≡ done ++ left
-  pub totals : AreTotalsOf (row_members s done) made
+  pub totals : AreTotalsOf s.aggregate (row_members s done) made
 
 joined : (done rest : List RowValues) (row : RowValues) → done ++ row ∷ rest ≡ (done ++ row ∷ []) ++ rest
 joined [] rest row = refl
@@ -56,7 +56,7 @@ next-within s all left rest row made e short small a =
     let split : all ≡ (a.done ++ row ∷ []) ++ rest = next-split s all left rest row made e a in
     members_within (place s) s.aggregate (a.done ++ row ∷ []) (omega (arith, short, ap length split, length-append (a.done ++ row ∷ []) rest)) (front-all IsSmallRow (a.done ++ row ∷ []) rest (subst (All IsSmallRow) split small))
 
-pub done-more : (s : Query Grouping) (all left rest : List RowValues) (row : RowValues) (made more : Entries) → left ≡ row ∷ rest → (a : AreDone s all left made) → AreTotalsOf (row_members s (a.done ++ row ∷ [])) more → AreDone s all rest more
+pub done-more : (s : Query Grouping) (all left rest : List RowValues) (row : RowValues) (made more : Entries) → left ≡ row ∷ rest → (a : AreDone s all left made) → AreTotalsOf s.aggregate (row_members s (a.done ++ row ∷ [])) more → AreDone s all rest more
 done-more s all left rest row made more e a t = record { done = a.done ++ row ∷ []; split = next-split s all left rest row made e a; totals = t }
 
 -- a key that no row has has no row

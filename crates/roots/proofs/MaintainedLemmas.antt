@@ -11,12 +11,12 @@ use Rattle.assertion.specs.Roots.{IsChangeOf, state_after}
 use Rattle.assertion.proofs.KeptTruth.{rows-changed, rows-same}
 use Rattle.groups.specs.Answers.{value_for}
 use Rattle.groups.specs.Members.{member_of, members_of}
-use Rattle.groups.specs.Totals.{Entries, AreTotalsOf, AreWithin, IsChange}
+use Rattle.groups.specs.Totals.{Entries, AreWithin, IsChange}
 use Rattle.groups.proofs.EntryLemmas.{AreTotalsOf-along}
 use Rattle.groups.proofs.RowLemmas.{members_change, members_within}
 use Rattle.roots.specs.declared.grouped.Grouping.{Grouping}
 use Rattle.roots.specs.Summaries.{place, members}
-use Rattle.roots.specs.Maintained.{AreSoFar, IsSmallState}
+use Rattle.roots.specs.Maintained.{AreSoFar, AreTotalsFor, IsSmallState}
 
 test_true : (a b : ℕ) → a ≡ b → (a == b) ≡ true
 test_true a b e = grind (arith, nat_tests)
@@ -41,16 +41,16 @@ module _ (layouts : List Layout) (change : Change) (state : State) (is : IsChang
       (members_change (place s) (value_for s.aggregate) (key_of t layouts) change.key change.new (rows_of t state)))
 
   -- those of another table stay
-  pub totals-same : (s : Query Grouping) (es : Entries) → s.table ≢ change.table → AreTotalsOf (members state s) es → AreTotalsOf (members (state_after layouts change state) s) es
-  totals-same s es e k = AreTotalsOf-along (members state s) (members (state_after layouts change state) s) es (λ v. ap (λ rows. members_of (place s) (value_for s.aggregate) rows v) (rows-same layouts change state s.table (test_false s.table change.table e))) k
+  pub totals-same : (s : Query Grouping) (es : Entries) → s.table ≢ change.table → AreTotalsFor state s es → AreTotalsFor (state_after layouts change state) s es
+  totals-same s es e k = AreTotalsOf-along s.aggregate (members state s) (members (state_after layouts change state) s) es (λ v. ap (λ rows. members_of (place s) (value_for s.aggregate) rows v) (rows-same layouts change state s.table (test_false s.table change.table e))) k
 
 -- one more of the maintained totals
-pub AreSoFar-more : (state : State) (summaries : List (Query Grouping)) (n : ℕ) (totals more : List Entries) (es : Entries) → more ≡ totals ++ es ∷ [] → ((d : Query Grouping) → AreTotalsOf (members state (get_or summaries n d)) es) → AreSoFar state summaries n totals → AreSoFar state summaries (n + 1) more
+pub AreSoFar-more : (state : State) (summaries : List (Query Grouping)) (n : ℕ) (totals more : List Entries) (es : Entries) → more ≡ totals ++ es ∷ [] → ((d : Query Grouping) → AreTotalsFor state (get_or summaries n d) es) → AreSoFar state summaries n totals → AreSoFar state summaries (n + 1) more
 AreSoFar-more state summaries n totals more es e t k = record {
   long = ap length e ∙ length-append totals (es ∷ []) ∙ ap (λ m. m + 1) k.long;
-  right = each_more (λ (s : Query Grouping) (es : Entries). AreTotalsOf (members state s) es) summaries n totals more es e k.long t k.right;
+  right = each_more (λ (s : Query Grouping) (es : Entries). AreTotalsFor state s es) summaries n totals more es e k.long t k.right;
 }
 
 -- the maintained totals at a place
-pub totals-at : (state : State) (summaries : List (Query Grouping)) (n : ℕ) (totals : List Entries) (i : ℕ) (es : Entries) → AreSoFar state summaries n totals → i < n → es ≡ get_or totals i es → (d : Query Grouping) → AreTotalsOf (members state (get_or summaries i d)) es
-totals-at state summaries n totals i es k h f d = subst (λ (x : Entries). AreTotalsOf (members state (get_or summaries i d)) x) (sym f) (k.right i h d es)
+pub totals-at : (state : State) (summaries : List (Query Grouping)) (n : ℕ) (totals : List Entries) (i : ℕ) (es : Entries) → AreSoFar state summaries n totals → i < n → es ≡ get_or totals i es → (d : Query Grouping) → AreTotalsFor state (get_or summaries i d) es
+totals-at state summaries n totals i es k h f d = subst (λ (x : Entries). AreTotalsFor state (get_or summaries i d) x) (sym f) (k.right i h d es)

@@ -1,9 +1,10 @@
 -- The maintained bad roots follow a change.
-use Rattle.std.proofs.Common.{◌≡◌, ℕ, zero, suc, arith, ◌+◌, ◌<◌, Bool, true, false, cond, List, [], ◌∷◌, ◌++◌, Option, Some, None, length, take, get_or, refl, sym, ◌∙◌, ap}
+use Rattle.std.proofs.Common.{◌≡◌, ◌≢◌, ℕ, zero, suc, arith, ◌+◌, ◌-◌, ◌<◌, Bool, true, false, cond, List, [], ◌∷◌, ◌++◌, Option, Some, None, length, take, get_or, refl, sym, ◌∙◌, ap, subst}
 use Rattle.std.specs.Prelude.{◌==◌, ◌||◌, ◌≤◌, ◌^◌, All, is_some, option_to_list, if◌then◌else◌}
-use Rattle.std.proofs.lemmas.List.{take_more}
+use Rattle.std.proofs.lemmas.List.{take_more, get_or_default}
 use Rattle.std.proofs.lemmas.List.Elements.{All-nil, All-cons, All-head, All-tail}
 use Rattle.std.specs.Ordering.{eq_by_cmp}
+use Rattle.std.proofs.lemmas.Cmp.{tied_itself}
 use Rattle.std.proofs.Math.Bool.{or-true}
 use Rattle.value.specs.declared.values.Root.{Root}
 use Rattle.value.specs.declared.values.Root.TheVariants.{All as Whole, Of}
@@ -62,6 +63,45 @@ module _ (layouts : List Layout) (form : Form) (state : State) (bad : List Root)
       case : (r : Root) (c : Bool) → eq_by_cmp root_cmp r q ≡ c → cond c b (is_among r made) ≡ (if (if c then true else is_touched r (take i ts)) then is_bad_root layouts form state r else is_among r bad)
       case r true f = is ∙ ap (is_bad_root layouts form state) (sym (root_exact r q (equal_from (root_cmp r q) f)))
       case r false f = u.right r
+
+  -- one more that is among them already
+  pub AreUpdated-again : (ts : List Root) (i : ℕ) (made : List Root) → i < length ts → ((d : Root) → is_touched (get_or ts i d) (take i ts) ≡ true)
+      → AreUpdated layouts form state (take i ts) bad made → AreUpdated layouts form state (take (i + 1) ts) bad made
+  AreUpdated-again ts i made h again u = record {
+    in_order = u.in_order;
+    right = λ r.
+        u.right r
+        ∙ ap (λ t. if t then is_bad_root layouts form state r else is_among r bad)
+        (case r (eq_by_cmp root_cmp r q) refl ∙ sym (ap (is_touched r) (take_more ts i Whole h) ∙ is_touched-push r (take i ts) q));
+  }
+    where
+      q : Root
+      q = get_or ts i Whole
+
+      case : (r : Root) (c : Bool) → eq_by_cmp root_cmp r q ≡ c → is_touched r (take i ts) ≡ (if c then true else is_touched r (take i ts))
+      case r true f = ap (λ p. is_touched p (take i ts)) (root_exact r q (equal_from (root_cmp r q) f)) ∙ again Whole
+      case r false f = refl
+
+-- the last of roots is among them
+touched-last : (ts : List Root) (i : ℕ) (p : Root) → i < length ts → p ≡ get_or ts i p → is_touched p (take (i + 1) ts) ≡ true
+touched-last ts i p h at_i =
+    ap (is_touched p) (take_more ts i p h ∙ ap (λ x. take i ts ++ x ∷ []) (sym at_i)) ∙ is_touched-push p (take i ts) p
+    ∙ ap (λ (c : Bool). if c then true else is_touched p (take i ts)) tied
+  where
+    tied : eq_by_cmp root_cmp p p ≡ true
+    tied = rw (tied_itself root_cmp_total p) refl
+
+some : (n : ℕ) → n ≢ 0 → 0 < n
+some zero ne = absurd (ne refl)
+some (suc n) ne = omega arith
+
+-- a root that is the one before it is among those before it
+pub touched-before : (ts : List Root) (i : ℕ) (p q : Root) → i ≢ 0 → i < length ts → p ≡ get_or ts (i - 1) p → q ≡ get_or ts i q → p ≡ q → (d : Root) → is_touched (get_or ts i d) (take i ts) ≡ true
+touched-before ts i p q ne h before here same d =
+    let low : 0 < i = some i ne in
+    let e : i - 1 + 1 ≡ i = omega (arith, low) in
+    let at_i : p ≡ get_or ts i d = same ∙ here ∙ get_or_default ts i q d h in
+    subst (λ r. is_touched r (take i ts) ≡ true) at_i (subst (λ n. is_touched p (take n ts) ≡ true) e (touched-last ts (i - 1) p (omega (arith, low, h)) before))
 
 -- the bad roots after a change, where all its candidates were looked at
 pub AreBad-after : (layouts : List Layout) (change : Change) (state after : State) (form : Form) (bad made : List Root) → IsChangeOf layouts change state → IsOrdered layouts state → after ≡ state_after layouts change state

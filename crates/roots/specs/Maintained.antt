@@ -12,11 +12,15 @@ use Rattle.groups.specs.Totals.{Entries, AreTotalsOf}
 use Rattle.roots.specs.declared.grouped.Grouping.{Grouping}
 use Rattle.roots.specs.Summaries.{members, summaries_of}
 
+-- the entries are the totals that a summary asks for, of its groups on these tables
+abbrev pub AreTotalsFor : State → Query Grouping → Entries → Type 0
+AreTotalsFor state s entries = AreTotalsOf s.aggregate (members state s) entries
+
 -- the first n of the maintained totals are those of the first n summaries
 pub record AreSoFar (state : State) (summaries : List (Query Grouping)) (n : ℕ) (totals : List Entries) : Type 0 where
   pub long : length totals ≡ n
   pub right : (i : ℕ) → i < n → (s : Query Grouping) (e : Entries)
-      → AreTotalsOf (members state (slice_index_or summaries i s)) (slice_index_or totals i e)
+      → AreTotalsFor state (slice_index_or summaries i s) (slice_index_or totals i e)
 
 -- the maintained totals are those of the form's summaries on these tables, in order
 abbrev pub AreMaintained : State → Form → List Entries → Type 0

@@ -2,6 +2,7 @@
 
 ghost use Rattle.std.specs.Prelude.{◌≡◌, length, IfOk, IsOkUnless};
 ghost use Rattle.value.specs.declared.refusals.Refusal.TheVariants.{NoMemory};
+ghost use Rattle.table.specs.declared.aggregates.Aggregate.{Aggregate};
 ghost use Rattle.cond.specs.Slots.{kinds_of, values_of};
 ghost use Rattle.assertion.specs.Meaning.{State};
 ghost use Rattle.groups.specs.Totals.{Members, AreTotalsOf};
@@ -35,7 +36,8 @@ pub fn slots(alloc: Global, form: &Form, totals: &[Totals], group: &Value) -> Re
 
 /// How many rows a group has.
 pub fn count_of(totals: &Totals, group: &Value) -> u64
-    ensures { (members : Members) → AreTotalsOf members totals.now → result ≡ length (members group.now) }
+    ensures { (asked : Aggregate) (members : Members) → AreTotalsOf asked members totals.now
+        → result ≡ length (members group.now) }
 {
     match totals.get(group) {
         Some(total) => total.rows(),

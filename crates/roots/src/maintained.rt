@@ -9,9 +9,9 @@ ghost use Rattle.assertion.specs.Bounded.{IsBounded, IsBoundedOver};
 ghost use Rattle.assertion.specs.Meaning.{State};
 ghost use Rattle.assertion.specs.Roots.{IsChangeOf, state_after};
 ghost use Rattle.groups.specs.Totals.{AreTotalsOf, AreWithin};
-ghost use Rattle.roots.specs.Maintained.{AreMaintained, IsSmallState};
+ghost use Rattle.roots.specs.Maintained.{AreMaintained, AreTotalsFor, IsSmallState};
 ghost use Rattle.roots.specs.Shown.{shown};
-ghost use Rattle.roots.specs.Summaries.{members, row_members, summaries_of};
+ghost use Rattle.roots.specs.Summaries.{row_members, summaries_of};
 
 use crate::grouped::{Summary, member, member_of_row};
 use crate::summaries::{summary_count, summary_of};
@@ -42,7 +42,7 @@ fn total_of(alloc: Global, summary: Summary, tables: &[Rows]) -> Result<Totals, 
     requires bounded { IsBoundedOver [] summary.filter.now }
     requires small { IsSmallState tables.now }
     ensures only_memory { IsOkUnless result NoMemory }
-    ensures totals { IfOk result (AreTotalsOf (members tables.now (shown summary.entry))) }
+    ensures totals { IfOk result (AreTotalsFor tables.now (shown summary.entry)) }
 {
     match tables.get(summary.table) {
         Some(rows) => total_of_rows(alloc, summary, rows),
@@ -56,7 +56,8 @@ fn total_of_rows(alloc: Global, summary: Summary, rows: &Rows) -> Result<Totals,
     requires small { All IsSmallRow rows.now }
     requires short { length rows.now < 2 ^ 63 }
     ensures only_memory { IsOkUnless result NoMemory }
-    ensures totals { IfOk result (AreTotalsOf (row_members (shown summary.entry) rows.now)) }
+    ensures totals { IfOk result
+        (AreTotalsOf summary.entry.aggregate (row_members (shown summary.entry) rows.now)) }
 {
     let mut made = Totals::new(alloc);
     for row in rows.iter() {
@@ -77,11 +78,11 @@ fn total_with(
     ensures only_memory { IsOkUnless result NoMemory }
     ensures totals { IfOk result (λ made. (rows : List RowValues)
         → AreWithin (row_members (shown summary.entry) (rows ++ row.now ∷ []))
-        → AreTotalsOf (row_members (shown summary.entry) rows) totals.now
-        → AreTotalsOf (row_members (shown summary.entry) (rows ++ row.now ∷ [])) made) }
+        → AreTotalsOf summary.entry.aggregate (row_members (shown summary.entry) rows) totals.now
+        → AreTotalsOf summary.entry.aggregate (row_members (shown summary.entry) (rows ++ row.now ∷ [])) made) }
 {
     let add = member_of_row(alloc, summary, row)?;
-    totals.with(&add, &None)
+    totals.with(summary.aggregate, &add, &None)
 }
 
 /// The totals to keep after a change: those of the tables with it, where the old ones are those of the tables before.
@@ -122,13 +123,13 @@ fn total_after(
     ensures only_memory { IsOkUnless result NoMemory }
     ensures totals { IfOk result (λ made. (layouts : List Layout) (state : State)
         → IsChangeOf layouts change.now state → IsSmallState (state_after layouts change.now state)
-        → AreTotalsOf (members state (shown summary.entry)) totals.now
-        → AreTotalsOf (members (state_after layouts change.now state) (shown summary.entry)) made) }
+        → AreTotalsFor state (shown summary.entry) totals.now
+        → AreTotalsFor (state_after layouts change.now state) (shown summary.entry) made) }
 {
     if summary.table != change.table {
         return totals.copy();
     }
     let remove = member(alloc, summary, &change.old)?;
     let add = member(alloc, summary, &change.new)?;
-    totals.with(&add, &remove)
+    totals.with(summary.aggregate, &add, &remove)
 }

@@ -1,17 +1,18 @@
 //! The maintained bad roots of a form, of tables and after a change.
 
-ghost use Rattle.std.specs.Prelude.{◌≡◌, All, IfOk, IsOkUnless};
+ghost use Rattle.std.specs.Prelude.{◌≡◌, ◌<◌, true, All, length, take, slice_index_or, IfOk, IsOkUnless, IsTrue};
 ghost use Rattle.std.specs.Option.{option_copied};
 ghost use Rattle.value.specs.Ordered as ordered;
 ghost use Rattle.value.specs.ValueOrder.{root_cmp};
 ghost use Rattle.value.specs.declared.refusals.Refusal.TheVariants.{NoMemory};
+ghost use Rattle.value.specs.declared.values.Root.{Root as roots};
 ghost use Rattle.table.specs.Rows.{row_at};
 ghost use Rattle.cond.specs.Bounds.{IsSmallRow};
 ghost use Rattle.assertion.specs.Bounded.{IsBounded};
 ghost use Rattle.assertion.specs.Candidates.{group_candidates};
 ghost use Rattle.assertion.specs.Meaning.{State, key_of, rows_of};
-ghost use Rattle.assertion.specs.Roots.{AreBad, IsChangeOf, IsOrdered, state_after};
-ghost use Rattle.roots.specs.Bad.{AreUpdated, IsRowOf, named_roots as named_roots_of};
+ghost use Rattle.assertion.specs.Roots.{AreBad, IsChangeOf, IsOrdered, is_bad_root, state_after};
+ghost use Rattle.roots.specs.Bad.{AreUpdated, IsRowOf, is_touched, named_roots as named_roots_of, put_root};
 ghost use Rattle.roots.specs.Maintained.{AreMaintained, IsSmallRoot, IsSmallState};
 
 use crate::bad_roots::is_bad;
@@ -22,8 +23,9 @@ use assertion::Form;
 use groups::Totals;
 use mvrows::Rows;
 use std::alloc::Global;
+use std::cmp::Ordering;
 use table::{Change, Row, Schema};
-use value::{Refusal, Root, Value};
+use value::{Refusal, Root, Value, order_roots};
 
 /// The bad roots of these tables, in order, by their maintained totals. Only roots that a row names are looked at,
 /// since no other can be bad.
@@ -153,12 +155,54 @@ fn updated(
         → AreUpdated schemas.now form.now tables.now touched.now bad.now made) }
 {
     let mut made = bad.copy()?;
-    for root in touched {
-        let row = row_of(schemas, tables, form, root);
-        let is_in = is_bad(alloc, form, row, totals, root)?;
-        made = made.with(root, is_in)?;
+    for index in 0..touched.len() {
+        // An UPDATE that leaves its row in its group names the group twice.
+        if is_repeated(touched, index) {
+            continue;
+        }
+        made = judged(alloc, schemas, tables, form, totals, &touched[index], made)?;
     }
     Ok(made)
+}
+
+/// The roots with this one put in where it is bad and taken out where it isn't.
+fn judged(
+    alloc: Global,
+    schemas: &[Schema],
+    tables: &[Rows],
+    form: &Form,
+    totals: &[Totals],
+    root: &Root,
+    made: BadRoots,
+) -> Result<BadRoots, Refusal>
+    requires bounded { IsBounded form.now }
+    requires small { IsSmallState tables.now }
+    requires root_small { IsSmallRoot form.now root.now }
+    requires totals { AreMaintained tables.now form.now totals.now }
+    ensures only_memory { IsOkUnless result NoMemory }
+    ensures judged { IfOk result (λ next.
+        next ≡ put_root root.now (is_bad_root schemas.now form.now tables.now root.now) made) }
+{
+    let row = row_of(schemas, tables, form, root);
+    let is_in = is_bad(alloc, form, row, totals, root)?;
+    made.with(root, is_in)
+}
+
+/// Whether the root at a place is the one before it once more.
+fn is_repeated(touched: &[Root], index: usize) -> bool
+    requires { index < length touched.now }
+    ensures { IsTrue result → (root : roots)
+        → is_touched (slice_index_or touched.now index root) (take index touched.now) ≡ true }
+{
+    if index == 0 {
+        return false;
+    }
+    let before = &touched[index - 1];
+    let root = &touched[index];
+    match order_roots(before, root) {
+        Ordering::Equal => true,
+        Ordering::Less | Ordering::Greater => false,
+    }
 }
 
 /// The row of a root, where the form is by rows: the one under the root's key in the root table.

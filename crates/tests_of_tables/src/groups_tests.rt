@@ -22,6 +22,9 @@ fn member(group: Option<i64>, value: Option<i64>) -> Option<Member> {
     })
 }
 
+/// What asks for all that totals hold: a total for MIN has the numbers too.
+const ALL: Aggregate = Aggregate::Min(0);
+
 /// The totals of these rows.
 fn totals_of(alloc: Global, rows: &[(Option<i64>, Option<i64>)]) -> Result<Totals, Refusal> {
     let mut totals = Totals::new(alloc);
@@ -34,13 +37,13 @@ fn totals_of(alloc: Global, rows: &[(Option<i64>, Option<i64>)]) -> Result<Total
 /// The totals with one more row.
 fn with(totals: &Totals, group: Option<i64>, value: Option<i64>) -> Result<Totals, Refusal> {
     let added = member(group, value);
-    totals.with(&added, &None)
+    totals.with(ALL, &added, &None)
 }
 
 /// The totals without a row.
 fn without(totals: &Totals, group: Option<i64>, value: Option<i64>) -> Result<Totals, Refusal> {
     let removed = member(group, value);
-    totals.with(&None, &removed)
+    totals.with(ALL, &None, &removed)
 }
 
 /// The number in an answer, nothing where it is NULL.
@@ -142,7 +145,7 @@ fn nulls_are_one_group_and_no_values(rt: HostRuntime) -> Result<(), Fail> {
 /// The totals after the row of a 3 goes from group 1 to group 2, which has a 4.
 fn moved(old: &Totals) -> Result<Totals, Refusal> {
     let (added, removed) = (member(Some(2), Some(3)), member(Some(1), Some(3)));
-    old.with(&added, &removed)
+    old.with(ALL, &added, &removed)
 }
 
 /// A group of a 3 and one of a 4.
@@ -168,6 +171,23 @@ fn a_moved_row_empties_its_old_group(rt: HostRuntime) -> Result<(), Fail> {
     let new = moved_of_two(rt.alloc())?;
     gives(&rt, &new, Some(1), Aggregate::CountRows, Some(0))?;
     gives(&rt, &new, Some(2), Aggregate::Sum(0), Some(7))
+}
+
+/// The totals for SUM of a group with a 3, of which the 3 then becomes a 5, and the 5 a 5.
+fn summed(alloc: Global) -> Result<Totals, Refusal> {
+    let asked = Aggregate::Sum(0);
+    let three = member(Some(1), Some(3));
+    let one = Totals::new(alloc).with(asked, &three, &None)?;
+    let five = member(Some(1), Some(5));
+    let changed = one.with(asked, &five, &three)?;
+    changed.with(asked, &five, &five)
+}
+
+#[test]
+fn a_row_gets_another_value(rt: HostRuntime) -> Result<(), Fail> {
+    let totals = summed(rt.alloc())?;
+    gives(&rt, &totals, Some(1), Aggregate::Sum(0), Some(5))?;
+    gives(&rt, &totals, Some(1), Aggregate::Count(0), Some(1))
 }
 
 /// The number of rows in a total's copy, nothing where it has none.

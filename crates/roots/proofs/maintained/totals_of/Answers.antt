@@ -1,10 +1,9 @@
 use Rattle.std.proofs.Common.{arith, subst}
 use Rattle.assertion.specs.declared.queries.Query.{Query}
-use Rattle.groups.specs.Totals.{AreTotalsOf}
-use Rattle.roots.specs.Maintained.{AreSoFar}
+use Rattle.roots.specs.Maintained.{AreSoFar, AreTotalsFor}
 use Rattle.roots.specs.declared.grouped.Grouping.{Grouping}
 use Rattle.roots.specs.Shown.{shown}
-use Rattle.roots.specs.Summaries.{members, summaries_of}
+use Rattle.roots.specs.Summaries.{summaries_of}
 use Rattle.roots.proofs.BoundLemmas.{summary-bounded}
 use Rattle.roots.proofs.ItemLemmas.{item_has}
 use Rattle.roots.proofs.MaintainedLemmas.{AreSoFar-more}
@@ -16,7 +15,7 @@ total_of-requires-clause-bounded c = summary-bounded c.args.form.now c.requires.
 pub loop-index-preserved : goal.loop-index-preserved
 loop-index-preserved c =
     AreSoFar-more c.args.tables.now (summaries_of c.args.form.now) c.loop-index.index c.loop-index.made.items c.push.new.self.items c.in_ok-total_of.field-0 c.in_ok-push.ensures.items
-    (item_has (λ (s : Query Grouping). AreTotalsOf (members c.args.tables.now s) c.in_ok-total_of.field-0) (summaries_of c.args.form.now) c.loop-index.index (shown c.summary_of-summary.result) (omega (arith, c.loop-index-test.true, c.summary_count-index-end.ensures)) c.summary_of-summary.ensures
+    (item_has (λ (s : Query Grouping). AreTotalsFor c.args.tables.now s c.in_ok-total_of.field-0) (summaries_of c.args.form.now) c.loop-index.index (shown c.summary_of-summary.result) (omega (arith, c.loop-index-test.true, c.summary_count-index-end.ensures)) c.summary_of-summary.ensures
     c.in_ok-total_of.ensures.totals)
     c.loop-index.invariant
 

@@ -1,10 +1,15 @@
-use Rattle.roots.proofs.UpdateLemmas.{AreUpdated-more}
+use Rattle.std.proofs.Common.{refl}
+use Rattle.assertion.specs.Roots.{is_bad_root}
+use Rattle.roots.proofs.UpdateLemmas.{AreUpdated-again, AreUpdated-more}
 use Rattle.roots.proofs.updates.updated.Goals as goal
 
-pub is_bad-requires-clause-totals : goal.is_bad-requires-clause-totals
-is_bad-requires-clause-totals c = record { state = c.args.tables.now; small = c.requires.small; totals = c.requires.totals }
+pub loop-index-preserved-then-is_repeated : goal.loop-index-preserved-then-is_repeated
+loop-index-preserved-then-is_repeated c = λ asc.
+    AreUpdated-again c.args.schemas.now c.args.form.now c.args.tables.now c.args.bad.now c.args.touched.now c.loop-index.index c.loop-index.made c.loop-index-test.true
+    (c.is_repeated.ensures c.if-is_repeated.true) (c.loop-index.invariant asc)
 
-pub loop-root-preserved : goal.loop-root-preserved
-loop-root-preserved c = λ asc.
-    AreUpdated-more c.args.schemas.now c.args.form.now c.args.tables.now c.args.bad.now c.args.touched.now c.loop-root.root-index c.root-item.result c.in_ok-is_in.is_in c.loop-root.made c.in_ok-made-2.made
-    c.loop-root-test.true c.root-item.is (c.in_ok-is_in.ensures.bad c.args.schemas.now c.args.tables.now c.requires.totals c.row_of-row.ensures.row) c.in_ok-made-2.ensures.changed (c.loop-root.invariant asc)
+pub loop-index-preserved : goal.loop-index-preserved
+loop-index-preserved c = λ asc.
+    let q = c.index-touched-index.result in
+    AreUpdated-more c.args.schemas.now c.args.form.now c.args.tables.now c.args.bad.now c.args.touched.now c.loop-index.index q (is_bad_root c.args.schemas.now c.args.form.now c.args.tables.now q) c.loop-index.made c.in_ok-made-2.made
+    c.loop-index-test.true c.index-touched-index.is refl c.in_ok-made-2.ensures.judged (c.loop-index.invariant asc)

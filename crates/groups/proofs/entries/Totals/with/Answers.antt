@@ -1,6 +1,5 @@
-use Rattle.std.proofs.Common.{◌≡◌, sym, ◌∙◌, ap, subst}
+use Rattle.std.proofs.Common.{◌≡◌, sym, subst}
 use Rattle.std.proofs.lemmas.Result.{IfOk-weaker}
-use Rattle.groups.specs.Steps.{entries_more}
 use Rattle.groups.specs.Totals.{Entries, AreTotalsOf}
 use Rattle.groups.proofs.EntryLemmas.{entries_with, entries_without, AreTotalsOf-change}
 use Rattle.groups.proofs.entries.Totals.with.Goals as goal
@@ -9,23 +8,20 @@ pub returns-in-None-Some-clause-totals : goal.returns-in-None-Some-clause-totals
 returns-in-None-Some-clause-totals c =
     IfOk-weaker c.more.result _ _
     (λ (t : Entries) h. λ before after change are within.
-    let made : t ≡ entries_with c.args.add.now (entries_without c.args.remove.now c.args.self.now) = rw (c.in-None-Some.is-0, c.in-None-Some.is-1) h in
-    subst (AreTotalsOf after) (sym made) (AreTotalsOf-change c.args.add.now c.args.remove.now before after c.args.self.now change are within))
+    let made : t ≡ entries_with c.args.asked c.args.add.now (entries_without c.args.asked c.args.remove.now c.args.self.now) = rw (c.in-None-Some.is-0, c.in-None-Some.is-1) h in
+    subst (AreTotalsOf c.args.asked after) (sym made) (AreTotalsOf-change c.args.asked c.args.add.now c.args.remove.now before after c.args.self.now change are within))
     c.more.ensures.more
 
 pub returns-in-Some-None-clause-totals : goal.returns-in-Some-None-clause-totals
 returns-in-Some-None-clause-totals c =
     IfOk-weaker c.less.result _ _
     (λ (t : Entries) h. λ before after change are within.
-    let made : t ≡ entries_with c.args.add.now (entries_without c.args.remove.now c.args.self.now) = rw (c.in-Some-None.is-0, c.in-Some-None.is-1) h in
-    subst (AreTotalsOf after) (sym made) (AreTotalsOf-change c.args.add.now c.args.remove.now before after c.args.self.now change are within))
+    let made : t ≡ entries_with c.args.asked c.args.add.now (entries_without c.args.asked c.args.remove.now c.args.self.now) = rw (c.in-Some-None.is-0, c.in-Some-None.is-1) h in
+    subst (AreTotalsOf c.args.asked after) (sym made) (AreTotalsOf-change c.args.asked c.args.add.now c.args.remove.now before after c.args.self.now change are within))
     c.less.ensures.less
 
-pub returns-in_ok-less-in-Some-Some-clause-totals : goal.returns-in_ok-less-in-Some-Some-clause-totals
-returns-in_ok-less-in-Some-Some-clause-totals c =
-    IfOk-weaker c.more-in-Some-Some-2.result _ _
-    (λ (t : Entries) h. λ before after change are within.
-    let made : t ≡ entries_with c.args.add.now (entries_without c.args.remove.now c.args.self.now) =
-    rw (c.in-Some-Some.is-0, c.in-Some-Some.is-1) (h ∙ ap (entries_more c.in-Some-Some.new) c.in_ok-less-in-Some-Some.ensures.less) in
-    subst (AreTotalsOf after) (sym made) (AreTotalsOf-change c.args.add.now c.args.remove.now before after c.args.self.now change are within))
-    c.more-in-Some-Some-2.ensures.more
+pub returns-in-Some-Some-clause-totals : goal.returns-in-Some-Some-clause-totals
+returns-in-Some-Some-clause-totals c =
+    IfOk-weaker c.replaced.result _ _
+    (λ (t : Entries) h. λ before after change are within. h before after (rw (c.in-Some-Some.is-0, c.in-Some-Some.is-1) at change) are within)
+    c.replaced.ensures.totals

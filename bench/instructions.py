@@ -1,0 +1,80 @@
+#!/usr/bin/env python3
+"""Instructions of a statement and of a transaction, of one program or of several.
+
+    python3 bench/instructions.py PROGRAM [PROGRAM ..] [--rows 10000] [--statements 2000]
+
+Counted by `valgrind --tool=callgrind`, so the figures are the same in each run, whatever else the machine does. For
+each form of `statements.py` and one with MIN: statements of each kind in one transaction, and transactions of BEGIN,
+one UPDATE and COMMIT, each by key all over the table; what a replay of loading alone takes is taken off. Reading the
+texts and writing the report are in it.
+"""
+
+import argparse
+import os
+import re
+import subprocess
+import sys
+import tempfile
+
+from replays import table, written
+from statements import ACCT, FORMS, Form, text
+
+LEAST = Form("least", [ACCT], "NOT EXISTS (SELECT OWNER FROM ACCT GROUP BY OWNER HAVING MIN(BAL) < 0)")
+KINDS = ("INSERT", "UPDATE", "DELETE")
+
+
+def instructions(program, definitions, script):
+    """The instructions of a replay."""
+    command = ["valgrind", "--tool=callgrind", "--callgrind-out-file=/dev/null", program, "replay", definitions, script]
+    ran = subprocess.run(command, stdout=subprocess.DEVNULL, stderr=subprocess.PIPE, text=True, check=True)
+    return int(re.search(r"Collected : (\d+)", ran.stderr)[1])
+
+
+def scripts(form, rows, count):
+    """For each kind of statement so many in one transaction, behind those before it; and so many transactions."""
+    rounds = [form.round(number, rows) for number in range(count)]
+    kinds = [[f"A: {text(*one[at])}\n" for one in rounds] for at in range(3)]
+    for upto in range(4):
+        lines = [line for kind in kinds[:upto] for line in kind]
+        yield ["A: BEGIN;\n", *lines, "A: ROLLBACK;\n"]
+    keys = [2 * (number * 7919 % rows) for number in range(count)]
+    # (each account keeps to one row's values or those of the next, so that no rule is broken)
+    values = [form.row(key, key // 2 + 1, rows)[1 if form.changed == "DUTY" else 2] for key in keys]
+    updates = (text(form.update, (value, key)) for key, value in zip(keys, values))
+    yield [f"A: BEGIN;\nA: {update}\nA: COMMIT;\n" for update in updates]
+
+
+def counted(program, form, rows, count, folder):
+    """Instructions of an INSERT, an UPDATE, a DELETE and of a transaction of one UPDATE."""
+    definitions = written(f"{folder}/defs", form.definitions(rows))
+    script = f"{folder}/script"
+    totals = []
+    for lines in scripts(form, rows, count):
+        totals.append(instructions(program, definitions, written(script, lines)))
+    none, insert, update, delete, transactions = totals
+    return [(after - before) / count for before, after in zip((none, insert, update), (insert, update, delete))] + [
+        (transactions - none) / count
+    ]
+
+
+def main():
+    words = argparse.ArgumentParser(description=__doc__, formatter_class=argparse.RawDescriptionHelpFormatter)
+    words.add_argument("programs", nargs="+", metavar="PROGRAM")
+    words.add_argument("--rows", type=int, default=10_000)
+    words.add_argument("--statements", type=int, default=2_000)
+    words.add_argument("--forms", default=None, help="some of the forms, by name, with commas between")
+    asked = words.parse_args()
+    forms = [one for one in [*FORMS, LEAST] if not asked.forms or one.name in asked.forms.split(",")]
+    lines = []
+    with tempfile.TemporaryDirectory() as folder:
+        for form in forms:
+            for program in asked.programs:
+                program = os.path.abspath(program)
+                figures = counted(program, form, asked.rows, asked.statements, folder)
+                lines.append([form.name, os.path.basename(program), *(f"{one:,.0f}" for one in figures)])
+                print(*lines[-1], file=sys.stderr, flush=True)
+    table(["form", "program", *KINDS, "a transaction of one UPDATE"], lines)
+
+
+if __name__ == "__main__":
+    main()
