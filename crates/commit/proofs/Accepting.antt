@@ -33,7 +33,7 @@ use Rattle.conflict.proofs.Puts.{numbers_after}
 use Rattle.txn.specs.Transactions.{OpenTransaction, begun, outcome_of, own_view}
 use Rattle.commit.specs.Cores.{CoreState, IsLive, committed, log_of, newest_tables, record_of, with_begun, with_commit}
 use Rattle.commit.proofs.Tickets.{fewer, held_last}
-use Rattle.commit.proofs.Recording.{below, changes_are, epoch_next, log_with, newest_at}
+use Rattle.commit.proofs.Recording.{begin_live, below, changes_are, epoch_next, log_with, newest_at}
 use Rattle.commit.specs.Kept.{IsCore}
 
 -- what holds of the number of each commit holds of each number in the serial order
@@ -72,12 +72,7 @@ module _ (now : CoreState) (tables : Shown) (places order : List ℕ) (core : Is
 
   -- a transaction that begins
   pub begun_live : IsLive (with_begun now) (begun now.live.begun (length records) tables)
-  begun_live = record {
-    held = held_last now.live (length records);
-    declared_is = ap (λ (s : Shown). s.declared) core.newest_is;
-    within = omega arith;
-    start_is = ap (λ (s : Shown). s.state) core.newest_is ∙ sym (newest_at now core.epoch.accepted);
-  }
+  begun_live = subst (λ (s : Shown). IsLive (with_begun now) (begun now.live.begun (length records) s)) (sym core.newest_is) (begin_live now core.epoch.accepted)
 
   module _ (session : List ℕ) (t : OpenTransaction) (live : IsLive now t) where
     abbrev commit : Record

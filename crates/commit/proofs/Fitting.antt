@@ -1,10 +1,10 @@
 -- The rows of committed tables and live views fit their columns.
-use Rattle.std.proofs.Common.{◌≡◌, ℕ, Bool, true, false, cond, List, [], ◌∷◌, sym, subst}
+use Rattle.std.proofs.Common.{◌≡◌, ℕ, List, [], ◌∷◌, sym, subst}
 use Rattle.std.specs.Prelude.{nat_le}
 use Rattle.assertion.specs.Declarations.{Declared, layouts_in}
 use Rattle.assertion.specs.Meaning.{State}
 use Rattle.alone.specs.Alone.{run_on}
-use Rattle.alone.proofs.Lists.{Each}
+use Rattle.alone.proofs.Lists.{Each, each_filter}
 use Rattle.delta.specs.Views.{IsFitting, Shown}
 use Rattle.serial.specs.declared.records.Record.{Record}
 use Rattle.serial.specs.Epoch.{keys_of, newest, put_in, run_of, state_of}
@@ -25,15 +25,8 @@ module _ (declared : Declared) (start : State) (loaded : RowsFit (layouts_in dec
   all_put [] e = loaded
   all_put (c ∷ earlier) e = fit_after_all (layouts_in declared) c.changes (newest declared start earlier) e.0 (all_put earlier e.1)
 
-  held_fit : (number : ℕ) (log : List Record) → HaveFitting log
-      → HaveFitting (held number log)
-  held_fit number [] e = tt
-  held_fit number (c ∷ earlier) e = go (nat_le c.number number) (held_fit number earlier e.1)
-    where
-      go : (b : Bool) → HaveFitting (held number earlier)
-          → HaveFitting (cond b (c ∷ held number earlier) (held number earlier))
-      go true rest = (e.0, rest)
-      go false rest = rest
+  held_fit : (number : ℕ) (log : List Record) → HaveFitting log → HaveFitting (held number log)
+  held_fit number log e = each_filter (λ (r : Record). Each (IsFitting (layouts_in declared)) r.changes) (λ other. nat_le other.number number) log e
 
   changes_fit : (log : List Record) → IsHistory (put_in declared) start (run_of declared) (keys_of declared) log
       → HaveFitting log
@@ -52,7 +45,7 @@ module _ (declared : Declared) (start : State) (loaded : RowsFit (layouts_in dec
 -- and so they do wherever a run comes to
 pub all_fit : (loaded : Shown) (now : EngineState) → IsRunning now → loaded_of now.core ≡ loaded → ShownFit loaded → AllFit now
 all_fit loaded now running same fit =
-    let committed = state_fits now.core.declared now.core.start (subst ShownFit (sym same) fit) (log_of now.core) running.epoch.history in record {
+    let committed = state_fits now.core.declared now.core.start (subst ShownFit (sym same) fit) (log_of now.core) running.commits.epoch.history in record {
       committed = committed;
       own = λ place t there.
           let live = running.live.each place t there in

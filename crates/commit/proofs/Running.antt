@@ -28,16 +28,15 @@ use Rattle.commit.proofs.Deciding.{Passed, passed}
 use Rattle.commit.proofs.Living.{all_answered, all_seated_live}
 use Rattle.commit.proofs.Recording.{begin_live, epoch_next, log_with}
 
--- what holds between two events
-pub record IsRunning (now : EngineState) : Type 0 where
-  pub epoch : IsEpoch now.core.declared now.core.start (log_of now.core)
-  pub within : length now.core.records ≤ now.core.limit
-  pub live : AreLive now.core now.seats
-
--- the same of the commits alone
+-- what holds of the commits between two events
 pub record AreEpoch (core : CoreState) : Type 0 where
   pub epoch : IsEpoch core.declared core.start (log_of core)
   pub within : length core.records ≤ core.limit
+
+-- and of the open transactions
+pub record IsRunning (now : EngineState) : Type 0 where
+  pub commits : AreEpoch now.core
+  pub live : AreLive now.core now.seats
 
 -- an accepted COMMIT was decided so
 accepted_by : (core : CoreState) (session : List ℕ) (t : OpenTransaction) (number : ℕ) (result : Result ℕ Refusal) → IsCommitAnswer core session t result → Committed number ≡ commit_answer result
@@ -124,14 +123,10 @@ module _ (now : EngineState) (step : Step) (answer : Answer) where
   running_seated : (place : ℕ) (seat : Seat) → place < length now.seats → slice_get now.seats place ≡ Some seat → IsRunning now → IsReply now.core step.session step.event seat.txn answer
       → IsRunning (left_by place (Some seat))
   running_seated place seat within there h reply =
-      let commits : AreEpoch now.core = record { epoch = h.epoch; within = h.within } in
-      let own = seat_live now place seat.txn h.live (ap txn_of there) in
-      let left = epoch_after now.core step.session step.event seat.txn answer commits own reply in
-      record {
-        epoch = left.epoch;
-        within = left.within;
+      let own = seat_live now place seat.txn h.live (ap txn_of there) in record {
+        commits = epoch_after now.core step.session step.event seat.txn answer h.commits own reply;
         live = all_answered now step place seat (core_after now.core step.session step.event seat.txn answer) (record seat { txn = txn_after now.core step.event seat.txn })
-            h.live within there answer refl refl (own_live now.core step.session step.event seat.txn answer commits own);
+            h.live within there answer refl refl (own_live now.core step.session step.event seat.txn answer h.commits own);
       }
 
   running_at : (place : Option ℕ) → seat_of now.seats step.session ≡ place → IsRunning now → IsAnsweredAt now step.session step.event place answer → IsRunning (after_at now step.session step.event place answer)
@@ -152,8 +147,7 @@ module _ (now : EngineState) (step : Step) (answer : Answer) where
 -- before the first event
 pub running_first : (limit : ℕ) (loaded : Shown) (all : List Step) → IsSound loaded.declared loaded.state → IsRunning (beginning limit loaded all)
 running_first limit loaded all sound = record {
-  epoch = record { admitted = sound; accepted = tt; history = tt };
-  within = omega arith;
+  commits = record { epoch = record { admitted = sound; accepted = tt; history = tt }; within = omega arith };
   live = all_seated_live (empty_core limit loaded) all (All-nil (λ (one : LiveSnapshot). one.ticket < 0)) refl;
 }
 

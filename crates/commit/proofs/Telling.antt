@@ -6,7 +6,7 @@ use Rattle.std.specs.Str.{bytes_eq}
 use Rattle.std.proofs.Math.Seq.{take-append_seam}
 use Rattle.std.proofs.lemmas.Bool.{cases_Bool}
 use Rattle.std.proofs.lemmas.List.{length-append, length-set, take-append-le}
-use Rattle.std.proofs.lemmas.Option.{slice_get_within}
+use Rattle.std.proofs.lemmas.Option.{same_Some, slice_get_within}
 use Rattle.std.proofs.lemmas.Slice.Eq.{bytes_eq-Decides}
 use Rattle.value.specs.declared.refusals.Refusal.{Refusal}
 use Rattle.statement_syntax.specs.declared.statements.Step.{Step}
@@ -101,17 +101,14 @@ told_as : (reply : Result Reply Refusal) → found_no_memory (answer_of reply) �
 told_as (Ok reply) known = refl
 told_as (Err refusal) known = ap (λ b. cond b [] (Err refusal ∷ [])) known
 
-same_of : {X : Type 0} (x y : X) → Some x ≡ Some y → x ≡ y
-same_of x y e = cc
-
 -- what the transaction that is open then was told is what it answers
 module _ (joined : Joined) (core : CoreState) (session : List ℕ) (answer : Answer) (replies : Replies) where
   told_open : (event : Event) (txn : Option OpenTransaction) (t : OpenTransaction) → ((u : OpenTransaction) → txn ≡ Some u → replies ≡ (run_of u).replies)
       → found_no_memory answer ≡ false → IsReply core session event txn answer → txn_after core event txn ≡ Some t → replies_with event answer replies ≡ (run_of t).replies
   told_open Begin None t before known reply is_open =
-      ap (λ a. replies_at a replies) reply ∙ ap (λ u. (run_of u).replies) (same_of _ t is_open)
+      ap (λ a. replies_at a replies) reply ∙ ap (λ u. (run_of u).replies) (same_Some _ t is_open)
   told_open Begin (Some u) t before known reply is_open =
-      ap (λ a. replies_at a replies) reply ∙ before u refl ∙ ap (λ u. (run_of u).replies) (same_of u t is_open)
+      ap (λ a. replies_at a replies) reply ∙ before u refl ∙ ap (λ u. (run_of u).replies) (same_Some u t is_open)
   told_open (Run statement) None t before known reply is_open = let no : ⊥ = cc in absurd no
   told_open (Run statement) (Some u) t before known reply is_open =
       let next : Resolved = resolved u.declared statement in
@@ -119,7 +116,7 @@ module _ (joined : Joined) (core : CoreState) (session : List ℕ) (answer : Ans
       ∙ ap (λ r. replies ++ r) (told_as (step_of u next).reply (ap found_no_memory (sym reply) ∙ known))
       ∙ ap (λ r. r ++ (step_of u next).reply ∷ []) (before u refl)
       ∙ sym (joined u next)
-      ∙ ap (λ u. (run_of u).replies) (same_of (with_statement u next) t is_open)
+      ∙ ap (λ u. (run_of u).replies) (same_Some (with_statement u next) t is_open)
   told_open Commit txn t before known reply is_open = let no : ⊥ = cc in absurd no
   told_open Rollback txn t before known reply is_open = let no : ⊥ = cc in absurd no
 
@@ -129,9 +126,6 @@ pub record IsTelling (now : EngineState) (steps : List Step) (answers : List Ans
   pub open_ones : (session : List ℕ) (place : ℕ) (t : OpenTransaction) → seat_of now.seats session ≡ Some place → txn_of (slice_get now.seats place) ≡ Some t
       → replies_to session steps answers ≡ (run_of t).replies
   pub alone : WereToldAlone now.core steps answers
-
-same_bytes : (a b : List ℕ) → bytes_eq a b ≡ true → a ≡ b
-same_bytes a b = (bytes_eq-Decides a b).0
 
 module _ (joined : Joined) (now : EngineState) (steps : List Step) (answers : List Answer) (step : Step) (answer : Answer) (running : IsRunning now) (telling : IsTelling now steps answers) where
   more : (session : List ℕ) → replies_to session (steps ++ step ∷ []) (answers ++ answer ∷ []) ≡ replies_by session step answer (replies_to session steps answers)
@@ -184,8 +178,8 @@ module _ (joined : Joined) (now : EngineState) (steps : List Step) (answers : Li
           (ap (λ (o : Outcome). o.replies) (outcome_is now.core step.session t live) ∙ alone_at commit (let within = live.within in omega arith))
           own_told)
       | inr earlier ↦
-          let low : other.snapshot < other.number = (clean (log_of now.core) running.epoch.accepted).snapshots other earlier in
-          let high : other.number < length now.core.records + 1 = each_at (λ (w : Record). w.number < length now.core.records + 1) (log_of now.core) (below now.core running.epoch.accepted) other earlier in
+          let low : other.snapshot < other.number = (clean (log_of now.core) running.commits.epoch.accepted).snapshots other earlier in
+          let high : other.number < length now.core.records + 1 = each_at (λ (w : Record). w.number < length now.core.records + 1) (log_of now.core) (below now.core running.commits.epoch.accepted) other earlier in
           subst (WasTold (steps ++ step ∷ []) (answers ++ answer ∷ []) other) (alone_at other (omega arith)) (told_still other _ (telling.alone other earlier))
     ]
 
@@ -221,8 +215,8 @@ module _ (joined : Joined) (now : EngineState) (steps : List Step) (answers : Li
     open_own : (session : List ℕ) (q : ℕ) (t : OpenTransaction) → bytes_eq step.session session ≡ true → seat_of now.seats session ≡ Some q → txn_of (slice_get (slice_set now.seats place left) q) ≡ Some t
         → replies_to session (steps ++ step ∷ []) (answers ++ answer ∷ []) ≡ (run_of t).replies
     open_own session q t same at txn =
-        let is : step.session ≡ session = same_bytes step.session session same in
-        let here : q ≡ place = same_of q place (sym at ∙ ap (seat_of now.seats) (sym is) ∙ seated) in
+        let is : step.session ≡ session = (bytes_eq-Decides step.session session).0 same in
+        let here : q ≡ place = same_Some q place (sym at ∙ ap (seat_of now.seats) (sym is) ∙ seated) in
         let open_then : txn_after now.core step.event seat.txn ≡ Some t = sym (ap txn_of (set_there now.seats place left within)) ∙ ap (λ n. txn_of (slice_get (slice_set now.seats place left) n)) (sym here) ∙ txn in
         more session ∙ own_by session step answer (replies_to session steps answers) same
         ∙ told_open joined now.core step.session answer (replies_to session steps answers) step.event seat.txn t
@@ -233,9 +227,9 @@ module _ (joined : Joined) (now : EngineState) (steps : List Step) (answers : Li
     open_other session q t other at txn =
         let apart : q ≡ place → ⊥ = λ e.
         let it = has_seat now.seats session q at in
-        let same_seat : it.seat ≡ seat = same_of it.seat seat (sym it.there ∙ ap (slice_get now.seats) e ∙ there) in
-        let a : seat.session ≡ step.session = same_bytes seat.session step.session own in
-        let b : it.seat.session ≡ session = same_bytes it.seat.session session it.own in
+        let same_seat : it.seat ≡ seat = same_Some it.seat seat (sym it.there ∙ ap (slice_get now.seats) e ∙ there) in
+        let a : seat.session ≡ step.session = (bytes_eq-Decides seat.session step.session).0 own in
+        let b : it.seat.session ≡ session = (bytes_eq-Decides it.seat.session session).0 it.own in
         let yes : bytes_eq step.session session ≡ true = (bytes_eq-Decides step.session session).1 (sym a ∙ ap (λ (s : Seat). s.session) (sym same_seat) ∙ b) in
         cc in
         more session ∙ other_by session step answer (replies_to session steps answers) other
@@ -264,7 +258,7 @@ module _ (joined : Joined) (now : EngineState) (steps : List Step) (answers : Li
       → IsTelling (after_at now step.session step.event place answer) (steps ++ step ∷ []) (answers ++ answer ∷ [])
   telling_at None seated known reply =
       telling_still (λ session place at. elim (cases_Bool (bytes_eq step.session session)) [
-        | inl same ↦ (let is : step.session ≡ session = same_bytes step.session session same in let it = ap (seat_of now.seats) is in let no : ⊥ = cc in absurd no)
+        | inl same ↦ (let is : step.session ≡ session = (bytes_eq-Decides step.session session).0 same in let it = ap (seat_of now.seats) is in let no : ⊥ = cc in absurd no)
         | inr other ↦ other_by session step answer (replies_to session steps answers) other
       ])
   telling_at (Some place) seated known reply =

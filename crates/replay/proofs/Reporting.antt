@@ -44,12 +44,7 @@ module _ (defs script : List ℕ) (limit : ℕ) (engine : EngineState) (steps : 
     shown = begun.shown;
     steps = steps;
     ready = begun.ready;
-    first = p.first;
-    rest = p.rest;
-    split = p.split;
-    answers = p.answers;
-    answered = subst (λ e. AreAnswers e p.first p.answers) begun.is p.answered;
-    written = p.written;
+    prints = subst (λ e. PrintsBeginning e steps old new) begun.is p;
   }
 
   pub stopped : {A : Type 0} (printed : Result A ProgramFault) (old new : Option (List ℕ)) → IfErr printed (λ fault. fault ≡ Stopped → PrintsBeginning engine steps old new)

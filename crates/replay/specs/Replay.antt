@@ -1,5 +1,5 @@
 -- What the engine writes for two texts.
-use Rattle.std.specs.Prelude.{◌≡◌, ◌++◌, ℕ, List, Option}
+use Rattle.std.specs.Prelude.{◌≡◌, ℕ, List, Option}
 use Rattle.std.specs.Io.KnownBytes.{Appends}
 use Rattle.statement_syntax.specs.declared.statements.Step.{Step}
 use Rattle.delta.specs.Views.{Shown}
@@ -9,9 +9,9 @@ use Rattle.commit.specs.Cores.{IsSerializable}
 use Rattle.commit.specs.Events.{EngineState}
 use Rattle.commit.specs.Runs.{AreAnswers, beginning, led_to}
 use Rattle.commit.specs.Told.{WereToldAlone}
-use Rattle.running.specs.Lines.{lines}
 use Rattle.running.specs.Texts.{AreReady}
 use Rattle.replay.specs.Lines.{report}
+use Rattle.replay.specs.Writing.{PrintsBeginning}
 
 -- the engine before the first event of the script
 pub record IsBeginning (defs script : List ℕ) (limit : ℕ) (engine : EngineState) (steps : List Step) : Type 0 where
@@ -44,9 +44,4 @@ pub record WritesBeginning (defs script : List ℕ) (limit : ℕ) (old new : Opt
   pub shown : Shown
   pub steps : List Step
   pub ready : AreReady defs script shown steps
-  pub first : List Step
-  pub rest : List Step
-  pub split : first ++ rest ≡ steps
-  pub answers : List Answer
-  pub answered : AreAnswers (beginning limit shown steps) first answers
-  pub written : Appends old new (lines first answers)
+  pub prints : PrintsBeginning (beginning limit shown steps) steps old new

@@ -8,9 +8,8 @@ use Rattle.value.specs.declared.refusals.Refusal.TheVariants.{TypeMismatch}
 use Rattle.value.specs.declared.values.Value.{Value}
 use Rattle.value.specs.ValueOrder.{value_cmp}
 use Rattle.value.specs.Ordered.{HoldsOf}
-use Rattle.value.specs.Results.{unless}
 use Rattle.value.proofs.OrderedLists.{All-put}
-use Rattle.value.proofs.Results.{ok_same}
+use Rattle.value.proofs.Results.{ok_same, unless_is}
 use Rattle.table.specs.declared.rows.Change.{Change}
 use Rattle.table.specs.declared.schemas.Column.{Column}
 use Rattle.table.specs.Faults.{are_typed, row_fault, row_refusal}
@@ -90,13 +89,9 @@ inserted_fits : (layouts : List Layout) (place : Place) (row : RowValues) (name 
 inserted_fits layouts place row name None effect fits e = subst (λ (f : Effect). Each (IsFitting layouts) f.changes) (ok_same _ effect e) (fits, tt)
 inserted_fits layouts place row name (Some other) effect fits e = let no : ⊥ = cc in absurd no
 
-unless_made : {A : Type 0} (fault : Option Refusal) (made : Result A Refusal) (a : A) → unless fault made ≡ Ok a → (fault ≡ None) × (made ≡ Ok a)
-unless_made None made a e = (refl, e)
-unless_made (Some r) made a e = let no : ⊥ = cc in absurd no
-
 insert_fits : (tables : Tables) (new : NewRow) (state : State) (effect : Effect) → insert_effect tables new state ≡ Ok effect → Each (IsFitting (layouts_of tables)) effect.changes
 insert_fits tables new state effect e =
-    let parts = unless_made (row_refusal (columns_of new.table (layouts_of tables)) new.row) _ effect e in
+    let parts = unless_is (row_refusal (columns_of new.table (layouts_of tables)) new.row) _ effect e in
     inserted_fits (layouts_of tables) (place_in (layouts_of tables) new) new.row _ _ effect
     (row_fits (columns_of new.table (layouts_of tables)) new.row (are_typed (columns_of new.table (layouts_of tables)) new.row) refl parts.0) parts.1
 
@@ -127,7 +122,7 @@ renewals_fit layouts table key sets (row ∷ rest) fit faultless = (
 update_fits : (layouts : List Layout) (table key : ℕ) (sets : List Setting) (rows : List RowValues) (effect : Effect) → All (FitsColumns (columns_of table layouts)) rows
     → update_effect (columns_of table layouts) table key sets rows ≡ Ok effect → Each (IsFitting layouts) effect.changes
 update_fits layouts table key sets rows effect fit e =
-    let parts = unless_made (update_fault (columns_of table layouts) sets rows) _ effect e in
+    let parts = unless_is (update_fault (columns_of table layouts) sets rows) _ effect e in
     subst (λ (f : Effect). Each (IsFitting layouts) f.changes) (ok_same _ effect parts.1) (renewals_fit layouts table key sets rows fit parts.0)
 
 -- ---- statements alone

@@ -7,7 +7,7 @@ use Rattle.commit.proofs.laws.answers_lead_to_a_serial_order.Goals as goal
 pub returns-clause-serializable : goal.returns-clause-serializable
 returns-clause-serializable c = λ limit loaded all steps answers sound answered.
     let end = ends c.replies_are_those_alone.ensures.next limit loaded all steps answers sound answered in
-    let core = end.running in record {
+    let core = end.running.commits in record {
       once = c.commits_have_an_order.ensures.once _ core.epoch.accepted;
       sound = c.replay_answers_again.ensures.sound _ _ _ core.epoch;
       again = c.replay_answers_again.ensures.again _ _ _ core.epoch;
