@@ -72,7 +72,8 @@ fn rule_sql(alloc: Global, view: &View, rule: usize, form: &Form) -> Result<Rule
 }
 
 /// Adds the view of all bad roots, and the test of one. Its reads go by an index, however small a table is: a scan of a
-/// whole table would meet every change of it under SERIALIZABLE.
+/// whole table would meet every change of it under SERIALIZABLE. Where there is no index a scan then looks dear enough
+/// to be compiled, which takes far longer than the scan: hence no jit.
 fn add_tests(
     sql: &mut String,
     rule: usize,
@@ -86,7 +87,7 @@ fn add_tests(
         sql,
         "CREATE VIEW skewguard_bad_roots_{rule} AS {bad_roots};
 CREATE FUNCTION skewguard_is_bad_{rule}(candidate {type_name}) RETURNS boolean
-LANGUAGE plpgsql STABLE SET search_path FROM CURRENT SET enable_seqscan = off AS $skewguard$
+LANGUAGE plpgsql STABLE SET search_path FROM CURRENT SET enable_seqscan = off SET jit = off AS $skewguard$
 BEGIN
 {is_bad}END
 $skewguard$;
