@@ -82,6 +82,7 @@ class Maker:
     def __init__(self, rng, sessions):
         self.rng, self.sessions = rng, sessions
         self.tables, self.assertions = {}, []
+        self.all_deferred = self.chance(0.25)
 
     def pick(self, choices):
         return self.rng.choice(list(choices))
@@ -163,11 +164,12 @@ class Maker:
                  'NOT EXISTS (SELECT C0 FROM T2 GROUP BY C0 HAVING SUM(C1) < 0)',
                  'NOT EXISTS (SELECT * FROM T0 S WHERE (SELECT COUNT(*) FROM T1 D WHERE D.C0 = S.ID) > 2)',
                  'NOT EXISTS (SELECT C0 FROM T1 GROUP BY C0 HAVING MIN(C1) > 1 OR COUNT(C1) > 3)',
-                 '(SELECT SUM(C1) FROM T2) >= (SELECT COUNT(*) FROM T0)',
+                 '(SELECT SUM(C1) FROM T2) >= (SELECT COUNT(*) FROM T0)', '(SELECT SUM(C1) FROM T2) BETWEEN 3 AND 9',
+                 '(SELECT COUNT(C1) FROM T1 WHERE C1 > 0) BETWEEN 2 AND 6',
                  '(SELECT MAX(C1) FROM T2 WHERE C0 IS NOT NULL) < 3']
         out = ['CREATE TABLE T0 (ID INTEGER PRIMARY KEY)', 'CREATE TABLE T1 (ID INTEGER PRIMARY KEY, C0 INTEGER, C1 INTEGER)',
                'CREATE TABLE T2 (ID INTEGER PRIMARY KEY, C0 VARCHAR(3), C1 INTEGER)']
-        for rule in self.rng.sample(rules, self.pick([1, 2, 2, 3])):
+        for rule in self.rng.sample(rules, self.pick([1, 2, 2, 3, 4])):
             out.append(self.named(rule, self.pick(['', ' INITIALLY DEFERRED', ' DEFERRABLE'])))
         out += [f'INSERT INTO T0 VALUES ({shift})' for shift in (1, 2)]
         for i in range(4):
@@ -178,6 +180,7 @@ class Maker:
     def named(self, condition, attributes):
         name = f'A{len(self.assertions)}'
         self.assertions.append(name)
+        attributes = ' INITIALLY DEFERRED' if self.all_deferred else attributes
         return f'CREATE ASSERTION {name} CHECK ({condition}){attributes}'
 
     def assertion(self):

@@ -59,26 +59,31 @@ $skewguard$;
 
 /// What calls deferrable rules.
 ///
-/// PostgreSQL defers constraint triggers alone, and these are for each row; SET CONSTRAINTS goes by their names. So the
-/// candidates of a deferrable rule are noted, each once a transaction, and the rule is called by a row in a table on
-/// which its constraint trigger stands. When that fires, at once, by SET CONSTRAINTS or at COMMIT, it checks all that
-/// is noted. A trigger for each changed row would check a group as often as its rows change, and would know one root,
-/// not the least.
+/// PostgreSQL defers constraint triggers alone, and these are for each row; SET CONSTRAINTS goes by their names. So a
+/// deferrable rule is called by a row in a table on which its constraint trigger stands. A row of batch 0 asks for the
+/// rule's mode: where that is immediate the trigger fires at once, and the rule is checked like any other. Where it is
+/// deferred its candidates are noted, each once a transaction, and the trigger checks all that is noted when
+/// PostgreSQL calls it, by SET CONSTRAINTS or at COMMIT. A trigger for each changed row would check a group as often as
+/// its rows change, and would know one root, not the least.
 ///
 /// The notes are in a temporary table: of a table that all share, a transaction's look at its notes would meet every
-/// other transaction's under SERIALIZABLE. The row of a call is taken out again at once, by its place, and no one else
-/// ever reads it.
+/// other transaction's under SERIALIZABLE. The row of a call is taken out again at once, by its place, and no one ever
+/// reads it.
 ///
-/// Rules are called in batches of all, in the order of their creation, and a call that is not of the newest batch does
-/// nothing. So COMMIT checks them in that order, whichever was noted first.
+/// When a rule is noted that was not, all noted rules are called in one batch, in the order of their creation, and
+/// calls of earlier batches do nothing. So COMMIT checks them in that order, whichever was noted first.
+///
+/// Notes, calls and totals belong to the owner of the rules, whose rights the functions have: who may change a table
+/// under rules may not change these. A call names the notes that it is for, so that none passes after DISCARD TEMP.
 pub const CALLS: &str = r#"
 -- Deferrable rules: their calls, whose order and time are those of the constraint triggers below.
-CREATE UNLOGGED TABLE skewguard_due (rule integer NOT NULL, batch bigint NOT NULL);
+CREATE UNLOGGED TABLE skewguard_due (rule integer NOT NULL, batch bigint NOT NULL, notes oid);
 
 CREATE FUNCTION skewguard_open_notes() RETURNS void
 LANGUAGE plpgsql AS $skewguard$
 BEGIN
-    IF to_regclass('pg_temp.skewguard_notes') IS NULL THEN
+    IF NOT EXISTS (SELECT FROM pg_catalog.pg_class AS c
+            WHERE c.oid = to_regclass('pg_temp.skewguard_notes') AND c.relowner = current_user::regrole) THEN
         CREATE TEMPORARY TABLE skewguard_notes (
             rules oid NOT NULL, rule integer NOT NULL, number bigint, word text COLLATE "C",
             UNIQUE NULLS NOT DISTINCT (rules, rule, number, word)
@@ -87,51 +92,75 @@ BEGIN
 END
 $skewguard$;
 
--- Whether a call of a rule waits.
-CREATE FUNCTION skewguard_waits(rule integer) RETURNS boolean
-LANGUAGE plpgsql SET search_path FROM CURRENT AS $skewguard$
-BEGIN
-    RETURN COALESCE(strpos(
-        current_setting('skewguard.waiting_' || 'skewguard_due'::regclass::oid, true), ' ' || rule || ' '), 0) > 0;
-END
-$skewguard$;
-
--- The number of the next batch of calls, of these rules.
-CREATE FUNCTION skewguard_next_batch(rules text) RETURNS bigint
-LANGUAGE plpgsql SET search_path FROM CURRENT AS $skewguard$
-DECLARE
-    due oid := 'skewguard_due'::regclass::oid;
-    batch bigint := COALESCE(NULLIF(current_setting('skewguard.batch_' || due, true), ''), '0')::bigint + 1;
-BEGIN
-    PERFORM set_config('skewguard.batch_' || due, batch::text, true);
-    PERFORM set_config('skewguard.waiting_' || due, rules, true);
-    RETURN batch;
-END
-$skewguard$;
-
--- Calls a rule.
+-- Calls a rule: its trigger fires now or later, as its mode is.
 CREATE FUNCTION skewguard_call(rule integer, batch bigint) RETURNS void
 LANGUAGE plpgsql SET search_path FROM CURRENT AS $skewguard$
 DECLARE
     place tid;
 BEGIN
-    INSERT INTO skewguard_due AS d VALUES (rule, batch) RETURNING d.ctid INTO place;
+    INSERT INTO skewguard_due AS d VALUES (rule, batch, to_regclass('pg_temp.skewguard_notes'))
+        RETURNING d.ctid INTO place;
     DELETE FROM skewguard_due AS d WHERE d.ctid = place;
 END
 $skewguard$;
 
--- Whether a call is of the newest batch. If it is, the rule waits no longer.
-CREATE FUNCTION skewguard_is_newest(rule integer, batch bigint) RETURNS boolean
+-- Whether a rule is immediate: whether a call of batch 0 fires its trigger at once.
+CREATE FUNCTION skewguard_is_immediate(rule integer) RETURNS boolean
 LANGUAGE plpgsql SET search_path FROM CURRENT AS $skewguard$
-DECLARE
-    due oid := 'skewguard_due'::regclass::oid;
 BEGIN
-    IF batch::text <> current_setting('skewguard.batch_' || due, true) THEN
+    PERFORM set_config('skewguard.fired', 'no', true);
+    PERFORM skewguard_call(rule, 0);
+    RETURN current_setting('skewguard.fired') = 'yes';
+END
+$skewguard$;
+
+-- Whether something is noted of a rule. It is deferred then, and its trigger waits.
+CREATE FUNCTION skewguard_is_noted(of_rule integer) RETURNS boolean
+LANGUAGE plpgsql SET search_path FROM CURRENT AS $skewguard$
+BEGIN
+    IF to_regclass('pg_temp.skewguard_notes') IS NULL THEN
         RETURN false;
     END IF;
-    PERFORM set_config('skewguard.waiting_' || due,
-        replace(current_setting('skewguard.waiting_' || due, true), ' ' || rule || ' ', ''), true);
-    RETURN true;
+    PERFORM skewguard_open_notes();
+    RETURN EXISTS (SELECT FROM pg_temp.skewguard_notes AS n
+        WHERE n.rules = 'skewguard_due'::regclass AND n.rule = of_rule);
+END
+$skewguard$;
+
+-- Calls all noted rules in the next batch, whose number stands among the notes as that of rule 0.
+CREATE FUNCTION skewguard_call_noted() RETURNS void
+LANGUAGE plpgsql SET search_path FROM CURRENT AS $skewguard$
+DECLARE
+    batch bigint;
+    noted record;
+BEGIN
+    UPDATE pg_temp.skewguard_notes AS n SET number = n.number + 1
+        WHERE n.rules = 'skewguard_due'::regclass AND n.rule = 0 RETURNING n.number INTO batch;
+    IF NOT FOUND THEN
+        batch := 1;
+        INSERT INTO pg_temp.skewguard_notes (rules, rule, number) VALUES ('skewguard_due'::regclass, 0, batch);
+    END IF;
+    FOR noted IN SELECT DISTINCT n.rule FROM pg_temp.skewguard_notes AS n
+            WHERE n.rules = 'skewguard_due'::regclass AND n.rule > 0 ORDER BY n.rule LOOP
+        PERFORM skewguard_call(noted.rule, batch);
+    END LOOP;
+END
+$skewguard$;
+
+-- Whether a call that has fired is one to check by: of the newest batch. One of batch 0 says that the rule is immediate.
+CREATE FUNCTION skewguard_is_newest(call skewguard_due) RETURNS boolean
+LANGUAGE plpgsql SET search_path FROM CURRENT AS $skewguard$
+BEGIN
+    IF call.batch = 0 THEN
+        PERFORM set_config('skewguard.fired', 'yes', true);
+        RETURN false;
+    END IF;
+    IF call.notes IS DISTINCT FROM to_regclass('pg_temp.skewguard_notes')::oid THEN
+        RAISE EXCEPTION USING ERRCODE = '55000', MESSAGE = 'the notes of deferred rules are gone',
+            HINT = 'DISCARD TEMP takes them away: use it between transactions.';
+    END IF;
+    RETURN call.batch = (SELECT n.number FROM pg_temp.skewguard_notes AS n
+        WHERE n.rules = 'skewguard_due'::regclass AND n.rule = 0);
 END
 $skewguard$;
 "#;

@@ -125,12 +125,12 @@ fn add_call(
     write!(
         sql,
         "CREATE FUNCTION skewguard_check_{rule}() RETURNS trigger
-LANGUAGE plpgsql SET search_path FROM CURRENT AS $skewguard$
+LANGUAGE plpgsql SECURITY DEFINER SET search_path FROM CURRENT AS $skewguard$
 DECLARE
     least_number bigint;
     least_text text COLLATE \"C\";
 BEGIN
-    IF NOT skewguard_is_newest({rule}, NEW.batch) THEN
+    IF NOT skewguard_is_newest(NEW) THEN
         RETURN NULL;
     END IF;
     SELECT n.{column} INTO {variable} FROM pg_temp.skewguard_notes AS n

@@ -1,7 +1,7 @@
 //! The triggers of a table.
 //!
 //! After each statement they go by the rules in the order of their creation, on all that the statement has changed
-//! together. A rule that is not deferrable is checked at its candidates. Of one that is, the candidates are noted, and
+//! together. A rule that is immediate is checked at its candidates. Of one that is deferred the candidates are noted, and
 //! it is called: by a row in `skewguard_due`, on which a constraint trigger of the rule's name stands, so that
 //! PostgreSQL's own modes say when (`fixed::CALLS`).
 
@@ -124,23 +124,20 @@ fn add_function(
     write!(
         sql,
         "CREATE FUNCTION skewguard_{name}_{place}() RETURNS trigger
-LANGUAGE plpgsql SET search_path FROM CURRENT AS $skewguard$
+LANGUAGE plpgsql SECURITY DEFINER SET search_path FROM CURRENT AS $skewguard$
 DECLARE
     least_number bigint;
     least_text text COLLATE \"C\";
-    calls boolean := false;
-    batch bigint;
+    is_new boolean := false;
 BEGIN
     PERFORM skewguard_require_serializable();
 "
     )?;
     add_total_changes(sql, view, table, changed)?;
-    let defers = defers(view.assertions(), table);
-    if defers {
-        add_notes(sql, view, table, changed)?;
-        add_batch(sql, view.assertions())?;
+    add_checks(sql, view, table, changed)?;
+    if defers(view.assertions(), table) {
+        sql.push_str("    IF is_new THEN\n        PERFORM skewguard_call_noted();\n    END IF;\n")?;
     }
-    add_checks(sql, view, table, changed, defers)?;
     sql.push_str("    RETURN NULL;\nEND\n$skewguard$;\n")
 }
 
@@ -168,29 +165,29 @@ fn add_total_changes(
     Ok(())
 }
 
-/// Adds the notes of the candidates of deferrable rules.
-fn add_notes(
+/// Adds the checks and the notes of the rules over a table, in the order of their creation.
+fn add_checks(
     sql: &mut String,
     view: &View,
     table: usize,
     changed: Changed,
 ) -> Result<(), AllocError> {
-    sql.push_str("    PERFORM skewguard_open_notes();\n")?;
     for (place, assertion) in view.assertions().iter().enumerate() {
-        if assertion.attributes.deferrable && is_over(&assertion.form, table) {
-            add_note(
-                sql,
-                view,
-                table,
-                place.saturating_add(1),
-                &assertion.form,
-                changed,
-            )?;
+        if is_over(&assertion.form, table) {
+            let rule = place.saturating_add(1);
+            if assertion.attributes.deferrable {
+                add_note(sql, view, table, rule, &assertion.form, changed)?;
+            }
+            add_check(sql, view, table, rule, assertion, changed)?;
+            if assertion.attributes.deferrable {
+                sql.push_str("    END IF;\n")?;
+            }
         }
     }
     Ok(())
 }
 
+/// Adds the head of a deferrable rule's part: where it is deferred its candidates are noted, and else its check follows.
 fn add_note(
     sql: &mut String,
     view: &View,
@@ -200,53 +197,21 @@ fn add_note(
     changed: Changed,
 ) -> Result<(), AllocError> {
     let column = root_kind(view, form).column();
+    write!(sql, "    IF NOT EXISTS (\n        ")?;
+    add_candidates(sql, view, form, table, changed.rows)?;
     write!(
         sql,
-        "    INSERT INTO pg_temp.skewguard_notes (rules, rule, {column})
+        ") THEN
+        NULL;
+    ELSIF skewguard_is_noted({rule}) OR NOT skewguard_is_immediate({rule}) THEN
+        is_new := is_new OR NOT skewguard_is_noted({rule});
+        PERFORM skewguard_open_notes();
+        INSERT INTO pg_temp.skewguard_notes (rules, rule, {column})
         SELECT DISTINCT 'skewguard_due'::regclass::oid, {rule}, u.root FROM (
         "
     )?;
     add_candidates(sql, view, form, table, changed.rows)?;
-    write!(
-        sql,
-        ") AS u\n        ON CONFLICT DO NOTHING;\n    calls := calls OR (FOUND AND NOT skewguard_waits({rule}));\n"
-    )
-}
-
-/// Adds the next batch of calls, of all deferrable rules.
-fn add_batch(sql: &mut String, assertions: &[Assertion]) -> Result<(), AllocError> {
-    sql.push_str("    IF calls THEN\n        batch := skewguard_next_batch('")?;
-    for (place, assertion) in assertions.iter().enumerate() {
-        if assertion.attributes.deferrable {
-            let rule = place.saturating_add(1);
-            write!(sql, " {rule} ")?;
-        }
-    }
-    sql.push_str("');\n    END IF;\n")
-}
-
-/// Adds the checks and the calls of the rules, in the order of their creation.
-fn add_checks(
-    sql: &mut String,
-    view: &View,
-    table: usize,
-    changed: Changed,
-    defers: bool,
-) -> Result<(), AllocError> {
-    for (place, assertion) in view.assertions().iter().enumerate() {
-        let rule = place.saturating_add(1);
-        if assertion.attributes.deferrable {
-            if defers {
-                write!(
-                    sql,
-                    "    IF calls THEN\n        PERFORM skewguard_call({rule}, batch);\n    END IF;\n"
-                )?;
-            }
-        } else if is_over(&assertion.form, table) {
-            add_check(sql, view, table, rule, assertion, changed)?;
-        }
-    }
-    Ok(())
+    write!(sql, ") AS u\n        ON CONFLICT DO NOTHING;\n    ELSE\n")
 }
 
 /// Adds the check of a rule at each of its candidates once.
