@@ -341,8 +341,10 @@ def printed(tree, column, cast):
 
 # ---- what an event is answered, in words that both sides have
 
-REFUSED = {'3': 'name', '6': 'null', '7': 'key taken', '8': 'key', '9': 'range', '11': 'not deferrable', '12': 'serialization', '13': 'serialization'}
-STATES = {'23502': 'null', '23505': 'key taken', '0A000': 'key', '23514': 'range', '22003': 'range', '42704': 'not deferrable',
+# Where a row has a NULL and a number that may not be there, skewguard names the first column and PostgreSQL the NULL:
+# both are one answer here.
+REFUSED = {'3': 'name', '6': 'value', '7': 'key taken', '8': 'key', '9': 'value', '11': 'not deferrable', '12': 'serialization', '13': 'serialization'}
+STATES = {'23502': 'value', '23505': 'key taken', '0A000': 'key', '23514': 'value', '22003': 'value', '42704': 'not deferrable',
           '40001': 'serialization', '40P01': 'serialization'}
 
 
@@ -393,20 +395,23 @@ class Session(threading.Thread):
         self.idle = False
         self.work.put(event)
 
-    def end(self):
-        if self.is_alive():
-            self.work.put(None)
+    def end(self, watch):
+        """Ends the session, also where it waits for another one."""
+        watch.execute('SELECT pg_terminate_backend(%s, 10000)', (self.pid,))
+        self.work.put(None)
+        if not self.alone:
             self.join(10)
-        else:
-            self.connection.close()
+        self.connection.close()
 
     def run(self):
         while True:
             event = self.work.get()
             if event is None:
-                self.connection.close()
                 return
-            self.answers.append(self.play(event))
+            try:
+                self.answers.append(self.play(event))
+            except psycopg2.Error:
+                return                        # (the case is over, and its sessions were ended)
             self.idle = self.work.empty()
 
     def play(self, event):
@@ -522,25 +527,26 @@ class Player:
             raise Differs(f'{differs}\n--- defs\n{defs}\n--- script and answers of the program\n{shown}')
         finally:
             for session in sessions.values():
-                session.end()
+                session.end(self.cursor)
             self.cursor.execute(f'DROP SCHEMA {schema} CASCADE')
         return True
 
     def play(self, script, wanted, sessions):
         places = {name: [] for name in sessions}
-        waited, compares, checked = set(), True, {name: 0 for name in sessions}
+        compares, checked = True, {name: 0 for name in sessions}
         for place, (name, _, event) in enumerate(script):
             session = sessions[name]
-            if not session.idle:
-                waited.add(name)
+            if not session.idle and event == 'COMMIT' and compares:
+                self.count('committed later than in the script, after a wait')
+                compares = False
             places[name].append(place)
             session.give(event)
             self.settle(sessions)
-            compares = self.compare(script, wanted, sessions, places, checked, waited, compares)
+            compares = self.compare(script, wanted, sessions, places, checked, compares)
         while not all(session.idle for session in sessions.values()):
             self.settle(sessions)
             time.sleep(0.001)
-        self.compare(script, wanted, sessions, places, checked, waited, compares)
+        self.compare(script, wanted, sessions, places, checked, compares)
 
     def settle(self, sessions):
         """Waits until each session is idle or waits for another one."""
@@ -558,7 +564,7 @@ class Player:
                 raise Differs('a session does not come to an end')
             time.sleep(0.0005)
 
-    def compare(self, script, wanted, sessions, places, checked, waited, compares):
+    def compare(self, script, wanted, sessions, places, checked, compares):
         """Compares the answers that have come in since, in the order of the script; whether to go on comparing."""
         new = []
         for name, session in sessions.items():
@@ -570,7 +576,7 @@ class Player:
             if mine == 'COMMIT' and answer[0] == 'done':
                 self.check_rules()
             if compares:
-                compares = self.same(script[place], answer, wanted[place], name in waited, len(sessions) > 1)
+                compares = self.same(script[place], answer, wanted[place], len(sessions) > 1)
         return compares
 
     def check_rules(self):
@@ -580,7 +586,7 @@ class Player:
         if broken:
             raise Differs(f'a committed state breaks a rule: {broken}')
 
-    def same(self, event, answer, wanted, waited, several):
+    def same(self, event, answer, wanted, several):
         self.count('answers compared')
         if wanted[0] == 'violated':
             self.count('refused at COMMIT for a rule' if event[1] == 'COMMIT' else 'refused for a rule')
@@ -596,9 +602,6 @@ class Player:
             return False
         if lost:
             return True
-        if waited and event[1] == 'COMMIT' and answer == wanted:
-            self.count('committed later than in the script, after a wait')
-            return False
         if several and answer == ('refused', 'key taken') and wanted[0] == 'changed':
             self.count('refused with 23505 by PostgreSQL for a key that another session has put in since')
             return False
