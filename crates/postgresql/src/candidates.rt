@@ -57,20 +57,34 @@ fn add_row_candidates(
     table: usize,
     changed: &str,
 ) -> Result<(), AllocError> {
-    let mut before = "";
+    let mut is_first = own != table;
     if own == table {
         let key = column_name(view, table, key_of(view, table));
         write!(sql, "SELECT c.{key} AS root FROM {changed} AS c")?;
-        before = "\n        UNION ALL ";
     }
     for query in queries {
-        if query.table == table {
-            sql.push_str(before)?;
-            add_link_candidates(sql, view, query, changed)?;
-            before = "\n        UNION ALL ";
-        }
+        is_first = add_part(sql, view, query, table, changed, is_first)?;
     }
     Ok(())
+}
+
+/// Adds the candidates of a subquery behind those before it, if it is over the table; whether none is there still.
+fn add_part(
+    sql: &mut String,
+    view: &View,
+    query: &Query<Link>,
+    table: usize,
+    changed: &str,
+    is_first: bool,
+) -> Result<bool, AllocError> {
+    if query.table != table {
+        return Ok(is_first);
+    }
+    if !is_first {
+        sql.push_str("\n        UNION ALL ")?;
+    }
+    add_link_candidates(sql, view, query, changed)?;
+    Ok(false)
 }
 
 /// NULL is linked to no key.

@@ -56,24 +56,29 @@ pub fn add_condition(
             sql.push_str(")")
         }
         Cond::And(parts) => {
-            let mut before = "(";
+            let mut is_first = true;
             for part in parts.as_slice() {
-                sql.push_str(before)?;
+                add_before_part(sql, is_first, " AND ")?;
                 add_condition(sql, scope, part)?;
-                before = " AND ";
+                is_first = false;
             }
-            sql.push_str(if parts.is_empty() { "TRUE" } else { ")" })
+            sql.push_str(if is_first { "TRUE" } else { ")" })
         }
         Cond::Or(parts) => {
-            let mut before = "(";
+            let mut is_first = true;
             for part in parts.as_slice() {
-                sql.push_str(before)?;
+                add_before_part(sql, is_first, " OR ")?;
                 add_condition(sql, scope, part)?;
-                before = " OR ";
+                is_first = false;
             }
-            sql.push_str(if parts.is_empty() { "FALSE" } else { ")" })
+            sql.push_str(if is_first { "FALSE" } else { ")" })
         }
     }
+}
+
+/// Adds what stands before a part: a parenthesis before the first one, and before another one the word that joins them.
+fn add_before_part(sql: &mut String, is_first: bool, word: &str) -> Result<(), AllocError> {
+    sql.push_str(if is_first { "(" } else { word })
 }
 
 /// Adds the test whether a subquery has a row.
@@ -109,22 +114,22 @@ fn add_number(sql: &mut String, scope: &Scope<'_>, expression: &Expr) -> Result<
             sql.push_str(")")
         }
         Expr::Sum(parts) => {
-            let mut before = "(";
+            let mut is_first = true;
             for part in parts.as_slice() {
-                sql.push_str(before)?;
+                add_before_part(sql, is_first, " + ")?;
                 add_number(sql, scope, part)?;
-                before = " + ";
+                is_first = false;
             }
-            sql.push_str(if parts.is_empty() { "0::numeric" } else { ")" })
+            sql.push_str(if is_first { "0::numeric" } else { ")" })
         }
         Expr::Product(parts) => {
-            let mut before = "(";
+            let mut is_first = true;
             for part in parts.as_slice() {
-                sql.push_str(before)?;
+                add_before_part(sql, is_first, " * ")?;
                 add_number(sql, scope, part)?;
-                before = " * ";
+                is_first = false;
             }
-            sql.push_str(if parts.is_empty() { "1::numeric" } else { ")" })
+            sql.push_str(if is_first { "1::numeric" } else { ")" })
         }
     }
 }

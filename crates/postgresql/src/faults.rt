@@ -1,5 +1,8 @@
 //! Why the SQL was not printed.
 
+ghost use Rattle.std.specs.Prelude.{◌≡◌};
+ghost use Rattle.postgresql.specs.declared.faults.PrintFault.TheVariants.{NoMemory};
+
 use std::alloc::AllocError;
 use thiserror::Error;
 use value::Text;
@@ -19,6 +22,8 @@ pub enum PrintFault {
 }
 
 impl From<AllocError> for PrintFault {
+    ghost from_gives = { λ _ fault. fault ≡ NoMemory };
+
     fn from(_error: AllocError) -> PrintFault {
         PrintFault::NoMemory
     }

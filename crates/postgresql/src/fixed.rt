@@ -165,12 +165,19 @@ END
 $skewguard$;
 "#;
 
-/// What stands at the end: the rules hold on the rows as PostgreSQL evaluates them too.
+/// What stands at the end: the rules hold on the rows as PostgreSQL evaluates them too. A trigger of one's own on a table
+/// of one's own could otherwise hand rows to a function that changes totals.
 pub const END: &str = r#"
+-- The functions of the triggers have the rights of the rules' owner: nobody else puts them on a table of his own.
 DO $skewguard$
 DECLARE
     found record;
 BEGIN
+    FOR found IN SELECT p.oid::regprocedure AS name FROM pg_proc AS p WHERE p.prosecdef
+            AND p.pronamespace = quote_ident(current_schema())::regnamespace
+            AND starts_with(p.proname, 'skewguard_') LOOP
+        EXECUTE format('REVOKE EXECUTE ON FUNCTION %s FROM PUBLIC', found.name);
+    END LOOP;
     FOR found IN SELECT v.rule, v.root FROM skewguard_verdicts AS v WHERE NOT v.verdict ORDER BY v.place LOOP
         PERFORM skewguard_refuse(found.rule, found.root);
     END LOOP;

@@ -1,5 +1,20 @@
-//! Tables, rows and rules as SQL for PostgreSQL.
+//! Tables, rows and assertions as SQL for PostgreSQL 15 or later, which keeps the assertions there.
+//!
+//! [`print_into`] writes the tables of a view with their rows, and what enforces each of its assertions: after each
+//! statement, or at COMMIT, it is evaluated at its candidates alone, on the same forms that the crates below evaluate
+//! and of which it is proved that they mean what the definitions say. docs/SCALE.md tells what is printed and why.
+//!
+//! What is proved here is that printing is safe and ends, and that nothing is written before all names are known to be
+//! short enough. That PostgreSQL takes the SQL and answers as the program does is tested
+//! (tools/against_postgresql.py).
+//!
+//! From the bottom up: `words` (names, constants and set functions), `conditions` (conditions and expressions), `forms`
+//! (the bad roots of an assertion, and the test of one), `totals` (of single conditions), `candidates`, `tables`,
+//! `rules` (what stands for an assertion), `triggers` (what stands for a table) and `fixed` (what is the same for all).
 #![tactic(auto)]
+
+ghost use Rattle.std.specs.Prelude.{◌≡◌, true, false, IfErr};
+ghost use Rattle.postgresql.specs.Faults.{is_before_writing};
 
 mod candidates;
 mod conditions;
@@ -18,9 +33,25 @@ use std::alloc::{AllocError, Global};
 use std::io::Write;
 use table::Row;
 
-/// Writes the SQL of tables, their rows and their assertions.
-pub fn print_into<W: Write>(alloc: Global, view: &View, out: &mut W) -> Result<(), PrintFault> {
+/// Writes the SQL of tables, their rows and their assertions: one transaction, for an empty schema.
+///
+/// # Errors
+///
+/// [`PrintFault::LongName`] where a table, a column or an assertion has a name that PostgreSQL would cut; nothing is
+/// written then. [`PrintFault::NoMemory`] where no memory is left, and [`PrintFault::Output`] at the first fault of the
+/// writer; after both a part may be written.
+#[tactic(auto, using(crate::proofs::Late::nothing_before))]
+pub fn print_into<W: Write>(alloc: Global, view: &View, out: &mut W) -> Result<(), PrintFault>
+    ensures nothing { IfErr result (λ fault. is_before_writing fault ≡ true → out.new ≡ out.old) }
+{
     tables::require_short_names(view)?;
+    print_all(alloc, view, out)
+}
+
+/// Writes all of it.
+fn print_all<W: Write>(alloc: Global, view: &View, out: &mut W) -> Result<(), PrintFault>
+    ensures late { IfErr result (λ fault. is_before_writing fault ≡ false) }
+{
     let mut sql = String::new(alloc);
     sql.push_str(fixed::HEAD)?;
     for table in 0..view.catalog().len() {
@@ -37,7 +68,9 @@ fn print_table<W: Write>(
     view: &View,
     table: usize,
     out: &mut W,
-) -> Result<(), PrintFault> {
+) -> Result<(), PrintFault>
+    ensures late { IfErr result (λ fault. is_before_writing fault ≡ false) }
+{
     tables::add_table(sql, view, table)?;
     if table < view.catalog().len() {
         for row in view.rows(table).iter() {
@@ -54,7 +87,9 @@ fn print_row<W: Write>(
     table: usize,
     row: &Row,
     out: &mut W,
-) -> Result<(), PrintFault> {
+) -> Result<(), PrintFault>
+    ensures late { IfErr result (λ fault. is_before_writing fault ≡ false) }
+{
     tables::add_row(sql, view, table, row)?;
     write_out(sql, out)
 }
@@ -80,7 +115,9 @@ fn add_rules(alloc: Global, sql: &mut String, view: &View) -> Result<(), AllocEr
 }
 
 /// Writes what was put together, and empties it.
-fn write_out<W: Write>(sql: &mut String, out: &mut W) -> Result<(), PrintFault> {
+fn write_out<W: Write>(sql: &mut String, out: &mut W) -> Result<(), PrintFault>
+    ensures late { IfErr result (λ fault. is_before_writing fault ≡ false) }
+{
     if out.write_all(sql.as_bytes()).is_err() {
         return Err(PrintFault::Output);
     }
@@ -88,7 +125,9 @@ fn write_out<W: Write>(sql: &mut String, out: &mut W) -> Result<(), PrintFault> 
     Ok(())
 }
 
-fn flush<W: Write>(out: &mut W) -> Result<(), PrintFault> {
+fn flush<W: Write>(out: &mut W) -> Result<(), PrintFault>
+    ensures late { IfErr result (λ fault. is_before_writing fault ≡ false) }
+{
     match out.flush() {
         Ok(()) => Ok(()),
         Err(_) => Err(PrintFault::Output),
