@@ -276,10 +276,9 @@ impl Core {
         &self.newest
     }
 
-    /// The commits, in the order of their numbers: at most as many as the limit.
+    /// The commits, in the order of their numbers.
     pub fn records(&self) -> &[Record]
-        ensures records { result.now ≡ self.now.records }
-        ensures within { length result.now ≤ self.now.limit }
+        ensures { result.now ≡ self.now.records }
     {
         self.records.as_slice()
     }
@@ -323,6 +322,13 @@ impl Core {
         ensures { IsLog (log_of self.now) }
     {
         // (what holds of every core is known where a field of it is read)
+        let _ = &self.loaded;
+    }
+
+    /// There are at most as many commits as the limit says.
+    pub fn is_within_limit(&self)
+        ensures { length self.now.records ≤ self.now.limit }
+    {
         let _ = &self.loaded;
     }
 

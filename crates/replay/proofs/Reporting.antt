@@ -19,20 +19,20 @@ module _ (defs script : List ℕ) (limit : ℕ) (engine : EngineState) (steps : 
   reported : InEachRun (λ loaded steps answers left. IsSerializable left.core) → InEachRun (λ loaded steps answers left. WereToldAlone left.core steps answers)
       → (old new : Option (List ℕ)) → PrintsRun engine steps old new → WritesReport defs script limit old new
   reported serializable told old new p =
-    let answered : AreAnswers (beginning limit begun.shown steps) steps p.answers = subst (λ e. AreAnswers e steps p.answers) begun.is p.answered in record {
-    bytes = report steps p.answers (led_to (beginning limit begun.shown steps) steps p.answers);
-    is = record {
-      shown = begun.shown;
-      steps = steps;
-      answers = p.answers;
-      ready = begun.ready;
-      answered = answered;
-      serializable = serializable limit begun.shown steps steps p.answers begun.sound answered;
-      told = told limit begun.shown steps steps p.answers begun.sound answered;
-      prints = refl;
-    };
-    written = subst (λ e. Appends old new (report steps p.answers (led_to e steps p.answers))) begun.is p.written;
-  }
+      let answered : AreAnswers (beginning limit begun.shown steps) steps p.answers = subst (λ e. AreAnswers e steps p.answers) begun.is p.answered in record {
+        bytes = report steps p.answers (led_to (beginning limit begun.shown steps) steps p.answers);
+        is = record {
+          shown = begun.shown;
+          steps = steps;
+          answers = p.answers;
+          ready = begun.ready;
+          answered = answered;
+          serializable = serializable limit begun.shown steps steps p.answers begun.sound answered;
+          told = told limit begun.shown steps steps p.answers begun.sound answered;
+          prints = refl;
+        };
+        written = subst (λ e. Appends old new (report steps p.answers (led_to e steps p.answers))) begun.is p.written;
+      }
 
   pub reports : InEachRun (λ loaded steps answers left. IsSerializable left.core) → InEachRun (λ loaded steps answers left. WereToldAlone left.core steps answers)
       → {A : Type 0} (printed : Result A ProgramFault) (old new : Option (List ℕ)) → OnOk printed (PrintsRun engine steps old new) → OnOk printed (WritesReport defs script limit old new)

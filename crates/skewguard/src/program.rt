@@ -100,7 +100,9 @@ fn make_command<'a>(alloc: Global) -> Result<Command<'a>, AllocError> {
 
 /// The words that print definitions as SQL for PostgreSQL.
 fn make_postgresql<'a>(alloc: Global) -> Result<Command<'a>, AllocError> {
-    let defs = Arg::new(alloc, "DEFS").required(true).help("A file of definitions");
+    let defs = Arg::new(alloc, "DEFS")
+        .required(true)
+        .help("A file of definitions");
     Command::new(alloc, "postgresql")
         .about("Prints definitions as SQL for PostgreSQL 15 or later")
         .arg(defs)
@@ -222,7 +224,9 @@ where
         Err(PrintFault::NoMemory) => report_refused(alloc, "DEFS", &Refusal::NoMemory, err),
         Err(PrintFault::Output) => OUTSIDE,
         Err(PrintFault::LongName { name }) => {
-            let _ = err.write_all(b"DEFS: a name is longer than the 63 bytes that PostgreSQL keeps: ");
+            let _ = err.write_all(
+                b"DEFS: a name is longer than the 63 bytes that PostgreSQL keeps: ",
+            );
             let _ = err.write_all(name.as_bytes());
             let _ = err.write_all(b"\n");
             REFUSED
