@@ -692,35 +692,31 @@ def median(times):
     return sorted(times)[len(times) // 2]
 
 
-def cost(server, player, sql, name, n, single):
-    """For each rule the median of a statement of one row, a transaction each, and the time of one of all rows."""
+def loaded(server, player, sql, name, n):
+    """A connection to tables of n rows, and how long the INSERT of each took."""
     player.cursor.execute(f'CREATE SCHEMA {name}')
-    connection = server.connect(f'-c search_path={name}')
-    cursor = connection.cursor()
+    cursor = server.connect(f'-c search_path={name}').cursor()
     cursor.execute(sql)
-    loads = {}
-    for table, rows in COST_ROWS:
-        loads[table] = timed(cursor, f'INSERT INTO "{table}" {rows.format(n=n)}')
-    cursor.execute('VACUUM ANALYZE')
-    found = []
-    for _, table, statement in COST_STATEMENTS:
-        warm = [timed(cursor, statement.format(i=i)) for i in range(50)]
-        times = [timed(cursor, statement.format(i=i)) for i in range(50, 50 + single)]
-        found.append((median(times), loads[table]))
-    connection.close()
-    player.cursor.execute(f'DROP SCHEMA {name} CASCADE')
-    return found
+    loads = {table: timed(cursor, f'INSERT INTO "{table}" {rows.format(n=n)}') for table, rows in COST_ROWS}
+    for table, _ in COST_ROWS:
+        cursor.execute(f'VACUUM ANALYZE "{table}"')
+    return cursor, loads
 
 
-def costs(server, player):
+def costs(server, player, statements=200):
+    """For each rule the median of an UPDATE of one row, a transaction each, the kinds in turns; and an INSERT of all."""
     printed_ = {mode: player.runs('postgresql', texts={'defs': COST_DEFS % {'mode': mode}}).stdout for mode in ('', ' INITIALLY DEFERRED')}
     kinds = [('no rule', BARE), ('by hand', BY_HAND), ('printed', printed_['']), ('printed, deferred', printed_[' INITIALLY DEFERRED'])]
     print('| rule | rows | statement | ' + ' | '.join(kind for kind, _ in kinds) + ' |\n|---|---|---|' + '---|' * len(kinds))
     for n in (10 ** 4, 10 ** 5):
-        found = [cost(server, player, sql, f'cost_{n}_{place}', n, 1000) for place, (_, sql) in enumerate(kinds)]
-        for rule, (title, _, _) in enumerate(COST_STATEMENTS):
-            print(f'| {title} | {n:,} | UPDATE of one row | ' + ' | '.join(f'{f[rule][0] * 1e6:,.0f} us' for f in found) + ' |')
-            print(f'| {title} | {n:,} | INSERT of all rows | ' + ' | '.join(f'{f[rule][1] * 1e3:,.0f} ms' for f in found) + ' |')
+        ready = [loaded(server, player, sql, f'cost_{n}_{place}', n) for place, (_, sql) in enumerate(kinds)]
+        for title, table, statement in COST_STATEMENTS:
+            times = [[] for _ in kinds]
+            for i in range(50 + statements):
+                for (cursor, _), found in zip(ready, times):
+                    found.append(timed(cursor, statement.format(i=i)))
+            print(f'| {title} | {n:,} | UPDATE of one row | ' + ' | '.join(f'{median(t[50:]) * 1e6:,.0f} us' for t in times) + ' |')
+            print(f'| {title} | {n:,} | INSERT of all rows | ' + ' | '.join(f'{loads[table] * 1e3:,.0f} ms' for _, loads in ready) + ' |', flush=True)
 
 
 def main():

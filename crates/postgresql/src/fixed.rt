@@ -67,8 +67,9 @@ $skewguard$;
 /// its rows change, and would know one root, not the least.
 ///
 /// The notes are in a temporary table: of a table that all share, a transaction's look at its notes would meet every
-/// other transaction's under SERIALIZABLE. The row of a call is taken out again at once, by its place, and no one ever
-/// reads it.
+/// other transaction's under SERIALIZABLE. A check takes its notes out, so none is left at COMMIT; the table is not
+/// emptied by ON COMMIT DELETE ROWS, which cuts its file and took some 15 ms. The row of a call is taken out again at
+/// once, by its place, and no one ever reads it.
 ///
 /// When a rule is noted that was not, all noted rules are called in one batch, in the order of their creation, and
 /// calls of earlier batches do nothing. So COMMIT checks them in that order, whichever was noted first.
@@ -87,7 +88,7 @@ BEGIN
         CREATE TEMPORARY TABLE skewguard_notes (
             rules oid NOT NULL, rule integer NOT NULL, number bigint, word text COLLATE "C",
             UNIQUE NULLS NOT DISTINCT (rules, rule, number, word)
-        ) ON COMMIT DELETE ROWS;
+        );
     END IF;
 END
 $skewguard$;
