@@ -326,6 +326,13 @@ impl Core {
         let _ = &self.loaded;
     }
 
+    /// There are at most as many commits as the limit says.
+    pub fn is_within_limit(&self)
+        ensures { length self.now.records ≤ self.now.limit }
+    {
+        let _ = &self.loaded;
+    }
+
     /// The committed transactions have a serial order, and no committed tables make an assertion false.
     pub fn is_serializable(&self)
         ensures { IsSerializable self.now }
