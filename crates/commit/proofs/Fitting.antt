@@ -42,7 +42,7 @@ module _ (declared : Declared) (start : State) (loaded : RowsFit (layouts_in dec
       let rest = changes_fit earlier h.1 in
       let snapshot : State = newest declared start (held c.snapshot earlier) in (
         subst (Each (IsFitting (layouts_in declared))) h.0.changes
-        (net_fit (layouts_in declared) snapshot (run_on declared c.trace snapshot).final.view (run_fits declared c.trace snapshot (all_put (held c.snapshot earlier) (held_fit c.snapshot earlier rest)))),
+            (net_fit (layouts_in declared) snapshot (run_on declared c.trace snapshot).final.view (run_fits declared c.trace snapshot (all_put (held c.snapshot earlier) (held_fit c.snapshot earlier rest)))),
         rest,
       )
 

@@ -232,12 +232,12 @@ module _ (joined : Joined) (now : EngineState) (steps : List Step) (answers : Li
         → replies_to session (steps ++ step ∷ []) (answers ++ answer ∷ []) ≡ (run_of t).replies
     open_other session q t other at txn =
         let apart : q ≡ place → ⊥ = λ e.
-            let it = has_seat now.seats session q at in
-            let same_seat : it.seat ≡ seat = same_of it.seat seat (sym it.there ∙ ap (slice_get now.seats) e ∙ there) in
-            let a : seat.session ≡ step.session = same_bytes seat.session step.session own in
-            let b : it.seat.session ≡ session = same_bytes it.seat.session session it.own in
-            let yes : bytes_eq step.session session ≡ true = (bytes_eq-Decides step.session session).1 (sym a ∙ ap (λ (s : Seat). s.session) (sym same_seat) ∙ b) in
-            cc in
+        let it = has_seat now.seats session q at in
+        let same_seat : it.seat ≡ seat = same_of it.seat seat (sym it.there ∙ ap (slice_get now.seats) e ∙ there) in
+        let a : seat.session ≡ step.session = same_bytes seat.session step.session own in
+        let b : it.seat.session ≡ session = same_bytes it.seat.session session it.own in
+        let yes : bytes_eq step.session session ≡ true = (bytes_eq-Decides step.session session).1 (sym a ∙ ap (λ (s : Seat). s.session) (sym same_seat) ∙ b) in
+        cc in
         more session ∙ other_by session step answer (replies_to session steps answers) other
         ∙ telling.open_ones session q t at (sym (ap txn_of (set_elsewhere now.seats q place left apart)) ∙ txn)
 

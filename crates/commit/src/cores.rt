@@ -276,10 +276,9 @@ impl Core {
         &self.newest
     }
 
-    /// The commits, in the order of their numbers: at most as many as the limit.
+    /// The commits, in the order of their numbers.
     pub fn records(&self) -> &[Record]
-        ensures records { result.now ≡ self.now.records }
-        ensures within { length result.now ≤ self.now.limit }
+        ensures { result.now ≡ self.now.records }
     {
         self.records.as_slice()
     }

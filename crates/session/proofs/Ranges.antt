@@ -1,12 +1,12 @@
 -- What limits are within.
-use Rattle.std.proofs.Common.{◌≡◌, ◌≤◌, ℕ, true, arith}
+use Rattle.std.proofs.Common.{◌≡◌, ◌<◌, ◌≤◌, ℕ, true, arith}
 use Rattle.std.proofs.lemmas.Bool.{and_parts, leb-true, ltb-true}
 use Rattle.session.specs.Limits.{are_limits}
 
 pub some_commits : (commits sessions : ℕ) → are_limits commits sessions ≡ true → 1 ≤ commits
 some_commits commits sessions h =
     let p = and_parts _ _ h in
-    let above = ltb-true _ _ p.0 in omega (arith, above)
+    let above : 0 < commits = ltb-true _ _ p.0 in omega (arith, above)
 
 pub most_commits : (commits sessions : ℕ) → are_limits commits sessions ≡ true → commits ≤ 4294967295
 most_commits commits sessions h =
@@ -18,4 +18,4 @@ some_sessions commits sessions h =
     let p = and_parts _ _ h in
     let q = and_parts _ _ p.1 in
     let r = and_parts _ _ q.1 in
-    let above = ltb-true _ _ r.0 in omega (arith, above)
+    let above : 0 < sessions = ltb-true _ _ r.0 in omega (arith, above)
