@@ -5,7 +5,8 @@
     tools/refused_growth.py --tests PROGRAM       TESTS, of crates/manager_rows, as `rt test` builds them there
     tools/refused_growth.py --without PROGRAM     of the same, the tests of the calls that take no memory
 
-A test of these passes, or ends with the words that there is no memory: each call that finds none is made once more.
+A test of these passes, or ends with the words that there is no memory: each call that finds none is made once more, and
+one that then finds none again ends the test with other words, which no run may.
 In a test of the calls that take no memory, every allocation behind its mark is refused: that is the one at its end.
 
 For each history and each number N, the program is run with its Nth allocation refused (tools/refuse_malloc.c, which
@@ -65,7 +66,8 @@ HISTORIES = {
 # Tests of crates/manager_rows: those whose calls are made once more where they find no memory, and those whose calls
 # take none.
 TESTS = ["rows::shift_write_skew", "rows::pivot_refused", "rows::same_key_inserted_twice",
-    "rows::deferred_then_immediate", "rows::epoch_full", "given_back::by_a_manager", "given_back::by_an_engine",
+    "rows::deferred_then_immediate", "rows::epoch_full", "given_back::by_a_manager", "given_back::rolled_back",
+    "given_back::by_an_engine", "given_back::reader_before_writer", "given_back::deferred_row", "given_back::null_group",
     "views::changed"]
 WITHOUT = ["without_memory::without_memory", *(f"lower_without_memory::{name}" for name in ("values", "tables", "pages",
     "locks", "snapshots", "judgment", "a_commit_is_made", "a_commit_is_given_up", "a_transaction_ends"))]

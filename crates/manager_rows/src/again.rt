@@ -11,6 +11,7 @@ use std::alloc::Global;
 use std::fmt::Debug;
 use std::sync::Wait;
 use std::test::Fail;
+use value::Refusal;
 
 /// So many bytes hold all that is shown in these tests: asked for at once, so that few allocations are their own.
 const ROOM: usize = 1 << 16;
@@ -24,6 +25,12 @@ pub fn page(alloc: Global) -> Result<String, Fail> {
 pub fn show<T: Debug>(value: &T, text: &mut String) -> Result<(), Fail> {
     write!(text, "{value:?}\n")?;
     Ok(())
+}
+
+/// What ends a test where a call finds no memory twice. One allocation is refused in a run, so that the second call
+/// finds some; what a test itself has no memory for ends it with other words.
+pub fn for_ever() -> Fail {
+    Fail::from("a call finds no memory for ever")
 }
 
 /// What a call that found no memory was to leave as it was, before it and after it.
@@ -52,13 +59,13 @@ pub fn shown<N: Named, R: Wait>(
 }
 
 /// The newest tables, as a transaction finds them that begins on them and is rolled back.
-fn show_newest<N: Named, R: Wait>(
+pub fn show_newest<N: Named, R: Wait>(
     rt: &R,
     manager: &Manager<N>,
     session: &mut Session<N>,
     text: &mut String,
 ) -> Result<(), Fail> {
-    let txn = manager.begin(rt, session)?;
+    let txn = begin_again(rt, manager, session)?;
     if let Err(fail) = show_found(rt, manager, &txn, text) {
         let_go(txn.abandon());
         return Err(fail);
@@ -69,6 +76,22 @@ fn show_newest<N: Named, R: Wait>(
             let_go(txn.abandon());
             Err(Fail::from(refusal))
         }
+    }
+}
+
+/// A transaction that begins for a look. A begin that finds no memory is made once more.
+fn begin_again<N: Named, R: Wait>(
+    rt: &R,
+    manager: &Manager<N>,
+    session: &mut Session<N>,
+) -> Result<Txn<N>, Fail> {
+    match manager.begin(rt, session) {
+        Ok(txn) => Ok(txn),
+        Err(Refusal::NoMemory) => match manager.begin(rt, session) {
+            Ok(txn) => Ok(txn),
+            Err(_) => Err(for_ever()),
+        },
+        Err(refusal) => Err(Fail::from(refusal)),
     }
 }
 

@@ -2,7 +2,7 @@
 
 ghost use Rattle.std.specs.Prelude.{◌<◌, length, IfOk, IfSome};
 
-use crate::again::{is_same, shown};
+use crate::again::{for_ever, is_same, shown};
 use answer::Answer;
 use report::Report;
 use session::{CommitFault, Manager, Named, Receipt, Session, Txn};
@@ -151,7 +151,12 @@ fn answer_again<N: Named, R: Wait>(
         return Ok(first);
     }
     is_same(&before, &shown(rt, alloc, manager, seat)?)?;
-    answer(rt, manager, seat, event, receipts)
+    found(answer(rt, manager, seat, event, receipts)?)
+}
+
+/// The answer of a call that was made once more.
+pub fn found(answer: Answer) -> Result<Answer, Fail> {
+    unless_memory(answer).ok_or_else(for_ever)
 }
 
 /// The answer, unless it is that no memory was found.

@@ -2,6 +2,7 @@
 
 ghost use Rattle.std.specs.Prelude.{◌≡◌};
 
+use crate::again::for_ever;
 use crate::driver::{Sessions, equal, let_go};
 use commit::Core;
 use definitions::Definitions;
@@ -141,7 +142,10 @@ fn serve<N: Named, R: Wait + Abort>(
 {
     match open::<N, R>(rt, alloc, 1, one) {
         Ok(manager) => prints_through(rt, alloc, manager, case),
-        Err(Refusal::NoMemory) => prints_through(rt, alloc, open::<N, R>(rt, alloc, 2, two)?, case),
+        Err(Refusal::NoMemory) => match open::<N, R>(rt, alloc, 2, two) {
+            Ok(manager) => prints_through(rt, alloc, manager, case),
+            Err(_) => Err(for_ever()),
+        },
         Err(refusal) => Err(Fail::from(refusal)),
     }
 }
@@ -173,7 +177,7 @@ pub fn serves<N: Named, R: Wait + Abort>(
     let mut sessions = run_script(rt, alloc, &manager, case.script)?;
     sessions.leave_open()?;
     let verdicts = verdicts(rt, alloc, &manager)?;
-    let history = manager.close();
+    let history = manager.close()?;
     finds(rt, &history, sessions.receipts.as_slice(), case.receipts)?;
     stands(rt, alloc, history.core(), verdicts.as_slice())?;
     ends(rt, alloc, history.core(), &mut sessions.lines, case)?;

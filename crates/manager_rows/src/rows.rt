@@ -8,9 +8,12 @@ use std::sync::Wait;
 use std::test::Fail;
 
 /// No owner's accounts sum below zero; a transaction may put its check off.
-const FUNDS_DEFERRABLE: &str =
+pub const FUNDS_DEFERRABLE: &str =
     "CREATE ASSERTION FUNDS CHECK (NOT EXISTS (SELECT OWNER FROM ACCT GROUP BY OWNER
     HAVING SUM(BAL) < 0)) DEFERRABLE;";
+
+/// All balances sum to 100 at most. The sum of none is unknown.
+const CAP: &str = "CREATE ASSERTION CAP CHECK ((SELECT SUM(BAL) FROM ACCT) <= 100);";
 
 #[test]
 fn sum_of_nothing_is_unknown(rt: HostRuntime) -> Result<(), Fail> {
@@ -20,12 +23,20 @@ fn sum_of_nothing_is_unknown(rt: HostRuntime) -> Result<(), Fail> {
         receipts: &[],
         locks: 0,
     };
-    prints(
-        &rt,
-        rt.alloc(),
-        "CREATE ASSERTION CAP CHECK ((SELECT SUM(BAL) FROM ACCT) <= 100);",
-        &case,
-    )
+    prints(&rt, rt.alloc(), CAP, &case)
+}
+
+/// The manager is asked of the newest tables: on those before the commit the sum was unknown.
+#[test]
+fn sum_is_known_after_a_commit(rt: HostRuntime) -> Result<(), Fail> {
+    let case = Case {
+        script: "A: BEGIN; A: INSERT INTO ACCT VALUES (1, 'KIM', 50); A: COMMIT;",
+        want: "A: BEGIN 0\nA: INSERT 1\nA: COMMIT 1\nCOMMITS 1\n1 A SNAPSHOT 0 ROWS 1\nSERIAL 1\n\
+            REFUSED 0\nASSERTIONS 1\nCAP TRUE\n",
+        receipts: &[1],
+        locks: 0,
+    };
+    prints(&rt, rt.alloc(), CAP, &case)
 }
 
 /// Each of two goes off call, since the other one is on call.

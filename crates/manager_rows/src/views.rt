@@ -7,7 +7,7 @@ ghost use Rattle.alone.specs.Meaning.{rows_of};
 ghost use Rattle.alone.specs.Roots.{IsChangeOf};
 ghost use Rattle.delta.specs.Views.{IsFitting};
 
-use crate::again::{is_same, page, show_view};
+use crate::again::{for_ever, is_same, page, show_view};
 use crate::printed::{COVER, SEVEN, defined};
 use delta::View;
 use std::alloc::Global;
@@ -76,6 +76,5 @@ fn change_again(alloc: Global, view: &View, change: &Change) -> Result<View, Fai
         return Ok(after);
     }
     is_same(&before, &shown(alloc, view)?)?;
-    let after = view.with(change)?;
-    Ok(after)
+    view.with(change).map_err(|_| for_ever())
 }

@@ -1,14 +1,14 @@
-//! A doctor's wish to go off call.
+//! A doctor's wish to go off call, and who is on call.
 
-use parse::parse_statement;
-use session::{CommitFault, Manager, Named, Receipt, Session, Txn};
-use statement_syntax::{Event, Statement};
+use answer::Reply;
+use session::{Manager, Named, Receipt, Session, release, release_refused};
+use statement_syntax::Statement;
 use std::sync::Wait;
-use value::Refusal;
+use value::{Refusal, Value};
 
 /// So often is the transaction tried. Each refusal for what others did means that another transaction was committed
 /// since it began, and no more than three doctors can go off call.
-const ATTEMPTS: usize = 4;
+const ATTEMPTS: u32 = 4;
 
 /// What came of a wish.
 #[derive(Drop)]
@@ -26,21 +26,30 @@ pub enum Ending<N: Named> {
 /// # Errors
 ///
 /// Whatever else the wish, BEGIN or COMMIT is refused for.
-pub fn go_off_call<N: Named, R: Wait + AllocGlobal>(
+pub fn go_off_call<N: Named, R: Wait>(
     rt: &R,
     manager: &Manager<N>,
     session: &mut Session<N>,
-    wish: &str,
-) -> anyhow::Result<Ending<N>> {
-    let Event::Run(update) = parse_statement(rt.alloc(), wish.as_bytes())? else {
-        anyhow::bail!("no statement");
-    };
-    for _ in 0..ATTEMPTS {
-        if let Some(ending) = attempt(rt, manager, session, &update)? {
-            return Ok(ending);
+    wish: &Statement,
+) -> Result<Ending<N>, Refusal> {
+    let ending = retry(ATTEMPTS, || attempt(rt, manager, session, wish))?;
+    Ok(ending.unwrap_or(Ending::Open))
+}
+
+/// Calls what runs a transaction once, and calls it again where it answers with nothing, since others were in its way;
+/// at most so many times.
+fn retry<T, F: FnMut() -> Result<Option<T>, Refusal>>(
+    attempts: u32,
+    mut attempt: F,
+) -> Result<Option<T>, Refusal>
+    requires { F.IsAlwaysCallable attempt }
+{
+    for _ in 0..attempts {
+        if let Some(done) = attempt()? {
+            return Ok(Some(done));
         }
     }
-    Ok(Ending::Open)
+    Ok(None)
 }
 
 /// One transaction. None where others were in its way.
@@ -48,56 +57,60 @@ fn attempt<N: Named, R: Wait>(
     rt: &R,
     manager: &Manager<N>,
     session: &mut Session<N>,
-    update: &Statement,
+    wish: &Statement,
 ) -> Result<Option<Ending<N>>, Refusal> {
     let mut txn = manager.begin(rt, session)?;
-    match txn.execute(update) {
-        Ok(_) => commit(rt, manager, session, txn),
-        Err(refusal) => {
-            give_up(rt, manager, txn);
-            match refusal {
-                Refusal::Violated { .. } => Ok(Some(Ending::OnCall)),
-                refusal => Err(refusal),
-            }
+    if let Err(refusal) = txn.execute(wish) {
+        release(rt, manager, txn);
+        return match refusal {
+            Refusal::Violated { .. } => Ok(Some(Ending::OnCall)),
+            refusal => Err(refusal),
+        };
+    }
+    match manager.commit(rt, session, txn) {
+        Ok(receipt) => Ok(Some(Ending::OffCall(receipt))),
+        Err(fault) => {
+            let others = fault.is_retryable();
+            let refusal = release_refused(rt, manager, fault);
+            if others { Ok(None) } else { Err(refusal) }
         }
     }
 }
 
-fn commit<N: Named, R: Wait>(
+/// Runs one statement in a transaction of its own, once.
+///
+/// # Errors
+///
+/// Whatever the statement, BEGIN or COMMIT is refused for. The transaction has then ended.
+pub fn run_once<N: Named, R: Wait>(
     rt: &R,
     manager: &Manager<N>,
     session: &mut Session<N>,
-    txn: Txn<N>,
-) -> Result<Option<Ending<N>>, Refusal> {
+    statement: &Statement,
+) -> Result<Reply, Refusal> {
+    let mut txn = manager.begin(rt, session)?;
+    let reply = match txn.execute(statement) {
+        Ok(reply) => reply,
+        Err(refusal) => {
+            release(rt, manager, txn);
+            return Err(refusal);
+        }
+    };
     match manager.commit(rt, session, txn) {
-        Ok(receipt) => Ok(Some(Ending::OffCall(receipt))),
-        Err(fault) => answer_fault(rt, manager, fault),
+        Ok(_receipt) => Ok(reply),
+        Err(fault) => Err(release_refused(rt, manager, fault)),
     }
 }
 
-/// What was refused 40001 may be run again. Any other refusal is the caller's.
-fn answer_fault<N: Named, R: Wait>(
-    rt: &R,
-    manager: &Manager<N>,
-    fault: CommitFault<N>,
-) -> Result<Option<Ending<N>>, Refusal> {
-    let CommitFault {
-        refusal,
-        txn,
-        shown: _,
-    } = fault;
-    if let Some(txn) = txn {
-        give_up(rt, manager, txn);
+/// The first values of the rows of a reply, summed up. NULL and texts count for nothing.
+pub fn sum_of(reply: &Reply) -> i64 {
+    let mut sum = 0i64;
+    if let Reply::Rows(rows) = reply {
+        for row in rows.as_slice() {
+            if let Some(Value::Int(number)) = row.values().first() {
+                sum = sum.saturating_add(*number);
+            }
+        }
     }
-    match refusal {
-        Refusal::Dangerous { .. } | Refusal::WriteConflict { .. } => Ok(None),
-        refusal => Err(refusal),
-    }
-}
-
-/// Rolls a transaction back. One that is not of this manager is let go.
-fn give_up<N: Named, R: Wait>(rt: &R, manager: &Manager<N>, txn: Txn<N>) {
-    if let Err((_, txn)) = manager.rollback(rt, txn) {
-        let _ = txn.abandon();
-    }
+    sum
 }

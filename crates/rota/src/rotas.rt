@@ -3,10 +3,11 @@
 ghost use Rattle.std.specs.Prelude.{◌≡◌};
 ghost use denote.Param.Send.{IsSend, IsSync};
 
-use crate::doctors::{Ending, go_off_call};
+use crate::doctors::{Ending, go_off_call, run_once, sum_of};
 use definitions::Definitions;
-use parse::parse_schema;
+use parse::{parse_schema, parse_statement};
 use session::{History, Limits, Manager, Named, Session, Shelf};
+use statement_syntax::{Event, Statement};
 use std::alloc::Global;
 use std::marker::Brand;
 use std::sync::Wait;
@@ -43,7 +44,7 @@ struct Doctor<N: Named> {
 
 /// Runs the rota on a new manager, and prints what became of it.
 pub fn run<R: Threads + Wait + Sync + Print + AllocGlobal>(rt: &R) -> anyhow::Result<()> {
-    let Some(limits) = Limits::new(100, 4) else {
+    let Some(limits) = Limits::new(100, 5) else {
         anyhow::bail!("no limits");
     };
     let shelf = Shelf::new(rt.alloc())?;
@@ -65,8 +66,33 @@ fn run_on<N: Named + Send + Sync, R: Threads + Wait + Sync + Print + AllocGlobal
     let manager = Manager::<N>::open(rt, alloc, shelf, 1, definitions, limits)?;
     let mut doctors = doctors_of(rt, alloc, &manager)?;
     ask_all(rt, &manager, &mut doctors);
+    let left = count_on_call(rt, alloc, &manager)?;
     let covered = manager.verdict(rt, &Text::from_str(alloc, "COVERED")?);
-    tell(rt, doctors.as_slice(), covered, &manager.close())
+    let history = manager.close()?;
+    tell(rt, doctors.as_slice(), &history)?;
+    println!(rt; "the table has {left} on call")?;
+    println!(rt; "COVERED {}", matches!(covered, Some(Truth::True)))?;
+    Ok(())
+}
+
+/// How many are on call by the newest tables, which a clerk reads.
+fn count_on_call<N: Named, R: Wait>(
+    rt: &R,
+    alloc: Global,
+    manager: &Manager<N>,
+) -> anyhow::Result<i64> {
+    let mut clerk = manager.session(rt, &Text::from_str(alloc, "CLERK")?)?;
+    let select = statement_of(alloc, "SELECT ONCALL FROM DUTY WHERE SHIFT = 7")?;
+    let reply = run_once(rt, manager, &mut clerk, &select)?;
+    Ok(sum_of(&reply))
+}
+
+/// The statement of a text.
+fn statement_of(alloc: Global, text: &str) -> anyhow::Result<Statement> {
+    match parse_statement(alloc, text.as_bytes())? {
+        Event::Run(statement) => Ok(statement),
+        _ => anyhow::bail!("no statement"),
+    }
 }
 
 /// A session for each doctor.
@@ -110,14 +136,24 @@ fn ask_all<N: Named + Send + Sync, R: Threads + Wait + Sync + AllocGlobal>(
 }
 
 fn ask<N: Named, R: Wait + AllocGlobal>(rt: &R, manager: &Manager<N>, doctor: &mut Doctor<N>) {
-    doctor.ending = go_off_call(rt, manager, &mut doctor.session, doctor.wish);
+    doctor.ending = fulfil(rt, manager, &mut doctor.session, doctor.wish);
 }
 
-/// Prints how many went off call, each by a commit that the history has, and whether the rule holds.
+fn fulfil<N: Named, R: Wait + AllocGlobal>(
+    rt: &R,
+    manager: &Manager<N>,
+    session: &mut Session<N>,
+    wish: &str,
+) -> anyhow::Result<Ending<N>> {
+    let wish = statement_of(rt.alloc(), wish)?;
+    let ending = go_off_call(rt, manager, session, &wish)?;
+    Ok(ending)
+}
+
+/// Prints how many went off call, each by a commit that the history has.
 fn tell<N: Named, R: Print>(
     rt: &R,
     doctors: &[Doctor<N>],
-    covered: Option<Truth>,
     history: &History<N>,
 ) -> anyhow::Result<()> {
     for doctor in doctors {
@@ -135,7 +171,6 @@ fn tell<N: Named, R: Print>(
         on_call(doctors)
     )?;
     println!(rt; "{} commits", history.core().records().len())?;
-    println!(rt; "COVERED {}", matches!(covered, Some(Truth::True)))?;
     Ok(())
 }
 

@@ -1,4 +1,5 @@
 pub mod Known
+pub mod Ranges
 pub mod Tokens
 pub mod Reasons
 pub mod Standing

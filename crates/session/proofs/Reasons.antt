@@ -147,6 +147,7 @@ module _ (shelf : Shelves) (limits : LimitsState) (b : BookState) (book : IsBook
     reads = p.first;
     turns = record_of b.core session t;
     writes = p.last;
+    one = tt;
     reader_is = party reader p.first p.triple.reader_in p.reader_named;
     pivot_is = (refl, refl);
     writer_is = party writer p.last p.triple.writer_in p.writer_named;
@@ -164,6 +165,7 @@ module _ (shelf : Shelves) (limits : LimitsState) (b : BookState) (book : IsBook
     reads = record_of b.core session t;
     turns = p.middle;
     writes = p.last;
+    one = tt;
     reader_is = (refl, refl);
     pivot_is = party pivot p.middle p.middle_in p.pivot_named;
     writer_is = party writer p.last p.last_in p.writer_named;

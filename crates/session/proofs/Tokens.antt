@@ -9,16 +9,17 @@ use Rattle.alone.proofs.Lists.{Each, each_weaker}
 use Rattle.serial.specs.declared.records.Record.{Record}
 use Rattle.serial.specs.Commits.{IsLog}
 use Rattle.serial.specs.Epoch.{newest, put_in, state_of}
-use Rattle.serial.specs.Replay.{state_after}
+use Rattle.serial.specs.Replay.{held, state_after}
 use Rattle.serial.proofs.Ranks.{numbers_below}
 use Rattle.serial.proofs.Replays.{held_all, held_same}
-use Rattle.txn.specs.Transactions.{OpenTransaction}
+use Rattle.delta.specs.Views.{Shown}
+use Rattle.txn.specs.Transactions.{OpenTransaction, begun}
 use Rattle.value.specs.declared.refusals.Refusal.{Refusal}
 use Rattle.commit.specs.Cores.{committed, log_of, record_of}
 use Rattle.session.specs.declared.items.Item.{Item}
 use Rattle.session.specs.Limits.{LimitsState}
 use Rattle.session.specs.Answers.{after_refusal}
-use Rattle.session.specs.Books.{AreReceipts, AreTokens, BookState, IsBook, Token, after_commit, item_after, item_at, record_at}
+use Rattle.session.specs.Books.{AreReceipts, AreTokens, BookState, IsBook, IsFresh, IsOver, IsToken, Ticketed, Token, after_commit, item_after, item_at, record_at}
 
 -- what stands at a place of a list with one more at its end
 get_snoc : {X : Type 0} (xs : List X) (y : X) (i : ℕ) (e : X) → slice_get (xs ++ y ∷ []) i ≡ Some e
@@ -118,3 +119,32 @@ receipts_of shelf limits b book = record {
       let p = book.tokens.each n w at in
       record { shown = p.shown; epoch_is = ap (λ (x : Item). x.epoch) p.item; number_is = ap (λ (x : Item). x.number) p.item };
 }
+
+-- no commit is among the first none
+none_held : (log : List Record) → IsLog log → held 0 log ≡ []
+none_held [] log = refl
+none_held (c ∷ earlier) log = held_same 0 c earlier (omega (arith, log.0.numbered)) ∙ none_held earlier log.1
+
+start_at : (declared : Declared) (start : State) (records : List Record) → IsLog (reverse records) → state_of declared start (reverse records) 0 ≡ start
+start_at declared start records log = ap (state_after (put_in declared) start) (none_held (reverse records) log)
+
+-- a Book whose first token shows some tables is over them
+pub begun_over : (shelf : Shelves) (limits : LimitsState) (b : BookState) (mine loaded : Token) → IsBook shelf limits b → IsLog (log_of b.core)
+    → length b.core.records ≤ b.core.limit → IsToken shelf b.epoch b.core.declared b.core.start b.core.records 0 mine → mine.value ≡ loaded.value
+    → IsOver b.core loaded.value.view limits.commits
+begun_over shelf limits b mine loaded book log within is same =
+    let view = ap (λ (i : Item). i.view) (sym is.item ∙ same) in record {
+      declared_is = ap (λ (v : Shown). v.declared) view;
+      start_is = sym (start_at b.core.declared b.core.start b.core.records log) ∙ ap (λ (v : Shown). v.state) view;
+      limit_is = book.commits;
+      within = subst (λ n. length b.core.records ≤ n) book.commits within;
+    }
+
+-- a transaction that begins on some tables, with their token
+pub begun_fresh : (shelf : Shelves) (id epoch number snapshot : ℕ) (tables : Shown) (token : Token) (t : Ticketed)
+    → t ≡ record { inner = begun number snapshot tables; ticket = record { id = id; epoch = epoch; token = token } }
+    → Shows shelf token → token.value.epoch ≡ epoch → token.value.number ≡ snapshot → token.value.view ≡ tables → IsFresh shelf id epoch t
+begun_fresh shelf id epoch number snapshot tables token t is shown item_epoch item_number view =
+    let made : IsFresh shelf id epoch (record { inner = begun number snapshot tables; ticket = record { id = id; epoch = epoch; token = token } }) =
+    record { empty = refl; id_is = refl; epoch_is = refl; shown = shown; epoch_of_item = item_epoch; number_of_item = item_number; view_of_item = view } in
+    subst (IsFresh shelf id epoch) (sym is) made

@@ -1,6 +1,6 @@
 -- What is answered where something is refused, and which receipts show why.
 use Rattle.std.specs.Prelude.{◌≡◌, ◌≢◌, ◌<◌, ℕ, Bool, true, false, List, [], ◌∷◌, length, map, slice_get, Option}
-use Rattle.std.specs.Prelude.{Some, None, Err, Contains, ⊤}
+use Rattle.std.specs.Prelude.{Some, None, Err, Contains, IfSome, ⊤}
 use Rattle.value.specs.declared.refusals.Party.{Party}
 use Rattle.value.specs.declared.refusals.Party.TheVariants.{This, Number as Numbered}
 use Rattle.value.specs.declared.refusals.Refusal.{Refusal}
@@ -35,6 +35,12 @@ IsGivenBack NoMemory = ⊤
 IsGivenBack Stranger = ⊤
 IsGivenBack refusal = ⊥
 
+-- the refusals for what other transactions did: the same one, run again, sees it
+abbrev pub is_retryable : Refusal → Bool
+is_retryable (WriteConflict name key by) = true
+is_retryable (Dangerous reader pivot writer) = true
+is_retryable refusal = false
+
 abbrev pub IsEnding : Refusal → Type 0
 IsEnding (Violated name root) = ⊤
 IsEnding EpochFull = ⊤
@@ -67,6 +73,14 @@ shown_among tokens id epoch count (Dangerous reader pivot writer) =
     ∷ []
 shown_among tokens id epoch count EpochFull = only (receipt_at tokens id epoch count)
 shown_among tokens id epoch count refusal = only None
+
+-- each that is shown is of this id and epoch
+abbrev pub IsShownBy : (id epoch : ℕ) → Option ReceiptState → Type 0
+IsShownBy id epoch shown = IfSome shown (λ receipt. (receipt.id ≡ id) × (receipt.epoch ≡ epoch))
+
+abbrev pub AreShownBy : (id epoch : ℕ) → List (Option ReceiptState) → Type 0
+AreShownBy id epoch [] = ⊤
+AreShownBy id epoch (one ∷ more) = IsShownBy id epoch one × AreShownBy id epoch more
 
 abbrev pub shown_for : BookState → Refusal → List (Option ReceiptState)
 shown_for b refusal = shown_among b.tokens b.id b.epoch (length b.core.records) refusal
@@ -138,6 +152,12 @@ abbrev pub IsParty : (this : Record) → Party → Option ReceiptState → Recor
 IsParty this This shown commit = (shown ≡ None) × (commit ≡ this)
 IsParty this (Numbered number) shown commit = IsReceiptOf number commit shown × (number < this.number)
 
+-- exactly one of a triple is the transaction that is refused: its reader, or its pivot, since its writer has committed
+abbrev pub HasOneOwn : (reader pivot writer : Party) → Type 0
+HasOneOwn This (Numbered pivot) (Numbered writer) = ⊤
+HasOneOwn (Numbered reader) This (Numbered writer) = ⊤
+HasOneOwn reader pivot writer = ⊥
+
 -- those that are shown are a dangerous triple with the transaction
 pub record ShowsTriple (session : List ℕ) (t : OpenTransaction) (reader pivot writer : Party)
     (shown : List (Option ReceiptState)) : Type 0 where
@@ -149,6 +169,7 @@ pub record ShowsTriple (session : List ℕ) (t : OpenTransaction) (reader pivot 
   pub reads : Record
   pub turns : Record
   pub writes : Record
+  pub one : HasOneOwn reader pivot writer
   pub reader_is : IsParty (record_of number session t) reader first reads
   pub pivot_is : IsParty (record_of number session t) pivot second turns
   pub writer_is : IsParty (record_of number session t) writer third writes

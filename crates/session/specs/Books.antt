@@ -4,10 +4,11 @@ use Rattle.std.specs.Prelude.{[], ◌∷◌, length, reverse, slice_get, Option,
 use Rattle.boxcar.specs.Table.{Where, Shelves, Shows}
 use Rattle.assertion.specs.Declarations.{Declared}
 use Rattle.assertion.specs.Meaning.{State}
+use Rattle.delta.specs.Views.{Shown}
 use Rattle.live.specs.Held.{is_held}
 use Rattle.serial.specs.declared.records.Record.{Record}
 use Rattle.serial.specs.Epoch.{state_of}
-use Rattle.txn.specs.Transactions.{OpenTransaction}
+use Rattle.txn.specs.Transactions.{OpenTransaction, own_view}
 use Rattle.commit.specs.Cores.{CoreState, committed, newest_tables, record_of, with_begun, with_commit}
 use Rattle.session.specs.declared.items.Item.{Item}
 use Rattle.session.specs.Limits.{LimitsState}
@@ -81,6 +82,17 @@ pub record Ticketed : Type 0 where
 -- the tables on which the transaction began are those of the ticket's token
 abbrev pub IsTicketed : Ticketed → Type 0
 IsTicketed t = t.ticket.token.value.view ≡ record { declared = t.inner.declared; state = t.inner.start }
+
+-- A transaction that has just begun: it has run no statement, its ticket is of this id and epoch, and its own view is
+-- what stands on this shelf under the number of its snapshot.
+pub record IsFresh (shelf : Shelves) (id epoch : ℕ) (t : Ticketed) : Type 0 where
+  pub empty : t.inner.trace ≡ []
+  pub id_is : t.ticket.id ≡ id
+  pub epoch_is : t.ticket.epoch ≡ epoch
+  pub shown : Shows shelf t.ticket.token
+  pub epoch_of_item : t.ticket.token.value.epoch ≡ epoch
+  pub number_of_item : t.ticket.token.value.number ≡ t.inner.snapshot
+  pub view_of_item : t.ticket.token.value.view ≡ own_view t.inner
 
 -- a receipt: whose it is, its number, and the token of its record
 pub record ReceiptState : Type 0 where
@@ -158,6 +170,23 @@ pub record IsKept (b : BookState) (r : ReceiptState) (id epoch : ℕ) : Type 0 w
   pub of : IsOf b r.id r.epoch id epoch
   pub positive : 0 < r.number
   pub token : IsAt b r.number r.token.index
+
+-- the Book is that of this id and epoch, and its first token is the one with this token's index
+abbrev pub is_from : BookState → (id epoch : ℕ) → Token → Bool
+is_from b id epoch loaded =
+    (b.id == id) && ((b.epoch == epoch) && is_index loaded.index (slice_get b.tokens 0))
+
+pub record IsFrom (b : BookState) (id epoch index : ℕ) : Type 0 where
+  pub book_id : b.id ≡ id
+  pub book_epoch : b.epoch ≡ epoch
+  pub token : IsAt b 0 index
+
+-- the commits are over what these tables declare, and over their rows, and are no more than the limit, which is this
+pub record IsOver (c : CoreState) (loaded : Shown) (limit : ℕ) : Type 0 where
+  pub declared_is : c.declared ≡ loaded.declared
+  pub start_is : c.start ≡ loaded.state
+  pub limit_is : c.limit ≡ limit
+  pub within : length c.records ≤ limit
 
 -- the Book after a begin, a commit, a refused commit and a rollback
 abbrev pub after_begin : BookState → BookState

@@ -1,7 +1,7 @@
 //! What lies under the lock.
 
-ghost use Rattle.std.specs.Prelude.{◌≡◌, ◌≤◌, ◌<◌, ◌+◌, ◌-◌, ◌∷◌, [], length, true, false, Ok};
-ghost use Rattle.std.specs.Prelude.{Some, None, Contains, IfOk, IfErr, IsOkUnless, OnOk, slice_get};
+ghost use Rattle.std.specs.Prelude.{◌≡◌, ◌≤◌, ◌<◌, ◌+◌, ◌-◌, ◌∷◌, [], ℕ, length, true, false};
+ghost use Rattle.std.specs.Prelude.{Ok, Some, None, Contains, IfOk, IfErr, IsOkUnless, OnOk, slice_get};
 ghost use Rattle.value.specs.declared.refusals.Refusal.TheVariants.{NoMemory, Stranger, TooManySessions};
 ghost use Rattle.value.specs.Ordered.{HoldsOf};
 ghost use Rattle.boxcar.specs.Table.{Shows};
@@ -12,11 +12,12 @@ ghost use Rattle.serial.specs.Epoch.{state_of};
 ghost use Rattle.txn.specs.Transactions.{begun, truth_of};
 ghost use Rattle.commit.specs.Cores.{IsCommitAnswer, IsLive, IsSerializable, log_of, newest_tables, record_of};
 ghost use Rattle.commit.specs.Runs.{empty_core};
-ghost use Rattle.session.specs.Books.{AreReceipts, IsBook, IsKept, IsKnown, IsOf, IsOwned, IsTicketed, IsToken};
-ghost use Rattle.session.specs.Books.{after_begin, after_commit, is_index, is_kept, is_of, is_own, knows, owns};
-ghost use Rattle.session.specs.Books.{owns_txn};
-ghost use Rattle.session.specs.Answers.{IsNotCommitted, IsReason, IsSatisfied, IsStanding, IsUnbegun, after_rollback};
-ghost use Rattle.session.specs.Answers.{only, party_receipt, receipt_at, shown_among, shown_unless};
+ghost use Rattle.session.specs.Books.{AreReceipts, IsBook, IsFresh, IsFrom, IsKept, IsKnown, IsOf, IsOver, IsOwned};
+ghost use Rattle.session.specs.Books.{IsTicketed, IsToken};
+ghost use Rattle.session.specs.Books.{after_begin, after_commit, is_from, is_index, is_kept, is_of, is_own, knows};
+ghost use Rattle.session.specs.Books.{owns, owns_txn};
+ghost use Rattle.session.specs.Answers.{AreShownBy, IsNotCommitted, IsReason, IsSatisfied, IsStanding, IsUnbegun};
+ghost use Rattle.session.specs.Answers.{after_rollback, only, party_receipt, receipt_at, shown_among, shown_unless};
 ghost use Rattle.session.specs.Answers.{with_ticket};
 
 use crate::items::Item;
@@ -144,6 +145,7 @@ impl<N: Named> Book<N> {
     ///
     /// [`Refusal::Stranger`] exactly where the Book or the session is not of the manager that asks, or the session
     /// has seen a number above the Book's; or [`Refusal::NoMemory`]. All is then as it was.
+    #[tactic(auto, using(crate::proofs::Tokens::begun_fresh))]
     pub fn begin(
         &mut self,
         id: u64,
@@ -156,6 +158,7 @@ impl<N: Named> Book<N> {
         ensures whose { IfOk result (λ txn. (txn.ticket.id ≡ id) × (txn.ticket.epoch ≡ epoch)) }
         ensures token { IfOk result (λ txn. slice_get self.old.tokens txn.inner.snapshot ≡ Some txn.ticket.token) }
         ensures item { IfOk result (λ txn. txn.ticket.token.value.number ≡ txn.inner.snapshot) }
+        ensures empty { IfOk result (IsFresh (N.shelf id) id epoch) }
         ensures fresh { IfOk result (λ txn. session.old.seen ≤ txn.inner.snapshot) }
         ensures after { IfOk result (λ _. self.new ≡ after_begin self.old) }
         ensures seen { IfOk result (λ txn. session.new ≡ record session.old { seen = txn.inner.snapshot }) }
@@ -205,6 +208,7 @@ impl<N: Named> Book<N> {
             fault.refusal fault.txn fault.shown self.new) }
         ensures reason { IfErr result (λ fault.
             IsReason (N.limits id).commits session.old.name closed.inner fault.refusal fault.shown) }
+        ensures shown { IfErr result (λ fault. AreShownBy id epoch fault.shown) }
         ensures same { IfErr result (λ _. session.new ≡ session.old) }
     {
         let number = closed.inner.ticket();
@@ -262,6 +266,7 @@ impl<N: Named> Book<N> {
         &self,
         shelf: &Shelf,
         id: u64,
+        epoch: u64,
         loaded: &Token,
         name: &Text,
     ) -> Option<Truth>
@@ -270,20 +275,22 @@ impl<N: Named> Book<N> {
         requires good { IsSatisfied loaded.now.value.view }
         ensures { IsStanding (assertion_of name.now loaded.now.value.view.declared.assertions) result }
     {
-        if self.id != id || !is_at(self.tokens.as_slice(), 0, loaded.index()) {
+        if !self.is_from(id, epoch, loaded) {
             return verdict_on(&shelf.item(loaded).view, name);
         }
-        self.recall_loaded(shelf, id, loaded);
+        self.recall_loaded(shelf, id, epoch, loaded);
         self.core.is_log();
         self.core.is_serializable();
         self.core.verdict(name)
     }
 
-    /// The commits.
+    /// The commits, of which there are at most as many as the limit says.
     pub fn core(&self) -> &Core
         ensures core { result.now ≡ self.now.core }
         ensures book { IsBook (N.shelf self.now.id) (N.limits self.now.id) self.now }
+        ensures within { length self.now.core.records ≤ (N.limits self.now.id).commits }
     {
+        self.core.is_within_limit();
         &self.core
     }
 
@@ -347,13 +354,24 @@ impl<N: Named> Book<N> {
                 ))
     }
 
+    /// The Book is of this id and epoch, and was opened with this token.
+    #[tactic(auto, using(crate::proofs::Known::from_facts))]
+    pub(crate) fn is_from(&self, id: u64, epoch: u64, loaded: &Token) -> bool
+        ensures test { result ≡ is_from self.now id epoch loaded.now }
+        ensures facts { result ≡ true → IsFrom self.now id epoch loaded.now.index }
+    {
+        self.id == id && (self.epoch == epoch && is_at(self.tokens.as_slice(), 0, loaded.index()))
+    }
+
     /// How many commits there are.
     fn count(&self) -> u64
         ensures count { result ≡ length self.now.core.records }
         ensures log { IsLog (log_of self.now.core) }
+        ensures within { length self.now.core.records ≤ self.now.core.limit }
         ensures book { IsBook (N.shelf self.now.id) (N.limits self.now.id) self.now }
     {
         self.core.is_log();
+        self.core.is_within_limit();
         self.core.records().len() as u64
     }
 
@@ -373,6 +391,7 @@ impl<N: Named> Book<N> {
         ensures at { slice_get self.now.tokens (length self.now.core.records) ≡ Some result }
         ensures shown { Shows (N.shelf self.now.id) result }
         ensures number { result.value.number ≡ length self.now.core.records }
+        ensures epoch { result.value.epoch ≡ self.now.epoch }
         ensures view { result.value.view ≡ newest_tables self.now.core }
         ensures idle { self.now.core.prepared ≡ None }
     {
@@ -408,6 +427,7 @@ impl<N: Named> Book<N> {
             IsNotCommitted self.old true session.old.name closed fault.refusal fault.txn fault.shown self.new) }
         ensures reason { IfErr result (λ fault.
             IsReason (N.limits id).commits session.old.name closed.inner fault.refusal fault.shown) }
+        ensures shown { IfErr result (λ fault. AreShownBy id epoch fault.shown) }
         ensures same { IfErr result (λ _. session.new ≡ session.old) }
     {
         let count = self.count();
@@ -467,13 +487,13 @@ impl<N: Named> Book<N> {
     }
 
     /// A token whose index is that of the Book's first shows the tables before the first commit.
-    fn recall_loaded(&self, shelf: &Shelf, id: u64, loaded: &Token)
+    pub(crate) fn recall_loaded(&self, shelf: &Shelf, id: u64, epoch: u64, loaded: &Token)
         requires shelf { shelf.now ≡ N.shelf id }
         requires shown { Shows (N.shelf id) loaded.now }
-        requires id { self.now.id ≡ id }
-        requires same { is_index loaded.now.index (slice_get self.now.tokens 0) ≡ true }
-        ensures { self.now.core.declared ≡ loaded.now.value.view.declared }
+        requires from { IsFrom self.now id epoch loaded.now.index }
+        ensures { IsOver self.now.core loaded.now.value.view (N.limits id).commits }
     {
+        let _count = self.count();
         let mine = self.token_of(0);
         shelf.recall_agreement(&mine, loaded);
     }
@@ -542,10 +562,12 @@ fn find_token(tokens: &[Token], number: usize) -> Option<Token>
 }
 
 /// A transaction that was not committed, given back.
+#[tactic(auto, using(crate::proofs::Known::none_by))]
 fn give_back<N: Named>(refusal: Refusal, txn: Txn<N>) -> CommitFault<N>
     ensures refusal { result.refusal ≡ refusal }
     ensures txn { result.txn ≡ Some txn }
     ensures shown { result.shown ≡ only None }
+    ensures none { (id epoch : ℕ) → AreShownBy id epoch result.shown }
 {
     CommitFault {
         refusal,
@@ -555,6 +577,7 @@ fn give_back<N: Named>(refusal: Refusal, txn: Txn<N>) -> CommitFault<N>
 }
 
 /// A commit that was not made, with the ticket of its transaction, or the receipts that show why.
+#[tactic(auto, using(crate::proofs::Known::shown_by))]
 fn refuse_commit<N: Named>(
     tokens: &[Token],
     id: u64,
@@ -568,6 +591,7 @@ fn refuse_commit<N: Named>(
     ensures refusal { result.refusal ≡ fault.refusal }
     ensures txn { result.txn ≡ with_ticket ticket fault.txn }
     ensures shown { result.shown ≡ shown_unless fault.txn (shown_among tokens.now id epoch count fault.refusal) }
+    ensures by { AreShownBy id epoch result.shown }
 {
     let Uncommitted { refusal, txn } = fault;
     match txn {

@@ -3,13 +3,14 @@
 ghost use Rattle.std.specs.Prelude.{◌≡◌, ◌<◌, ◌-◌, true, false, Some, IfOk, IfErr, slice_get};
 ghost use Rattle.std.specs.Arc.{arc_value};
 ghost use Rattle.value.specs.declared.refusals.Refusal.TheVariants.{Stranger};
+ghost use Rattle.boxcar.specs.Table.{Shows};
 ghost use Rattle.commit.specs.Cores.{IsSerializable};
-ghost use Rattle.session.specs.Books.{is_kept};
+ghost use Rattle.session.specs.Books.{IsOver, is_from, is_kept};
 
 use crate::book::Book;
 use crate::named::Named;
 use crate::receipts::Receipt;
-use crate::shelf::Shelf;
+use crate::shelf::{Shelf, Token};
 use commit::Core;
 use serial::Record;
 use std::sync::Arc;
@@ -21,28 +22,55 @@ pub struct History<N: Named> {
     shelf: Arc<Shelf>,
     id: u64,
     epoch: u64,
+    /// The token of the tables before the first commit.
+    loaded: Token,
     book: Book<N>,
     ghost shelf_is: { arc_value shelf ≡ N.shelf id },
+    ghost loaded_is: { Shows (N.shelf id) loaded },
+    ghost from: { is_from book id epoch loaded ≡ true },
 }
 
 impl<N: Named> History<N> {
-    pub(crate) fn new(shelf: Arc<Shelf>, id: u64, epoch: u64, book: Book<N>) -> History<N>
-        requires { arc_value shelf ≡ N.shelf id }
-        ensures { (result.id ≡ id) × (result.epoch ≡ epoch) × (result.book ≡ book) }
+    /// What a Book leaves that is of this id and epoch, and was opened with this token.
+    ///
+    /// # Errors
+    ///
+    /// [`Refusal::Stranger`] exactly where it is not.
+    pub(crate) fn new(
+        shelf: Arc<Shelf>,
+        id: u64,
+        epoch: u64,
+        loaded: Token,
+        book: Book<N>,
+    ) -> Result<History<N>, Refusal>
+        requires shelf { arc_value shelf ≡ N.shelf id }
+        requires loaded { Shows (N.shelf id) loaded }
+        ensures whose { IfOk result (λ history. (history.id ≡ id) × (history.epoch ≡ epoch)) }
+        ensures loaded { IfOk result (λ history. history.loaded ≡ loaded) }
+        ensures book { IfOk result (λ history. history.book ≡ book) }
+        ensures stranger { IfErr result (λ refusal. (refusal ≡ Stranger) × (is_from book id epoch loaded ≡ false)) }
     {
-        History {
+        if !book.is_from(id, epoch, &loaded) {
+            return Err(Refusal::Stranger);
+        }
+        Ok(History {
             shelf,
             id,
             epoch,
+            loaded,
             book,
-        }
+        })
     }
 
     /// The commits: their records, the tables before and after them, their serial order, and the commits that were
-    /// refused.
+    /// refused. They are over the tables that the manager was opened on, and no more than its limit.
+    #[tactic(auto, using(crate::proofs::Known::from_facts))]
     pub fn core(&self) -> &Core
-        ensures { result.now ≡ self.now.book.core }
+        ensures core { result.now ≡ self.now.book.core }
+        ensures over { IsOver self.now.book.core self.now.loaded.value.view (N.limits self.now.id).commits }
     {
+        self.book
+            .recall_loaded(&self.shelf, self.id, self.epoch, &self.loaded);
         self.book.core()
     }
 

@@ -1,6 +1,6 @@
 //! How much an epoch holds.
 
-ghost use Rattle.std.specs.Prelude.{◌≡◌, true, false, IfSome, IfNone};
+ghost use Rattle.std.specs.Prelude.{◌≡◌, ◌≤◌, true, false, IfSome, IfNone};
 ghost use Rattle.session.specs.Limits.{are_limits};
 
 use std::marker::Model;
@@ -38,16 +38,21 @@ impl Limits {
     }
 
     /// How many commits.
+    #[tactic(auto, using(crate::proofs::Ranges::some_commits, crate::proofs::Ranges::most_commits))]
     pub fn commits(&self) -> u64
         ensures value { result ≡ self.now.commits }
         ensures within { are_limits result self.now.sessions ≡ true }
+        ensures some { 1 ≤ result }
+        ensures most { result ≤ 4294967295 }
     {
         self.commits
     }
 
     /// How many sessions.
+    #[tactic(auto, using(crate::proofs::Ranges::some_sessions))]
     pub fn sessions(&self) -> u64
-        ensures { result ≡ self.now.sessions }
+        ensures value { result ≡ self.now.sessions }
+        ensures some { 1 ≤ result }
     {
         self.sessions
     }

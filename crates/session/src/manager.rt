@@ -6,8 +6,8 @@ ghost use Rattle.value.specs.declared.refusals.Refusal.TheVariants.{NoMemory, St
 ghost use Rattle.boxcar.specs.Table.{Shows};
 ghost use Rattle.modes.specs.Modes.{assertion_of};
 ghost use Rattle.commit.specs.Admission.{satisfied};
-ghost use Rattle.session.specs.Books.{IsTicketed};
-ghost use Rattle.session.specs.Answers.{IsReason, IsRefused, IsSatisfied, IsStanding, record_of};
+ghost use Rattle.session.specs.Books.{IsFresh, IsTicketed};
+ghost use Rattle.session.specs.Answers.{AreShownBy, IsReason, IsRefused, IsSatisfied, IsStanding, record_of};
 
 use crate::book::Book;
 use crate::history::History;
@@ -92,7 +92,8 @@ impl<N: Named> Manager<N> {
         self.book.lock(rt).session(self.id, self.epoch, name)
     }
 
-    /// A transaction begins, on tables that are no older than all that the session has seen.
+    /// A transaction begins, on tables that are no older than all that the session has seen. It has run no statement,
+    /// and sees what stands on the shelf under its snapshot's number.
     ///
     /// # Errors
     ///
@@ -101,6 +102,7 @@ impl<N: Named> Manager<N> {
         ensures fresh { IfOk result (λ txn. session.old.seen ≤ txn.inner.snapshot) }
         ensures seen { IfOk result (λ txn. session.new ≡ record session.old { seen = txn.inner.snapshot }) }
         ensures view { IfOk result (λ txn. (txn.ticket.token.value.number ≡ txn.inner.snapshot) × IsTicketed txn) }
+        ensures empty { IfOk result (IsFresh (N.shelf self.now.id) self.now.id self.now.epoch) }
         ensures refused { IfErr result (λ refusal. refusal ≢ NoMemory → refusal ≡ Stranger) }
         ensures same { OnErr result (session.new ≡ session.old) }
     {
@@ -127,6 +129,7 @@ impl<N: Named> Manager<N> {
         ensures refused { IfErr result (λ fault. IsRefused txn fault.refusal fault.txn) }
         ensures reason { IfErr result (λ fault.
             IsReason (N.limits self.now.id).commits session.old.name txn.inner fault.refusal fault.shown) }
+        ensures shown { IfErr result (λ fault. AreShownBy self.now.id self.now.epoch fault.shown) }
         ensures same { OnErr result (session.new ≡ session.old) }
     {
         match txn.close_check() {
@@ -162,20 +165,27 @@ impl<N: Named> Manager<N> {
     {
         self.book
             .lock(rt)
-            .standing(&self.shelf, self.id, &self.loaded, name)
+            .standing(&self.shelf, self.id, self.epoch, &self.loaded, name)
     }
 
-    /// Ends the manager. Its commits are left. It takes no memory.
-    pub fn close(self) -> History<N>
-        ensures { (result.id ≡ self.id) × (result.epoch ≡ self.epoch) }
+    /// Ends the manager. Its commits are left, over the tables that it was opened on. It takes no memory.
+    ///
+    /// # Errors
+    ///
+    /// [`Refusal::Stranger`] where what lies under the lock is another manager's, which no call brings about: what is
+    /// under a lock is known by its type alone, and so it is looked at.
+    pub fn close(self) -> Result<History<N>, Refusal>
+        ensures whose { IfOk result (λ history. (history.id ≡ self.id) × (history.epoch ≡ self.epoch)) }
+        ensures loaded { IfOk result (λ history. history.loaded ≡ self.loaded) }
+        ensures stranger { IfErr result (λ refusal. refusal ≡ Stranger) }
     {
         let Manager {
             shelf,
             id,
             epoch,
-            loaded: _,
+            loaded,
             book,
         } = self;
-        History::new(shelf, id, epoch, book.into_inner())
+        History::new(shelf, id, epoch, loaded, book.into_inner())
     }
 }

@@ -18,5 +18,5 @@ impl Named for Brand {
 
     ghost shelf = { λ _. record { tag = []; buckets = [] } };
 
-    ghost limits = { λ _. record { commits = 0; sessions = 0 } };
+    ghost limits = { λ _. record { commits = 1; sessions = 1 } };
 }

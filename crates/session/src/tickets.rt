@@ -9,6 +9,7 @@ ghost use Rattle.alone.specs.Resolve.{resolved};
 ghost use Rattle.txn.specs.Transactions.{false_names, keys_of, outcome_of, own_view, run_of, step_of, truth_of};
 ghost use Rattle.txn.specs.Transactions.{with_statement};
 ghost use Rattle.session.specs.Books.{IsTicketed};
+ghost use Rattle.session.specs.Answers.{is_retryable};
 
 use crate::named::Named;
 use crate::receipts::Receipt;
@@ -118,6 +119,19 @@ pub struct CommitFault<N: Named> {
     pub refusal: Refusal,
     pub txn: Option<Txn<N>>,
     pub shown: [Option<Receipt<N>>; 3],
+}
+
+impl<N: Named> CommitFault<N> {
+    /// Whether the transaction was refused for what others did. It has ended then; run again from its BEGIN, it sees
+    /// what was in its way. It takes no memory.
+    pub fn is_retryable(&self) -> bool
+        ensures { result ≡ is_retryable self.now.refusal }
+    {
+        matches!(
+            &self.refusal,
+            Refusal::WriteConflict { .. } | Refusal::Dangerous { .. }
+        )
+    }
 }
 
 impl<N: Named> Txn<N> {

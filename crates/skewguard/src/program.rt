@@ -1,10 +1,14 @@
-//! The command line: `skewguard replay [--max-commits N] DEFS SCRIPT`, and `skewguard threads` with the same words.
+//! The command line: `skewguard replay [--max-commits N] DEFS SCRIPT`, and `skewguard threads` with the same words;
+//! `skewguard postgresql DEFS`.
 
 ghost use Rattle.std.specs.Prelude.{◌≡◌, ◌≢◌, ◌≤◌, ◌⊎◌, Err, IfErr, IsOk};
 ghost use Rattle.running.specs.declared.faults.ProgramFault.TheVariants.{Output};
 ghost use Rattle.running.specs.declared.files.ReadFault.TheVariants.{NoMemory, Unreadable};
 
 use clap::{Arg, ArgMatches, Command, value_parser};
+use commit::admit;
+use parse::parse_schema;
+use postgresql::{PrintFault, print_into};
 use replay::replay_into;
 use report::Report;
 use running::{ProgramFault, ReadFault, fault_of, read_all};
@@ -90,7 +94,18 @@ fn make_command<'a>(alloc: Global) -> Result<Command<'a>, AllocError> {
         .about("Runs transactions on tables that SQL-92 assertions guard")
         .subcommand_required(true)
         .subcommand(replay)?
-        .subcommand(threads)
+        .subcommand(threads)?
+        .subcommand(make_postgresql(alloc)?)
+}
+
+/// The words that print definitions as SQL for PostgreSQL.
+fn make_postgresql<'a>(alloc: Global) -> Result<Command<'a>, AllocError> {
+    let defs = Arg::new(alloc, "DEFS")
+        .required(true)
+        .help("A file of definitions");
+    Command::new(alloc, "postgresql")
+        .about("Prints definitions as SQL for PostgreSQL 15 or later")
+        .arg(defs)
 }
 
 /// The command with the words that name the two texts, and the limit.
@@ -121,6 +136,12 @@ where
     let Some((name, words)) = matches.subcommand() else {
         return USAGE;
     };
+    if name == "postgresql" {
+        return match words.get_str("DEFS") {
+            Some(defs) => print_postgresql(rt, defs, out, err),
+            None => USAGE,
+        };
+    }
     match (
         words.get_one::<u32>("max-commits"),
         words.get_str("DEFS"),
@@ -175,6 +196,42 @@ where
         replay_into(alloc, defs.as_slice(), script.as_slice(), limit, out)
     };
     end_with_status(alloc, run, out, err)
+}
+
+/// Prints the definitions of a file as SQL for PostgreSQL.
+fn print_postgresql<R, W, E>(rt: &R, defs: &str, out: &mut W, err: &mut E) -> u8
+where
+    R: Files + AllocGlobal,
+    W: Write,
+    E: Write,
+    ensures { result ≤ 3 }
+{
+    let alloc = rt.alloc();
+    let defs = match read(rt, defs) {
+        Ok(defs) => defs,
+        Err(fault) => return report_unread(alloc, "DEFS", fault, err),
+    };
+    let definitions = match parse_schema(alloc, defs.as_slice()) {
+        Ok(definitions) => definitions,
+        Err(refusal) => return report_refused(alloc, "DEFS", &refusal, err),
+    };
+    let view = match admit(alloc, definitions.as_slice()) {
+        Ok(view) => view,
+        Err(refusal) => return report_refused(alloc, "DEFS", &refusal, err),
+    };
+    match print_into(alloc, &view, out) {
+        Ok(()) => RUN,
+        Err(PrintFault::NoMemory) => report_refused(alloc, "DEFS", &Refusal::NoMemory, err),
+        Err(PrintFault::Output) => OUTSIDE,
+        Err(PrintFault::LongName { name }) => {
+            let _ = err.write_all(
+                b"DEFS: a name is longer than the 63 bytes that PostgreSQL keeps: ",
+            );
+            let _ = err.write_all(name.as_bytes());
+            let _ = err.write_all(b"\n");
+            REFUSED
+        }
+    }
 }
 
 /// Runs each session of a script on a thread, which no gate holds.

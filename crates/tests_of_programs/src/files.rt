@@ -1,14 +1,11 @@
 //! Files, readers and writers that fail.
 
+use crate::texts::{KIM, LEDGER, TABLES};
 use replay::replay_into;
 use running::{ProgramFault, ReadFault, fault_of, read_all};
 use std::io;
 use std::io::{ErrorKind, Read, Write};
 use std::test::Fail;
-
-const DEFS: &str = "CREATE TABLE T (ID INTEGER PRIMARY KEY); INSERT INTO T VALUES (7);";
-
-const SCRIPT: &str = "A: BEGIN; A: SELECT * FROM T; A: COMMIT;";
 
 /// A call of a reader or a writer, which fails where its number is the one that fails.
 fn call(calls: &mut usize, fails_at: usize) -> io::Result<()> {
@@ -21,7 +18,7 @@ fn call(calls: &mut usize, fails_at: usize) -> io::Result<()> {
     }
 }
 
-/// A reader that has some bytes and fails at one of its calls.
+/// A reader that has some bytes, gives seven at a call and fails at one.
 #[derive(Drop)]
 struct BrittleReader<'a> {
     left: &'a [u8],
@@ -32,15 +29,27 @@ struct BrittleReader<'a> {
 impl Read for BrittleReader<'_> {
     fn read(&mut self, buf: &mut [u8]) -> io::Result<usize> {
         call(&mut self.calls, self.fails_at)?;
-        self.left.read(buf)
+        let most = buf.len().min(7);
+        self.left.read(&mut buf[..most])
     }
 }
 
 /// A writer that takes seven bytes at a call and fails at one.
 #[derive(Drop)]
-struct BrittleWriter {
+pub struct BrittleWriter {
     calls: usize,
     fails_at: usize,
+}
+
+impl BrittleWriter {
+    pub fn new(fails_at: usize) -> BrittleWriter {
+        BrittleWriter { calls: 0, fails_at }
+    }
+
+    /// How often it was called.
+    pub fn calls(&self) -> usize {
+        self.calls
+    }
 }
 
 impl Write for BrittleWriter {
@@ -57,29 +66,21 @@ impl Write for BrittleWriter {
 /// The reader fails at each of its calls in turn, and so the file can't be read; where it fails at none, all is read.
 #[test]
 fn readers_that_fail(rt: HostRuntime) -> Result<(), Fail> {
-    for fails_at in 0..2 {
+    for fails_at in 0..1000 {
         let mut reader = BrittleReader {
-            left: SCRIPT.as_bytes(),
+            left: LEDGER.as_bytes(),
             calls: 0,
             fails_at,
         };
-        assert!(rt;
-            matches!(
-                read_all(rt.alloc(), &mut reader),
-                Err(ReadFault::Unreadable)
-            )
-        );
+        let read = read_all(rt.alloc(), &mut reader);
+        if reader.calls <= fails_at {
+            assert!(rt; matches!(read, Ok(bytes) if bytes.as_slice() == LEDGER.as_bytes()));
+            return Ok(());
+        }
+        assert!(rt; matches!(read, Err(ReadFault::Unreadable)));
+        assert_eq!(rt; reader.calls, fails_at.saturating_add(1));
     }
-    let mut reader = BrittleReader {
-        left: SCRIPT.as_bytes(),
-        calls: 0,
-        fails_at: usize::MAX,
-    };
-    let Ok(bytes) = read_all(rt.alloc(), &mut reader) else {
-        return Err(Fail::from("a reader that does not fail is read"));
-    };
-    assert_eq!(rt; bytes.as_slice(), SCRIPT.as_bytes());
-    Ok(())
+    Err(Fail::from("each run met a fault of the reader"))
 }
 
 /// Want of memory is told from all else that may befall a file.
@@ -98,9 +99,10 @@ fn faults_of_files(rt: HostRuntime) -> Result<(), Fail> {
 /// The writer fails at each of its calls in turn: the run ends there, and nothing more is asked of the writer.
 #[test]
 fn writers_that_fail(rt: HostRuntime) -> Result<(), Fail> {
+    let defs = format!(in rt.alloc(); "{TABLES}{KIM}")?;
     for fails_at in 0..1000 {
-        let mut out = BrittleWriter { calls: 0, fails_at };
-        let run = replay_into(rt.alloc(), DEFS.as_bytes(), SCRIPT.as_bytes(), 10, &mut out);
+        let mut out = BrittleWriter::new(fails_at);
+        let run = replay_into(rt.alloc(), defs.as_bytes(), LEDGER.as_bytes(), 10, &mut out);
         if out.calls <= fails_at {
             assert!(rt; run.is_ok());
             return Ok(());

@@ -1,7 +1,7 @@
 //! Scripts of several sessions, by the bytes that they print.
 
 use crate::replays::{locks_kept, prints_over_tables};
-use crate::texts::{COVER, EIGHT, FUNDS, KIM, READ_AND_WRITE, SEVEN};
+use crate::texts::{COVER, EIGHT, FUNDS, KIM, LEDGER, READ_AND_WRITE, SEVEN};
 use std::alloc::Global;
 use std::process::Abort;
 use std::test::Fail;
@@ -67,10 +67,7 @@ fn ledger_write_skew(rt: HostRuntime) -> Result<(), Fail> {
     prints_over_tables(
         &rt,
         KIM,
-        "A: BEGIN; B: BEGIN; A: SELECT BAL FROM ACCT WHERE ID = 1; A: SELECT BAL FROM ACCT WHERE ID = 2;
-         B: SELECT BAL FROM ACCT WHERE ID = 1; B: SELECT BAL FROM ACCT WHERE ID = 2;
-         A: UPDATE ACCT SET BAL = BAL - 120 WHERE ID = 1; A: COMMIT;
-         B: UPDATE ACCT SET BAL = BAL - 120 WHERE ID = 2; B: COMMIT;",
+        LEDGER,
         "A: BEGIN 0\nB: BEGIN 0\nA: SELECT 1\n  100\nA: SELECT 1\n  50\nB: SELECT 1\n  100\nB: SELECT 1\n  50\n\
          A: UPDATE 1\nA: COMMIT 1\nB: UPDATE 1\nB: REFUSED 13 40001 READER 1 PIVOT THIS WRITER 1\n\
          COMMITS 1\n1 A SNAPSHOT 0 ROWS 1\nSERIAL 1\nREFUSED 1\nB 13 40001 READER 1 PIVOT THIS WRITER 1\n\

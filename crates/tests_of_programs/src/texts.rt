@@ -31,6 +31,16 @@ pub const EIGHT: &str =
 pub const KIM: &str =
     "INSERT INTO ACCT VALUES (1, 'KIM', 100); INSERT INTO ACCT VALUES (2, 'KIM', 50);";
 
+/// Each of two reads both accounts, and takes from one what both have together. Their numbers are 0 and 1.
+pub const LEDGER: &str = "A: BEGIN; B: BEGIN;
+    A: SELECT BAL FROM ACCT WHERE ID = 1; A: SELECT BAL FROM ACCT WHERE ID = 2;
+    B: SELECT BAL FROM ACCT WHERE ID = 1; B: SELECT BAL FROM ACCT WHERE ID = 2;
+    A: UPDATE ACCT SET BAL = BAL - 120 WHERE ID = 1; A: COMMIT;
+    B: UPDATE ACCT SET BAL = BAL - 120 WHERE ID = 2; B: COMMIT;";
+
+/// The sessions of its steps.
+pub const LEDGER_ORDER: [u8; 10] = [0, 1, 0, 0, 1, 1, 0, 0, 1, 1];
+
 /// X reads what P writes, and P reads what Y writes. Their numbers are 0, 1 and 2.
 pub const READ_AND_WRITE: &str =
     "X: BEGIN; P: BEGIN; Y: BEGIN; X: SELECT ONCALL FROM DUTY WHERE ID = 1;

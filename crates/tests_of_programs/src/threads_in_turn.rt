@@ -2,8 +2,11 @@
 
 ghost use Rattle.std.specs.Prelude.{◌≡◌};
 
+use crate::files::BrittleWriter;
 use crate::gates::{Held, InTurn, Meeting};
-use crate::texts::{COVER, EIGHT, KIM, READ_AND_WRITE, SEVEN, TABLES, line_of};
+use crate::texts::{
+    COVER, EIGHT, KIM, LEDGER, LEDGER_ORDER, READ_AND_WRITE, SEVEN, TABLES, line_of,
+};
 use definitions::Definitions;
 use parse::{parse_schema, parse_script};
 use running::ProgramFault;
@@ -98,11 +101,8 @@ fn ledger_write_skew(rt: HostRuntime) -> Result<(), Fail> {
     prints_in_turn(
         &rt,
         KIM,
-        "A: BEGIN; B: BEGIN; A: SELECT BAL FROM ACCT WHERE ID = 1; A: SELECT BAL FROM ACCT WHERE ID = 2;
-         B: SELECT BAL FROM ACCT WHERE ID = 1; B: SELECT BAL FROM ACCT WHERE ID = 2;
-         A: UPDATE ACCT SET BAL = BAL - 120 WHERE ID = 1; A: COMMIT;
-         B: UPDATE ACCT SET BAL = BAL - 120 WHERE ID = 2; B: COMMIT;",
-        &[0, 1, 0, 0, 1, 1, 0, 0, 1, 1],
+        LEDGER,
+        &LEDGER_ORDER,
         "A: BEGIN 0\nA: SELECT 1\n  100\nA: SELECT 1\n  50\nA: UPDATE 1\nA: COMMIT 1\n\
          B: BEGIN 0\nB: SELECT 1\n  100\nB: SELECT 1\n  50\nB: UPDATE 1\n\
          B: REFUSED 13 40001 READER 1 PIVOT THIS WRITER 1\n\
@@ -262,6 +262,45 @@ fn outside_and_inside(rt: HostRuntime) -> Result<(), Fail> {
     Ok(())
 }
 
+/// What comes of the ledger's row on threads, for a writer that fails at one of its calls.
+fn written_to<R>(rt: &R, fails_at: usize) -> Result<(Result<(), ProgramFault>, usize), Fail>
+where
+    R: Threads + Wait + Sync + Alloc<A = Global>,
+{
+    let alloc = rt.alloc();
+    let defs = format!(in alloc; "{TABLES}{KIM}")?;
+    let gate = InTurn::new(&LEDGER_ORDER);
+    let mut out = BrittleWriter::new(fails_at);
+    let shelf = Shelf::new(alloc)?;
+    let run = threads_into::<Brand, R, InTurn, BrittleWriter>(
+        rt,
+        alloc,
+        shelf,
+        0,
+        defs.as_bytes(),
+        LEDGER.as_bytes(),
+        1_000_000,
+        &gate,
+        &mut out,
+    );
+    Ok((run, out.calls()))
+}
+
+/// The writer fails at each of its calls in turn: nothing more is then asked of it.
+#[test]
+fn writers_that_fail(rt: HostRuntime) -> Result<(), Fail> {
+    for fails_at in 0..1000 {
+        let (run, calls) = written_to(&rt, fails_at)?;
+        if calls <= fails_at {
+            assert!(rt; run.is_ok());
+            return Ok(());
+        }
+        assert!(rt; matches!(run, Err(ProgramFault::Output)));
+        assert_eq!(rt; calls, fails_at.saturating_add(1));
+    }
+    Err(Fail::from("each run met a fault of the writer"))
+}
+
 /// A manager that hands out one session: one script is run, and the other one gets one answer.
 #[test]
 fn session_without_a_place(rt: HostRuntime) -> Result<(), Fail> {
@@ -314,7 +353,7 @@ fn prints_unrun<N: Named + Send + Sync, R: Threads + Wait + Abort + Sync>(
     let scripts = vec![in alloc; script_of(alloc, "A")?]?;
     let answered = run_sessions(rt, alloc, &manager, scripts.as_slice(), &Free)?;
     let mut out = Vec::new(alloc);
-    let history = manager.close();
+    let history = manager.close()?;
     let printed = print_report(
         alloc,
         &history,

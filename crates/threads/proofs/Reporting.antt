@@ -1,5 +1,5 @@
 -- What is opened, and what is then written, is the report that the contract has.
-use Rattle.std.proofs.Common.{◌≡◌, ℕ, Bool, true, false, List, Option, Result, Ok, Err, ap, ◌∙◌, subst, inl}
+use Rattle.std.proofs.Common.{◌≡◌, ℕ, Bool, true, false, List, Option, Result, Ok, Err, ap, sym, ◌∙◌, subst, inl}
 use Rattle.std.specs.Prelude.{◌≢◌, OnOk, IfErr}
 use Rattle.std.specs.Io.KnownBytes.{Appends}
 use Rattle.value.specs.Results.{and_then}
@@ -11,6 +11,7 @@ use Rattle.definitions.specs.Taken.{taken}
 use Rattle.definitions.specs.Written.{AreWritten}
 use Rattle.commit.specs.Admission.{satisfied}
 use Rattle.commit.specs.Cores.{CoreState, IsSerializable}
+use Rattle.session.specs.Books.{IsOver}
 use Rattle.workers.specs.declared.scripts.Script.{Script}
 use Rattle.workers.specs.declared.scripts.ScriptAnswers.{ScriptAnswers}
 use Rattle.workers.specs.Scripts.{AreAnswered}
@@ -22,17 +23,15 @@ use Rattle.threads.specs.Grouping.{grouped}
 use Rattle.threads.specs.Grouped.{AreOpened, IsAdmitted, PrintsGrouped, WritesGrouped, all_ran, grouped_report}
 
 pub is_admitted : (definitions : List Definition) (shown : Shown) → taken definitions ≡ Ok shown → AreWritten definitions shown.declared
-    → satisfied shown ≡ Ok shown → IsAdmitted definitions
-is_admitted definitions shown takes written holds = record {
-  shown = shown;
-  admits = ap (λ r. and_then r satisfied) takes ∙ holds;
-  written = written;
-}
+    → satisfied shown ≡ Ok shown → (view : Shown) → view ≡ shown → IsAdmitted definitions view
+is_admitted definitions shown takes written holds view is =
+    let made : IsAdmitted definitions shown = record { admits = ap (λ r. and_then r satisfied) takes ∙ holds; written = written } in
+    subst (IsAdmitted definitions) (sym is) made
 
 pub are_opened : (defs script : List ℕ) (definitions : List Definition) (steps : List Step) (scripts : List Script)
-    → AreRead defs script definitions steps → IsAdmitted definitions → HasFewSessions steps → scripts ≡ grouped steps → AreOpened defs script scripts
-are_opened defs script definitions steps scripts read admits few are = record {
-  shown = admits.shown;
+    → AreRead defs script definitions steps → (shown : Shown) → IsAdmitted definitions shown → HasFewSessions steps → scripts ≡ grouped steps
+    → AreOpened defs script shown scripts
+are_opened defs script definitions steps scripts read shown admits few are = record {
   steps = steps;
   ready = record {
     admitted = record { definitions = definitions; read = read; admits = admits.admits; written = admits.written };
@@ -41,29 +40,32 @@ are_opened defs script definitions steps scripts read admits few are = record {
   are = are;
 }
 
-pub prints : (scripts : List Script) (found : List ScriptAnswers) (core : CoreState) (all : Bool) (old new : Option (List ℕ))
-    → IsSerializable core → all_ran found ≡ all → Appends old new (grouped_report scripts found core) → PrintsGrouped scripts found all old new
-prints scripts found core all old new serializable ran written = record { core = core; serializable = serializable; ran = ran; written = written }
+pub prints : (scripts : List Script) (found : List ScriptAnswers) (core : CoreState) (loaded : Shown) (limit : ℕ) (all : Bool) (old new : Option (List ℕ))
+    → IsOver core loaded limit → IsSerializable core → all_ran found ≡ all → Appends old new (grouped_report scripts found core)
+    → PrintsGrouped scripts found loaded limit all old new
+prints scripts found core loaded limit all old new over serializable ran written =
+    record { core = core; over = over; serializable = serializable; ran = ran; written = written }
 
-module _ (defs script : List ℕ) (scripts : List Script) (o : AreOpened defs script scripts) where
+module _ (defs script : List ℕ) (shown : Shown) (limit : ℕ) (scripts : List Script) (o : AreOpened defs script shown scripts) where
   pub no_room : IsFirstFault defs script (ScriptFault NoMemory)
   no_room = inl (record { definitions = o.ready.admitted.definitions; defs_read = o.ready.admitted.read.defs_read; refused = tt })
 
   run : IsRun defs script
-  run = record { shown = o.shown; steps = o.steps; ready = o.ready }
+  run = record { shown = shown; steps = o.steps; ready = o.ready }
 
-  reported : (found : List ScriptAnswers) (all : Bool) (old new : Option (List ℕ)) → AreAnswered scripts found → PrintsGrouped scripts found all old new
-      → WritesGrouped defs script all old new
+  reported : (found : List ScriptAnswers) (all : Bool) (old new : Option (List ℕ)) → AreAnswered scripts found → PrintsGrouped scripts found shown limit all old new
+      → WritesGrouped defs script limit all old new
   reported found all old new answered p = record {
     bytes = grouped_report scripts found p.core;
     is = record {
-      shown = o.shown;
+      shown = shown;
       steps = o.steps;
       found = found;
       core = p.core;
       ready = o.ready;
       answered = subst (λ s. AreAnswered s found) o.are answered;
       ran = p.ran;
+      over = p.over;
       serializable = p.serializable;
       prints = ap (λ s. grouped_report s found p.core) o.are;
     };
@@ -71,13 +73,13 @@ module _ (defs script : List ℕ) (scripts : List Script) (o : AreOpened defs sc
   }
 
   pub reports : {A : Type 0} (printed : Result A ProgramFault) (found : List ScriptAnswers) (old new : Option (List ℕ)) → AreAnswered scripts found
-      → OnOk printed (PrintsGrouped scripts found true old new) → OnOk printed (WritesGrouped defs script true old new)
+      → OnOk printed (PrintsGrouped scripts found shown limit true old new) → OnOk printed (WritesGrouped defs script limit true old new)
   reports (Ok done) found old new answered p = reported found true old new answered p
   reports (Err fault) found old new answered p = tt
 
   pub reports_unrun : {A : Type 0} (printed : Result A ProgramFault) (found : List ScriptAnswers) (old new : Option (List ℕ)) → AreAnswered scripts found
-      → IfErr printed (λ fault. fault ≡ NoThread → PrintsGrouped scripts found false old new)
-      → IfErr printed (λ fault. fault ≡ NoThread → WritesGrouped defs script false old new)
+      → IfErr printed (λ fault. fault ≡ NoThread → PrintsGrouped scripts found shown limit false old new)
+      → IfErr printed (λ fault. fault ≡ NoThread → WritesGrouped defs script limit false old new)
   reports_unrun (Ok done) found old new answered p = tt
   reports_unrun (Err fault) found old new answered p = λ e. reported found false old new answered (p e)
 

@@ -9,6 +9,7 @@ use Rattle.definitions.specs.Written.{AreWritten}
 use Rattle.commit.specs.Admission.{admitted}
 use Rattle.commit.specs.Cores.{CoreState, IsSerializable}
 use Rattle.report.specs.Report.{left_open_line}
+use Rattle.session.specs.Books.{IsOver}
 use Rattle.workers.specs.declared.scripts.Script.{Script}
 use Rattle.workers.specs.declared.scripts.ScriptAnswers.{ScriptAnswers}
 use Rattle.workers.specs.Scripts.{AreAnswered}
@@ -38,9 +39,10 @@ grouped_report scripts found core = all_lines scripts found ++ closing core
 abbrev pub all_ran : List ScriptAnswers → Bool
 all_ran found = list_all (λ (one : ScriptAnswers). one.ran) found
 
--- the report of some answers to the scripts of the sessions, one for each step or the one refusal of a session that
--- was not run, and of some commits that are serializable
-pub record IsGroupedReport (defs script : List ℕ) (all : Bool) (bytes : List ℕ) : Type 0 where
+-- The report of some answers to the scripts of the sessions, one for each step or the one refusal of a session that
+-- was not run, and of some commits. These are over what the definitions define, at most as many as the limit, and
+-- serializable.
+pub record IsGroupedReport (defs script : List ℕ) (limit : ℕ) (all : Bool) (bytes : List ℕ) : Type 0 where
   pub shown : Shown
   pub steps : List Step
   pub found : List ScriptAnswers
@@ -48,32 +50,33 @@ pub record IsGroupedReport (defs script : List ℕ) (all : Bool) (bytes : List �
   pub ready : AreReady defs script shown steps
   pub answered : AreAnswered (grouped steps) found
   pub ran : all_ran found ≡ all
+  pub over : IsOver core shown limit
   pub serializable : IsSerializable core
   pub prints : bytes ≡ grouped_report (grouped steps) found core
 
 -- the writer gained the report and nothing else
-pub record WritesGrouped (defs script : List ℕ) (all : Bool) (old new : Option (List ℕ)) : Type 0 where
+pub record WritesGrouped (defs script : List ℕ) (limit : ℕ) (all : Bool) (old new : Option (List ℕ)) : Type 0 where
   pub bytes : List ℕ
-  pub is : IsGroupedReport defs script all bytes
+  pub is : IsGroupedReport defs script limit all bytes
   pub written : Appends old new bytes
 
 -- the same, of scripts that were run and of what was found of them
-pub record PrintsGrouped (scripts : List Script) (found : List ScriptAnswers) (all : Bool)
+pub record PrintsGrouped (scripts : List Script) (found : List ScriptAnswers) (loaded : Shown) (limit : ℕ) (all : Bool)
     (old new : Option (List ℕ)) : Type 0 where
   pub core : CoreState
+  pub over : IsOver core loaded limit
   pub serializable : IsSerializable core
   pub ran : all_ran found ≡ all
   pub written : Appends old new (grouped_report scripts found core)
 
 -- the definitions are admitted; each assertion means what they write
-pub record IsAdmitted (definitions : List Definition) : Type 0 where
-  pub shown : Shown
+pub record IsAdmitted (definitions : List Definition) (shown : Shown) : Type 0 where
   pub admits : admitted definitions ≡ Ok shown
   pub written : AreWritten definitions shown.declared
 
--- both texts are read, the definitions are admitted, and these are the scripts of the sessions, which are few
-pub record AreOpened (defs script : List ℕ) (scripts : List Script) : Type 0 where
-  pub shown : Shown
+-- both texts are read, the definitions are admitted, as these tables, and these are the scripts of the sessions, which
+-- are few
+pub record AreOpened (defs script : List ℕ) (shown : Shown) (scripts : List Script) : Type 0 where
   pub steps : List Step
   pub ready : AreReady defs script shown steps
   pub are : scripts ≡ grouped steps

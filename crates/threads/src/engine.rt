@@ -3,7 +3,7 @@
 ghost use Rattle.std.specs.Prelude.{◌≡◌, ◌≢◌, ◌≤◌, true, false, Err, IfOk, IfErr, OnOk};
 ghost use Rattle.value.specs.declared.refusals.Refusal.TheVariants.{NoMemory, TooManySessions};
 ghost use Rattle.commit.specs.Admission.{admitted};
-ghost use Rattle.running.specs.declared.faults.ProgramFault.TheVariants.{NoThread};
+ghost use Rattle.running.specs.declared.faults.ProgramFault.TheVariants.{NoThread, Stopped};
 ghost use Rattle.running.specs.Texts.{HasFewSessions, HasManySessions, IsFirstFault, is_before_the_run, most_sessions};
 ghost use Rattle.threads.specs.Grouping.{grouped};
 ghost use Rattle.threads.specs.Grouped.{AreOpened, IsAdmitted, WritesGrouped};
@@ -25,7 +25,7 @@ use workers::{Gate, Script, run_sessions};
 
 /// Runs a script of any sessions on definitions, with a thread for each session, on a shelf that is the manager's
 /// of this id, with at most so many commits. It writes all lines of a session together, sessions by their first
-/// events, and then the closing part.
+/// events, and then the closing part, of what the definitions define.
 ///
 /// Where both texts are read, the definitions are taken in and the script has 256 sessions or fewer, its events are
 /// run. The writer then gains the report of what the threads were answered and of the commits that they made, and
@@ -37,9 +37,11 @@ use workers::{Gate, Script, run_sessions};
 /// grammar; [`ProgramFault::Script`] where the script is none of its own; `Defs` again where the definitions are
 /// refused; `Script` of [`Refusal::TooManySessions`] where the script has more than 256 sessions. After each of
 /// these the writer is as it was, and nothing was run. Then [`ProgramFault::Stopped`] where there is no memory for
-/// the lines of the report, of which none is written; [`ProgramFault::Output`] at the first fault of the writer;
-/// and [`ProgramFault::NoThread`] where a session got no thread or no place, of which its one line says why: the
-/// whole report was then written.
+/// the lines of the report, of which none is written, so that the writer is as it was here too (it would also be
+/// answered if what lies under the manager's lock were another's, which no call brings about);
+/// [`ProgramFault::Output`] at the first fault of the writer, which may have taken a part of the report; and
+/// [`ProgramFault::NoThread`] where a session got no thread or no place, of which its one line says why: the whole
+/// report was then written.
 #[tactic(auto, using(crate::proofs::Reporting::first_fault, crate::proofs::Reporting::nothing_before, crate::proofs::Reporting::no_room))]
 pub fn threads_into<N, R, G, W>(
     rt: &R,
@@ -61,18 +63,23 @@ where
     requires within { max_commits ≤ 4294967295 }
     requires shelf { shelf ≡ N.shelf id }
     requires limits { N.limits id ≡ record { commits = max_commits; sessions = most_sessions } }
-    ensures written { OnOk result (WritesGrouped defs.now script.now true (W.contents out.old) (W.contents out.new)) }
+    ensures written { OnOk result
+        (WritesGrouped defs.now script.now max_commits true (W.contents out.old) (W.contents out.new)) }
     ensures no_thread { IfErr result (λ fault. fault ≡ NoThread
-        → WritesGrouped defs.now script.now false (W.contents out.old) (W.contents out.new)) }
+        → WritesGrouped defs.now script.now max_commits false (W.contents out.old) (W.contents out.new)) }
     ensures refused { IfErr result (λ fault. fault ≢ NoThread → IsFirstFault defs.now script.now fault) }
     ensures nothing { IfErr result (λ fault. is_before_the_run fault ≡ true → out.new ≡ out.old) }
+    ensures stopped { IfErr result (λ fault. fault ≡ Stopped → out.new ≡ out.old) }
 {
     let (manager, scripts) = open_manager::<N, R>(rt, alloc, shelf, id, defs, script, max_commits)?;
     let answered = match run_sessions(rt, alloc, &manager, scripts.as_slice(), gate) {
         Ok(answered) => answered,
         Err(refusal) => return Err(ProgramFault::Script(refusal)),
     };
-    let history = manager.close();
+    let history = match manager.close() {
+        Ok(history) => history,
+        Err(_) => return Err(ProgramFault::Stopped),
+    };
     let printed = print_report(
         alloc,
         &history,
@@ -101,7 +108,8 @@ fn open_manager<N: Named, R: Wait>(
     requires within { max_commits ≤ 4294967295 }
     requires shelf { shelf ≡ N.shelf id }
     requires limits { N.limits id ≡ record { commits = max_commits; sessions = most_sessions } }
-    ensures opened { IfOk result (λ made. AreOpened defs.now script.now made.1.items) }
+    ensures opened { IfOk result (λ made. AreOpened defs.now script.now made.0.loaded.value.view made.1.items) }
+    ensures id { IfOk result (λ made. made.0.id ≡ id) }
     ensures refused { IfErr result (IsFirstFault defs.now script.now) }
     ensures before { IfErr result (λ fault. is_before_the_run fault ≡ true) }
 {
@@ -130,7 +138,8 @@ fn manage<N: Named, R: Wait>(
     requires within { max_commits ≤ 4294967295 }
     requires shelf { shelf ≡ N.shelf id }
     requires limits { N.limits id ≡ record { commits = max_commits; sessions = most_sessions } }
-    ensures admitted { IfOk result (λ _. IsAdmitted definitions.now) }
+    ensures admitted { IfOk result (λ manager. IsAdmitted definitions.now manager.loaded.value.view) }
+    ensures id { IfOk result (λ manager. manager.id ≡ id) }
     ensures refused { IfErr result (λ refusal. refusal ≢ NoMemory → admitted definitions.now ≡ Err refusal) }
 {
     let taken = Definitions::take(alloc, definitions)?;

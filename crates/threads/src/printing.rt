@@ -3,7 +3,7 @@
 ghost use Rattle.std.specs.Prelude.{◌≡◌, ◌≢◌, ◌++◌, true, false, IfErr, OnOk};
 ghost use Rattle.std.specs.Io.KnownBytes.{Appends};
 ghost use Rattle.running.specs.Lines.{lines};
-ghost use Rattle.running.specs.declared.faults.ProgramFault.TheVariants.{NoThread};
+ghost use Rattle.running.specs.declared.faults.ProgramFault.TheVariants.{NoThread, Stopped};
 ghost use Rattle.running.specs.Texts.{IsInTheRun};
 ghost use Rattle.threads.specs.Grouped.{PrintsGrouped, all_lines, all_ran, ended_line, grouped_report, script_lines};
 
@@ -34,10 +34,13 @@ pub fn print_report<N: Named, W: Write>(
     out: &mut W,
 ) -> Result<(), ProgramFault>
     ensures written { OnOk result
-        (PrintsGrouped scripts.now answered.now true (W.contents out.old) (W.contents out.new)) }
+        (PrintsGrouped scripts.now answered.now history.now.loaded.value.view (N.limits history.now.id).commits true
+        (W.contents out.old) (W.contents out.new)) }
     ensures no_thread { IfErr result (λ fault. fault ≡ NoThread
-        → PrintsGrouped scripts.now answered.now false (W.contents out.old) (W.contents out.new)) }
+        → PrintsGrouped scripts.now answered.now history.now.loaded.value.view (N.limits history.now.id).commits false
+        (W.contents out.old) (W.contents out.new)) }
     ensures late { IfErr result (λ fault. fault ≢ NoThread → IsInTheRun fault) }
+    ensures stopped { IfErr result (λ fault. fault ≡ Stopped → out.new ≡ out.old) }
 {
     history.is_serializable();
     print_lines(alloc, history.core(), scripts, answered, out)?;
@@ -65,6 +68,7 @@ fn print_lines<W: Write>(
     ensures written { OnOk result
         (Appends (W.contents out.old) (W.contents out.new) (grouped_report scripts.now answered.now core.now)) }
     ensures late { IfErr result IsInTheRun }
+    ensures stopped { IfErr result (λ fault. fault ≡ Stopped → out.new ≡ out.old) }
 {
     let mut lines = Report::new(alloc);
     if add_report(alloc, scripts, answered, core, &mut lines).is_err() {

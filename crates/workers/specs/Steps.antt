@@ -1,8 +1,9 @@
 -- What a step of a session is answered, as far as it is known without the commits, and which transaction is open then.
-use Rattle.std.specs.Prelude.{◌≡◌, ◌≤◌, ◌<◌, ◌⊎◌, ℕ, Option, Some, None}
+use Rattle.std.specs.Prelude.{◌≡◌, ◌≤◌, ◌<◌, ◌⊎◌, ℕ, Bool, List, [], ◌∷◌, Option, Some, None, is_some}
 use Rattle.value.specs.declared.refusals.Refusal.TheVariants.{NoMemory, NoTransaction, Stranger, TransactionOpen}
 use Rattle.statement_syntax.specs.declared.statements.Statement.{Statement}
 use Rattle.statement_syntax.specs.declared.statements.Event.{Event}
+use Rattle.statement_syntax.specs.declared.statements.Step.{Step}
 use Rattle.statement_syntax.specs.declared.statements.Event.TheVariants.{Begin, Commit, Rollback, Run}
 use Rattle.answer.specs.declared.answers.Answer.{Answer}
 use Rattle.answer.specs.declared.answers.Answer.TheVariants.{Begun, Committed, Refused, RolledBack}
@@ -16,11 +17,12 @@ use Rattle.session.specs.Answers.{IsGivenBack, IsRefused}
 abbrev pub IsOutside : Answer → Option Ticketed → Type 0
 IsOutside answer txn = (answer ≡ Refused NoTransaction) × (txn ≡ None)
 
--- BEGIN: a transaction on tables that are no older than all that the session has seen
-abbrev pub IsBegun : (seen : ℕ) → Answer → Option Ticketed → Type 0
-IsBegun seen (Begun number) (Some t) = (number ≡ t.inner.snapshot) × (seen ≤ number)
-IsBegun seen (Refused refusal) None = IsGivenBack refusal
-IsBegun seen answer txn = ⊥
+-- BEGIN: a transaction of the manager that has just begun, on tables that are no older than all that the session has
+-- seen. Which transactions are so is said by the manager.
+abbrev pub IsBegun : (IsNew : Ticketed → Type 0) → (seen : ℕ) → Answer → Option Ticketed → Type 0
+IsBegun IsNew seen (Begun number) (Some t) = (number ≡ t.inner.snapshot) × (seen ≤ number) × IsNew t
+IsBegun IsNew seen (Refused refusal) None = IsGivenBack refusal
+IsBegun IsNew seen answer txn = ⊥
 
 -- a statement is answered as alone in the transaction, whose trace then holds it; or it found no memory, and
 -- nothing has changed
@@ -29,6 +31,10 @@ IsRun statement t answer txn =
     ((answer ≡ answer_of (step_of t.inner (resolved t.inner.declared statement)).reply)
     × (txn ≡ Some (record t { inner = with_statement t.inner (resolved t.inner.declared statement) })))
     ⊎ ((answer ≡ Refused NoMemory) × (txn ≡ Some t))
+
+abbrev pub IsRunIn : Statement → Option Ticketed → Answer → Option Ticketed → Type 0
+IsRunIn statement None answer txn = IsOutside answer txn
+IsRunIn statement (Some t) answer txn = IsRun statement t answer txn
 
 -- COMMIT: a number that the session has not seen, or a refusal that gives the transaction back as it was, or one
 -- that ends it
@@ -43,18 +49,38 @@ IsRolledBack t (Refused refusal) txn = (refusal ≡ Stranger) × (txn ≡ Some t
 IsRolledBack t answer txn = ⊥
 
 -- an event of a session that has seen this number, with this transaction open, or none
-abbrev pub IsTold : Event → (seen : ℕ) → Option Ticketed → Answer → Option Ticketed → Type 0
-IsTold Begin seen None answer txn = IsBegun seen answer txn
-IsTold Begin seen (Some t) answer txn = (answer ≡ Refused TransactionOpen) × (txn ≡ Some t)
-IsTold (Run statement) seen None answer txn = IsOutside answer txn
-IsTold (Run statement) seen (Some t) answer txn = IsRun statement t answer txn
-IsTold Commit seen None answer txn = IsOutside answer txn
-IsTold Commit seen (Some t) answer txn = IsCommitted seen t answer txn
-IsTold Rollback seen None answer txn = IsOutside answer txn
-IsTold Rollback seen (Some t) answer txn = IsRolledBack t answer txn
+abbrev pub IsTold : (IsNew : Ticketed → Type 0) → Event → (seen : ℕ) → Option Ticketed → Answer → Option Ticketed
+    → Type 0
+IsTold IsNew Begin seen None answer txn = IsBegun IsNew seen answer txn
+IsTold IsNew Begin seen (Some t) answer txn = (answer ≡ Refused TransactionOpen) × (txn ≡ Some t)
+IsTold IsNew (Run statement) seen t answer txn = IsRunIn statement t answer txn
+IsTold IsNew Commit seen None answer txn = IsOutside answer txn
+IsTold IsNew Commit seen (Some t) answer txn = IsCommitted seen t answer txn
+IsTold IsNew Rollback seen None answer txn = IsOutside answer txn
+IsTold IsNew Rollback seen (Some t) answer txn = IsRolledBack t answer txn
 
 -- the greatest number that the session has seen then
 abbrev pub seen_after : Answer → ℕ → ℕ
 seen_after (Begun number) seen = number
 seen_after (Committed number) seen = number
 seen_after answer seen = seen
+
+-- The steps of a session are answered in their order, each in the transaction that the one before it left open, or in
+-- none. The session has seen this number before the first, and this transaction is open then, or none; and that one is
+-- open behind the last.
+abbrev pub AreTold : (IsNew : Ticketed → Type 0) → List Step → (seen : ℕ) → Option Ticketed → List Answer
+    → (left : Option Ticketed) → Type 0
+AreTold IsNew [] seen txn [] left = left ≡ txn
+AreTold IsNew [] seen txn (answer ∷ more) left = ⊥
+AreTold IsNew (step ∷ rest) seen txn [] left = ⊥
+AreTold IsNew (step ∷ rest) seen txn (answer ∷ more) left =
+    (next : Option Ticketed) × IsTold IsNew step.event seen txn answer next
+    × AreTold IsNew rest (seen_after answer seen) next more left
+
+-- A session that has seen nothing yet runs a script, from outside a transaction. What is open behind the last step is
+-- rolled back, and whether something was, is said.
+pub record IsScriptRun (IsNew : Ticketed → Type 0) (steps : List Step) (answers : List Answer) (rolled_back : Bool)
+    : Type 0 where
+  pub left : Option Ticketed
+  pub told : AreTold IsNew steps 0 None answers left
+  pub ended : rolled_back ≡ is_some left

@@ -1,16 +1,19 @@
 //! A thread for each script.
 
-ghost use Rattle.std.specs.Prelude.{◌≡◌, map, IfOk, IsOkUnless};
+ghost use Rattle.std.specs.Prelude.{◌≡◌, ◌≤◌, [], length, map, vec_capacity, IfOk, IsOkUnless};
 ghost use Rattle.value.specs.declared.refusals.Refusal.TheVariants.{NoMemory};
 ghost use denote.Param.Send.{IsSend, IsSync};
+ghost use Rattle.session.specs.Books.{IsFresh};
 ghost use Rattle.workers.specs.Scripts.{AreAnswered, IsAnswered, unrun};
+ghost use Rattle.workers.specs.Steps.{AreTold, IsScriptRun};
 
 use crate::gates::Gate;
 use crate::scripts::{Script, ScriptAnswers};
 use crate::steps::{StepOutcome, end, run_event};
 use answer::Answer;
-use session::{Manager, Named, Txn};
+use session::{Manager, Named, Session, Txn};
 use sqlite_items::Items;
+use statement_syntax::Step;
 use std::alloc::Global;
 use std::sync::Wait;
 use std::thread;
@@ -20,7 +23,7 @@ use value::Refusal;
 /// Where a thread leaves what its script was answered. Until it has run, it says that it got no session.
 #[derive(Drop)]
 struct Room {
-    answers: Items<Answer>,
+    answers: Vec<Answer>,
     refusal: Option<Refusal>,
     rolled_back: bool,
 }
@@ -106,13 +109,13 @@ fn make_room(alloc: Global, steps: usize) -> Result<Room, Refusal>
     ensures { IsOkUnless result NoMemory }
 {
     Ok(Room {
-        answers: Items::from_vec(Vec::with_capacity(alloc, steps)?),
+        answers: Vec::with_capacity(alloc, steps)?,
         refusal: Some(Refusal::TooManySessions),
         rolled_back: false,
     })
 }
 
-/// Runs a script in a session of its name.
+/// Runs a script in a session of its name. Where it leaves no refusal, its answers chain from outside a transaction.
 fn run_script<N: Named, R: Wait, G: Gate>(
     rt: &R,
     manager: &Manager<N>,
@@ -120,7 +123,18 @@ fn run_script<N: Named, R: Wait, G: Gate>(
     at: usize,
     gate: &G,
     room: &mut Room,
-) {
+)
+    ensures { room.new.refusal ≡ None
+        → IsScriptRun (IsFresh (N.shelf manager.now.id) manager.now.id manager.now.epoch)
+        script.now.steps room.new.answers.items room.new.rolled_back }
+{
+    let steps = script.steps.as_slice();
+    room.answers.clear();
+    // (there is room already, which is not known here of what another thread has made)
+    if room.answers.reserve(steps.len()).is_err() {
+        room.refusal = Some(Refusal::NoMemory);
+        return;
+    }
     let mut session = match manager.session(rt, &script.name) {
         Ok(session) => session,
         Err(refusal) => {
@@ -129,16 +143,46 @@ fn run_script<N: Named, R: Wait, G: Gate>(
         }
     };
     room.refusal = None;
+    let open = run_steps(
+        rt,
+        manager,
+        &mut session,
+        steps,
+        at,
+        gate,
+        &mut room.answers,
+    );
+    room.rolled_back = end(rt, manager, open);
+}
+
+/// Runs the steps of a script in a session that has seen nothing, and notes what each was answered. The transaction
+/// that is open behind the last is handed on.
+fn run_steps<N: Named, R: Wait, G: Gate>(
+    rt: &R,
+    manager: &Manager<N>,
+    session: &mut Session<N>,
+    steps: &[Step],
+    at: usize,
+    gate: &G,
+    answers: &mut Vec<Answer>,
+) -> Option<Txn<N>>
+    requires new { session.old.seen ≡ 0 }
+    requires none { answers.old.items ≡ [] }
+    requires room { length steps.now ≤ vec_capacity answers.old }
+    ensures { AreTold (IsFresh (N.shelf manager.now.id) manager.now.id manager.now.epoch)
+        steps.now 0 None answers.new.items result }
+{
     let mut open: Option<Txn<N>> = None;
-    for (step, event) in script.steps.as_slice().iter().enumerate() {
+    for event in steps {
+        let step = answers.len();
         gate.before(at, step);
-        let outcome = run_event(rt, manager, &mut session, open, &event.event);
+        let outcome = run_event(rt, manager, session, open, &event.event);
         let StepOutcome { answer, txn: next } = outcome;
         open = next;
-        let _ = room.answers.push(answer);
+        answers.push_reserved(answer);
         gate.after(at, step);
     }
-    room.rolled_back = end(rt, manager, open);
+    open
 }
 
 /// Takes over what the threads left. What is taken over is looked at again, since nothing is known of what threads
@@ -180,19 +224,14 @@ fn settle(script: &Script, answered: &mut ScriptAnswers, room: Room)
     }
 }
 
-fn take_over(
-    script: &Script,
-    answered: &mut ScriptAnswers,
-    answers: Items<Answer>,
-    rolled_back: bool,
-)
+fn take_over(script: &Script, answered: &mut ScriptAnswers, answers: Vec<Answer>, rolled_back: bool)
     requires { IsAnswered script.now answered.old }
     ensures { IsAnswered script.now answered.new }
 {
     if answers.len() != script.steps.len() {
         return;
     }
-    answered.answers = answers;
+    answered.answers = Items::from_vec(answers);
     answered.ran = true;
     answered.rolled_back = rolled_back;
 }

@@ -1,12 +1,13 @@
 //! One step of a session.
 
-ghost use Rattle.std.specs.Prelude.{◌≡◌, ℕ};
+ghost use Rattle.std.specs.Prelude.{◌≡◌, ℕ, is_some};
 ghost use Rattle.answer.specs.declared.answers.Answer.TheVariants.{Refused};
-ghost use Rattle.statement_syntax.specs.declared.statements.Event.TheVariants.{Begin, Commit, Rollback, Run};
-ghost use Rattle.workers.specs.Steps.{IsBegun, IsTold, seen_after};
+ghost use Rattle.statement_syntax.specs.declared.statements.Event.TheVariants.{Begin, Commit, Rollback};
+ghost use Rattle.session.specs.Books.{IsFresh};
+ghost use Rattle.workers.specs.Steps.{IsBegun, IsRunIn, IsTold, seen_after};
 
 use answer::Answer;
-use session::{CommitFault, Manager, Named, Session, Txn};
+use session::{CommitFault, Manager, Named, Session, Txn, release};
 use statement_syntax::{Event, Statement};
 use std::sync::Wait;
 use value::Refusal;
@@ -34,7 +35,8 @@ pub fn run_event<N: Named, R: Wait>(
     txn: Option<Txn<N>>,
     event: &Event,
 ) -> StepOutcome<N>
-    ensures told { IsTold event.now session.old.seen txn result.answer result.txn }
+    ensures told { IsTold (IsFresh (N.shelf manager.now.id) manager.now.id manager.now.epoch)
+        event.now session.old.seen txn result.answer result.txn }
     ensures seen { session.new ≡ record session.old { seen = seen_after result.answer session.old.seen } }
 {
     match event {
@@ -52,7 +54,8 @@ fn begin<N: Named, R: Wait>(
     session: &mut Session<N>,
     txn: Option<Txn<N>>,
 ) -> StepOutcome<N>
-    ensures told { IsTold Begin session.old.seen txn result.answer result.txn }
+    ensures told { IsTold (IsFresh (N.shelf manager.now.id) manager.now.id manager.now.epoch)
+        Begin session.old.seen txn result.answer result.txn }
     ensures seen { session.new ≡ record session.old { seen = seen_after result.answer session.old.seen } }
 {
     match txn {
@@ -66,7 +69,8 @@ fn begin_new<N: Named, R: Wait>(
     manager: &Manager<N>,
     session: &mut Session<N>,
 ) -> StepOutcome<N>
-    ensures told { IsBegun session.old.seen result.answer result.txn }
+    ensures told { IsBegun (IsFresh (N.shelf manager.now.id) manager.now.id manager.now.epoch)
+        session.old.seen result.answer result.txn }
     ensures seen { session.new ≡ record session.old { seen = seen_after result.answer session.old.seen } }
 {
     match manager.begin(rt, session) {
@@ -80,7 +84,7 @@ fn begin_new<N: Named, R: Wait>(
 
 /// A statement, in the open transaction. It takes no lock.
 fn run<N: Named>(txn: Option<Txn<N>>, statement: &Statement) -> StepOutcome<N>
-    ensures told { (seen : ℕ) → IsTold (Run statement.now) seen txn result.answer result.txn }
+    ensures told { IsRunIn statement.now txn result.answer result.txn }
     ensures seen { (seen : ℕ) → seen_after result.answer seen ≡ seen }
 {
     let Some(mut txn) = txn else {
@@ -104,7 +108,8 @@ fn commit<N: Named, R: Wait>(
     session: &mut Session<N>,
     txn: Option<Txn<N>>,
 ) -> StepOutcome<N>
-    ensures told { IsTold Commit session.old.seen txn result.answer result.txn }
+    ensures told { IsTold (IsFresh (N.shelf manager.now.id) manager.now.id manager.now.epoch)
+        Commit session.old.seen txn result.answer result.txn }
     ensures seen { session.new ≡ record session.old { seen = seen_after result.answer session.old.seen } }
 {
     let Some(txn) = txn else {
@@ -133,7 +138,8 @@ fn answer_uncommitted<N: Named>(fault: CommitFault<N>) -> StepOutcome<N>
 
 /// ROLLBACK.
 fn roll_back<N: Named, R: Wait>(rt: &R, manager: &Manager<N>, txn: Option<Txn<N>>) -> StepOutcome<N>
-    ensures told { (seen : ℕ) → IsTold Rollback seen txn result.answer result.txn }
+    ensures told { (seen : ℕ) → IsTold (IsFresh (N.shelf manager.now.id) manager.now.id manager.now.epoch)
+        Rollback seen txn result.answer result.txn }
     ensures seen { (seen : ℕ) → seen_after result.answer seen ≡ seen }
 {
     let Some(txn) = txn else {
@@ -149,15 +155,12 @@ fn roll_back<N: Named, R: Wait>(rt: &R, manager: &Manager<N>, txn: Option<Txn<N>
 }
 
 /// Rolls the open transaction back, if one is open, and says whether one was.
-pub fn end<N: Named, R: Wait>(rt: &R, manager: &Manager<N>, txn: Option<Txn<N>>) -> bool {
+pub fn end<N: Named, R: Wait>(rt: &R, manager: &Manager<N>, txn: Option<Txn<N>>) -> bool
+    ensures { result ≡ is_some txn }
+{
     let Some(txn) = txn else {
         return false;
     };
-    if let Err((_, txn)) = manager.rollback(rt, txn) {
-        let_go(txn.abandon());
-    }
+    release(rt, manager, txn);
     true
 }
-
-/// Lets a value go. Its type is a parameter here, so that the caller's proof does not go over its fields.
-fn let_go<T: Drop>(_value: T) {}

@@ -5,7 +5,7 @@ use Rattle.serial.specs.Commits.{IsLog}
 use Rattle.commit.specs.Cores.{CoreState, committed, log_of, record_of}
 use Rattle.session.specs.declared.items.Item.{Item}
 use Rattle.session.specs.Books.{AreReceipts, BookState, IsBook, ReceiptState, Ticketed, Token, after_commit, item_after}
-use Rattle.session.specs.Answers.{IsReason, shown_among, shown_for, shown_unless}
+use Rattle.session.specs.Answers.{AreShownBy, IsReason, shown_among, shown_for, shown_unless}
 use Rattle.session.proofs.Tokens.{book_committed, receipts_of}
 use Rattle.session.proofs.Committing.{back_ticketed, refused_book, refused_reason, refused_told}
 use Rattle.session.proofs.book.Book.commit_own.Goals as goal
@@ -65,6 +65,13 @@ returns-in-Err-clause-reason g c =
     (subst (λ (x : Ticketed). IsReason (g.N.Named.limits c.self.inside.id).commits c.args.session.now.name x.inner c.refuse_commit.result.refusal c.refuse_commit.result.shown) c.closed.view_is
     (subst (λ (r : Refusal). IsReason (g.N.Named.limits c.self.inside.id).commits c.args.session.now.name closed.inner r c.refuse_commit.result.shown) (sym c.refuse_commit.ensures.refusal)
     (subst (λ (s : List (Option ReceiptState)). IsReason (g.N.Named.limits c.self.inside.id).commits c.args.session.now.name closed.inner c.in-Err.fault.refusal s) (sym shown) reason)))
+
+pub returns-in-Err-clause-shown : goal.returns-in-Err-clause-shown
+returns-in-Err-clause-shown g c =
+    let id : c.self.inside.id ≡ c.args.id = ap (λ (s : BookState). s.id) c.self.view_is ∙ c.requires.id in
+    let epoch : c.self.inside.epoch ≡ c.args.epoch = ap (λ (s : BookState). s.epoch) c.self.view_is ∙ c.requires.epoch in
+    subst (λ n. AreShownBy n c.args.epoch c.refuse_commit.result.shown) id
+    (subst (λ n. AreShownBy c.self.inside.id n c.refuse_commit.result.shown) epoch c.refuse_commit.ensures.by)
 
 pub invariant_of-self-2 : goal.invariant_of-self-2
 invariant_of-self-2 g c =

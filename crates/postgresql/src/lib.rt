@@ -1,0 +1,135 @@
+//! Tables, rows and assertions as SQL for PostgreSQL 15 or later, which keeps the assertions there.
+//!
+//! [`print_into`] writes the tables of a view with their rows, and what enforces each of its assertions: after each
+//! statement, or at COMMIT, it is evaluated at its candidates alone, on the same forms that the crates below evaluate
+//! and of which it is proved that they mean what the definitions say. docs/SCALE.md tells what is printed and why.
+//!
+//! What is proved here is that printing is safe and ends, and that nothing is written before all names are known to be
+//! short enough. That PostgreSQL takes the SQL and answers as the program does is tested
+//! (tools/against_postgresql.py).
+//!
+//! From the bottom up: `words` (names, constants and set functions), `conditions` (conditions and expressions), `forms`
+//! (the bad roots of an assertion, and the test of one), `totals` (of single conditions), `candidates`, `tables`,
+//! `rules` (what stands for an assertion), `triggers` (what stands for a table) and `fixed` (what is the same for all).
+#![tactic(auto)]
+
+ghost use Rattle.std.specs.Prelude.{◌≡◌, true, false, IfErr};
+ghost use Rattle.postgresql.specs.Faults.{is_before_writing};
+
+mod candidates;
+mod conditions;
+mod faults;
+mod fixed;
+mod forms;
+mod rules;
+mod tables;
+mod totals;
+mod triggers;
+mod words;
+
+use delta::View;
+pub use faults::PrintFault;
+use std::alloc::{AllocError, Global};
+use std::io::Write;
+use table::Row;
+
+/// Writes the SQL of tables, their rows and their assertions: one transaction, for an empty schema.
+///
+/// # Errors
+///
+/// [`PrintFault::LongName`] where a table, a column or an assertion has a name that PostgreSQL would cut; nothing is
+/// written then. [`PrintFault::NoMemory`] where no memory is left, and [`PrintFault::Output`] at the first fault of the
+/// writer; after both a part may be written.
+#[tactic(auto, using(crate::proofs::Late::nothing_before))]
+pub fn print_into<W: Write>(alloc: Global, view: &View, out: &mut W) -> Result<(), PrintFault>
+    ensures nothing { IfErr result (λ fault. is_before_writing fault ≡ true → out.new ≡ out.old) }
+{
+    tables::require_short_names(view)?;
+    print_all(alloc, view, out)
+}
+
+/// Writes all of it.
+fn print_all<W: Write>(alloc: Global, view: &View, out: &mut W) -> Result<(), PrintFault>
+    ensures late { IfErr result (λ fault. is_before_writing fault ≡ false) }
+{
+    let mut sql = String::new(alloc);
+    sql.push_str(fixed::HEAD)?;
+    for table in 0..view.catalog().len() {
+        print_table(&mut sql, view, table, out)?;
+    }
+    add_rules(alloc, &mut sql, view)?;
+    write_out(&mut sql, out)?;
+    flush(out)
+}
+
+/// Writes a table and its rows.
+fn print_table<W: Write>(
+    sql: &mut String,
+    view: &View,
+    table: usize,
+    out: &mut W,
+) -> Result<(), PrintFault>
+    ensures late { IfErr result (λ fault. is_before_writing fault ≡ false) }
+{
+    tables::add_table(sql, view, table)?;
+    if table < view.catalog().len() {
+        for row in view.rows(table).iter() {
+            print_row(sql, view, table, row, out)?;
+        }
+    }
+    tables::add_indexes(sql, view, table)?;
+    write_out(sql, out)
+}
+
+fn print_row<W: Write>(
+    sql: &mut String,
+    view: &View,
+    table: usize,
+    row: &Row,
+    out: &mut W,
+) -> Result<(), PrintFault>
+    ensures late { IfErr result (λ fault. is_before_writing fault ≡ false) }
+{
+    tables::add_row(sql, view, table, row)?;
+    write_out(sql, out)
+}
+
+/// Adds all that keeps the rules.
+fn add_rules(alloc: Global, sql: &mut String, view: &View) -> Result<(), AllocError> {
+    sql.push_str(fixed::HELPERS)?;
+    if view
+        .assertions()
+        .iter()
+        .any(|assertion| assertion.attributes.deferrable)
+    {
+        sql.push_str(fixed::CALLS)?;
+    }
+    for (place, assertion) in view.assertions().iter().enumerate() {
+        rules::add_rule(alloc, sql, view, place.saturating_add(1), assertion)?;
+    }
+    for table in 0..view.catalog().len() {
+        triggers::add_triggers(sql, view, table)?;
+    }
+    rules::add_verdicts(alloc, sql, view)?;
+    sql.push_str(fixed::END)
+}
+
+/// Writes what was put together, and empties it.
+fn write_out<W: Write>(sql: &mut String, out: &mut W) -> Result<(), PrintFault>
+    ensures late { IfErr result (λ fault. is_before_writing fault ≡ false) }
+{
+    if out.write_all(sql.as_bytes()).is_err() {
+        return Err(PrintFault::Output);
+    }
+    sql.clear();
+    Ok(())
+}
+
+fn flush<W: Write>(out: &mut W) -> Result<(), PrintFault>
+    ensures late { IfErr result (λ fault. is_before_writing fault ≡ false) }
+{
+    match out.flush() {
+        Ok(()) => Ok(()),
+        Err(_) => Err(PrintFault::Output),
+    }
+}

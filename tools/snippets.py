@@ -1,0 +1,43 @@
+#!/usr/bin/env python3
+"""Holds the Rust of docs/LIBRARY.md against the example that the gate builds.
+
+    tools/snippets.py
+
+Each block of Rust on that page has to stand, line for line and but for what it is indented by, in a file of
+crates/rota/src. So what the page shows is proved and run.
+"""
+import os
+import re
+import sys
+import textwrap
+
+TOP = os.path.dirname(os.path.dirname(os.path.abspath(__file__)))
+SOURCES = f"{TOP}/crates/rota/src"
+
+
+def stands(block, lines):
+    """Whether the lines of the block stand in these, one behind the other, each further in by the same."""
+    for at in range(len(lines) - len(block) + 1):
+        part = textwrap.dedent("\n".join(lines[at:at + len(block)])).splitlines()
+        if part == block:
+            return True
+    return False
+
+
+def main():
+    with open(f"{TOP}/docs/LIBRARY.md", encoding="utf-8") as it:
+        blocks = re.findall(r"^```rust\n(.*?)^```$", it.read(), re.MULTILINE | re.DOTALL)
+    sources = []
+    for name in sorted(os.listdir(SOURCES)):
+        with open(f"{SOURCES}/{name}", encoding="utf-8") as it:
+            sources.append(it.read().splitlines())
+    missing = [block for block in blocks
+        if not any(stands(textwrap.dedent(block).splitlines(), lines) for lines in sources)]
+    for block in missing:
+        print(f"this block stands in no file of crates/rota/src:\n{block}")
+    print(f"{len(blocks)} blocks, {len(missing)} missing")
+    return bool(missing) or not blocks
+
+
+if __name__ == "__main__":
+    sys.exit(main())
