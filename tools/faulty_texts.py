@@ -3,8 +3,9 @@
 
     tools/faulty_texts.py            runs them, and compares what is shown with docs/faulty_texts.txt
     tools/faulty_texts.py --write    runs them, and writes that file
+    tools/faulty_texts.py [--write] PROGRAM      the same with a program that is built
 
-The program is built once, by `rt try`, which proves nothing. A text is of definitions; behind a line of three dashes
+Else the program is built once, by `rt try`, which proves nothing. A text is of definitions; behind a line of three dashes
 stands a script.
 """
 import os
@@ -26,7 +27,6 @@ def rule(condition):
     return TABLES + f"CREATE ASSERTION RULE CHECK ({condition});\n"
 
 
-# name: (the text, words that have to be in what is shown, the offset's line and column, or None)
 TEXTS = {
     "misspelt-word": "CREATE TABEL T (ID INTEGER PRIMARY KEY);\n",
     "misspelt-type": "CREATE TABLE T (ID INTEGR PRIMARY KEY);\n",
@@ -111,6 +111,19 @@ def run(cases):
     return dict(zip(parts[1::2], parts[2::2])), done
 
 
+def run_program(program, cases):
+    """The same, with a program that is built."""
+    shown = {}
+    for name, (arguments, files) in cases.items():
+        with tempfile.TemporaryDirectory() as folder:
+            for file, text in files.items():
+                with open(f"{folder}/{file}", "w", encoding="utf-8") as it:
+                    it.write(text)
+            done = subprocess.run([program, *arguments], cwd=folder, stdout=subprocess.PIPE, text=True, check=False)
+            shown[name] = done.stdout
+    return shown
+
+
 def case_of(name, text):
     defs, _, script = text.partition("---\n") if "\n---\n" in text else (text, "", "")
     files = {f"{name}.sql": defs}
@@ -122,12 +135,18 @@ def case_of(name, text):
 
 
 def main(words):
-    shown, done = run({name: case_of(name, text) for name, text in TEXTS.items()})
-    missing = [name for name in TEXTS if name not in shown]
+    cases = {name: case_of(name, text) for name, text in TEXTS.items()}
+    programs = [word for word in words if word != "--write"]
+    if programs:
+        shown, said = run_program(os.path.abspath(programs[0]), cases), ""
+    else:
+        shown, done = run(cases)
+        said = done.stderr[-3000:]
+    missing = [name for name in TEXTS if not shown.get(name)]
     if missing:
-        sys.exit(f"{done.stderr[-3000:]}\nnothing was shown of {', '.join(missing)}")
+        sys.exit(f"{said}\nnothing was shown of {', '.join(missing)}")
     table = "".join(f"== {name}\n{shown[name].strip()}\n\n" for name in TEXTS)
-    if words == ["--write"]:
+    if "--write" in words:
         with open(SHOWN, "w", encoding="utf-8") as it:
             it.write(table)
         return 0

@@ -80,7 +80,7 @@ fn show_ending(
     write!(shown, "{green}OK{end}")?;
     if has_script {
         let (events, sessions) = (found.events, found.sessions);
-        write!(shown, ": {events} events of {sessions} sessions")?;
+        write!(shown, ": events {events}, sessions {sessions}")?;
     }
     shown.push_str("\n")
 }

@@ -109,20 +109,21 @@ pub fn diagnose_name(
     let found = Diagnosis::new(alloc, context.which, 3, what, place);
     match unknown.nearest.found() {
         Some(nearest) => found.with(format!(in alloc; "The nearest name is {nearest}.")?),
-        None => found.with(names_there(alloc, context, unknown.sought)?),
+        None => found.with(names_there(alloc, context, unknown)?),
     }
 }
 
 /// Which names there are, where none is near.
-fn names_there(alloc: Global, context: Context, sought: Sought) -> Result<String, AllocError> {
-    match sought {
-        Sought::Qualifier => text(
-            alloc,
-            "A table goes by the name behind it, where one is written, and else by its own.",
-        ),
-        Sought::Column => text(
-            alloc,
-            "A column is of the query's own table or of one around it; a text stands in single quotes.",
+fn names_there(alloc: Global, context: Context, unknown: &Unknown) -> Result<String, AllocError> {
+    let around = unknown.around.as_str();
+    match unknown.sought {
+        Sought::Qualifier if around.is_empty() => text(alloc, "No table is around it."),
+        Sought::Qualifier => format!(in alloc; "The tables here go by {around}."),
+        Sought::Column if around.is_empty() => {
+            text(alloc, "A column stands in a query: (SELECT MAX(C) FROM T).")
+        }
+        Sought::Column => format!(in alloc;
+            "The tables here go by {around}. A text stands in single quotes."
         ),
         Sought::Table => {
             if context.catalog.len() == 0 {

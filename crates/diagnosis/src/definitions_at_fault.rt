@@ -181,7 +181,7 @@ fn diagnose_table(
                 alloc,
                 context.which,
                 4,
-                format!(in alloc; "a column of {name} stands there already")?,
+                format!(in alloc; "the table has a column {name} already")?,
                 context.name_at(context.piece.name(place.saturating_add(1)), name),
             ))
         }

@@ -136,5 +136,5 @@ fn stopped(alloc: Global, stop: Stop) -> Result<String, AllocError> {
         stop.token.end.min(stop.token.start.saturating_add(40)),
     );
     let spelled = printable(alloc, token)?;
-    format!(in alloc; "{spelled} may not stand here")
+    format!(in alloc; "`{spelled}` may not stand here")
 }

@@ -36,6 +36,14 @@ impl<'a> Stop<'a> {
         self.before.first().map_or(Kind::End, |token| token.kind)
     }
 
+    /// Whether nothing stands between it and the token before it.
+    fn is_glued(&self) -> bool {
+        self.before
+            .last()
+            .is_some_and(|token| token.end == self.token.start)
+            && self.token.kind == Kind::Name
+    }
+
     fn has_before(&self, kind: Kind) -> bool {
         self.before.iter().any(|token| token.kind == kind)
     }
@@ -196,11 +204,11 @@ pub fn hint(alloc: Global, stop: Stop) -> Result<Option<String>, AllocError> {
     if stop.token.kind == Kind::Bad {
         return Ok(Some(bad_token(alloc, stop)?));
     }
-    if let Some(sentence) = by_kind(stop) {
-        return Ok(Some(text(alloc, sentence)?));
-    }
     if let Some(sentence) = elsewhere(alloc, stop)? {
         return Ok(Some(sentence));
+    }
+    if let Some(sentence) = by_kind(stop) {
+        return Ok(Some(text(alloc, sentence)?));
     }
     if let Some(sentence) = near_word(alloc, stop)? {
         return Ok(Some(sentence));
@@ -245,6 +253,9 @@ pub fn is_reserved(kind: Kind) -> bool {
 fn by_kind(stop: Stop) -> Option<&'static str> {
     let words = stop.words;
     match (stop.token.kind, stop.last()) {
+        (_, Kind::Text) if stop.is_glued() => {
+            Some("The text before it ends here. A quote inside a text is written twice: 'O''HARA'.")
+        }
         (Kind::Number, _) if has(words, Kind::Number) => {
             Some("The length of a VARCHAR is from 1 to 255.")
         }
@@ -333,15 +344,22 @@ fn is_behind_group(before: &[Token]) -> bool {
 fn elsewhere(alloc: Global, stop: Stop) -> Result<Option<String>, AllocError> {
     let here = upper(alloc, stop.bytes())?;
     let last = match stop.before.last() {
-        Some(token) => upper(alloc, between(stop.text, token.start, token.end))?,
-        None => String::new(alloc),
+        Some(token) if stop.token.kind == Kind::Open => upper(
+            alloc,
+            between(stop.text, token.start, token.end),
+        )?,
+        _ => String::new(alloc),
     };
     for (word, sentence) in &ELSEWHERE {
-        if here.as_str() == *word || last.as_str() == *word {
+        if is_word(here.as_str(), word) || is_word(last.as_str(), word) {
             return Ok(Some(text(alloc, sentence)?));
         }
     }
     Ok(None)
+}
+
+fn is_word(spelled: &str, word: &str) -> bool {
+    spelled == word
 }
 
 /// Bytes as a word in upper case.

@@ -2,10 +2,12 @@
 //!
 //! The order is that of `name_check`: of a query its table comes first, then its list, WHERE, GROUP BY and HAVING.
 
+use crate::expected::joined;
 use crate::leaves::{of_column, of_condition, of_expression, parts_of};
 use crate::near::Nearest;
 use name_check::{Scope, exposed_name};
 use std::alloc::{AllocError, Global};
+use std::str;
 use syntax::{ColumnName, Condition, Expression, Query, SelectList};
 use table::Catalog;
 use value::Text;
@@ -28,6 +30,8 @@ pub struct Unknown {
     pub sought: Sought,
     /// The nearest name that there is.
     pub nearest: Nearest,
+    /// The names that the tables around go by.
+    pub around: String,
 }
 
 /// The first unknown name of a condition whose leaves begin here.
@@ -189,6 +193,7 @@ pub fn unknown_table(
         leaf,
         sought: Sought::Table,
         nearest,
+        around: String::new(alloc),
     })
 }
 
@@ -231,6 +236,7 @@ pub fn unknown_column(
         leaf,
         sought: Sought::Column,
         nearest,
+        around: exposed_names(alloc, scopes)?,
     })
 }
 
@@ -249,5 +255,15 @@ fn unknown_qualifier(
         leaf,
         sought: Sought::Qualifier,
         nearest,
+        around: exposed_names(alloc, scopes)?,
     })
+}
+
+/// The names that tables go by.
+fn exposed_names(alloc: Global, scopes: &[Scope]) -> Result<String, AllocError> {
+    let mut names: Vec<&str> = Vec::new(alloc);
+    for scope in scopes {
+        names.push(str::from_utf8(scope.exposed_name.as_bytes()).unwrap_or(""))?;
+    }
+    joined(alloc, &names, " and ")
 }

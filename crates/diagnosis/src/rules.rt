@@ -21,7 +21,7 @@ pub fn wrong(rule: Rule) -> &'static str {
         Rule::OuterColumn => "this looks at the row around the query",
         Rule::GroupInSubquery => "this query may have neither GROUP BY nor HAVING",
         Rule::ValueOfRow => "a query that stands for a value lists one set function",
-        Rule::ExistsAlone => "EXISTS stands in a rule behind NOT alone",
+        Rule::ExistsAlone => "EXISTS stands in a rule as NOT EXISTS (..), with nothing beside it",
         Rule::SeveralRules => "these are several rules in one",
         Rule::FunctionAlone => "a set function stands in a query",
     }

@@ -233,7 +233,7 @@ fn listed_type(
         exposed_name: exposed_name(&query.correlation_name, &query.table),
         schema,
     };
-    let scopes = put_inside(alloc, inner, outer)?;
+    let scopes = put_inside(alloc, inner, &*outer)?;
     if let Some(keeps) = &query.keeps {
         if let Some(mismatch) = in_condition(alloc, catalog, &scopes, keeps, parts.keeps)? {
             return Ok(Err(mismatch));

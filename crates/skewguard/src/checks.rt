@@ -3,7 +3,8 @@
 ghost use Rattle.std.specs.Prelude.{◌≤◌};
 
 use crate::files::{
-    OUTSIDE, REFUSED, Streams, USAGE, WELL, colour_of, named, read, report_no_memory, report_unread,
+    OUTSIDE, REFUSED, Streams, USAGE, WELL, colour_of, named, read, report_no_memory,
+    report_unread, tell_long,
 };
 use checkup::{CheckFault, Health, Named, Style, check_into};
 use clap::ArgMatches;
@@ -56,6 +57,12 @@ where
     E: Write,
     ensures { result ≤ 3 }
 {
+    tell_long(
+        rt.alloc(),
+        defs.bytes.len(),
+        streams.err_is_terminal,
+        streams.err,
+    );
     match check_into(rt.alloc(), defs, script, style, streams.out) {
         Ok(Health::Well) => WELL,
         Ok(Health::Faulty) => REFUSED,

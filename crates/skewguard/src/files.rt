@@ -30,6 +30,20 @@ pub struct Streams<'a, W, E> {
     pub err_is_terminal: bool,
 }
 
+/// From so many bytes on definitions may take more than a second.
+const LONG: usize = 1_000_000;
+
+/// Says on a terminal that long definitions are being taken in.
+pub fn tell_long<E: Write>(alloc: Global, bytes: usize, is_terminal: bool, err: &mut E) {
+    if !is_terminal || bytes < LONG {
+        return;
+    }
+    let megabytes = bytes / 1_000_000;
+    if let Ok(line) = format!(in alloc; "DEFS has {megabytes} MB: it is being read.\n") {
+        let _ = err.write_all(line.as_bytes());
+    }
+}
+
 /// The colours of a stream.
 pub fn colour_of(is_terminal: bool) -> Colour {
     if is_terminal {

@@ -4,7 +4,7 @@ ghost use Rattle.std.specs.Prelude.{◌≡◌, ◌≢◌, ◌≤◌, Err, IfErr,
 ghost use Rattle.running.specs.declared.faults.ProgramFault.TheVariants.{Output};
 
 use crate::files::{
-    OUTSIDE, REFUSED, Streams, USAGE, WELL, named, read, report_refused, report_unread,
+    OUTSIDE, REFUSED, Streams, USAGE, WELL, named, read, report_refused, report_unread, tell_long,
 };
 use checkup::{Colour, Named, Which, picture_of_refusal};
 use clap::ArgMatches;
@@ -98,6 +98,12 @@ where
     ensures { result ≤ 3 }
 {
     let alloc = rt.alloc();
+    tell_long(
+        alloc,
+        defs.bytes.len(),
+        streams.err_is_terminal,
+        streams.err,
+    );
     let outcome = match way {
         Way::InOrder => replay_into(alloc, defs.bytes, script.bytes, limit, streams.out),
         Way::OnThreads => run_threads(rt, defs.bytes, script.bytes, limit, streams.out),
