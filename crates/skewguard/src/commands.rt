@@ -44,7 +44,7 @@ Nothing is run. A fault is shown with its line and what may stand there.
 Example:
   $ printf 'CREATE TABLE T (ID INTEGR PRIMARY KEY);' > defs.sql
   $ skewguard check defs.sql
-  fault 2: INTEGR may not stand here
+  fault 2: `INTEGR` may not stand here
     --> defs.sql:1:20
      |
    1 | CREATE TABLE T (ID INTEGR PRIMARY KEY);
