@@ -14,15 +14,34 @@
 //! prints the same lines by session; what it promises stands at `threads::threads_into`. The texts, the faults and
 //! the closing part are the same for both (`running`).
 //!
-//! The module `program` is the command line: its words, the files that they name, and the status to end with.
+//! `skewguard check` runs nothing. It shows what the definitions define and what their assertions cost, and of each
+//! text its first fault, with its line and what may stand there (`checkup`).
+//!
+//! The module `program` is the command line: which subcommand is meant, and the status to end with. `commands` has the
+//! words that are taken, `runs` and `checks` what they do, and `files` the texts. A further subcommand is a function in
+//! `commands` and a line in `program::run_matches`.
 #![tactic(auto)]
 
+mod checks;
+mod commands;
+mod files;
 mod program;
+mod runs;
 
+use files::Streams;
+use std::io::IsTerminal;
 use std::process::ExitCode;
 
 fn main(rt: HostRuntime) -> ExitCode {
     let mut out = rt.stdout();
     let mut err = rt.stderr();
-    ExitCode::from(program::command_line(&rt, &mut out, &mut err))
+    let out_is_terminal = out.is_terminal();
+    let err_is_terminal = err.is_terminal();
+    let mut streams = Streams {
+        out: &mut out,
+        err: &mut err,
+        out_is_terminal,
+        err_is_terminal,
+    };
+    ExitCode::from(program::command_line(&rt, &mut streams))
 }

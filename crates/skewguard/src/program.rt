@@ -1,44 +1,20 @@
-//! The command line: `skewguard replay [--max-commits N] DEFS SCRIPT`, and `skewguard threads` with the same words;
-//! `skewguard postgresql DEFS`.
+//! The command line: which subcommand is meant, and the status to end with.
 
-ghost use Rattle.std.specs.Prelude.{◌≡◌, ◌≢◌, ◌≤◌, ◌⊎◌, Err, IfErr, IsOk};
-ghost use Rattle.running.specs.declared.faults.ProgramFault.TheVariants.{Output};
-ghost use Rattle.running.specs.declared.files.ReadFault.TheVariants.{NoMemory, Unreadable};
+ghost use Rattle.std.specs.Prelude.{◌≤◌};
 
-use clap::{Arg, ArgMatches, Command, value_parser};
-use commit::admit;
-use parse::parse_schema;
-use postgresql::{PrintFault, print_into};
-use replay::replay_into;
-use report::Report;
-use running::{ProgramFault, ReadFault, fault_of, read_all};
-use session::Shelf;
-use std::alloc::{AllocError, Global};
+use crate::checks::check;
+use crate::commands::make_command;
+use crate::files::{OUTSIDE, Streams, USAGE, WELL, report_no_memory};
+use crate::runs::{Way, run};
+use clap::ArgMatches;
 use std::env;
-use std::fs::File;
 use std::io::Write;
-use std::marker::Brand;
 use std::rt::{Env, Files};
 use std::sync::Wait;
 use std::thread::Threads;
-use threads::threads_into;
-use value::Refusal;
-use workers::Free;
-
-/// The script was run whole, whatever it was answered.
-const RUN: u8 = 0;
-/// A text was refused.
-const REFUSED: u8 = 1;
-/// The words of the command line are none that the program takes.
-const USAGE: u8 = 2;
-/// A file can't be read, or the output can't be written.
-const OUTSIDE: u8 = 3;
-
-/// At most so many commits in one run, where the command line gives no number.
-const MOST_COMMITS: &str = "1000000";
 
 /// Does what the words of the command line ask for, and gives the status to end with.
-pub fn command_line<R, W, E>(rt: &R, out: &mut W, err: &mut E) -> u8
+pub fn command_line<R, W, E>(rt: &R, streams: &mut Streams<'_, W, E>) -> u8
 where
     R: Env + Files + Print + Eprint + AllocGlobal + Threads + Wait + Sync,
     W: Write,
@@ -49,84 +25,27 @@ where
     let words: Vec<String> = match env::args(rt) {
         Ok(args) => match args.collect(alloc) {
             Ok(words) => words,
-            Err(_) => return report_no_memory(err),
+            Err(_) => return report_no_memory(streams.err),
         },
-        Err(_) => return report_no_memory(err),
+        Err(_) => return report_no_memory(streams.err),
     };
     let command = match make_command(alloc) {
         Ok(command) => command,
-        Err(_) => return report_no_memory(err),
+        Err(_) => return report_no_memory(streams.err),
     };
     match command.try_get_matches_from(words.as_slice()) {
-        Ok(matches) => run_matches(rt, &matches, out, err),
+        Ok(matches) => run_matches(rt, &matches, streams),
         Err(error) => {
             if error.print(rt).is_err() {
                 return OUTSIDE;
             }
-            if error.use_stderr() { USAGE } else { RUN }
+            if error.use_stderr() { USAGE } else { WELL }
         }
     }
 }
 
-/// Says that there was no memory for the words of the command line, and gives the status to end with.
-fn report_no_memory<E: Write>(err: &mut E) -> u8
-    ensures { result ≡ 1 }
-{
-    let _ = err.write_all(b"REFUSED 1 - NO MEMORY\n");
-    REFUSED
-}
-
-/// The words that the program takes.
-fn make_command<'a>(alloc: Global) -> Result<Command<'a>, AllocError> {
-    let replay = add_text_words(
-        alloc,
-        Command::new(alloc, "replay").about(
-            "Replays a script on definitions and prints the reply to each event",
-        ),
-    )?;
-    let threads = add_text_words(
-        alloc,
-        Command::new(alloc, "threads").about(
-            "Runs each session of a script on a thread and prints the replies by session",
-        ),
-    )?;
-    Command::new(alloc, "skewguard")
-        .about("Runs transactions on tables that SQL-92 assertions guard")
-        .subcommand_required(true)
-        .subcommand(replay)?
-        .subcommand(threads)?
-        .subcommand(make_postgresql(alloc)?)
-}
-
-/// The words that print definitions as SQL for PostgreSQL.
-fn make_postgresql<'a>(alloc: Global) -> Result<Command<'a>, AllocError> {
-    let defs = Arg::new(alloc, "DEFS")
-        .required(true)
-        .help("A file of definitions");
-    Command::new(alloc, "postgresql")
-        .about("Prints definitions as SQL for PostgreSQL 15 or later")
-        .arg(defs)
-}
-
-/// The command with the words that name the two texts, and the limit.
-fn add_text_words<'a>(alloc: Global, command: Command<'a>) -> Result<Command<'a>, AllocError> {
-    let defs = Arg::new(alloc, "DEFS").required(true).help(
-        "A file of definitions: tables, assertions and the rows to begin with",
-    );
-    let script = Arg::new(alloc, "SCRIPT")
-        .required(true)
-        .help("A file of events of any sessions, one after the other");
-    let max_commits = Arg::new(alloc, "max-commits")
-        .long("max-commits")
-        .value_name("N")
-        .value_parser(value_parser!(u32).range(1..))
-        .default_value(MOST_COMMITS)
-        .help("At most so many commits");
-    command.arg(max_commits)?.arg(defs)?.arg(script)
-}
-
-/// Runs the two files that the words name.
-fn run_matches<R, W, E>(rt: &R, matches: &ArgMatches<'_>, out: &mut W, err: &mut E) -> u8
+/// Runs the subcommand that the words name.
+fn run_matches<R, W, E>(rt: &R, matches: &ArgMatches<'_>, streams: &mut Streams<'_, W, E>) -> u8
 where
     R: Files + AllocGlobal + Threads + Wait + Sync,
     W: Write,
@@ -136,185 +55,10 @@ where
     let Some((name, words)) = matches.subcommand() else {
         return USAGE;
     };
-    if name == "postgresql" {
-        return match words.get_str("DEFS") {
-            Some(defs) => print_postgresql(rt, defs, out, err),
-            None => USAGE,
-        };
-    }
-    match (
-        words.get_one::<u32>("max-commits"),
-        words.get_str("DEFS"),
-        words.get_str("SCRIPT"),
-    ) {
-        (Some(limit), Some(defs), Some(script)) if limit > 0 => {
-            run_files(
-                rt,
-                name == "threads",
-                u64::from(limit),
-                defs,
-                script,
-                out,
-                err,
-            )
-        }
+    match name {
+        "replay" => run(rt, Way::InOrder, words, streams),
+        "threads" => run(rt, Way::OnThreads, words, streams),
+        "check" => check(rt, words, streams),
         _ => USAGE,
     }
-}
-
-/// Reads both files and runs them, with threads or without. What is refused or can't be read is said in one line on
-/// `err`.
-fn run_files<R, W, E>(
-    rt: &R,
-    threads: bool,
-    limit: u64,
-    defs: &str,
-    script: &str,
-    out: &mut W,
-    err: &mut E,
-) -> u8
-where
-    R: Files + AllocGlobal + Threads + Wait + Sync,
-    W: Write,
-    E: Write,
-    requires some { 1 ≤ limit }
-    requires within { limit ≤ 4294967295 }
-    ensures { result ≤ 3 }
-{
-    let alloc = rt.alloc();
-    let defs = match read(rt, defs) {
-        Ok(defs) => defs,
-        Err(fault) => return report_unread(alloc, "DEFS", fault, err),
-    };
-    let script = match read(rt, script) {
-        Ok(script) => script,
-        Err(fault) => return report_unread(alloc, "SCRIPT", fault, err),
-    };
-    let run = if threads {
-        run_threads(rt, defs.as_slice(), script.as_slice(), limit, out)
-    } else {
-        replay_into(alloc, defs.as_slice(), script.as_slice(), limit, out)
-    };
-    end_with_status(alloc, run, out, err)
-}
-
-/// Prints the definitions of a file as SQL for PostgreSQL.
-fn print_postgresql<R, W, E>(rt: &R, defs: &str, out: &mut W, err: &mut E) -> u8
-where
-    R: Files + AllocGlobal,
-    W: Write,
-    E: Write,
-    ensures { result ≤ 3 }
-{
-    let alloc = rt.alloc();
-    let defs = match read(rt, defs) {
-        Ok(defs) => defs,
-        Err(fault) => return report_unread(alloc, "DEFS", fault, err),
-    };
-    let definitions = match parse_schema(alloc, defs.as_slice()) {
-        Ok(definitions) => definitions,
-        Err(refusal) => return report_refused(alloc, "DEFS", &refusal, err),
-    };
-    let view = match admit(alloc, definitions.as_slice()) {
-        Ok(view) => view,
-        Err(refusal) => return report_refused(alloc, "DEFS", &refusal, err),
-    };
-    match print_into(alloc, &view, out) {
-        Ok(()) => RUN,
-        Err(PrintFault::NoMemory) => report_refused(alloc, "DEFS", &Refusal::NoMemory, err),
-        Err(PrintFault::Output) => OUTSIDE,
-        Err(PrintFault::LongName { name }) => {
-            let _ = err.write_all(
-                b"DEFS: a name is longer than the 63 bytes that PostgreSQL keeps: ",
-            );
-            let _ = err.write_all(name.as_bytes());
-            let _ = err.write_all(b"\n");
-            REFUSED
-        }
-    }
-}
-
-/// Runs each session of a script on a thread, which no gate holds.
-fn run_threads<R, W>(
-    rt: &R,
-    defs: &[u8],
-    script: &[u8],
-    limit: u64,
-    out: &mut W,
-) -> Result<(), ProgramFault>
-where
-    R: AllocGlobal + Threads + Wait + Sync,
-    W: Write,
-    requires some { 1 ≤ limit }
-    requires within { limit ≤ 4294967295 }
-{
-    let shelf = match Shelf::new(rt.alloc()) {
-        Ok(shelf) => shelf,
-        Err(refusal) => return Err(ProgramFault::Script(refusal)),
-    };
-    threads_into::<Brand, R, Free, W>(rt, rt.alloc(), shelf, 0, defs, script, limit, &Free, out)
-}
-
-/// The status to end with. A fault is said in one line on `err`; one of the writer is not, nor a session without a
-/// thread, of which a line of the report says it.
-fn end_with_status<W: Write, E: Write>(
-    alloc: Global,
-    run: Result<(), ProgramFault>,
-    out: &mut W,
-    err: &mut E,
-) -> u8
-    ensures whole { IsOk run → result ≡ 0 }
-    ensures output { run ≡ Err Output → result ≡ 3 }
-    ensures refused { IfErr run (λ fault. fault ≢ Output → result ≡ 1) }
-    ensures known { result ≤ 3 }
-{
-    match run {
-        Ok(()) => RUN,
-        Err(ProgramFault::Defs(refusal)) => report_refused(alloc, "DEFS", &refusal, err),
-        Err(ProgramFault::Script(refusal)) => report_refused(alloc, "SCRIPT", &refusal, err),
-        Err(ProgramFault::Stopped) => {
-            let _ = out.flush();
-            let _ = err.write_all(b"SCRIPT: STOPPED 1 - NO MEMORY\n");
-            REFUSED
-        }
-        Err(ProgramFault::NoThread) => REFUSED,
-        Err(ProgramFault::Output) => OUTSIDE,
-    }
-}
-
-fn read<R: Files + AllocGlobal>(rt: &R, path: &str) -> Result<Vec<u8>, ReadFault> {
-    match File::open(rt, path) {
-        Ok(mut file) => read_all(rt.alloc(), &mut file),
-        Err(error) => Err(fault_of(&error)),
-    }
-}
-
-/// Says that a file was not read, and gives the status to end with.
-fn report_unread<E: Write>(alloc: Global, name: &str, fault: ReadFault, err: &mut E) -> u8
-    ensures unreadable { fault ≡ Unreadable → result ≡ 3 }
-    ensures no_memory { fault ≡ NoMemory → result ≡ 1 }
-    ensures either { (result ≡ 1) ⊎ (result ≡ 3) }
-{
-    match fault {
-        ReadFault::NoMemory => report_refused(alloc, name, &Refusal::NoMemory, err),
-        ReadFault::Unreadable => {
-            let _ = err.write_all(name.as_bytes());
-            let _ = err.write_all(b": UNREADABLE\n");
-            OUTSIDE
-        }
-    }
-}
-
-/// Says why a text was refused, and gives the status to end with.
-fn report_refused<E: Write>(alloc: Global, name: &str, refusal: &Refusal, err: &mut E) -> u8
-    ensures { result ≡ 1 }
-{
-    let mut line = Report::new(alloc);
-    if line.add_refusal(name, refusal).is_ok() {
-        let _ = err.write_all(line.as_bytes());
-    } else {
-        let _ = err.write_all(name.as_bytes());
-        let _ = err.write_all(b": REFUSED 1 - NO MEMORY\n");
-    }
-    REFUSED
 }

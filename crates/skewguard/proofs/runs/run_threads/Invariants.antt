@@ -1,4 +1,4 @@
-use Rattle.skewguard.proofs.program.run_threads.Given as goal
+use Rattle.skewguard.proofs.runs.run_threads.Given as goal
 
 -- the one manager's shelf and limits
 abbrev pub ghosts-threads_into : goal.ghosts-threads_into

@@ -1,0 +1,321 @@
+//! What an assertion costs: what is maintained for it, what a check of it reads, and how many rows and groups there are.
+//!
+//! All of it is taken from the resolved form (`assertion::Form`) and from the rows of a view. A form has a total for
+//! each query or set function in its condition (`roots`), and one of COUNT(*) where a HAVING has none.
+
+use crate::columns::{add_column, add_condition};
+use assertion::Form;
+use changes::selected_rows;
+use cond::{Cond, is_bounded};
+use delta::View;
+use std::alloc::{AllocError, Global};
+use table::{Aggregate, Row};
+use value::Value;
+
+/// How the rows of a table go into groups.
+#[derive(Clone, Copy, Debug, PartialEq, Eq)]
+pub enum Grouping {
+    /// All are one group.
+    Whole,
+    /// By a column; NULL is a group like another.
+    By(usize),
+    /// By a column that holds the key of a row; NULL is no group.
+    Linked(usize),
+}
+
+impl Grouping {
+    /// The column, where there is one.
+    pub fn column(self) -> Option<usize> {
+        match self {
+            Grouping::Whole => None,
+            Grouping::By(column) | Grouping::Linked(column) => Some(column),
+        }
+    }
+}
+
+/// How many rows a WHERE keeps that go to a group, and how many groups they make.
+#[derive(Clone, Copy, Debug, PartialEq, Eq)]
+pub struct Counts {
+    pub rows: usize,
+    pub groups: usize,
+}
+
+/// A total that is maintained: what a set function needs of the rows that a WHERE keeps, group by group.
+#[derive(Drop)]
+pub struct Kept {
+    pub function: Aggregate,
+    pub table: usize,
+    pub grouping: Grouping,
+    /// The columns that its WHERE looks at.
+    pub filter: Vec<usize>,
+    pub counts: Counts,
+}
+
+/// What a check of one root reads: of a table all rows, those with one value in a column, or the row under a key.
+#[derive(Drop)]
+pub struct Reading {
+    pub table: usize,
+    /// The column whose value the rows share.
+    pub by: Option<usize>,
+    /// The columns that are looked at, in their order.
+    pub columns: Vec<usize>,
+}
+
+/// The figures of an assertion.
+#[derive(Drop)]
+pub struct Figures {
+    /// Of the rows that its outer query goes over; of a single condition, of the rows of its queries.
+    pub counts: Counts,
+    pub kept: Vec<Kept>,
+    pub readings: Vec<Reading>,
+}
+
+/// The figures of an assertion of this form on the rows of a view.
+pub fn figures_of(alloc: Global, view: &View, form: &Form) -> Result<Figures, AllocError> {
+    match form {
+        Form::ByRow { .. } => by_row(alloc, view, form),
+        Form::ByGroup { .. } => by_group(alloc, view, form),
+        Form::Single { .. } => single(alloc, view, form),
+    }
+}
+
+fn by_row(alloc: Global, view: &View, form: &Form) -> Result<Figures, AllocError> {
+    let mut figures = no_figures(alloc);
+    if let Form::ByRow {
+        table,
+        condition,
+        queries,
+    } = form
+    {
+        let rows = row_count(view, *table);
+        figures.counts = Counts { rows, groups: rows };
+        let key = key_of(view, *table);
+        let mut columns = Vec::new(alloc);
+        add_column(&mut columns, key)?;
+        add_condition(&mut columns, condition)?;
+        put_reading(&mut figures.readings, *table, Some(key), columns)?;
+        for query in queries.as_slice() {
+            let grouping = Grouping::Linked(query.grouping.column());
+            let kept = kept_of(
+                alloc,
+                view,
+                query.table,
+                &query.filter,
+                grouping,
+                query.aggregate,
+            )?;
+            put_kept(alloc, &mut figures, kept)?;
+        }
+    }
+    Ok(figures)
+}
+
+fn by_group(alloc: Global, view: &View, form: &Form) -> Result<Figures, AllocError> {
+    let mut figures = no_figures(alloc);
+    if let Form::ByGroup {
+        table,
+        filter,
+        group,
+        aggregates,
+        ..
+    } = form
+    {
+        let grouping = Grouping::By(*group);
+        figures.counts = count(alloc, view, *table, filter, grouping)?;
+        if aggregates.is_empty() {
+            let kept = kept_of(alloc, view, *table, filter, grouping, Aggregate::CountRows)?;
+            put_kept(alloc, &mut figures, kept)?;
+        }
+        for aggregate in aggregates.as_slice() {
+            let kept = kept_of(alloc, view, *table, filter, grouping, *aggregate)?;
+            put_kept(alloc, &mut figures, kept)?;
+        }
+    }
+    Ok(figures)
+}
+
+fn single(alloc: Global, view: &View, form: &Form) -> Result<Figures, AllocError> {
+    let mut figures = no_figures(alloc);
+    if let Form::Single { queries, .. } = form {
+        for query in queries.as_slice() {
+            let kept = kept_of(
+                alloc,
+                view,
+                query.table,
+                &query.filter,
+                Grouping::Whole,
+                query.aggregate,
+            )?;
+            figures.counts.rows = figures.counts.rows.saturating_add(kept.counts.rows);
+            put_kept(alloc, &mut figures, kept)?;
+        }
+        figures.counts.groups = 1;
+    }
+    Ok(figures)
+}
+
+fn no_figures(alloc: Global) -> Figures {
+    Figures {
+        counts: Counts { rows: 0, groups: 0 },
+        kept: Vec::new(alloc),
+        readings: Vec::new(alloc),
+    }
+}
+
+/// Puts a total behind the others, and what is read for it.
+fn put_kept(alloc: Global, figures: &mut Figures, kept: Kept) -> Result<(), AllocError> {
+    let mut columns = Vec::new(alloc);
+    if let Some(column) = kept.grouping.column() {
+        add_column(&mut columns, column)?;
+    }
+    for column in &kept.filter {
+        add_column(&mut columns, *column)?;
+    }
+    if let Some(column) = column_of(kept.function) {
+        add_column(&mut columns, column)?;
+    }
+    put_reading(
+        &mut figures.readings,
+        kept.table,
+        kept.grouping.column(),
+        columns,
+    )?;
+    figures.kept.push(kept)?;
+    Ok(())
+}
+
+/// Puts what is read behind the others, or into that of the same rows.
+fn put_reading(
+    readings: &mut Vec<Reading>,
+    table: usize,
+    by: Option<usize>,
+    columns: Vec<usize>,
+) -> Result<(), AllocError> {
+    for reading in readings.iter_mut() {
+        if reading.table == table && reading.by == by {
+            for column in &columns {
+                add_column(&mut reading.columns, *column)?;
+            }
+            return Ok(());
+        }
+    }
+    readings.push(Reading { table, by, columns })?;
+    Ok(())
+}
+
+/// The column of a set function.
+pub fn column_of(function: Aggregate) -> Option<usize> {
+    match function {
+        Aggregate::CountRows => None,
+        Aggregate::Count(column)
+        | Aggregate::Sum(column)
+        | Aggregate::Min(column)
+        | Aggregate::Max(column) => Some(column),
+    }
+}
+
+/// The total of a query.
+fn kept_of(
+    alloc: Global,
+    view: &View,
+    table: usize,
+    filter: &Cond,
+    grouping: Grouping,
+    function: Aggregate,
+) -> Result<Kept, AllocError> {
+    let mut columns = Vec::new(alloc);
+    add_condition(&mut columns, filter)?;
+    Ok(Kept {
+        function,
+        table,
+        grouping,
+        filter: columns,
+        counts: count(alloc, view, table, filter, grouping)?,
+    })
+}
+
+/// How many rows a table has.
+pub fn row_count(view: &View, table: usize) -> usize {
+    if table < view.catalog().len() {
+        view.rows(table).len()
+    } else {
+        0
+    }
+}
+
+/// The place of a table's key.
+pub fn key_of(view: &View, table: usize) -> usize {
+    match view.catalog().at(table) {
+        Some(schema) => schema.key(),
+        None => 0,
+    }
+}
+
+/// How many rows of a table a WHERE keeps that go to a group, and how many groups they make.
+fn count(
+    alloc: Global,
+    view: &View,
+    table: usize,
+    filter: &Cond,
+    grouping: Grouping,
+) -> Result<Counts, AllocError> {
+    let Some(column) = grouping.column() else {
+        let rows = kept_rows(alloc, view, table, &[], filter)?.len();
+        return Ok(Counts {
+            rows,
+            groups: rows.min(1),
+        });
+    };
+    let kept = kept_rows(alloc, view, table, &[column], filter)?;
+    let is_link = matches!(grouping, Grouping::Linked(_));
+    let mut values = Vec::new(alloc);
+    for row in &kept {
+        if let Some(value) = group_of(is_link, row) {
+            values.push(value)?;
+        }
+    }
+    values.sort_unstable();
+    Ok(Counts {
+        rows: values.len(),
+        groups: distinct(&values),
+    })
+}
+
+/// The rows of a table that a WHERE keeps, with these columns alone.
+fn kept_rows(
+    alloc: Global,
+    view: &View,
+    table: usize,
+    columns: &[usize],
+    filter: &Cond,
+) -> Result<Vec<Row>, AllocError> {
+    if table < view.catalog().len() && is_bounded(filter, &[]) {
+        match selected_rows(alloc, view, table, columns, filter) {
+            Ok(rows) => Ok(rows),
+            Err(_) => Err(AllocError),
+        }
+    } else {
+        Ok(Vec::new(alloc))
+    }
+}
+
+/// The group of a row of which the grouping column is listed, if it goes to one.
+fn group_of(is_link: bool, row: &Row) -> Option<&Value> {
+    match row.values().first() {
+        Some(Value::Null) if is_link => None,
+        value => value,
+    }
+}
+
+/// How many values there are in a list in order, each counted once.
+fn distinct(values: &[&Value]) -> usize {
+    let mut count = 0usize;
+    let mut last: Option<&Value> = None;
+    for value in values {
+        if last != Some(*value) {
+            count = count.saturating_add(1);
+        }
+        last = Some(*value);
+    }
+    count
+}

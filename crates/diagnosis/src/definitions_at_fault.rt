@@ -1,0 +1,309 @@
+//! What is wrong with the first definition that was refused.
+
+use crate::conditions::{Context, diagnose_condition, diagnose_whole};
+use crate::diagnoses::{At, Diagnosis, text};
+use crate::expected::Which;
+use crate::inserts::diagnose_insert;
+use crate::pieces::Piece;
+use crate::places::place_of;
+use crate::shapes::in_assertion;
+use definitions::Definitions;
+use delta::View;
+use statement_syntax::{ColumnDefinition, Definition};
+use std::alloc::{AllocError, Global};
+use table::Row;
+use token::Kind;
+use value::{Refusal, Root, Text};
+
+/// What is wrong with definitions that were refused so when they were taken in one after the other. Their text is one
+/// of the language, and they are its definitions.
+pub fn diagnose_definitions(
+    alloc: Global,
+    bytes: &[u8],
+    definitions: &[Definition],
+    refusal: &Refusal,
+) -> Result<Diagnosis, AllocError> {
+    let place = first_refused(alloc, definitions)?;
+    let before = view_of(alloc, &definitions[..place.min(definitions.len())])?;
+    let piece = Piece::at(alloc, bytes, place)?;
+    let context = Context {
+        which: Which::Defs,
+        piece: &piece,
+        catalog: before.catalog(),
+    };
+    let found = match definitions.get(place) {
+        Some(definition) => diagnose_definition(alloc, context, definition, refusal)?,
+        None => diagnose_whole(alloc, context, refusal)?,
+    };
+    match (refusal, definitions.get(place)) {
+        (Refusal::UnknownName { name }, Some(_)) => {
+            found.with_some(created_below(alloc, bytes, definitions, place, name)?)
+        }
+        _ => Ok(found),
+    }
+}
+
+/// The place of the first definition that is refused. Those before it are taken in, and with it they are not: so it is
+/// found by halving.
+fn first_refused(alloc: Global, definitions: &[Definition]) -> Result<usize, AllocError> {
+    let mut taken = 0usize;
+    let mut refused = definitions.len();
+    while taken < refused {
+        let middle = taken + (refused - taken) / 2;
+        if are_taken(alloc, definitions, middle + 1)? {
+            taken = middle + 1;
+        } else {
+            refused = middle;
+        }
+    }
+    Ok(taken)
+}
+
+/// Whether the first so many definitions are taken in.
+fn are_taken(alloc: Global, definitions: &[Definition], count: usize) -> Result<bool, AllocError> {
+    let some = &definitions[..count.min(definitions.len())];
+    match Definitions::take(alloc, some) {
+        Ok(_) => Ok(true),
+        Err(Refusal::NoMemory) => Err(AllocError),
+        Err(_) => Ok(false),
+    }
+}
+
+/// What definitions define that are taken in.
+fn view_of(alloc: Global, definitions: &[Definition]) -> Result<View, AllocError> {
+    let taken = match Definitions::take(alloc, definitions) {
+        Ok(taken) => taken,
+        Err(_) => return Err(AllocError),
+    };
+    match taken.load(alloc) {
+        Ok(view) => Ok(view),
+        Err(_) => Err(AllocError),
+    }
+}
+
+/// That a table of this name is created further down.
+fn created_below(
+    alloc: Global,
+    bytes: &[u8],
+    definitions: &[Definition],
+    place: usize,
+    name: &Text,
+) -> Result<Option<String>, AllocError> {
+    for (at, definition) in definitions.iter().enumerate() {
+        if let Definition::Table { name: created, .. } = definition {
+            if at > place && *created == *name {
+                let piece = Piece::at(alloc, bytes, at)?;
+                let line = place_of(bytes, piece.whole().start).line;
+                let told = format!(in alloc;
+                    "{name} is created in line {line}: put its CREATE TABLE above."
+                )?;
+                return Ok(Some(told));
+            }
+        }
+    }
+    Ok(None)
+}
+
+fn diagnose_definition(
+    alloc: Global,
+    context: Context,
+    definition: &Definition,
+    refusal: &Refusal,
+) -> Result<Diagnosis, AllocError> {
+    match definition {
+        Definition::Table { name, columns } => {
+            diagnose_table(alloc, context, name, columns.as_slice(), refusal)
+        }
+        Definition::Assertion {
+            name,
+            condition,
+            ..
+        } => match refusal {
+            Refusal::NameTaken { .. } => Ok(name_taken(alloc, context, "an assertion", name)?),
+            Refusal::AttributeClash { .. } => attributes_at_odds(alloc, context),
+            _ => {
+                let outside = in_assertion(context.catalog, condition, 1);
+                let found = diagnose_condition(
+                    alloc,
+                    context,
+                    &[],
+                    condition,
+                    1,
+                    outside,
+                    refusal,
+                )?;
+                match found {
+                    Some(found) => Ok(found),
+                    None => diagnose_whole(alloc, context, refusal),
+                }
+            }
+        },
+        Definition::Insert(insert) => diagnose_insert(alloc, context, insert, 0, refusal),
+    }
+}
+
+/// A name that something has.
+fn name_taken(
+    alloc: Global,
+    context: Context,
+    whose: &str,
+    name: &Text,
+) -> Result<Diagnosis, AllocError> {
+    Ok(Diagnosis::new(
+        alloc,
+        context.which,
+        4,
+        format!(in alloc; "{whose} has the name {name} already")?,
+        context.name_at(context.piece.name(0), name),
+    ))
+}
+
+/// What is wrong with a CREATE TABLE.
+fn diagnose_table(
+    alloc: Global,
+    context: Context,
+    name: &Text,
+    columns: &[ColumnDefinition],
+    refusal: &Refusal,
+) -> Result<Diagnosis, AllocError> {
+    match refusal {
+        Refusal::NameTaken { .. } if context.catalog.get(name).is_some() => {
+            name_taken(alloc, context, "a table", name)
+        }
+        Refusal::NameTaken { name } => {
+            let mut places = columns
+                .iter()
+                .enumerate()
+                .filter(|(_, column)| column.name == *name)
+                .skip(1);
+            let place = places.next().map_or(0, |(place, _)| place);
+            Ok(Diagnosis::new(
+                alloc,
+                context.which,
+                4,
+                format!(in alloc; "the table has a column {name} already")?,
+                context.name_at(context.piece.name(place.saturating_add(1)), name),
+            ))
+        }
+        Refusal::OutsideClass => diagnose_key(alloc, context, name, columns),
+        _ => diagnose_whole(alloc, context, refusal),
+    }
+}
+
+/// No key, or several.
+fn diagnose_key(
+    alloc: Global,
+    context: Context,
+    name: &Text,
+    columns: &[ColumnDefinition],
+) -> Result<Diagnosis, AllocError> {
+    let keys = columns.iter().filter(|column| column.marks.key).count();
+    if keys == 0 {
+        let first = match columns.first() {
+            Some(column) => &column.name,
+            None => name,
+        };
+        return Diagnosis::new(
+            alloc,
+            context.which,
+            20,
+            format!(in alloc; "{name} has no PRIMARY KEY")?,
+            context.name_at(context.piece.name(0), name),
+        )
+        .with(format!(in alloc;
+            "One column of each table is its key. Write PRIMARY KEY behind its type, behind {first} for instance."
+        )?);
+    }
+    let first = context.piece.token(Kind::Primary, 0).unwrap_or(0);
+    let second = context.piece.token(Kind::Primary, first.saturating_add(1));
+    let span = match second {
+        Some(place) => context.piece.span_at(place),
+        None => None,
+    };
+    Diagnosis::new(
+        alloc,
+        context.which,
+        20,
+        format!(in alloc; "{name} has several keys")?,
+        context.at(span),
+    )
+    .with(text(
+        alloc,
+        "One column is the key. That another is unique too is an assertion: NOT EXISTS (SELECT C FROM T GROUP BY C HAVING COUNT(*) > 1).",
+    )?)
+}
+
+/// INITIALLY DEFERRED and NOT DEFERRABLE.
+fn attributes_at_odds(alloc: Global, context: Context) -> Result<Diagnosis, AllocError> {
+    let initially = context.piece.token(Kind::Initially, 0);
+    let span = match initially {
+        Some(place) => context.piece.span_at(place),
+        None => None,
+    };
+    Diagnosis::new(
+        alloc,
+        context.which,
+        22,
+        text(
+            alloc,
+            "INITIALLY DEFERRED and NOT DEFERRABLE exclude each other",
+        )?,
+        context.at(span),
+    )
+    .with(text(
+        alloc,
+        "An assertion that begins deferred is deferrable: leave NOT DEFERRABLE out, or write INITIALLY IMMEDIATE.",
+    )?)
+}
+
+/// That an assertion is false on the rows that are loaded, at this root; by rows the row that is bad.
+pub fn diagnose_false(
+    alloc: Global,
+    bytes: &[u8],
+    definitions: &[Definition],
+    name: &Text,
+    root: &Root,
+    row: Option<String>,
+) -> Result<Diagnosis, AllocError> {
+    let mut at = At::Nowhere;
+    for (place, definition) in definitions.iter().enumerate() {
+        if let Definition::Assertion { name: other, .. } = definition {
+            if *other == *name {
+                let piece = Piece::at(alloc, bytes, place)?;
+                at = match piece.name(0) {
+                    Some(span) => At::Bytes(span),
+                    None => At::Definition(piece.whole()),
+                };
+            }
+        }
+    }
+    let where_false = match root {
+        Root::All => text(alloc, "as a whole")?,
+        Root::Of(value) => format!(in alloc; "at {value}")?,
+    };
+    Diagnosis::new(
+        alloc,
+        Which::Defs,
+        21,
+        format!(in alloc; "{name} is false on the rows that DEFS puts in, {where_false}")?,
+        at,
+    )
+    .with_some(row)?
+    .with(text(
+        alloc,
+        "Change the rows, or the rule. Every assertion holds when the first session begins.",
+    )?)
+}
+
+/// A row as a person reads it: its values with commas between them, in parentheses.
+pub fn row_text(alloc: Global, table: &Text, row: &Row) -> Result<String, AllocError> {
+    let mut told = format!(in alloc; "The row of {table} there: (")?;
+    for (place, value) in row.values().iter().enumerate() {
+        if place > 0 {
+            told.push_str(", ")?;
+        }
+        write!(told, "{value}")?;
+    }
+    told.push_str(").")?;
+    Ok(told)
+}

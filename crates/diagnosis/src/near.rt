@@ -1,0 +1,57 @@
+//! The nearest of some words to one that was not found.
+
+use std::alloc::{AllocError, Global};
+use std::str;
+use strsim::damerau_levenshtein;
+use value::Text;
+
+/// The word that was not found, and the nearest of those that were offered so far.
+#[derive(Drop)]
+pub struct Nearest {
+    word: String,
+    found: Option<String>,
+    distance: usize,
+}
+
+impl Nearest {
+    /// None was offered yet. A word that is further than a third of its letters (and a letter, for a short one) is none.
+    pub fn new(alloc: Global, word: &str) -> Result<Nearest, AllocError> {
+        Ok(Nearest {
+            word: String::from_str(alloc, word)?,
+            found: None,
+            distance: (word.len() / 3).saturating_add(2),
+        })
+    }
+
+    /// Of a name.
+    pub fn of(alloc: Global, name: &Text) -> Result<Nearest, AllocError> {
+        Nearest::new(alloc, str::from_utf8(name.as_bytes()).unwrap_or(""))
+    }
+
+    /// Offers one more word.
+    pub fn offer(&mut self, alloc: Global, word: &str) -> Result<(), AllocError> {
+        // (a table of all pairs of letters: names of the program are short)
+        if word.len() > 128 {
+            return Ok(());
+        }
+        let distance = damerau_levenshtein(alloc, self.word.as_str(), word)?;
+        if distance > 0 && distance < self.distance {
+            self.distance = distance;
+            self.found = Some(String::from_str(alloc, word)?);
+        }
+        Ok(())
+    }
+
+    /// Offers one more name.
+    pub fn offer_name(&mut self, alloc: Global, name: &Text) -> Result<(), AllocError> {
+        self.offer(alloc, str::from_utf8(name.as_bytes()).unwrap_or(""))
+    }
+
+    /// The nearest of them, if one is near.
+    pub fn found(&self) -> Option<&str> {
+        match &self.found {
+            Some(found) => Some(found.as_str()),
+            None => None,
+        }
+    }
+}

@@ -1,0 +1,116 @@
+//! The words that the program takes, and their help.
+
+use clap::{Arg, ArgAction, Command, value_parser};
+use std::alloc::{AllocError, Global};
+
+/// The version that `--version` tells.
+const VERSION: &str = "0.1.0";
+
+/// At most so many commits in one run, where the command line gives no number.
+const MOST_COMMITS: &str = "1000000";
+
+/// Behind the list of subcommands.
+const AFTER: &str = "\
+DEFS is a file of CREATE TABLE, CREATE ASSERTION and INSERT; SCRIPT one of events, as `ALICE: BEGIN;`.
+
+  skewguard check defs.sql                  is the text right, and what do its rules cost?
+  skewguard replay defs.sql script.sql      what is each event answered?
+  skewguard help replay                     one subcommand, with an example
+
+The status is 0 where all went well, 1 where a text was refused, 2 for words that are not taken here, and
+3 where a file can't be read or written.";
+
+const AFTER_REPLAY: &str = "\
+Example:
+  $ printf 'CREATE TABLE T (ID INTEGER PRIMARY KEY);' > defs.sql
+  $ printf 'A: BEGIN; A: INSERT INTO T VALUES (1); A: COMMIT;' > script.sql
+  $ skewguard replay defs.sql script.sql
+  A: BEGIN 0
+  A: INSERT 1
+  A: COMMIT 1
+  COMMITS 1
+  ..";
+
+const AFTER_THREADS: &str = "\
+The lines of a session stand together. What is answered is that of some order of the sessions' events, another one
+each time.
+
+Example:
+  $ skewguard threads defs.sql script.sql";
+
+const AFTER_CHECK: &str = "\
+Nothing is run. A fault is shown with its line and what may stand there.
+
+Example:
+  $ printf 'CREATE TABLE T (ID INTEGR PRIMARY KEY);' > defs.sql
+  $ skewguard check defs.sql
+  fault 2: `INTEGR` may not stand here
+    --> defs.sql:1:20
+     |
+   1 | CREATE TABLE T (ID INTEGR PRIMARY KEY);
+     |                    ^^^^^^
+    = Was INTEGER meant?
+    = Here may stand INT, INTEGER or VARCHAR.";
+
+/// The words that the program takes.
+pub fn make_command<'a>(alloc: Global) -> Result<Command<'a>, AllocError> {
+    Command::new(alloc, "skewguard")
+        .about("Runs transactions on tables that SQL-92 assertions guard")
+        .version(VERSION)
+        .after_help(AFTER)
+        .subcommand_required(true)
+        .subcommand(replay_command(alloc)?)?
+        .subcommand(threads_command(alloc)?)?
+        .subcommand(check_command(alloc)?)
+}
+
+fn replay_command<'a>(alloc: Global) -> Result<Command<'a>, AllocError> {
+    let command = Command::new(alloc, "replay")
+        .about("Replays a script on definitions and prints the reply to each event")
+        .after_help(AFTER_REPLAY);
+    add_texts(alloc, add_limit(alloc, command)?, true)
+}
+
+fn threads_command<'a>(alloc: Global) -> Result<Command<'a>, AllocError> {
+    let command = Command::new(alloc, "threads")
+        .about("Runs each session of a script on a thread and prints the replies by session")
+        .after_help(AFTER_THREADS);
+    add_texts(alloc, add_limit(alloc, command)?, true)
+}
+
+fn check_command<'a>(alloc: Global) -> Result<Command<'a>, AllocError> {
+    let json = Arg::new(alloc, "json")
+        .long("json")
+        .action(ArgAction::SetTrue)
+        .help("Prints one JSON object, for editors");
+    let command = Command::new(alloc, "check")
+        .about("Shows what texts define, what their assertions cost, and their first faults")
+        .after_help(AFTER_CHECK);
+    add_texts(alloc, command.arg(json)?, false)
+}
+
+/// The command with the words that name the two texts.
+pub fn add_texts<'a>(
+    alloc: Global,
+    command: Command<'a>,
+    script_is_required: bool,
+) -> Result<Command<'a>, AllocError> {
+    let defs = Arg::new(alloc, "DEFS").required(true).help(
+        "A file of definitions: tables, assertions and the rows to begin with",
+    );
+    let script = Arg::new(alloc, "SCRIPT")
+        .required(script_is_required)
+        .help("A file of events of any sessions, one after the other");
+    command.arg(defs)?.arg(script)
+}
+
+/// The command with the limit of commits.
+pub fn add_limit<'a>(alloc: Global, command: Command<'a>) -> Result<Command<'a>, AllocError> {
+    let limit = Arg::new(alloc, "max-commits")
+        .long("max-commits")
+        .value_name("N")
+        .value_parser(value_parser!(u32).range(1..))
+        .default_value(MOST_COMMITS)
+        .help("At most so many commits");
+    command.arg(limit)
+}

@@ -1,0 +1,105 @@
+//! The texts, the streams, and the statuses to end with.
+
+ghost use Rattle.std.specs.Prelude.{◌≡◌, ◌⊎◌};
+ghost use Rattle.running.specs.declared.files.ReadFault.TheVariants.{NoMemory, Unreadable};
+
+use checkup::{Colour, Named};
+use report::Report;
+use running::{ReadFault, fault_of, read_all};
+use std::alloc::Global;
+use std::fs::File;
+use std::io::Write;
+use std::rt::Files;
+use value::Refusal;
+
+/// All went well: a script was run whole, whatever it was answered, or texts have no fault.
+pub const WELL: u8 = 0;
+/// A text was refused.
+pub const REFUSED: u8 = 1;
+/// The words of the command line are none that the program takes.
+pub const USAGE: u8 = 2;
+/// A file can't be read, or the output can't be written.
+pub const OUTSIDE: u8 = 3;
+
+/// Where the program writes.
+#[derive(Drop)]
+pub struct Streams<'a, W, E> {
+    pub out: &'a mut W,
+    pub err: &'a mut E,
+    pub out_is_terminal: bool,
+    pub err_is_terminal: bool,
+}
+
+/// From so many bytes on definitions may take more than a second.
+const LONG: usize = 1_000_000;
+
+/// Says on a terminal that long definitions are being taken in.
+pub fn tell_long<E: Write>(alloc: Global, bytes: usize, is_terminal: bool, err: &mut E) {
+    if !is_terminal || bytes < LONG {
+        return;
+    }
+    let megabytes = bytes / 1_000_000;
+    if let Ok(line) = format!(in alloc; "DEFS has {megabytes} MB: it is being read.\n") {
+        let _ = err.write_all(line.as_bytes());
+    }
+}
+
+/// The colours of a stream.
+pub fn colour_of(is_terminal: bool) -> Colour {
+    if is_terminal {
+        Colour::Terminal
+    } else {
+        Colour::Plain
+    }
+}
+
+/// A text with its name.
+pub fn named<'a>(name: &'a str, bytes: &'a [u8]) -> Named<'a> {
+    Named { name, bytes }
+}
+
+/// The bytes of a file.
+pub fn read<R: Files + AllocGlobal>(rt: &R, path: &str) -> Result<Vec<u8>, ReadFault> {
+    match File::open(rt, path) {
+        Ok(mut file) => read_all(rt.alloc(), &mut file),
+        Err(error) => Err(fault_of(&error)),
+    }
+}
+
+/// Says that there was no memory for the words of the command line, and gives the status to end with.
+pub fn report_no_memory<E: Write>(err: &mut E) -> u8
+    ensures { result ≡ 1 }
+{
+    let _ = err.write_all(b"REFUSED 1 - NO MEMORY\n");
+    REFUSED
+}
+
+/// Says that a file was not read, and gives the status to end with.
+pub fn report_unread<E: Write>(alloc: Global, name: &str, fault: ReadFault, err: &mut E) -> u8
+    ensures unreadable { fault ≡ Unreadable → result ≡ 3 }
+    ensures no_memory { fault ≡ NoMemory → result ≡ 1 }
+    ensures either { (result ≡ 1) ⊎ (result ≡ 3) }
+{
+    match fault {
+        ReadFault::NoMemory => report_refused(alloc, name, &Refusal::NoMemory, err),
+        ReadFault::Unreadable => {
+            let _ = err.write_all(name.as_bytes());
+            let _ = err.write_all(b": UNREADABLE\n");
+            OUTSIDE
+        }
+    }
+}
+
+/// Says why a text was refused, and gives the status to end with.
+pub fn report_refused<E: Write>(alloc: Global, name: &str, refusal: &Refusal, err: &mut E) -> u8
+    ensures { result ≡ 1 }
+{
+    let mut line = Report::new(alloc);
+    if line.add_refusal(name, refusal).is_ok() {
+        let _ = err.write_all(line.as_bytes());
+    } else {
+        let _ = err.write_all(name.as_bytes());
+        let _ = err.write_all(b": REFUSED 1 - NO MEMORY\n");
+    }
+    REFUSED
+}

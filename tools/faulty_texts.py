@@ -1,0 +1,164 @@
+#!/usr/bin/env python3
+"""Forty faulty texts, and what a person is shown of each: the program's `check` is run on all of them.
+
+    tools/faulty_texts.py            runs them, and compares what is shown with docs/faulty_texts.txt
+    tools/faulty_texts.py --write    runs them, and writes that file
+    tools/faulty_texts.py [--write] PROGRAM      the same with a program that is built
+
+Else the program is built once, by `rt try`, which proves nothing. A text is of definitions; behind a line of three dashes
+stands a script.
+"""
+import os
+import re
+import subprocess
+import sys
+import tempfile
+
+TOP = os.path.dirname(os.path.dirname(os.path.abspath(__file__)))
+SHOWN = f"{TOP}/docs/faulty_texts.txt"
+
+TABLES = """CREATE TABLE SHIFTS (ID INTEGER PRIMARY KEY, HOURS INTEGER);
+CREATE TABLE DUTY (ID INTEGER PRIMARY KEY, SHIFT INTEGER, DOCTOR VARCHAR(10), ONCALL INTEGER);
+CREATE TABLE ACCT (ID INTEGER PRIMARY KEY, OWNER VARCHAR(10), BAL INTEGER NOT NULL);
+"""
+
+
+def rule(condition):
+    return TABLES + f"CREATE ASSERTION RULE CHECK ({condition});\n"
+
+
+TEXTS = {
+    "misspelt-word": "CREATE TABEL T (ID INTEGER PRIMARY KEY);\n",
+    "misspelt-type": "CREATE TABLE T (ID INTEGR PRIMARY KEY);\n",
+    "no-semicolon": "CREATE TABLE T (ID INTEGER PRIMARY KEY)\nCREATE TABLE U (ID INTEGER PRIMARY KEY);\n",
+    "no-end": "CREATE TABLE T (ID INTEGER PRIMARY KEY, A INTEGER\n",
+    "open-text": "CREATE TABLE T (ID VARCHAR(9) PRIMARY KEY);\nINSERT INTO T VALUES ('O'HARA');\n",
+    "double-quotes": 'CREATE TABLE "T" (ID INTEGER PRIMARY KEY);\n',
+    "varchar-300": "CREATE TABLE T (ID INTEGER PRIMARY KEY, A VARCHAR(300));\n",
+    "number-too-great": "CREATE TABLE T (ID INTEGER PRIMARY KEY);\nINSERT INTO T VALUES (10000000000000000);\n",
+    "reserved-name": "CREATE TABLE T (ID INTEGER PRIMARY KEY, KEY INTEGER);\n",
+    "key-on-a-line": "CREATE TABLE T (ID INTEGER, PRIMARY KEY (ID));\n",
+    "default": "CREATE TABLE T (ID INTEGER PRIMARY KEY, A INTEGER DEFAULT 0);\n",
+    "foreign-key": "CREATE TABLE T (ID INTEGER PRIMARY KEY, U INTEGER REFERENCES U (ID));\n",
+    "check-in-table": "CREATE TABLE T (ID INTEGER PRIMARY KEY, A INTEGER CHECK (A > 0));\n",
+    "two-rows": "CREATE TABLE T (ID INTEGER PRIMARY KEY);\nINSERT INTO T VALUES (1), (2);\n",
+    "not-equal": rule("NOT EXISTS (SELECT * FROM DUTY WHERE ONCALL != 1)"),
+    "equals-null": rule("NOT EXISTS (SELECT * FROM DUTY WHERE DOCTOR = NULL)"),
+    "join": rule("NOT EXISTS (SELECT * FROM DUTY D JOIN SHIFTS S ON D.SHIFT = S.ID)"),
+    "two-tables": rule("NOT EXISTS (SELECT * FROM DUTY D, SHIFTS S WHERE D.SHIFT = S.ID)"),
+    "average": rule("(SELECT AVG(BAL) FROM ACCT) > 0"),
+    "like": rule("NOT EXISTS (SELECT * FROM DUTY WHERE DOCTOR LIKE 'K%')"),
+    "two-groups": rule("NOT EXISTS (SELECT SHIFT FROM DUTY GROUP BY SHIFT, DOCTOR HAVING COUNT(*) > 1)"),
+    "deep": rule("(" * 70 + "1 = 1" + ")" * 70),
+    "unknown-table": rule("NOT EXISTS (\n    SELECT * FROM SHIFT S WHERE S.HOURS > 12)"),
+    "unknown-column": rule("NOT EXISTS (SELECT * FROM ACCT WHERE BALL < 0)"),
+    "unknown-qualifier": rule("NOT EXISTS (SELECT * FROM SHIFTS S WHERE NOT EXISTS (SELECT * FROM DUTY D WHERE D.SHIFT = SHIFTS.ID))"),
+    "table-below": "CREATE ASSERTION RULE CHECK (NOT EXISTS (SELECT * FROM LATER));\nCREATE TABLE LATER (ID INTEGER PRIMARY KEY);\n",
+    "table-twice": TABLES + "CREATE TABLE DUTY (ID INTEGER PRIMARY KEY);\n",
+    "column-twice": "CREATE TABLE T (ID INTEGER PRIMARY KEY, A INTEGER, B INTEGER,\n                A VARCHAR(9));\n",
+    "no-key": "CREATE TABLE T (ID INTEGER, A INTEGER);\n",
+    "two-keys": "CREATE TABLE T (ID INTEGER PRIMARY KEY, A INTEGER PRIMARY KEY);\n",
+    "number-and-text": rule("NOT EXISTS (SELECT * FROM DUTY D WHERE D.ONCALL = 1 AND D.DOCTOR = 7)"),
+    "sum-of-texts": rule("NOT EXISTS (SELECT SHIFT FROM DUTY GROUP BY SHIFT HAVING SUM(DOCTOR) > 1)"),
+    "arithmetic-on-text": rule("NOT EXISTS (SELECT * FROM DUTY WHERE ONCALL + DOCTOR > 1)"),
+    "exists-alone": rule("EXISTS (SELECT * FROM DUTY WHERE ONCALL = 1)"),
+    "two-rules": rule("NOT EXISTS (SELECT * FROM DUTY WHERE ONCALL > 1) AND NOT EXISTS (SELECT * FROM ACCT WHERE BAL < 0)"),
+    "not-linked": rule("NOT EXISTS (SELECT * FROM SHIFTS S WHERE NOT EXISTS (SELECT * FROM DUTY D WHERE D.ONCALL = 1))"),
+    "link-to-no-key": rule("NOT EXISTS (SELECT * FROM SHIFTS S WHERE NOT EXISTS (SELECT * FROM DUTY D WHERE D.SHIFT = S.HOURS))"),
+    "outer-column": rule("NOT EXISTS (SELECT * FROM SHIFTS S WHERE EXISTS (SELECT * FROM DUTY D WHERE D.SHIFT = S.ID AND D.ONCALL > S.HOURS))"),
+    "function-in-where": rule("NOT EXISTS (SELECT * FROM ACCT WHERE SUM(BAL) < 0)"),
+    "group-without-having": rule("NOT EXISTS (SELECT OWNER FROM ACCT GROUP BY OWNER)"),
+    "other-column-in-having": rule("NOT EXISTS (SELECT OWNER FROM ACCT GROUP BY OWNER HAVING BAL < 0)"),
+    "value-of-a-row": rule("NOT EXISTS (SELECT * FROM SHIFTS S WHERE (SELECT D.ONCALL FROM DUTY D WHERE D.SHIFT = S.ID) = 0)"),
+    "below-a-level": rule("NOT EXISTS (SELECT * FROM SHIFTS S WHERE EXISTS (SELECT * FROM DUTY D WHERE D.SHIFT = S.ID AND EXISTS (SELECT * FROM ACCT A WHERE A.ID = D.ID)))"),
+    "too-wide": rule("(SELECT SUM(BAL) FROM ACCT) * (SELECT COUNT(*) FROM ACCT) >= 0"),
+    "attributes": TABLES + "CREATE ASSERTION RULE CHECK (NOT EXISTS (SELECT * FROM DUTY WHERE ONCALL > 1))\n    INITIALLY DEFERRED NOT DEFERRABLE;\n",
+    "too-few-values": TABLES + "INSERT INTO DUTY VALUES (1, 7, 'KIM');\n",
+    "text-for-number": TABLES + "INSERT INTO DUTY (ID, SHIFT) VALUES (1, 'NINE');\n",
+    "null-for-not-null": TABLES + "INSERT INTO ACCT (ID, OWNER) VALUES (1, 'KIM');\n",
+    "text-too-long": TABLES + "INSERT INTO DUTY VALUES (1, 7, 'MONTGOMERY-SMITH', 1);\n",
+    "key-taken": TABLES + "INSERT INTO SHIFTS VALUES (7, 8);\nINSERT INTO SHIFTS VALUES (7, 9);\n",
+    "false-by-rows": TABLES + "CREATE ASSERTION SHORT CHECK (NOT EXISTS (SELECT * FROM SHIFTS WHERE HOURS > 12));\nINSERT INTO SHIFTS VALUES (7, 24);\n",
+    "false-by-groups": TABLES + "CREATE ASSERTION FUNDS CHECK (NOT EXISTS (SELECT OWNER FROM ACCT GROUP BY OWNER HAVING SUM(BAL) < 0));\nINSERT INTO ACCT VALUES (1, 'O''HARA', -5);\n",
+    "script-word": TABLES + "---\nALICE: BEGIN;\nALICE: COMIT;\n",
+    "script-no-session": TABLES + "---\nALICE: BEGIN;\nINSERT INTO SHIFTS VALUES (7, 8);\n",
+    "script-definition": TABLES + "---\nALICE: CREATE TABLE T (ID INTEGER PRIMARY KEY);\n",
+    "script-statements": TABLES + "---\nALICE: BEGIN;\nALICE: UPDATE DUTY SET ONCAL = 1 WHERE ID = 7;\nALICE: DELETE FROM DUTY WHERE DOCTOR = 7;\nALICE: UPDATE SHIFTS SET ID = 8 WHERE ID = 7;\nALICE: VERDICT COVERED;\n",
+}
+
+
+def run(cases):
+    """What the program prints on each case, and the status, by its name: {name: (arguments, files)}."""
+    with tempfile.TemporaryDirectory() as folder:
+        data = []
+        for name, (arguments, files) in cases.items():
+            with open(f"{folder}/{name}", "w", encoding="utf-8"):
+                pass
+            with open(f"{folder}/{name}.args", "w", encoding="utf-8") as it:
+                it.write("\n".join(arguments) + "\n")
+            for file, text in files.items():
+                path = f"{folder}.{len(data)}"
+                with open(path, "w", encoding="utf-8") as it:
+                    it.write(text)
+                data += ["--data", f"{file}={path}"]
+        try:
+            done = subprocess.run(["rt", "try", "--cases", folder, *data], cwd=f"{TOP}/crates/skewguard",
+                                  stdout=subprocess.PIPE, stderr=subprocess.PIPE, text=True)
+        finally:
+            for path in data[1::2]:
+                os.remove(path.partition("=")[2])
+    parts = re.split(r"^== (\S+)\n", done.stdout, flags=re.M)
+    return dict(zip(parts[1::2], parts[2::2])), done
+
+
+def run_program(program, cases):
+    """The same, with a program that is built."""
+    shown = {}
+    for name, (arguments, files) in cases.items():
+        with tempfile.TemporaryDirectory() as folder:
+            for file, text in files.items():
+                with open(f"{folder}/{file}", "w", encoding="utf-8") as it:
+                    it.write(text)
+            done = subprocess.run([program, *arguments], cwd=folder, stdout=subprocess.PIPE, text=True, check=False)
+            shown[name] = done.stdout
+    return shown
+
+
+def case_of(name, text):
+    defs, _, script = text.partition("---\n") if "\n---\n" in text else (text, "", "")
+    files = {f"{name}.sql": defs}
+    arguments = ["check", f"{name}.sql"]
+    if script:
+        files[f"{name}-script.sql"] = script
+        arguments.append(f"{name}-script.sql")
+    return arguments, files
+
+
+def main(words):
+    cases = {name: case_of(name, text) for name, text in TEXTS.items()}
+    programs = [word for word in words if word != "--write"]
+    if programs:
+        shown, said = run_program(os.path.abspath(programs[0]), cases), ""
+    else:
+        shown, done = run(cases)
+        said = done.stderr[-3000:]
+    missing = [name for name in TEXTS if not shown.get(name)]
+    if missing:
+        sys.exit(f"{said}\nnothing was shown of {', '.join(missing)}")
+    table = "".join(f"== {name}\n{shown[name].strip()}\n\n" for name in TEXTS)
+    if "--write" in words:
+        with open(SHOWN, "w", encoding="utf-8") as it:
+            it.write(table)
+        return 0
+    with open(SHOWN, encoding="utf-8") as it:
+        wanted = it.read()
+    if table == wanted:
+        print(f"{len(TEXTS)} faulty texts are shown as in docs/faulty_texts.txt")
+        return 0
+    import difflib
+    sys.stderr.writelines(difflib.unified_diff(wanted.splitlines(True), table.splitlines(True), "wanted", "shown"))
+    return 1
+
+
+if __name__ == "__main__":
+    sys.exit(main(sys.argv[1:]))
