@@ -5,6 +5,8 @@ ghost use Rattle.running.specs.declared.faults.ProgramFault.TheVariants.{Output}
 ghost use Rattle.running.specs.declared.files.ReadFault.TheVariants.{NoMemory, Unreadable};
 
 use clap::{Arg, ArgMatches, Command, value_parser};
+use explain::{ExplainFault, explain_into};
+use picture::picture_into;
 use replay::replay_into;
 use report::Report;
 use running::{ProgramFault, ReadFault, fault_of, read_all};
@@ -90,7 +92,28 @@ fn make_command<'a>(alloc: Global) -> Result<Command<'a>, AllocError> {
         .about("Runs transactions on tables that SQL-92 assertions guard")
         .subcommand_required(true)
         .subcommand(replay)?
-        .subcommand(threads)
+        .subcommand(threads)?
+        .subcommand(make_explain(alloc)?)?
+        .subcommand(make_picture(alloc)?)
+}
+
+/// The words that explain events.
+fn make_explain<'a>(alloc: Global) -> Result<Command<'a>, AllocError> {
+    let event = Arg::new(alloc, "EVENT")
+        .value_parser(value_parser!(u64).range(1..))
+        .help("The number of an event in SCRIPT; without it each refused one is explained");
+    let command = Command::new(alloc, "explain").about(
+        "Says why events of a script are answered so",
+    );
+    add_text_words(alloc, command)?.arg(event)
+}
+
+/// The words that draw a picture.
+fn make_picture<'a>(alloc: Global) -> Result<Command<'a>, AllocError> {
+    let command = Command::new(alloc, "picture").about(
+        "Draws the transactions of a script and their conflicts, as SVG",
+    );
+    add_text_words(alloc, command)
 }
 
 /// The command with the words that name the two texts, and the limit.
@@ -126,6 +149,18 @@ where
         words.get_str("DEFS"),
         words.get_str("SCRIPT"),
     ) {
+        (Some(limit), Some(defs), Some(script)) if limit > 0 && name == "explain" => {
+            let event = words.get_one::<u64>("EVENT");
+            explain_files(rt, event, u64::from(limit), defs, script, out, err)
+        }
+        (Some(limit), Some(defs), Some(script)) if limit > 0 && name == "picture" => draw_files(
+            rt,
+            u64::from(limit),
+            defs,
+            script,
+            out,
+            err,
+        ),
         (Some(limit), Some(defs), Some(script)) if limit > 0 => {
             run_files(
                 rt,
@@ -175,6 +210,71 @@ where
         replay_into(alloc, defs.as_slice(), script.as_slice(), limit, out)
     };
     end_with_status(alloc, run, out, err)
+}
+
+/// Explains events of the two files.
+fn explain_files<R, W, E>(
+    rt: &R,
+    event: Option<u64>,
+    limit: u64,
+    defs: &str,
+    script: &str,
+    out: &mut W,
+    err: &mut E,
+) -> u8
+where
+    R: Files + AllocGlobal,
+    W: Write,
+    E: Write,
+    requires within { limit ≤ 4294967295 }
+    ensures { result ≤ 3 }
+{
+    let alloc = rt.alloc();
+    let defs = match read(rt, defs) {
+        Ok(defs) => defs,
+        Err(fault) => return report_unread(alloc, "DEFS", fault, err),
+    };
+    let script = match read(rt, script) {
+        Ok(script) => script,
+        Err(fault) => return report_unread(alloc, "SCRIPT", fault, err),
+    };
+    match explain_into(alloc, defs.as_slice(), script.as_slice(), limit, event, out) {
+        Ok(()) => RUN,
+        Err(ExplainFault::Run(fault)) => end_with_status(alloc, Err(fault), out, err),
+        Err(ExplainFault::NoEvent(_)) => {
+            let _ = err.write_all(b"EVENT: SCRIPT has no event of this number\n");
+            REFUSED
+        }
+    }
+}
+
+/// Draws the two files.
+fn draw_files<R, W, E>(
+    rt: &R,
+    limit: u64,
+    defs: &str,
+    script: &str,
+    out: &mut W,
+    err: &mut E,
+) -> u8
+where
+    R: Files + AllocGlobal,
+    W: Write,
+    E: Write,
+    requires within { limit ≤ 4294967295 }
+    ensures { result ≤ 3 }
+{
+    let alloc = rt.alloc();
+    let defs = match read(rt, defs) {
+        Ok(defs) => defs,
+        Err(fault) => return report_unread(alloc, "DEFS", fault, err),
+    };
+    let script = match read(rt, script) {
+        Ok(script) => script,
+        Err(fault) => return report_unread(alloc, "SCRIPT", fault, err),
+    };
+    let drawn = picture_into(alloc, defs.as_slice(), script.as_slice(), limit, out);
+    end_with_status(alloc, drawn, out, err)
 }
 
 /// Runs each session of a script on a thread, which no gate holds.
