@@ -1,12 +1,12 @@
 #!/usr/bin/env python3
 """Holds each figure that `explain` and `picture` show against a plain reference, over random cases.
 
-    tools/explain_against.py REFERENCE PROGRAM [--cases N] [--seed N] [--pictures-only]
+    tools/explain_against.py REFERENCE PROGRAM [--cases N] [--seed N] [--files DEFS SCRIPT].. [--pictures-only]
 
 REFERENCE is a folder with the reference of the engine (modules `fuzz` and `reference`), which compares whole states and
 every pair of commits. From what it reads and changes this writes what `PROGRAM explain DEFS SCRIPT N` has to say of each
 event N, and which boxes and arrows `PROGRAM picture DEFS SCRIPT` has to draw. Left out of the comparison are the text of
-an event and of a rule, and the WHERE of a set function.
+an event and of a rule, and the WHERE of a set function. With --files these are tried in place of random cases.
 """
 import argparse
 import os
@@ -22,6 +22,7 @@ parser.add_argument('program')
 parser.add_argument('--cases', type=int, default=100)
 parser.add_argument('--seed', type=int, default=1)
 parser.add_argument('--stage', default='base')
+parser.add_argument('--files', nargs=2, action='append')
 parser.add_argument('--pictures-only', action='store_true')
 options = parser.parse_args()
 sys.path.insert(0, options.reference)
@@ -143,7 +144,7 @@ class Story:
         return lines + ['..']
 
     def done(self, i, told, it):
-        lines = [f"  in the transaction of event {it['begun'] + 1}, on the tables that {it['snapshot']} commits left"]
+        lines = [f"  in the transaction of event {it['begun'] + 1}, snapshot {it['snapshot']}"]
         is_commit = it['end'] == 'committed' and it['ended'] == i
         if is_commit:
             lines.append(f"  place in the serial order: {self.order.index(it['number']) + 1}")
@@ -363,10 +364,17 @@ def compare(name, want, got, defs, script):
     return False
 
 
-def try_case(n, counts):
-    options_of_fuzz = argparse.Namespace(stage=options.stage, first_path=False, one_session=False, sessions=4, no_bad_texts=True)
-    defs, script, limit = fuzz.case((options.seed << 32) + n, options_of_fuzz)
-    script = b''.join(script)
+def cases():
+    """Definitions, scripts and limits."""
+    for paths in options.files or []:
+        yield *[open(path, 'rb').read() for path in paths], 1_000_000
+    how = argparse.Namespace(stage=options.stage, first_path=False, one_session=False, sessions=4, no_bad_texts=True)
+    for n in range(0 if options.files else options.cases):
+        defs, script, limit = fuzz.case((options.seed << 32) + n, how)
+        yield defs, b''.join(script), limit
+
+
+def try_case(n, defs, script, limit, counts):
     try:
         story = Story(defs, script, limit)
         story.definitions.refuse_false(story.definitions.loaded)
@@ -402,12 +410,13 @@ def try_case(n, counts):
 
 def main():
     counts = {'events': 0, 'boxes': 0, 'arrows': 0}
-    for n in range(options.cases):
-        if not try_case(n, counts):
-            print(f'{n} passed, 1 failed')
+    n = 0
+    for n, case in enumerate(cases(), 1):
+        if not try_case(n, *case, counts):
+            print(f'{n - 1} passed, 1 failed')
             return 1
     print('met: ' + ', '.join(f'{k}: {v}' for k, v in counts.items()))
-    print(f'{options.cases} passed, 0 failed')
+    print(f'{n} passed, 0 failed')
     return 0
 
 

@@ -86,7 +86,7 @@ fn add_standing(
     let snapshot = it.snapshot;
     write!(
         out,
-        "  in the transaction of event {begun}, on the tables that {snapshot} commits left\n"
+        "  in the transaction of event {begun}, snapshot {snapshot}\n"
     )?;
     if event != it.ended || it.end != End::Committed {
         return Ok(());
