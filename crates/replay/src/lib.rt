@@ -85,7 +85,11 @@ pub fn replay_into<W: Write>(
 }
 
 /// The engine before the first event, and the events.
-fn begin_run(
+///
+/// # Errors
+///
+/// The faults of [`replay_into`] before the run.
+pub fn begin_run(
     alloc: Global,
     defs: &[u8],
     script: &[u8],

@@ -22,6 +22,8 @@
 //! - [`Txn::abandon`] ends it, and nothing is kept but its own view.
 //! - [`find_violation`] is the refusal by the first assertion that is false, of those that are meant: also for tables
 //!   that a transaction is to begin on.
+//! - [`resolve`] finds a statement's names, and [`insert_effect`], [`update_effect`] and [`delete_effect`] are what it
+//!   does to the rows of a view before its assertions are asked: for who explains a refused statement.
 //!
 //! **Why each reply is that from scratch.** Of a transaction, contracts show five things: what is declared, its
 //! ticket and snapshot, the state that it began on, and its trace. They name no own view and no modes that are kept,
@@ -55,4 +57,6 @@ mod txns;
 
 pub use checks::{find_violation, verdict_on};
 pub use closed::{Closed, Parts, Unclosed};
+pub use effects::{Effect, delete_effect, insert_effect, recall_order, update_effect};
+pub use resolutions::resolve;
 pub use txns::Txn;

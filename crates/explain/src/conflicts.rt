@@ -1,0 +1,251 @@
+//! Commits in the way of one that was refused.
+
+use crate::stories::{MOST_LINES, Story, add_left_out, number_of};
+use history::{
+    Conflict, End, Happening, Reader, Transaction, add_change, add_key, conflicts_between,
+};
+use siread::is_same;
+use std::alloc::{AllocError, Global};
+use table::Change;
+use value::{Party, Value};
+
+/// Adds who a transaction is: a commit by its number, or the one that was refused.
+fn add_who(story: Story<'_>, it: &Transaction, out: &mut String) -> Result<(), AllocError> {
+    match it.end {
+        End::Committed => {
+            let number = it.number;
+            write!(out, "commit {number}")?;
+        }
+        _ => out.push_str("this transaction")?,
+    }
+    let (first, last) = (number_of(it.begun), number_of(it.ended));
+    if let Some(name) = story.session(it.session) {
+        write!(out, " (session {name}, events {first} to {last}, ")?;
+    }
+    let snapshot = it.snapshot;
+    write!(out, "snapshot {snapshot})")
+}
+
+/// Adds the row that both a refused transaction and a commit after its snapshot changed.
+pub fn add_write_conflict(
+    story: Story<'_>,
+    this: &Transaction,
+    key: &Value,
+    by: u64,
+    out: &mut String,
+) -> Result<(), AllocError> {
+    let Some(other) = story.history.commit(by) else {
+        return Ok(());
+    };
+    out.push_str("  in the way: ")?;
+    add_who(story, other, out)?;
+    out.push_str("\n  both changed one row, and the first to commit wins:\n")?;
+    let changes = this.changes.as_slice();
+    let shared = changes
+        .iter()
+        .find(|it| is_same(&it.key, key) && is_changed_by(other, it));
+    let Some(shared) = shared else {
+        return Ok(());
+    };
+    add_change_of(story, this, shared, out)?;
+    match other
+        .changes
+        .as_slice()
+        .iter()
+        .find(|it| is_of_row(it, shared))
+    {
+        Some(change) => add_change_of(story, other, change, out),
+        None => Ok(()),
+    }
+}
+
+/// Whether a transaction changed the row of a change.
+fn is_changed_by(other: &Transaction, change: &Change) -> bool {
+    other
+        .changes
+        .as_slice()
+        .iter()
+        .any(|it| is_of_row(it, change))
+}
+
+/// Whether two changes are of one row.
+fn is_of_row(one: &Change, other: &Change) -> bool {
+    one.table == other.table && is_same(&one.key, &other.key)
+}
+
+/// Adds what a transaction did to a row, and the statements that did.
+fn add_change_of(
+    story: Story<'_>,
+    it: &Transaction,
+    change: &Change,
+    out: &mut String,
+) -> Result<(), AllocError> {
+    out.push_str("    ")?;
+    match it.end {
+        End::Committed => {
+            let number = it.number;
+            write!(out, "commit {number}: ")?;
+        }
+        _ => out.push_str("this transaction: ")?,
+    }
+    add_change(&story.history.loaded, change, out)?;
+    add_changers(story, it, change, out)?;
+    out.push_str("\n")
+}
+
+/// Adds the events of a transaction that changed a row.
+fn add_changers(
+    story: Story<'_>,
+    it: &Transaction,
+    change: &Change,
+    out: &mut String,
+) -> Result<(), AllocError> {
+    let mut front = ", by event ";
+    for (event, happening) in story.history.events.as_slice().iter().enumerate() {
+        if it.begun <= event && event <= it.ended && is_changer(it, happening, change) {
+            let number = number_of(event);
+            write!(out, "{front}{number}")?;
+            front = " and ";
+        }
+    }
+    Ok(())
+}
+
+/// Whether an event of a transaction changed a row and was not refused.
+fn is_changer(it: &Transaction, happening: &Happening, change: &Change) -> bool {
+    happening.session == it.session
+        && happening.view.is_none()
+        && happening
+            .changes
+            .as_slice()
+            .iter()
+            .any(|made| is_of_row(made, change))
+}
+
+/// Adds the two conflicts of a dangerous triple.
+pub fn add_triple(
+    alloc: Global,
+    story: Story<'_>,
+    this: &Transaction,
+    reader: Party,
+    pivot: Party,
+    writer: Party,
+    out: &mut String,
+) -> Result<(), AllocError> {
+    out.push_str("  a dangerous triple: reader, pivot and writer may have no serial order\n")?;
+    let named = [("reader", reader), ("pivot", pivot), ("writer", writer)];
+    for (name, party) in &named {
+        if let Some(it) = party_of(story, this, *party) {
+            write!(out, "  {name}: ")?;
+            add_who(story, it, out)?;
+            out.push_str("\n")?;
+        }
+    }
+    add_edge(
+        alloc,
+        story,
+        "the reader",
+        "the pivot",
+        party_of(story, this, reader),
+        party_of(story, this, pivot),
+        out,
+    )?;
+    add_edge(
+        alloc,
+        story,
+        "the pivot",
+        "the writer",
+        party_of(story, this, pivot),
+        party_of(story, this, writer),
+        out,
+    )
+}
+
+/// The transaction that a refusal names.
+fn party_of<'a>(story: Story<'a>, this: &'a Transaction, party: Party) -> Option<&'a Transaction> {
+    match party {
+        Party::This => Some(this),
+        Party::Number(number) => story.history.commit(number),
+    }
+}
+
+/// Adds what one transaction read that another changed.
+fn add_edge(
+    alloc: Global,
+    story: Story<'_>,
+    from: &str,
+    to: &str,
+    reader: Option<&Transaction>,
+    writer: Option<&Transaction>,
+    out: &mut String,
+) -> Result<(), AllocError> {
+    let (Some(reader), Some(writer)) = (reader, writer) else {
+        return Ok(());
+    };
+    let found = conflicts_between(alloc, reader, writer)?;
+    let listed = first_ones(alloc, found.as_slice())?;
+    let count = listed.len();
+    write!(
+        out,
+        "  {from} read what {to} changed and neither saw the other, by keys: {count}\n"
+    )?;
+    for conflict in listed.as_slice().iter().take(MOST_LINES) {
+        add_conflict(story, *conflict, found.as_slice(), out)?;
+    }
+    add_left_out("    ", count, out)
+}
+
+/// Of some conflicts the first of each key and reader.
+fn first_ones<'a>(alloc: Global, found: &[Conflict<'a>]) -> Result<Vec<Conflict<'a>>, AllocError> {
+    let mut first: Vec<Conflict<'a>> = Vec::new(alloc);
+    for conflict in found {
+        if !first.iter().any(|it| is_again(it, conflict)) {
+            first.push(*conflict)?;
+        }
+    }
+    Ok(first)
+}
+
+/// Whether two conflicts are of one key and one reader.
+fn is_again(one: &Conflict<'_>, other: &Conflict<'_>) -> bool {
+    one.read.reader == other.read.reader && one.read.key == other.read.key
+}
+
+/// Adds a key with who read it and when, and the change that touches it.
+fn add_conflict(
+    story: Story<'_>,
+    conflict: Conflict<'_>,
+    found: &[Conflict<'_>],
+    out: &mut String,
+) -> Result<(), AllocError> {
+    out.push_str("    ")?;
+    add_key(&story.history.loaded, &conflict.read.key, out)?;
+    add_reader(story, conflict.read.reader, out)?;
+    let mut last = None;
+    for other in found {
+        if is_again(other, &conflict) && last != Some(other.read.event) {
+            let number = number_of(other.read.event);
+            let front = if last.is_none() {
+                " at event "
+            } else {
+                " and "
+            };
+            write!(out, "{front}{number}")?;
+            last = Some(other.read.event);
+        }
+    }
+    out.push_str("; changed was ")?;
+    add_change(&story.history.loaded, conflict.change, out)?;
+    out.push_str("\n")
+}
+
+/// Adds who read a key.
+pub fn add_reader(story: Story<'_>, reader: Reader, out: &mut String) -> Result<(), AllocError> {
+    match reader {
+        Reader::Statement => out.push_str(", read by the statement"),
+        Reader::Check(place) => match story.assertion(place) {
+            Some(name) => write!(out, ", read by the check of {name}"),
+            None => Ok(()),
+        },
+    }
+}

@@ -1,0 +1,10 @@
+use Rattle.std.proofs.Common.{sym, subst}
+use Rattle.assertion.specs.Declarations.{layouts_in}
+use Rattle.assertion.specs.Roots.{AreChangesOf}
+use Rattle.alone.proofs.Orders.{due_changes}
+use Rattle.history.proofs.tries.put_in.Goals as goal
+
+pub after-requires-clause-are : goal.after-requires-clause-are
+after-requires-clause-are c =
+    subst (λ changes. AreChangesOf (layouts_in c.args.own.now.declared) changes c.args.own.now.state) (sym c.as_slice.ensures.value)
+    (due_changes (layouts_in c.args.own.now.declared) c.args.own.now.state c.recall_order.ensures c.args.effect.changes.items c.requires.changes.due)

@@ -1,0 +1,69 @@
+//! What the check of each assertion read.
+
+ghost use Rattle.std.specs.Prelude.{◌≡◌, ◌<◌, length, IfOk, IsOkUnless, OnOk};
+ghost use Rattle.value.specs.declared.refusals.Refusal.TheVariants.{NoMemory};
+
+use crate::histories::{Read, Reader};
+use delta::View;
+use reads::checks_read;
+use siread::LockKey;
+use std::alloc::Global;
+use table::Change;
+use value::Refusal;
+
+/// Puts what the check of each assertion that is meant reads over these changes behind the reads, as read by this
+/// event. NoMemory is the only error.
+pub fn push_checks(
+    alloc: Global,
+    reads: &mut Vec<Read>,
+    view: &View,
+    meant: &[bool],
+    changes: &[Change],
+    event: usize,
+) -> Result<(), Refusal> {
+    for (place, is_meant) in meant.iter().enumerate() {
+        if *is_meant {
+            push_check(alloc, reads, view, place, changes, event)?;
+        }
+    }
+    Ok(())
+}
+
+/// The same, for one assertion.
+fn push_check(
+    alloc: Global,
+    reads: &mut Vec<Read>,
+    view: &View,
+    place: usize,
+    changes: &[Change],
+    event: usize,
+) -> Result<(), Refusal> {
+    let only = only_one(alloc, view.assertions().len(), place)?;
+    let keys = checks_read(alloc, view, only.as_slice(), changes)?;
+    push_reads(reads, keys, event, Reader::Check(place))
+}
+
+/// Puts keys behind the reads, as read by this event and this reader.
+pub fn push_reads(
+    reads: &mut Vec<Read>,
+    keys: Vec<LockKey>,
+    event: usize,
+    reader: Reader,
+) -> Result<(), Refusal> {
+    for key in keys {
+        reads.push(Read { key, event, reader })?;
+    }
+    Ok(())
+}
+
+/// Of so many assertions the one at a place.
+fn only_one(alloc: Global, count: usize, place: usize) -> Result<Vec<bool>, Refusal>
+    ensures only_memory { IsOkUnless result NoMemory }
+    ensures long { IfOk result (λ made. length made.items ≡ count) }
+{
+    let mut made = Vec::new(alloc);
+    for at in 0..count {
+        made.push(at == place)?;
+    }
+    Ok(made)
+}

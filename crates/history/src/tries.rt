@@ -1,0 +1,81 @@
+//! What a statement does to the rows of a view, whatever its assertions say of it.
+
+ghost use Rattle.std.specs.Prelude.{◌≡◌, IsOkUnless};
+ghost use Rattle.value.specs.declared.refusals.Refusal.TheVariants.{NoMemory};
+ghost use Rattle.assertion.specs.Declarations.{layouts_in};
+ghost use Rattle.txn.specs.Effects.{ArePutIn};
+ghost use Rattle.txn.specs.Runnable.{IsRunnable};
+
+use alone::Resolved;
+use delta::View;
+use reads::real_changes;
+use statement_syntax::Statement;
+use std::alloc::Global;
+use table::Change;
+use txn::{Effect, delete_effect, insert_effect, recall_order, resolve, update_effect};
+use value::Refusal;
+
+/// The rows that a statement changes, and the view with these changes.
+#[derive(Drop)]
+pub struct Tried {
+    pub changes: Vec<Change>,
+    pub view: View,
+}
+
+/// What a statement changes of the rows of a view, and the view after it. Nothing where it changes no row by its kind,
+/// or is refused for another reason than an assertion. NoMemory is the only error.
+pub fn try_statement(
+    alloc: Global,
+    own: &View,
+    statement: &Statement,
+) -> Result<Option<Tried>, Refusal>
+    ensures only_memory { IsOkUnless result NoMemory }
+{
+    let resolved = resolve(alloc, own, statement)?;
+    try_resolved(alloc, own, &resolved)
+}
+
+fn try_resolved(alloc: Global, own: &View, statement: &Resolved) -> Result<Option<Tried>, Refusal>
+    requires runnable { IsRunnable own.now.declared statement.now }
+    ensures only_memory { IsOkUnless result NoMemory }
+{
+    match statement {
+        Resolved::Insert(new) => match insert_effect(alloc, own, new) {
+            Ok(effect) => put_in(own, effect),
+            Err(refusal) => unless_memory(refusal),
+        },
+        Resolved::Update(update) => match update_effect(alloc, own, update) {
+            Ok(effect) => put_in(own, effect),
+            Err(refusal) => unless_memory(refusal),
+        },
+        Resolved::Delete(delete) => {
+            let effect = delete_effect(alloc, own, delete)?;
+            put_in(own, effect)
+        }
+        _ => Ok(None),
+    }
+}
+
+/// The view with the changes of an effect.
+fn put_in(own: &View, effect: Effect) -> Result<Option<Tried>, Refusal>
+    requires changes { ArePutIn (layouts_in own.now.declared) effect.changes.items own.now.state }
+    ensures only_memory { IsOkUnless result NoMemory }
+{
+    let Effect { reply: _, changes } = effect;
+    recall_order(own);
+    let view = own.after(changes.as_slice())?;
+    Ok(Some(Tried {
+        changes: real_changes(changes),
+        view,
+    }))
+}
+
+/// Nothing, unless memory ran out.
+fn unless_memory(refusal: Refusal) -> Result<Option<Tried>, Refusal>
+    ensures only_memory { IsOkUnless result NoMemory }
+{
+    match refusal {
+        Refusal::NoMemory => Err(Refusal::NoMemory),
+        _ => Ok(None),
+    }
+}

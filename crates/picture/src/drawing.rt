@@ -1,0 +1,105 @@
+//! The picture of a script.
+
+ghost use Rattle.std.specs.Prelude.{◌≤◌};
+
+use crate::arrows::arrows_of;
+use crate::boxes::{add_arrow, add_box, add_lane, add_row_numbers};
+use crate::colours::{GROUND, STYLE};
+use crate::layouts::Layout;
+use crate::lists::{add_arrow_list, add_heading, add_legend};
+use history::{History, Source, read_history};
+use running::{ProgramFault, flush, write_all};
+use std::alloc::{AllocError, Global};
+use std::io::Write;
+
+/// Runs a script of any sessions on definitions, with at most so many commits, and writes a picture of what happened,
+/// as SVG 1.1.
+///
+/// # Errors
+///
+/// The first fault before the run, as `replay::replay_into` answers it, and the writer is then as it was;
+/// [`ProgramFault::Stopped`] where memory ends the run; [`ProgramFault::Output`] at the first fault of the writer.
+pub fn picture_into<W: Write>(
+    alloc: Global,
+    defs: &[u8],
+    script: &[u8],
+    max_commits: u64,
+    out: &mut W,
+) -> Result<(), ProgramFault>
+    requires within { max_commits ≤ 4294967295 }
+{
+    let history = read_history(alloc, defs, script, max_commits)?;
+    let Ok(events) = Source::read(alloc, script) else {
+        return Err(ProgramFault::Stopped);
+    };
+    let Ok(picture) = draw(alloc, &history, &events, script) else {
+        return Err(ProgramFault::Stopped);
+    };
+    write_all(picture.as_bytes(), out)?;
+    flush(out)
+}
+
+/// The picture of a history.
+fn draw(
+    alloc: Global,
+    history: &History,
+    events: &Source,
+    script: &[u8],
+) -> Result<String, AllocError> {
+    let layout = Layout::of(alloc, history)?;
+    let mut body = String::new(alloc);
+    let bottom = add_body(alloc, history, events, script, &layout, &mut body)?;
+    let mut whole = String::new(alloc);
+    add_head(&layout, bottom, &mut whole)?;
+    whole.push_str(body.as_str())?;
+    whole.push_str("</g>\n</svg>\n")?;
+    Ok(whole)
+}
+
+/// Adds the element itself, its style, and the ground.
+fn add_head(layout: &Layout, height: u32, out: &mut String) -> Result<(), AllocError> {
+    let width = layout.width();
+    out.push_str("<?xml version=\"1.0\" encoding=\"UTF-8\"?>\n")?;
+    write!(
+        out,
+        "<svg xmlns=\"http://www.w3.org/2000/svg\" version=\"1.1\" "
+    )?;
+    write!(
+        out,
+        "width=\"{width}\" height=\"{height}\" viewBox=\"0 0 {width} {height}\">\n"
+    )?;
+    out.push_str("<title>Transactions and their conflicts</title>\n")?;
+    out.push_str(STYLE)?;
+    write!(
+        out,
+        "<rect width=\"{width}\" height=\"{height}\" {GROUND}/>\n"
+    )?;
+    out.push_str("<g font-family=\"sans-serif\" font-size=\"13\">\n")
+}
+
+/// Adds the heading, the lanes with their boxes, the arrows, their list and the legend, and gives where they end.
+fn add_body(
+    alloc: Global,
+    history: &History,
+    events: &Source,
+    script: &[u8],
+    layout: &Layout,
+    out: &mut String,
+) -> Result<u32, AllocError> {
+    add_heading(alloc, history, layout, out)?;
+    for session in &layout.lanes {
+        add_lane(alloc, history, layout, *session, out)?;
+    }
+    add_row_numbers(alloc, layout, out)?;
+    for place in &layout.boxes {
+        if let Some(it) = history.transactions.as_slice().get(*place) {
+            add_box(alloc, history, events, script, layout, it, out)?;
+        }
+    }
+    let (arrows, left) = arrows_of(alloc, history, layout)?;
+    for (place, arrow) in arrows.iter().enumerate() {
+        add_arrow(alloc, history, layout, *arrow, place.saturating_add(1), out)?;
+    }
+    let y = add_arrow_list(alloc, history, layout, arrows.as_slice(), left, out)?;
+    add_legend(alloc, layout, y, out)
+}

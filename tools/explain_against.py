@@ -1,0 +1,424 @@
+#!/usr/bin/env python3
+"""Holds each figure that `explain` and `picture` show against a plain reference, over random cases.
+
+    tools/explain_against.py REFERENCE PROGRAM [--cases N] [--seed N] [--files DEFS SCRIPT].. [--pictures-only]
+
+REFERENCE is a folder with the reference of the engine (modules `fuzz` and `reference`), which compares whole states and
+every pair of commits. From what it reads and changes this writes what `PROGRAM explain DEFS SCRIPT N` has to say of each
+event N, and which boxes and arrows `PROGRAM picture DEFS SCRIPT` has to draw. Left out of the comparison are the text of
+an event and of a rule, and the WHERE of a set function. With --files these are tried in place of random cases.
+"""
+import argparse
+import os
+import re
+import subprocess
+import sys
+import tempfile
+import xml.etree.ElementTree as ET
+
+parser = argparse.ArgumentParser()
+parser.add_argument('reference')
+parser.add_argument('program')
+parser.add_argument('--cases', type=int, default=100)
+parser.add_argument('--seed', type=int, default=1)
+parser.add_argument('--stage', default='base')
+parser.add_argument('--files', nargs=2, action='append')
+parser.add_argument('--pictures-only', action='store_true')
+options = parser.parse_args()
+sys.path.insert(0, options.reference)
+import fuzz  # noqa: E402
+from reference import engine, meaning as M, parser as P  # noqa: E402
+from reference.refusals import ALL, Refused, value_text  # noqa: E402
+from reference.report import reply_lines  # noqa: E402
+
+MOST_LINES, MOST_LANES, MOST_BOXES, MOST_ARROWS = 10, 12, 60, 40
+
+
+class Noted(engine.Transaction):
+    """A transaction that notes who read each key, and the tables as each statement would leave them."""
+
+    def __post_init__(self):
+        super().__post_init__()
+        self.noted, self.event, self.by, self.tried, self.made = [], 0, None, None, []
+
+    def read(self, key):
+        self.noted.append((self.event, self.by, key))
+        super().read(key)
+
+    def read_checks(self, assertions, changes, state):
+        for a in assertions:
+            self.by = a.name
+            for key in engine.check_keys(a, changes, state):
+                self.read(key)
+        self.by = None
+
+    def change(self, table, rows, reply):
+        new = engine.copied(self.state)
+        for key, row in rows.items():
+            if row is None:
+                del new[table.name][key]
+            else:
+                new[table.name][key] = row
+        self.tried, self.made = new, engine.differences(self.definitions, self.state, new)
+        return super().change(table, rows, reply)
+
+
+engine.Transaction = Noted
+
+
+class Story:
+    """A run of the reference, event by event, with the transactions in the order of their BEGINs."""
+
+    def __init__(self, defs, script, limit):
+        self.definitions = engine.Definitions(P.parse('defs', defs, options.stage), options.stage)
+        self.items = P.parse('script', script, options.stage)
+        self.core = engine.Core(self.definitions, limit)
+        self.sessions = list(dict.fromkeys(s for s, _ in self.items))
+        self.transactions, self.events, live = [], [], {}
+        for i, (session, event) in enumerate(self.items):
+            txn = self.core.live[session][1] if session in self.core.live else None
+            if txn is not None:
+                txn.event, txn.tried, txn.made = i, None, []
+            commits = len(self.core.records)
+            answer = engine.run(self.core, [(session, event)])[0]
+            if isinstance(event, P.Begin) and not isinstance(answer, Refused):
+                live[session] = {'session': session, 'begun': i, 'snapshot': answer[1], 'end': 'open', 'number': 0,
+                                 'txn': self.core.live[session][1], 'changes': []}
+                self.transactions.append(live[session])
+            it = live.get(session)
+            if it is not None:
+                it['ended'] = i
+                if isinstance(event, (P.Commit, P.Rollback)):
+                    del live[session]
+                    it['end'] = 'rolled back'
+                if isinstance(event, P.Commit):
+                    it['changes'] = it['txn'].net_change()
+                    it['end'] = 'refused' if isinstance(answer, Refused) else 'committed'
+                    it['number'] = commits + 1
+            state = None if txn is None else txn.tried or txn.state
+            self.events.append({'answer': answer, 'it': it, 'state': state, 'made': [] if txn is None else txn.made})
+        self.order = self.core.order()
+
+    def commit(self, number):
+        return next(it for it in self.transactions if it['end'] == 'committed' and it['number'] == number)
+
+    # words ---------------------------------------------------------------------------------------
+    def column(self, table, place):
+        return self.definitions.tables[table].columns[place][0]
+
+    def key(self, key):
+        if key[0] == 'row':
+            return f'row {value_text(key[2])} of {key[1]}'
+        if key[0] == 'table':
+            return f'all rows of {key[1]}'
+        sign = ' NULL' if key[3] is None else f' = {value_text(key[3])}'
+        return f'rows of {key[1]} with {self.column(key[1], key[2])}{sign}'
+
+    def changed(self, change):
+        table, key, old, new = change
+        said = f'row {value_text(key)} of {table}'
+        if old is None:
+            return f'{said}, put in as {row_text(new)}'
+        if new is None:
+            return f'{said}, taken out as {row_text(old)}'
+        return f'{said} from {row_text(old)} to {row_text(new)}'
+
+    def who(self, it):
+        name = f"commit {it['number']}" if it['end'] == 'committed' else 'this transaction'
+        return f"{name} (session {it['session']}, events {it['begun'] + 1} to {it['ended'] + 1}, snapshot {it['snapshot']})"
+
+    # explanations --------------------------------------------------------------------------------
+    def explained(self, i):
+        session, event = self.items[i]
+        told = self.events[i]
+        answer, it = told['answer'], told['it']
+        lines = reply_lines(session, event, answer)
+        if not isinstance(answer, Refused):
+            return lines + self.done(i, told, it)
+        if answer.number == 10:
+            return lines + self.violated(told['state'], *answer.fields)
+        if answer.number == 12:
+            return lines + self.overwritten(it, *answer.fields)
+        if answer.number == 13:
+            return lines + self.dangerous(it, *answer.fields)
+        return lines + ['..']
+
+    def done(self, i, told, it):
+        lines = [f"  in the transaction of event {it['begun'] + 1}, snapshot {it['snapshot']}"]
+        is_commit = it['end'] == 'committed' and it['ended'] == i
+        if is_commit:
+            lines.append(f"  place in the serial order: {self.order.index(it['number']) + 1}")
+        reads = list(dict.fromkeys((by, key) for event, by, key in it['txn'].noted if event == i))
+        lines.append(f'  read: {len(reads)}')
+        lines += some([f'    {self.key(key)}{reader(by)}' for by, key in reads], '    ')
+        changes = it['changes'] if is_commit else told['made']
+        lines.append(f"  {'its net change' if is_commit else 'changed rows'}: {len(changes)}")
+        return lines + cut(['    ' + self.changed(c) for c in changes], '    ')
+
+    def violated(self, state, name, root):
+        a = self.definitions.named(name)
+        lines = [f'  the rule, {name}']
+        if a.form == 'S':
+            lines.append('  would be false as a whole')
+        elif a.form == 'G':
+            lines.append(f'  would be false at {self.column(a.table.name, a.group)} {value_text(root)}')
+        else:
+            row = state[a.table.name][root]
+            lines.append(f'  would be false at row {value_text(root)} of {a.table.name}: {row_text(row)}')
+        parts = self.parts(a, state, root)
+        for slot, (function, scope, _, rows) in enumerate(parts):
+            named = function[0] + ('(*)' if function[1] is None else f'({function[2]})')
+            given = M.aggregate(function[0], function[1], rows)
+            lines.append(f'    {named} of {scope} would be {value_text(given)}{demand(a, slot)}')
+        lists = parts
+        if a.form == 'G':
+            rows = [r for r in M.kept(M.rows_of(state, a.table), a.where) if r[a.group] == root]
+            lists = [(None, None, self.linked(a.table.name, a.group, root), rows)]
+        for _, _, linked, rows in lists:
+            lines.append(f'    rows of {linked} that count: {len(rows)}')
+            lines += cut(['      ' + row_text(r) for r in rows], '      ')
+        return lines
+
+    def linked(self, table, column, root):
+        return f'{table} with {self.column(table, column)} = {value_text(root)}'
+
+    def parts(self, a, state, root):
+        """For each slot its function, the rows that it is of in words, and the rows."""
+        out = []
+        if a.form == 'S':
+            for table, where, function in a.subs:
+                out.append((self.function(table, function), table.name, table.name, M.kept(M.rows_of(state, table), where)))
+        elif a.form == 'G':
+            rows = [r for r in M.kept(M.rows_of(state, a.table), a.where) if r[a.group] == root]
+            for function in a.aggregates:
+                scope = f'{self.column(a.table.name, a.group)} {value_text(root)}'
+                out.append((self.function(a.table, function), scope, None, rows))
+        else:
+            for sub in a.subs:
+                rows = M.linked_rows(sub, state[a.table.name][root], a.table, state)
+                linked = self.linked(sub.child.name, sub.link, root)
+                out.append((self.function(sub.child, sub.aggregate or ('COUNT', None)), linked, linked, rows))
+        return out
+
+    def function(self, table, function):
+        return (*function, None if function[1] is None else self.column(table.name, function[1]))
+
+    def overwritten(self, this, table, key, by):
+        other = self.commit(by)
+        lines = ['  in the way: ' + self.who(other), '  both changed one row, and the first to commit wins:']
+        for it, name in ((this, 'this transaction'), (other, f'commit {by}')):
+            change = next(c for c in it['changes'] if c[:2] == (table, key))
+            events = [i + 1 for i, told in enumerate(self.events)
+                      if told['it'] is it and not isinstance(told['answer'], Refused)
+                      and any(c[:2] == (table, key) for c in told['made'])]
+            by_events = ', by event ' + ' and '.join(map(str, events)) if events else ''
+            lines.append(f'    {name}: {self.changed(change)}{by_events}')
+        return lines
+
+    def dangerous(self, this, *names):
+        parties = [this if n == 'THIS' else self.commit(n) for n in names]
+        lines = ['  a dangerous triple: reader, pivot and writer may have no serial order']
+        lines += [f'  {name}: {self.who(it)}' for name, it in zip(('reader', 'pivot', 'writer'), parties)]
+        for (a, x), (b, y) in ((('the reader', parties[0]), ('the pivot', parties[1])),
+                               (('the pivot', parties[1]), ('the writer', parties[2]))):
+            found = {}
+            for event, by, key in x['txn'].noted:
+                change = next((c for c in y['changes'] if engine.touches(c, key)), None)
+                if change is not None:
+                    events = found.setdefault((by, key), (change, []))[1]
+                    if event + 1 not in events:
+                        events.append(event + 1)
+            lines.append(f'  {a} read what {b} changed and neither saw the other, by keys: {len(found)}')
+            lines += some([f"    {self.key(key)}{reader(by)} at event {' and '.join(map(str, events))}; changed was "
+                          f"{self.changed(change)}" for (by, key), (change, events) in found.items()], '    ')
+        return lines
+
+    # pictures ------------------------------------------------------------------------------------
+    def drawn(self):
+        """The titles of the boxes and of the arrows; of these those of refusals, and those of conflicts."""
+        lanes = list(dict.fromkeys(it['session'] for it in self.transactions))[:MOST_LANES]
+        boxes = [it for it in self.transactions if it['session'] in lanes][:MOST_BOXES]
+        red, arrows = [], []
+        for it in boxes:
+            answer = self.events[it['ended']]['answer']
+            if it['end'] == 'refused' and answer.number == 13:
+                x, p, y = [it if n == 'THIS' else self.commit(n) for n in answer.fields]
+                for a, b in ((x, p), (p, y)):
+                    if any(a is o for o in boxes) and any(b is o for o in boxes) and (id(a), id(b)) not in [r[:2] for r in red]:
+                        red.append((id(a), id(b), self.arrow(a, b)))
+            if it['end'] == 'refused' and answer.number == 12:
+                other = self.commit(answer.fields[2])
+                if any(other is o for o in boxes):
+                    red.append((id(it), id(other), f'{self.called(it)} changed a row that {self.called(other)} changed'))
+        committed = [it for it in boxes if it['end'] == 'committed']
+        records = self.core.records
+        for a in committed:
+            for b in committed:
+                if engine.conflicts_to(records[a['number'] - 1], records[b['number'] - 1]):
+                    if (id(a), id(b)) not in [r[:2] for r in red]:
+                        arrows.append(self.arrow(a, b))
+        return [self.boxed(it) for it in boxes], ([r[2] for r in red] + arrows)[:MOST_ARROWS]
+
+    def boxed(self, it):
+        if it['end'] == 'committed':
+            said = f"commit {it['number']}, place {self.order.index(it['number']) + 1}"
+        elif it['end'] == 'refused':
+            said = f"refused, {self.events[it['ended']]['answer'].number}"
+        else:
+            said = it['end']
+        return f"{said}; events {it['begun'] + 1} to {it['ended'] + 1}, snapshot {it['snapshot']}, session {it['session']}"
+
+    def called(self, it):
+        name = f"commit {it['number']}" if it['end'] == 'committed' else 'the refused transaction'
+        return f"{name} of {it['session']}"
+
+    def arrow(self, a, b):
+        """What may be said of a conflict: that one of the keys was read."""
+        keys = [k for _, _, k in a['txn'].noted if any(engine.touches(c, k) for c in b['changes'])]
+        return One(f'{self.called(a)} read {self.key(k)}, which {self.called(b)} changed' for k in keys)
+
+
+class One(frozenset):
+    """A line that is one of these."""
+
+
+def some(lines, front):
+    """Lines in any order, ten at most, and how many more there are."""
+    left = [f'{front}and {len(lines) - MOST_LINES} more'] if len(lines) > MOST_LINES else []
+    return [One(lines)] * min(len(lines), MOST_LINES) + left
+
+
+def row_text(row):
+    return '(' + ', '.join(value_text(v) for v in row) + ')'
+
+
+def reader(by):
+    return ', read by the statement' if by is None else f', read by the check of {by}'
+
+
+def cut(lines, front):
+    return lines[:MOST_LINES] + ([f'{front}and {len(lines) - MOST_LINES} more'] if len(lines) > MOST_LINES else [])
+
+
+FORBIDDEN = {'=': 'must not be', '<>': 'must be', '<': 'must not be below', '<=': 'must be above',
+             '>': 'must not be above', '>=': 'must be below'}
+WANTED = {'=': 'must be', '<>': 'must not be', '<': 'must be below', '<=': 'must be at most', '>': 'must be above',
+          '>=': 'must be at least'}
+TURNED = {'=': '=', '<>': '<>', '<': '>', '<=': '>=', '>': '<', '>=': '<='}
+
+
+def demand(a, slot):
+    """What one comparison of a slot with a literal asks, where the condition is that."""
+    part, forbidden = a.condition, a.form != 'S'
+    while part is not None and part[0] == 'and' and len(part[1]) == 1:
+        part = part[1][0]
+    if part is None:
+        return ''
+    if part[0] == 'exists' and part[1] == slot:
+        return ', and must be 0' if forbidden else ', and must not be 0'
+    if part[0] == 'not' and part[1][0] == 'exists' and part[1][1] == slot:
+        return ', and must not be 0' if forbidden else ', and must be 0'
+    if part[0] == 'compare':
+        for op, x, y in ((part[1], part[2], part[3]), (TURNED[part[1]], part[3], part[2])):
+            if x[0] == 'slot' and x[1] == slot and y[0] in ('number', 'text'):
+                return f', and {(FORBIDDEN if forbidden else WANTED)[op]} {value_text(y[1])}'
+    return ''
+
+
+def told(text):
+    """An explanation without what is not compared."""
+    lines = text.splitlines()
+    assert re.match(r'event \d+, line \d+: ', lines[0]), lines[0]
+    out = []
+    for line in lines[1:]:
+        line = re.sub(r'^(    [A-Z]+\([^)]*\) of .*?) where .* would be ', r'\1 would be ', line)
+        line = re.sub(r'^  the rule, line \d+ of DEFS: CREATE ASSERTION (\w+).*', lambda m: f'  the rule, {m[1].upper()}', line, flags=re.I)
+        out.append(line)
+    return out[:-1] if out and not out[-1] else out
+
+
+def ran(words, limit, files):
+    more = [] if limit == 1_000_000 else ['--max-commits', str(limit)]
+    it = subprocess.run([options.program, words[0], *more, *files, *words[1:]], capture_output=True, timeout=60)
+    return it.stdout.decode('latin1'), it.stderr.decode('latin1'), it.returncode
+
+
+def titles(svg):
+    """The titles of boxes and of arrows."""
+    space = '{http://www.w3.org/2000/svg}'
+    boxes, arrows = [], []
+    for group in ET.fromstring(svg.encode('latin1')).iter(space + 'g'):
+        title = group.find(space + 'title')
+        if title is not None:
+            (boxes if group.find(space + 'path') is None else arrows).append(title.text)
+    return boxes, arrows
+
+
+def compare(name, want, got, defs, script):
+    fits = [line in one if isinstance(one, One) else line == one for one, line in zip(want, got)]
+    if len(want) == len(got) and all(fits):
+        return True
+    print(f'{name}\n--- defs\n{defs.decode("latin1")}\n--- script\n{script.decode("latin1")}\n--- wanted')
+    print('\n'.join(' | '.join(it) if isinstance(it, One) else it for it in want), '\n--- got')
+    print('\n'.join(got))
+    return False
+
+
+def cases():
+    """Definitions, scripts and limits."""
+    for paths in options.files or []:
+        yield *[open(path, 'rb').read() for path in paths], 1_000_000
+    how = argparse.Namespace(stage=options.stage, first_path=False, one_session=False, sessions=4, no_bad_texts=True)
+    for n in range(0 if options.files else options.cases):
+        defs, script, limit = fuzz.case((options.seed << 32) + n, how)
+        yield defs, b''.join(script), limit
+
+
+def try_case(n, defs, script, limit, counts):
+    try:
+        story = Story(defs, script, limit)
+        story.definitions.refuse_false(story.definitions.loaded)
+    except Refused:
+        return True
+    with tempfile.TemporaryDirectory() as folder:
+        files = [os.path.join(folder, 'defs'), os.path.join(folder, 'script')]
+        for path, text in zip(files, (defs, script)):
+            with open(path, 'wb') as it:
+                it.write(text)
+        out, err, status = ran(['picture'], limit, files)
+        assert (err, status) == ('', 0), (err, status)
+        boxes, arrows = titles(out)
+        want = story.drawn()
+        counts['boxes'] += len(boxes)
+        counts['arrows'] += len(arrows)
+        if not compare(f'case {n}, picture', want[0] + want[1], boxes + arrows, defs, script):
+            return False
+        for i in range(0 if options.pictures_only else len(story.items)):
+            out, err, status = ran(['explain', str(i + 1)], limit, files)
+            assert (err, status) == ('', 0), (i, err, status)
+            want, got = story.explained(i), told(out)
+            counts['events'] += 1
+            answer = story.events[i]['answer']
+            if isinstance(answer, Refused):
+                counts[answer.number] = counts.get(answer.number, 0) + 1
+                if want[-1] == '..':
+                    want, got = want[:-1], got[:len(want) - 1]
+            if not compare(f'case {n}, event {i + 1}', want, got, defs, script):
+                return False
+    return True
+
+
+def main():
+    counts = {'events': 0, 'boxes': 0, 'arrows': 0}
+    n = 0
+    for n, case in enumerate(cases(), 1):
+        if not try_case(n, *case, counts):
+            print(f'{n - 1} passed, 1 failed')
+            return 1
+    print('met: ' + ', '.join(f'{k}: {v}' for k, v in counts.items()))
+    print(f'{n} passed, 0 failed')
+    return 0
+
+
+if __name__ == '__main__':
+    sys.exit(main())
