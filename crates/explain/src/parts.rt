@@ -141,7 +141,7 @@ pub fn figure_of(alloc: Global, aggregate: Aggregate, rows: &[&Row]) -> Result<S
             group: Value::Null,
             value: looked_at(aggregate, row)?,
         };
-        totals = totals.with(&Some(member), &None)?;
+        totals = totals.with(aggregate, &Some(member), &None)?;
     }
     totals.answer(&Value::Null, aggregate)
 }

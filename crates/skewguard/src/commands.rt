@@ -15,6 +15,7 @@ DEFS is a file of CREATE TABLE, CREATE ASSERTION and INSERT; SCRIPT one of event
 
   skewguard check defs.sql                  is the text right, and what do its rules cost?
   skewguard replay defs.sql script.sql      what is each event answered?
+  skewguard explain defs.sql script.sql     why was it refused?
   skewguard help replay                     one subcommand, with an example
 
 The status is 0 where all went well, 1 where a text was refused, 2 for words that are not taken here, and
@@ -52,6 +53,32 @@ Example:
     = Was INTEGER meant?
     = Here may stand INT, INTEGER or VARCHAR.";
 
+const AFTER_EXPLAIN: &str = "\
+Without EVENT each event that was refused is explained.
+
+Example:
+  $ printf 'CREATE TABLE T (ID INTEGER PRIMARY KEY, A INTEGER);
+  > CREATE ASSERTION POSITIVE CHECK (NOT EXISTS (SELECT * FROM T WHERE A < 0));' > defs.sql
+  $ printf 'A: BEGIN; A: INSERT INTO T VALUES (1, -5);' > script.sql
+  $ skewguard explain defs.sql script.sql
+  event 2, line 1: A: INSERT INTO T VALUES (1, -5)
+  A: REFUSED 10 23000 POSITIVE 1
+    the rule, line 2 of DEFS: CREATE ASSERTION POSITIVE CHECK (..)
+    would be false at ID 1
+  ..";
+
+const AFTER_PICTURE: &str = "\
+A lane is a session, a bar a transaction, an arrow a read of what another has changed, unseen.
+
+Example:
+  $ skewguard picture defs.sql script.sql > history.svg";
+
+const AFTER_POSTGRESQL: &str = "\
+The tables with their rows, and triggers that keep each assertion, for an empty schema.
+
+Example:
+  $ skewguard postgresql defs.sql | psql --set ON_ERROR_STOP=1 rules";
+
 /// The words that the program takes.
 pub fn make_command<'a>(alloc: Global) -> Result<Command<'a>, AllocError> {
     Command::new(alloc, "skewguard")
@@ -61,7 +88,10 @@ pub fn make_command<'a>(alloc: Global) -> Result<Command<'a>, AllocError> {
         .subcommand_required(true)
         .subcommand(replay_command(alloc)?)?
         .subcommand(threads_command(alloc)?)?
-        .subcommand(check_command(alloc)?)
+        .subcommand(check_command(alloc)?)?
+        .subcommand(explain_command(alloc)?)?
+        .subcommand(picture_command(alloc)?)?
+        .subcommand(postgresql_command(alloc)?)
 }
 
 fn replay_command<'a>(alloc: Global) -> Result<Command<'a>, AllocError> {
@@ -89,8 +119,35 @@ fn check_command<'a>(alloc: Global) -> Result<Command<'a>, AllocError> {
     add_texts(alloc, command.arg(json)?, false)
 }
 
+fn explain_command<'a>(alloc: Global) -> Result<Command<'a>, AllocError> {
+    let event = Arg::new(alloc, "EVENT")
+        .value_parser(value_parser!(u64).range(1..))
+        .help("The number of an event in SCRIPT");
+    let command = Command::new(alloc, "explain")
+        .about("Says why events of a script are answered so")
+        .after_help(AFTER_EXPLAIN);
+    add_texts(alloc, add_limit(alloc, command)?, true)?.arg(event)
+}
+
+fn picture_command<'a>(alloc: Global) -> Result<Command<'a>, AllocError> {
+    let command = Command::new(alloc, "picture")
+        .about("Draws the transactions of a script and their conflicts, as SVG")
+        .after_help(AFTER_PICTURE);
+    add_texts(alloc, add_limit(alloc, command)?, true)
+}
+
+fn postgresql_command<'a>(alloc: Global) -> Result<Command<'a>, AllocError> {
+    let defs = Arg::new(alloc, "DEFS")
+        .required(true)
+        .help("A file of definitions");
+    Command::new(alloc, "postgresql")
+        .about("Prints definitions as SQL for PostgreSQL 15 or later")
+        .after_help(AFTER_POSTGRESQL)
+        .arg(defs)
+}
+
 /// The command with the words that name the two texts.
-pub fn add_texts<'a>(
+fn add_texts<'a>(
     alloc: Global,
     command: Command<'a>,
     script_is_required: bool,
@@ -105,7 +162,7 @@ pub fn add_texts<'a>(
 }
 
 /// The command with the limit of commits.
-pub fn add_limit<'a>(alloc: Global, command: Command<'a>) -> Result<Command<'a>, AllocError> {
+fn add_limit<'a>(alloc: Global, command: Command<'a>) -> Result<Command<'a>, AllocError> {
     let limit = Arg::new(alloc, "max-commits")
         .long("max-commits")
         .value_name("N")

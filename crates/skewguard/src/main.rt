@@ -17,16 +17,25 @@
 //! `skewguard check` runs nothing. It shows what the definitions define and what their assertions cost, and of each
 //! text its first fault, with its line and what may stand there (`checkup`).
 //!
+//! `skewguard explain` says why events of a script are answered so, `skewguard picture` draws its transactions and their
+//! conflicts (`history`, `explain`, `picture`), and `skewguard postgresql` prints the definitions as SQL for another
+//! engine (`postgresql`).
+//!
 //! The module `program` is the command line: which subcommand is meant, and the status to end with. `commands` has the
-//! words that are taken, `runs` and `checks` what they do, and `files` the texts. A further subcommand is a function in
-//! `commands` and a line in `program::run_matches`.
+//! words that are taken; `runs`, `checks`, `explanations` and `translations` what they do; `files` and `texts` what is
+//! read, and `endings` what is said of a run that failed. A further subcommand is a function in `commands` and a line
+//! in `program::run_matches`.
 #![tactic(auto)]
 
 mod checks;
 mod commands;
+mod endings;
+mod explanations;
 mod files;
 mod program;
 mod runs;
+mod texts;
+mod translations;
 
 use files::Streams;
 use std::io::IsTerminal;

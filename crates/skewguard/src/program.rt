@@ -4,8 +4,10 @@ ghost use Rattle.std.specs.Prelude.{◌≤◌};
 
 use crate::checks::check;
 use crate::commands::make_command;
+use crate::explanations::{draw, explain};
 use crate::files::{OUTSIDE, Streams, USAGE, WELL, report_no_memory};
 use crate::runs::{Way, run};
+use crate::translations::translate;
 use clap::ArgMatches;
 use std::env;
 use std::io::Write;
@@ -59,6 +61,9 @@ where
         "replay" => run(rt, Way::InOrder, words, streams),
         "threads" => run(rt, Way::OnThreads, words, streams),
         "check" => check(rt, words, streams),
+        "explain" => explain(rt, words, streams),
+        "picture" => draw(rt, words, streams),
+        "postgresql" => translate(rt, words, streams),
         _ => USAGE,
     }
 }

@@ -1,0 +1,80 @@
+//! How a run ends: the status, what is said on the second stream, and on a terminal a picture of the fault.
+
+ghost use Rattle.std.specs.Prelude.{◌≡◌, ◌≢◌, ◌≤◌, Err, IfErr, IsOk};
+ghost use Rattle.running.specs.declared.faults.ProgramFault.TheVariants.{Output};
+
+use crate::files::{OUTSIDE, REFUSED, Streams, WELL, report_refused};
+use checkup::{Colour, Named, Which, picture_of_refusal};
+use running::ProgramFault;
+use std::alloc::Global;
+use std::io::Write;
+
+/// The status to end with. A fault is said in one line on the second stream, and on a terminal with a picture behind
+/// it.
+pub fn end_run<W: Write, E: Write>(
+    alloc: Global,
+    run: Result<(), ProgramFault>,
+    defs: Named,
+    script: Option<Named>,
+    streams: &mut Streams<'_, W, E>,
+) -> u8
+    ensures { result ≤ 3 }
+{
+    let drawn = if streams.err_is_terminal {
+        picture_of(alloc, &run, defs, script)
+    } else {
+        String::new(alloc)
+    };
+    let status = end_with_status(alloc, run, streams.out, streams.err);
+    let _ = streams.err.write_all(drawn.as_bytes());
+    status
+}
+
+/// The picture of the fault for which a text was refused; empty where none was, or where there is no memory for it.
+fn picture_of(
+    alloc: Global,
+    run: &Result<(), ProgramFault>,
+    defs: Named,
+    script: Option<Named>,
+) -> String {
+    let drawn = match (run, script) {
+        (Err(ProgramFault::Defs(refusal)), _) => {
+            picture_of_refusal(alloc, Which::Defs, defs, refusal, Colour::Terminal)
+        }
+        (Err(ProgramFault::Script(refusal)), Some(script)) => {
+            picture_of_refusal(alloc, Which::Script, script, refusal, Colour::Terminal)
+        }
+        _ => Ok(String::new(alloc)),
+    };
+    match drawn {
+        Ok(drawn) => drawn,
+        Err(_) => String::new(alloc),
+    }
+}
+
+/// The status to end with. A fault is said in one line on `err`; one of the writer is not, nor a session without a
+/// thread, of which a line of the report says it.
+fn end_with_status<W: Write, E: Write>(
+    alloc: Global,
+    run: Result<(), ProgramFault>,
+    out: &mut W,
+    err: &mut E,
+) -> u8
+    ensures whole { IsOk run → result ≡ 0 }
+    ensures output { run ≡ Err Output → result ≡ 3 }
+    ensures refused { IfErr run (λ fault. fault ≢ Output → result ≡ 1) }
+    ensures known { result ≤ 3 }
+{
+    match run {
+        Ok(()) => WELL,
+        Err(ProgramFault::Defs(refusal)) => report_refused(alloc, "DEFS", &refusal, err),
+        Err(ProgramFault::Script(refusal)) => report_refused(alloc, "SCRIPT", &refusal, err),
+        Err(ProgramFault::Stopped) => {
+            let _ = out.flush();
+            let _ = err.write_all(b"SCRIPT: STOPPED 1 - NO MEMORY\n");
+            REFUSED
+        }
+        Err(ProgramFault::NoThread) => REFUSED,
+        Err(ProgramFault::Output) => OUTSIDE,
+    }
+}
