@@ -3,7 +3,8 @@
 use crate::examinations::examine;
 use crate::objects::object;
 use crate::texts::{Named, show};
-use diagnosis::{Colour, Which, diagnose_definitions, diagnose_grammar, picture};
+use diagnosis::diagnose_definitions;
+use faults::{Colour, Which, diagnose_grammar, picture};
 use parse::parse_schema;
 use std::alloc::{AllocError, Global};
 use std::io::Write;

@@ -1,19 +1,20 @@
 //! Two texts are looked at: their faults, and what they define.
 
+use assertion::Form;
 use definitions::Definitions;
 use delta::View;
-use diagnosis::{
-    At, Diagnosis, Which, diagnose_definitions, diagnose_false, diagnose_grammar,
-    diagnose_statement, row_text,
-};
+use diagnosis::{diagnose_definitions, diagnose_false, diagnose_statement, row_text};
+use faults::{At, Diagnosis, Which, diagnose_grammar};
 use parse::{parse_schema, parse_script};
+use running::MOST_SESSIONS;
 use sqlite_items::Items;
 use statement_syntax::{Definition, Event, Step};
 use std::alloc::{AllocError, Global};
 use value::{Refusal, Root, Text};
 
-/// At most so many sessions are in one script (`running`).
-const MOST_SESSIONS: usize = 256;
+/// What is said of too many sessions.
+const FEWER_SESSIONS: &str =
+    "A session can run many transactions, one after the other: let some share one.";
 
 /// At most so many statements that are always refused are told.
 pub const MOST_NOTES: usize = 5;
@@ -123,10 +124,10 @@ fn first_false(
 fn bad_row(
     alloc: Global,
     view: &View,
-    form: &assertion::Form,
+    form: &Form,
     root: &Root,
 ) -> Result<Option<String>, AllocError> {
-    let (assertion::Form::ByRow { table, .. }, Root::Of(key)) = (form, root) else {
+    let (Form::ByRow { table, .. }, Root::Of(key)) = (form, root) else {
         return Ok(None);
     };
     let table = *table;
@@ -156,7 +157,9 @@ fn look_at_steps(
         let what = format!(in alloc;
             "the script has {sessions} sessions, and at most {MOST_SESSIONS} are run"
         )?;
-        let fault = Diagnosis::new(alloc, Which::Script, 24, what, At::Nowhere);
+        let fault = Diagnosis::new(alloc, Which::Script, 24, what, At::Nowhere).with(
+            String::from_str(alloc, FEWER_SESSIONS)?,
+        )?;
         found.faults.push(fault)?;
     }
     let mut notes = Vec::new(alloc);

@@ -1,10 +1,11 @@
-//! What an assertion costs: what is maintained for it, what a check of it reads, and how many rows and groups there are.
+//! What an assertion costs: what is maintained for it, what a check of it reads, and how many rows and groups there
+//! are.
 //!
 //! All of it is taken from the resolved form (`assertion::Form`) and from the rows of a view. A form has a total for
 //! each query or set function in its condition (`roots`), and one of COUNT(*) where a HAVING has none.
 
 use crate::columns::{add_column, add_condition};
-use assertion::Form;
+use assertion::{Form, Link, Query, Whole};
 use changes::selected_rows;
 use cond::{Cond, is_bounded};
 use delta::View;
@@ -31,6 +32,14 @@ impl Grouping {
             Grouping::By(column) | Grouping::Linked(column) => Some(column),
         }
     }
+}
+
+/// The rows of a table that a WHERE keeps, in groups.
+#[derive(Clone, Copy)]
+struct Selection<'a> {
+    table: usize,
+    filter: &'a Cond,
+    grouping: Grouping,
 }
 
 /// How many rows a WHERE keeps that go to a group, and how many groups they make.
@@ -73,84 +82,88 @@ pub struct Figures {
 /// The figures of an assertion of this form on the rows of a view.
 pub fn figures_of(alloc: Global, view: &View, form: &Form) -> Result<Figures, AllocError> {
     match form {
-        Form::ByRow { .. } => by_row(alloc, view, form),
-        Form::ByGroup { .. } => by_group(alloc, view, form),
-        Form::Single { .. } => single(alloc, view, form),
+        Form::ByRow {
+            table,
+            condition,
+            queries,
+        } => by_row(alloc, view, *table, condition, queries.as_slice()),
+        Form::ByGroup {
+            table,
+            filter,
+            group,
+            aggregates,
+            ..
+        } => {
+            let groups = Selection {
+                table: *table,
+                filter,
+                grouping: Grouping::By(*group),
+            };
+            by_group(alloc, view, groups, aggregates.as_slice())
+        }
+        Form::Single { queries, .. } => single(alloc, view, queries.as_slice()),
     }
 }
 
-fn by_row(alloc: Global, view: &View, form: &Form) -> Result<Figures, AllocError> {
+fn by_row(
+    alloc: Global,
+    view: &View,
+    table: usize,
+    condition: &Cond,
+    queries: &[Query<Link>],
+) -> Result<Figures, AllocError> {
     let mut figures = no_figures(alloc);
-    if let Form::ByRow {
-        table,
-        condition,
-        queries,
-    } = form
-    {
-        let rows = row_count(view, *table);
-        figures.counts = Counts { rows, groups: rows };
-        let key = key_of(view, *table);
-        let mut columns = Vec::new(alloc);
-        add_column(&mut columns, key)?;
-        add_condition(&mut columns, condition)?;
-        put_reading(&mut figures.readings, *table, Some(key), columns)?;
-        for query in queries.as_slice() {
-            let grouping = Grouping::Linked(query.grouping.column());
-            let kept = kept_of(
-                alloc,
-                view,
-                query.table,
-                &query.filter,
-                grouping,
-                query.aggregate,
-            )?;
-            put_kept(alloc, &mut figures, kept)?;
-        }
+    let rows = row_count(view, table);
+    figures.counts = Counts { rows, groups: rows };
+    let key = key_of(view, table);
+    let mut columns = Vec::new(alloc);
+    add_column(&mut columns, key)?;
+    add_condition(&mut columns, condition)?;
+    put_reading(&mut figures.readings, table, Some(key), columns)?;
+    for query in queries {
+        let rows = Selection {
+            table: query.table,
+            filter: &query.filter,
+            grouping: Grouping::Linked(query.grouping.column()),
+        };
+        let kept = kept_of(alloc, view, rows, query.aggregate)?;
+        put_kept(alloc, &mut figures, kept)?;
     }
     Ok(figures)
 }
 
-fn by_group(alloc: Global, view: &View, form: &Form) -> Result<Figures, AllocError> {
+fn by_group(
+    alloc: Global,
+    view: &View,
+    groups: Selection,
+    aggregates: &[Aggregate],
+) -> Result<Figures, AllocError> {
     let mut figures = no_figures(alloc);
-    if let Form::ByGroup {
-        table,
-        filter,
-        group,
-        aggregates,
-        ..
-    } = form
-    {
-        let grouping = Grouping::By(*group);
-        figures.counts = count(alloc, view, *table, filter, grouping)?;
-        if aggregates.is_empty() {
-            let kept = kept_of(alloc, view, *table, filter, grouping, Aggregate::CountRows)?;
-            put_kept(alloc, &mut figures, kept)?;
-        }
-        for aggregate in aggregates.as_slice() {
-            let kept = kept_of(alloc, view, *table, filter, grouping, *aggregate)?;
-            put_kept(alloc, &mut figures, kept)?;
-        }
+    figures.counts = count(alloc, view, groups)?;
+    if aggregates.is_empty() {
+        let kept = kept_of(alloc, view, groups, Aggregate::CountRows)?;
+        put_kept(alloc, &mut figures, kept)?;
+    }
+    for aggregate in aggregates {
+        let kept = kept_of(alloc, view, groups, *aggregate)?;
+        put_kept(alloc, &mut figures, kept)?;
     }
     Ok(figures)
 }
 
-fn single(alloc: Global, view: &View, form: &Form) -> Result<Figures, AllocError> {
+fn single(alloc: Global, view: &View, queries: &[Query<Whole>]) -> Result<Figures, AllocError> {
     let mut figures = no_figures(alloc);
-    if let Form::Single { queries, .. } = form {
-        for query in queries.as_slice() {
-            let kept = kept_of(
-                alloc,
-                view,
-                query.table,
-                &query.filter,
-                Grouping::Whole,
-                query.aggregate,
-            )?;
-            figures.counts.rows = figures.counts.rows.saturating_add(kept.counts.rows);
-            put_kept(alloc, &mut figures, kept)?;
-        }
-        figures.counts.groups = 1;
+    for query in queries {
+        let rows = Selection {
+            table: query.table,
+            filter: &query.filter,
+            grouping: Grouping::Whole,
+        };
+        let kept = kept_of(alloc, view, rows, query.aggregate)?;
+        figures.counts.rows = figures.counts.rows.saturating_add(kept.counts.rows);
+        put_kept(alloc, &mut figures, kept)?;
     }
+    figures.counts.groups = 1;
     Ok(figures)
 }
 
@@ -214,23 +227,21 @@ pub fn column_of(function: Aggregate) -> Option<usize> {
     }
 }
 
-/// The total of a query.
+/// The total that is kept of rows.
 fn kept_of(
     alloc: Global,
     view: &View,
-    table: usize,
-    filter: &Cond,
-    grouping: Grouping,
+    rows: Selection,
     function: Aggregate,
 ) -> Result<Kept, AllocError> {
-    let mut columns = Vec::new(alloc);
-    add_condition(&mut columns, filter)?;
+    let mut filter = Vec::new(alloc);
+    add_condition(&mut filter, rows.filter)?;
     Ok(Kept {
         function,
-        table,
-        grouping,
-        filter: columns,
-        counts: count(alloc, view, table, filter, grouping)?,
+        table: rows.table,
+        grouping: rows.grouping,
+        filter,
+        counts: count(alloc, view, rows)?,
     })
 }
 
@@ -252,22 +263,16 @@ pub fn key_of(view: &View, table: usize) -> usize {
 }
 
 /// How many rows of a table a WHERE keeps that go to a group, and how many groups they make.
-fn count(
-    alloc: Global,
-    view: &View,
-    table: usize,
-    filter: &Cond,
-    grouping: Grouping,
-) -> Result<Counts, AllocError> {
-    let Some(column) = grouping.column() else {
-        let rows = kept_rows(alloc, view, table, &[], filter)?.len();
+fn count(alloc: Global, view: &View, rows: Selection) -> Result<Counts, AllocError> {
+    let Some(column) = rows.grouping.column() else {
+        let rows = rows_of(alloc, view, rows, &[])?.len();
         return Ok(Counts {
             rows,
             groups: rows.min(1),
         });
     };
-    let kept = kept_rows(alloc, view, table, &[column], filter)?;
-    let is_link = matches!(grouping, Grouping::Linked(_));
+    let is_link = matches!(rows.grouping, Grouping::Linked(_));
+    let kept = rows_of(alloc, view, rows, &[column])?;
     let mut values = Vec::new(alloc);
     for row in &kept {
         if let Some(value) = group_of(is_link, row) {
@@ -282,20 +287,18 @@ fn count(
 }
 
 /// The rows of a table that a WHERE keeps, with these columns alone.
-fn kept_rows(
+fn rows_of(
     alloc: Global,
     view: &View,
-    table: usize,
+    rows: Selection,
     columns: &[usize],
-    filter: &Cond,
 ) -> Result<Vec<Row>, AllocError> {
-    if table < view.catalog().len() && is_bounded(filter, &[]) {
-        match selected_rows(alloc, view, table, columns, filter) {
-            Ok(rows) => Ok(rows),
-            Err(_) => Err(AllocError),
-        }
-    } else {
-        Ok(Vec::new(alloc))
+    if rows.table >= view.catalog().len() || !is_bounded(rows.filter, &[]) {
+        return Ok(Vec::new(alloc));
+    }
+    match selected_rows(alloc, view, rows.table, columns, rows.filter) {
+        Ok(rows) => Ok(rows),
+        Err(_) => Err(AllocError),
     }
 }
 

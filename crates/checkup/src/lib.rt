@@ -4,7 +4,7 @@
 //! check of it reads, when it is checked, how many rows and groups there are, and its verdict. The form and its tables
 //! and columns are those of the resolved assertion (`assertion::Form`), the verdict and the least bad root are those of
 //! `delta::View`, and rows are listed by `changes::selected_rows`, so each figure is a value of which contracts speak.
-//! (`tools/check_against.py` holds them against a reference.) Faults are those of `diagnosis`.
+//! (`tools/check_against.py` holds them against a reference.) Faults are those of `faults` and `diagnosis`.
 //!
 //! [`check_into`] writes all of it for a person or for an editor, and [`picture_of_refusal`] is the picture of one
 //! fault, for a program that refuses a text.
@@ -19,5 +19,5 @@ mod objects;
 mod texts;
 
 pub use calls::{CheckFault, Health, Style, check_into, picture_of_refusal};
-pub use diagnosis::{Colour, Which};
+pub use faults::{Colour, Which};
 pub use texts::Named;

@@ -6,7 +6,7 @@ use crate::naming::{column_name, column_names, function_name, name_text, table_n
 use crate::texts::Named;
 use assertion::{Assertion, Form};
 use delta::View;
-use diagnosis::{At, Diagnosis, Span, Which, place_of};
+use faults::{At, Diagnosis, Span, Which, place_of};
 use serde_json::{Value, json};
 use std::alloc::{AllocError, Global};
 use value::Root;
@@ -62,8 +62,8 @@ fn diagnoses(
     Ok(made)
 }
 
-/// A fault: its text, its number, what is wrong, what to do, and where it is. Lines and columns are from 1, and a column
-/// is a byte; `end` is the first byte behind it.
+/// A fault: its text, its number, what is wrong, what to do, and where it is. Lines and columns are from 1, and a
+/// column is a byte; `end` is the first byte behind it.
 fn diagnosed(alloc: Global, named: Named, diagnosis: &Diagnosis) -> Result<Value, AllocError> {
     let (exact, span) = match diagnosis.at {
         At::Bytes(span) => (true, span),

@@ -5,7 +5,7 @@ use crate::figures::{Figures, Grouping, Kept, Reading, figures_of, key_of, row_c
 use crate::naming::{column_name, column_names, function_name, listed, table_name};
 use assertion::{Assertion, Form};
 use delta::View;
-use diagnosis::{Colour, Diagnosis, Which, picture};
+use faults::{Colour, Diagnosis, Which, picture};
 use std::alloc::{AllocError, Global};
 use table::Catalog;
 use threeval::Truth;

@@ -1,14 +1,13 @@
 //! What is wrong with a condition: a name, its shape, its types or its width.
 
-use crate::diagnoses::{At, Diagnosis, number_of, text};
-use crate::expected::{Which, joined};
-use crate::names::{Sought, Unknown, in_condition as unknown_in_condition};
-use crate::pieces::Piece;
-use crate::places::{Span, printable};
-use crate::rules::{OUTSIDE, advice, wrong};
-use crate::shapes::Outside;
-use crate::types::{Mismatch, Range, in_condition as mismatch_in_condition};
-use crate::widths::{Wide, in_condition as wide_in_condition};
+use crate::leaves::Range;
+use crate::names::{Sought, Unknown, first_unknown};
+use crate::parts::parts_of_condition;
+use crate::rules::{advice, wrong};
+use crate::shapes::{Outside, in_assertion, in_where};
+use crate::types::{Mismatch, in_condition as mismatch_in_condition};
+use crate::widths::{Wide, first_wide};
+use faults::{At, Diagnosis, Piece, Span, Which, enumeration, number_of, printable};
 use name_check::Scope;
 use std::alloc::{AllocError, Global};
 use syntax::Condition;
@@ -37,7 +36,7 @@ impl<'a> Context<'a> {
     pub fn spelled(&self, alloc: Global, range: Range) -> Result<String, AllocError> {
         match self.piece.leaves_from(range.from, range.to) {
             Some(span) => printable(alloc, self.piece.bytes(span)),
-            None => text(alloc, "this"),
+            None => String::from_str(alloc, "this"),
         }
     }
 
@@ -46,49 +45,73 @@ impl<'a> Context<'a> {
         self.at(self.piece.leaves_from(range.from, range.to))
     }
 
-    /// Where a name stands, if it is the one that is meant.
+    /// Where a name stands, if it is the one that is meant, in any case of letters.
     pub fn name_at(&self, span: Option<Span>, name: &Text) -> At {
         match span {
-            Some(found) if is_spelled(self.piece.bytes(found), name) => At::Bytes(found),
+            Some(found)
+                if self
+                    .piece
+                    .bytes(found)
+                    .eq_ignore_ascii_case(name.as_bytes()) => { At::Bytes(found) }
             _ => At::Definition(self.piece.whole()),
         }
     }
 }
 
-/// Whether bytes are a name, in any case of letters.
-fn is_spelled(bytes: &[u8], name: &Text) -> bool {
-    bytes.eq_ignore_ascii_case(name.as_bytes())
+/// A condition in a text.
+#[derive(Clone, Copy)]
+pub struct Site<'a> {
+    pub condition: &'a Condition,
+    /// Where its leaves begin.
+    pub at: usize,
+    /// The table of a statement; none around an assertion.
+    pub scopes: &'a [Scope<'a>],
 }
 
-/// What is wrong with a condition whose leaves begin here, seen from these tables, that was refused so. `outside` is the
-/// part of it that is outside the class.
+/// What is wrong with a condition that was refused so, if that is found in it.
 pub fn diagnose_condition(
     alloc: Global,
     context: Context,
-    scopes: &[Scope],
-    condition: &Condition,
-    at: usize,
-    outside: Option<Outside>,
+    site: Site,
     refusal: &Refusal,
 ) -> Result<Option<Diagnosis>, AllocError> {
+    let Site {
+        condition,
+        at,
+        scopes,
+    } = site;
     match refusal {
         Refusal::UnknownName { name } => {
-            match unknown_in_condition(alloc, context.catalog, scopes, condition, at)? {
+            let parts = parts_of_condition(alloc, condition, at)?;
+            match first_unknown(alloc, context.catalog, scopes, &parts)? {
                 Some(unknown) => Ok(Some(diagnose_name(alloc, context, name, &unknown)?)),
                 None => Ok(None),
             }
         }
-        Refusal::OutsideClass => Ok(Some(diagnose_shape(alloc, context, outside)?)),
+        Refusal::OutsideClass => {
+            let outside = if scopes.is_empty() {
+                in_assertion(alloc, context.catalog, condition, at)?
+            } else {
+                in_where(alloc, condition, at)?
+            };
+            match outside {
+                Some(outside) => Ok(Some(diagnose_shape(alloc, context, outside)?)),
+                None => Ok(None),
+            }
+        }
         Refusal::TypeMismatch => {
             match mismatch_in_condition(alloc, context.catalog, scopes, condition, at)? {
                 Some(mismatch) => Ok(Some(diagnose_types(alloc, context, mismatch)?)),
                 None => Ok(None),
             }
         }
-        Refusal::TooWide => match wide_in_condition(alloc, condition, at)? {
-            Some(wide) => Ok(Some(diagnose_width(alloc, context, &wide)?)),
-            None => Ok(None),
-        },
+        Refusal::TooWide => {
+            let parts = parts_of_condition(alloc, condition, at)?;
+            match first_wide(alloc, &parts)? {
+                Some(wide) => Ok(Some(diagnose_width(alloc, context, &wide)?)),
+                None => Ok(None),
+            }
+        }
         _ => Ok(None),
     }
 }
@@ -113,58 +136,48 @@ pub fn diagnose_name(
     }
 }
 
+/// At most so many names of tables are listed.
+const MOST_NAMES: usize = 8;
+
 /// Which names there are, where none is near.
 fn names_there(alloc: Global, context: Context, unknown: &Unknown) -> Result<String, AllocError> {
     let around = unknown.around.as_str();
     match unknown.sought {
-        Sought::Qualifier if around.is_empty() => text(alloc, "No table is around it."),
-        Sought::Qualifier => format!(in alloc; "The tables here go by {around}."),
+        Sought::Qualifier if around.is_empty() => String::from_str(alloc, "No table is around it."),
+        Sought::Qualifier => format!(in alloc;
+            "The tables here go by {around}. One that was given a name goes by that name alone."
+        ),
         Sought::Column if around.is_empty() => {
-            text(alloc, "A column stands in a query: (SELECT MAX(C) FROM T).")
+            String::from_str(alloc, "A column stands in a query: (SELECT MAX(C) FROM T).")
         }
         Sought::Column => format!(in alloc;
             "The tables here go by {around}. A text stands in single quotes."
         ),
         Sought::Table => {
             if context.catalog.len() == 0 {
-                return text(alloc, "No table is created before it.");
+                return String::from_str(alloc, "No table is created before it.");
             }
-            let mut names: Vec<&str> = Vec::new(alloc);
-            for table in 0..context.catalog.len().min(8) {
+            let mut names = Vec::new(alloc);
+            for table in 0..context.catalog.len().min(MOST_NAMES) {
                 if let Some(name) = context.catalog.name(table) {
-                    names.push(std::str::from_utf8(name.as_bytes()).unwrap_or(""))?;
+                    names.push(format!(in alloc; "{name}")?)?;
                 }
             }
-            let names = joined(alloc, &names, " and ")?;
+            let names = enumeration(alloc, &names, " and ")?;
             format!(in alloc; "The tables before it: {names}.")
         }
     }
 }
 
-/// A part that is outside the class, or a condition in which none was found.
+/// A part that is outside the class.
 pub fn diagnose_shape(
     alloc: Global,
     context: Context,
-    outside: Option<Outside>,
+    outside: Outside,
 ) -> Result<Diagnosis, AllocError> {
-    match outside {
-        Some(outside) => Diagnosis::new(
-            alloc,
-            context.which,
-            20,
-            text(alloc, wrong(outside.rule))?,
-            context.range(outside.range),
-        )
-        .with(advice(alloc, context.catalog, &outside)?),
-        None => Diagnosis::new(
-            alloc,
-            context.which,
-            20,
-            text(alloc, "this is none of the forms of rules")?,
-            At::Definition(context.piece.whole()),
-        )
-        .with(text(alloc, OUTSIDE)?),
-    }
+    let what = String::from_str(alloc, wrong(outside.rule))?;
+    let at = context.range(outside.range);
+    Diagnosis::new(alloc, context.which, 20, what, at).with(advice(alloc, &outside)?)
 }
 
 /// The name of a type.
@@ -181,51 +194,54 @@ pub fn diagnose_types(
     context: Context,
     mismatch: Mismatch,
 ) -> Result<Diagnosis, AllocError> {
-    let (what, range, said) = match mismatch {
+    let (what, range) = match mismatch {
+        Mismatch::Compared { left, right, .. } => (
+            "INTEGER and VARCHAR are not compared",
+            Range {
+                from: left.from,
+                to: right.to,
+            },
+        ),
+        Mismatch::Computed(range) => ("there is no arithmetic with VARCHAR", range),
+        Mismatch::SumOfTexts(range) => ("there is no SUM of VARCHAR", range),
+    };
+    let what = String::from_str(alloc, what)?;
+    let advice = types_there(alloc, context, mismatch)?;
+    Diagnosis::new(alloc, context.which, 5, what, context.range(range)).with(advice)
+}
+
+/// Which types there are, and which there may be.
+fn types_there(alloc: Global, context: Context, mismatch: Mismatch) -> Result<String, AllocError> {
+    match mismatch {
         Mismatch::Compared {
             left,
             right,
             left_type,
             right_type,
         } => {
-            let first = context.spelled(alloc, left)?;
-            let second = context.spelled(alloc, right)?;
+            let (first, second) = (
+                context.spelled(alloc, left)?,
+                context.spelled(alloc, right)?,
+            );
             let (one, other) = (type_name(left_type), type_name(right_type));
-            (
-                "INTEGER and VARCHAR are not compared",
-                Range {
-                    from: left.from,
-                    to: right.to.max(left.to),
-                },
-                format!(in alloc; "{first} is of type {one}, and {second} of type {other}.")?,
+            format!(in alloc;
+                "{first} is of type {one}, and {second} of type {other}. A text stands in quotes, a \
+                 number without."
             )
         }
         Mismatch::Computed(range) => {
             let part = context.spelled(alloc, range)?;
-            (
-                "there is no arithmetic with VARCHAR",
-                range,
-                format!(in alloc; "{part} is of type VARCHAR, and + - * take INTEGER.")?,
-            )
+            format!(in alloc; "{part} is of type VARCHAR, and + - * take INTEGER.")
         }
-        Mismatch::SumOfTexts(range) => (
-            "there is no SUM of VARCHAR",
-            range,
-            text(
-                alloc,
-                "SUM takes a column of type INTEGER. COUNT, MIN and MAX take any.",
-            )?,
+        Mismatch::SumOfTexts(_) => String::from_str(
+            alloc,
+            "SUM takes a column of type INTEGER. COUNT, MIN and MAX take any.",
         ),
-    };
-    Diagnosis::new(
-        alloc,
-        context.which,
-        5,
-        text(alloc, what)?,
-        context.range(range),
-    )
-    .with(said)
+    }
 }
+
+/// At most so many parts of an expression are told with their bounds.
+const MOST_PARTS: usize = 6;
 
 /// An expression without a bound.
 pub fn diagnose_width(
@@ -233,46 +249,36 @@ pub fn diagnose_width(
     context: Context,
     wide: &Wide,
 ) -> Result<Diagnosis, AllocError> {
-    let mut said = String::new(alloc);
-    let mut left = wide.parts.len();
-    for part in wide.parts.iter().take(6) {
+    let mut parts = Vec::new(alloc);
+    for part in wide.parts.iter().take(MOST_PARTS) {
         let spelled = context.spelled(alloc, part.range)?;
-        push_bound(&mut said, spelled.as_str(), part.bound)?;
-        said.push_str(if left > 2 {
-            ", "
-        } else if left == 2 {
-            " and "
-        } else {
-            ""
-        })?;
-        left = left.saturating_sub(1);
+        let bound = bound_text(alloc, part.bound)?;
+        parts.push(format!(in alloc; "{spelled} can reach {bound}")?)?;
     }
-    said.push_str(if wide.is_product {
-        "; their product passes the limit of 2^126."
-    } else {
-        "; their sum passes the limit of 2^126."
-    })?;
+    let parts = enumeration(alloc, &parts, " and ")?;
+    let whole = if wide.is_product { "product" } else { "sum" };
     Diagnosis::new(
         alloc,
         context.which,
         18,
-        text(alloc, "this can be a greater number than is computed with")?,
+        String::from_str(alloc, "this can be a greater number than is computed with")?,
         context.range(wide.range),
     )
-    .with(said)?
-    .with(text(
-        alloc,
-        "Compare without the product, or take factors of a smaller bound: a column, MIN and MAX reach 2^50, COUNT 2^64 and SUM 2^114.",
-    )?)
+    .with(format!(in alloc; "{parts}; their {whole} passes the limit of 2^126.")?)?
+    .with(String::from_str(alloc, SMALLER)?)
 }
 
-/// Puts how great a part can be behind what was said.
-fn push_bound(said: &mut String, part: &str, bound: u128) -> Result<(), AllocError> {
+/// What has which bound.
+const SMALLER: &str = "Compare without the product, or take factors of a smaller bound: a column, \
+     MIN and MAX reach 2^50, COUNT 2^64 and SUM 2^114.";
+
+/// A bound as text: a great power of two by its exponent.
+fn bound_text(alloc: Global, bound: u128) -> Result<String, AllocError> {
     if bound.is_power_of_two() && bound > 1024 {
         let power = bound.trailing_zeros();
-        write!(said, "{part} can reach 2^{power}")
+        format!(in alloc; "2^{power}")
     } else {
-        write!(said, "{part} can reach {bound}")
+        format!(in alloc; "{bound}")
     }
 }
 

@@ -1,16 +1,14 @@
 //! What is wrong with the first definition that was refused.
 
-use crate::conditions::{Context, diagnose_condition, diagnose_whole};
-use crate::diagnoses::{At, Diagnosis, text};
-use crate::expected::Which;
+use crate::conditions::{Context, Site, diagnose_condition, diagnose_whole};
 use crate::inserts::diagnose_insert;
-use crate::pieces::Piece;
-use crate::places::place_of;
-use crate::shapes::in_assertion;
+use crate::rules::FORMS;
 use definitions::Definitions;
 use delta::View;
+use faults::{At, Diagnosis, Piece, Which, place_of};
 use statement_syntax::{ColumnDefinition, Definition};
 use std::alloc::{AllocError, Global};
+use syntax::Condition;
 use table::Row;
 use token::Kind;
 use value::{Refusal, Root, Text};
@@ -119,26 +117,37 @@ fn diagnose_definition(
             condition,
             ..
         } => match refusal {
-            Refusal::NameTaken { .. } => Ok(name_taken(alloc, context, "an assertion", name)?),
+            Refusal::NameTaken { .. } => name_taken(alloc, context, "an assertion", name),
             Refusal::AttributeClash { .. } => attributes_at_odds(alloc, context),
-            _ => {
-                let outside = in_assertion(context.catalog, condition, 1);
-                let found = diagnose_condition(
-                    alloc,
-                    context,
-                    &[],
-                    condition,
-                    1,
-                    outside,
-                    refusal,
-                )?;
-                match found {
-                    Some(found) => Ok(found),
-                    None => diagnose_whole(alloc, context, refusal),
-                }
-            }
+            _ => diagnose_assertion(alloc, context, condition, refusal),
         },
         Definition::Insert(insert) => diagnose_insert(alloc, context, insert, 0, refusal),
+    }
+}
+
+/// What is wrong with the condition of an assertion, the first leaf of whose text is its name.
+fn diagnose_assertion(
+    alloc: Global,
+    context: Context,
+    condition: &Condition,
+    refusal: &Refusal,
+) -> Result<Diagnosis, AllocError> {
+    let site = Site {
+        condition,
+        at: 1,
+        scopes: &[],
+    };
+    match (diagnose_condition(alloc, context, site, refusal)?, refusal) {
+        (Some(found), _) => Ok(found),
+        (None, Refusal::OutsideClass) => Diagnosis::new(
+            alloc,
+            context.which,
+            20,
+            String::from_str(alloc, "this is none of the forms of rules")?,
+            At::Definition(context.piece.whole()),
+        )
+        .with(String::from_str(alloc, FORMS)?),
+        (None, _) => diagnose_whole(alloc, context, refusal),
     }
 }
 
@@ -149,13 +158,17 @@ fn name_taken(
     whose: &str,
     name: &Text,
 ) -> Result<Diagnosis, AllocError> {
-    Ok(Diagnosis::new(
+    Diagnosis::new(
         alloc,
         context.which,
         4,
         format!(in alloc; "{whose} has the name {name} already")?,
-        context.name_at(context.piece.name(0), name),
-    ))
+        context.name_at(context.piece.token(Kind::Name, 0), name),
+    )
+    .with(String::from_str(
+        alloc,
+        "Take another name, or leave one of the two definitions out.",
+    )?)
 }
 
 /// What is wrong with a CREATE TABLE.
@@ -170,24 +183,35 @@ fn diagnose_table(
         Refusal::NameTaken { .. } if context.catalog.get(name).is_some() => {
             name_taken(alloc, context, "a table", name)
         }
-        Refusal::NameTaken { name } => {
-            let mut places = columns
-                .iter()
-                .enumerate()
-                .filter(|(_, column)| column.name == *name)
-                .skip(1);
-            let place = places.next().map_or(0, |(place, _)| place);
-            Ok(Diagnosis::new(
-                alloc,
-                context.which,
-                4,
-                format!(in alloc; "the table has a column {name} already")?,
-                context.name_at(context.piece.name(place.saturating_add(1)), name),
-            ))
-        }
+        Refusal::NameTaken { name } => column_twice(alloc, context, columns, name),
         Refusal::OutsideClass => diagnose_key(alloc, context, name, columns),
         _ => diagnose_whole(alloc, context, refusal),
     }
+}
+
+/// A column that has the name of one before it.
+fn column_twice(
+    alloc: Global,
+    context: Context,
+    columns: &[ColumnDefinition],
+    name: &Text,
+) -> Result<Diagnosis, AllocError> {
+    let mut places = columns
+        .iter()
+        .enumerate()
+        .filter(|(_, column)| column.name == *name)
+        .skip(1);
+    let place = places.next().map_or(0, |(place, _)| place);
+    // (the first name is that of the table)
+    let token = context.piece.token(Kind::Name, place.saturating_add(1));
+    Diagnosis::new(
+        alloc,
+        context.which,
+        4,
+        format!(in alloc; "the table has a column {name} already")?,
+        context.name_at(token, name),
+    )
+    .with(String::from_str(alloc, "Take another name for one of the two columns.")?)
 }
 
 /// No key, or several.
@@ -197,60 +221,45 @@ fn diagnose_key(
     name: &Text,
     columns: &[ColumnDefinition],
 ) -> Result<Diagnosis, AllocError> {
-    let keys = columns.iter().filter(|column| column.marks.key).count();
-    if keys == 0 {
-        let first = match columns.first() {
-            Some(column) => &column.name,
-            None => name,
-        };
-        return Diagnosis::new(
-            alloc,
-            context.which,
-            20,
-            format!(in alloc; "{name} has no PRIMARY KEY")?,
-            context.name_at(context.piece.name(0), name),
-        )
-        .with(format!(in alloc;
-            "One column of each table is its key. Write PRIMARY KEY behind its type, behind {first} for instance."
-        )?);
-    }
-    let first = context.piece.token(Kind::Primary, 0).unwrap_or(0);
-    let second = context.piece.token(Kind::Primary, first.saturating_add(1));
-    let span = match second {
-        Some(place) => context.piece.span_at(place),
-        None => None,
+    let (what, at, advice) = match columns.iter().find(|column| column.marks.key) {
+        Some(_) => (
+            format!(in alloc; "{name} has several keys")?,
+            context.at(context.piece.token(Kind::Primary, 1)),
+            String::from_str(alloc, ONE_KEY)?,
+        ),
+        None => {
+            let first = columns.first().map_or(name, |column| &column.name);
+            (
+                format!(in alloc; "{name} has no PRIMARY KEY")?,
+                context.name_at(context.piece.token(Kind::Name, 0), name),
+                format!(in alloc;
+                    "One column of each table is its key. Write PRIMARY KEY behind its type, behind \
+                     that of {first} for instance."
+                )?,
+            )
+        }
     };
-    Diagnosis::new(
-        alloc,
-        context.which,
-        20,
-        format!(in alloc; "{name} has several keys")?,
-        context.at(span),
-    )
-    .with(text(
-        alloc,
-        "One column is the key. That another is unique too is an assertion: NOT EXISTS (SELECT C FROM T GROUP BY C HAVING COUNT(*) > 1).",
-    )?)
+    Diagnosis::new(alloc, context.which, 20, what, at).with(advice)
 }
+
+/// What is said of a second key.
+const ONE_KEY: &str =
+    "One column is the key. That another is unique too is an assertion: NOT EXISTS \
+     (SELECT C FROM T GROUP BY C HAVING COUNT(*) > 1).";
 
 /// INITIALLY DEFERRED and NOT DEFERRABLE.
 fn attributes_at_odds(alloc: Global, context: Context) -> Result<Diagnosis, AllocError> {
-    let initially = context.piece.token(Kind::Initially, 0);
-    let span = match initially {
-        Some(place) => context.piece.span_at(place),
-        None => None,
-    };
     Diagnosis::new(
         alloc,
         context.which,
         22,
-        text(
+        String::from_str(
             alloc,
             "INITIALLY DEFERRED and NOT DEFERRABLE exclude each other",
         )?,
-        context.at(span),
+        context.at(context.piece.token(Kind::Initially, 0)),
     )
-    .with(text(
+    .with(String::from_str(
         alloc,
         "An assertion that begins deferred is deferrable: leave NOT DEFERRABLE out, or write INITIALLY IMMEDIATE.",
     )?)
@@ -270,7 +279,7 @@ pub fn diagnose_false(
         if let Definition::Assertion { name: other, .. } = definition {
             if *other == *name {
                 let piece = Piece::at(alloc, bytes, place)?;
-                at = match piece.name(0) {
+                at = match piece.token(Kind::Name, 0) {
                     Some(span) => At::Bytes(span),
                     None => At::Definition(piece.whole()),
                 };
@@ -278,7 +287,7 @@ pub fn diagnose_false(
         }
     }
     let where_false = match root {
-        Root::All => text(alloc, "as a whole")?,
+        Root::All => String::from_str(alloc, "as a whole")?,
         Root::Of(value) => format!(in alloc; "at {value}")?,
     };
     Diagnosis::new(
@@ -289,7 +298,7 @@ pub fn diagnose_false(
         at,
     )
     .with_some(row)?
-    .with(text(
+    .with(String::from_str(
         alloc,
         "Change the rows, or the rule. Every assertion holds when the first session begins.",
     )?)

@@ -1,8 +1,8 @@
 //! What is wrong with an INSERT.
 
 use crate::conditions::{Context, diagnose_name, diagnose_whole, type_name};
-use crate::diagnoses::{At, Diagnosis, text};
 use crate::names::{unknown_column, unknown_table};
+use faults::{At, Diagnosis, enumeration};
 use name_check::Scope;
 use statement_syntax::Insert;
 use std::alloc::{AllocError, Global};
@@ -50,47 +50,48 @@ struct Known<'a> {
 }
 
 impl<'a> Known<'a> {
+    /// The names of the columns that are listed.
+    fn listed(&self) -> &'a [Text] {
+        match &self.insert.columns {
+            Some(columns) => columns.as_slice(),
+            None => &[],
+        }
+    }
+
+    /// Where the leaf of the listed column at a place stands.
+    fn leaf_of(&self, place: usize) -> usize {
+        self.names.saturating_add(1).saturating_add(place)
+    }
+
     /// A listed column that there is not.
     fn unknown(&self, alloc: Global, name: &Text) -> Result<Diagnosis, AllocError> {
-        let mut place = self.names.saturating_add(1);
-        if let Some(columns) = &self.insert.columns {
-            for column in columns.as_slice() {
-                if *column == *name {
-                    break;
-                }
-                place = place.saturating_add(1);
-            }
-        }
+        let place = self.place_of(name).unwrap_or(0);
         let scope = Scope {
             exposed_name: &self.insert.table,
             schema: self.schema,
         };
-        let unknown = unknown_column(alloc, &[scope], name, place)?;
+        let unknown = unknown_column(alloc, &[scope], name, self.leaf_of(place))?;
         diagnose_name(alloc, self.context, name, &unknown)
     }
 
     /// A column that is listed twice.
     fn listed_twice(&self, alloc: Global, name: &Text) -> Result<Diagnosis, AllocError> {
-        let mut place = self.names.saturating_add(1);
-        let mut times = 0usize;
-        if let Some(columns) = &self.insert.columns {
-            for column in columns.as_slice() {
-                if *column == *name {
-                    times = times.saturating_add(1);
-                    if times == 2 {
-                        break;
-                    }
-                }
-                place = place.saturating_add(1);
-            }
-        }
-        Ok(Diagnosis::new(
+        let mut places = self
+            .listed()
+            .iter()
+            .enumerate()
+            .filter(|(_, listed)| **listed == *name)
+            .skip(1);
+        let place = places.next().map_or(0, |(place, _)| place);
+        let leaf = self.context.piece.leaf(self.leaf_of(place));
+        Diagnosis::new(
             alloc,
             self.context.which,
             4,
             format!(in alloc; "the column {name} is listed twice")?,
-            self.context.name_at(self.context.piece.leaf(place), name),
-        ))
+            self.context.name_at(leaf, name),
+        )
+        .with(String::from_str(alloc, "List each column once, with one value for each.")?)
     }
 
     /// Too many values or too few, or a value of another type than its column.
@@ -126,36 +127,27 @@ impl<'a> Known<'a> {
 
     fn miscounted(&self, alloc: Global, wanted: usize) -> Result<Diagnosis, AllocError> {
         let given = self.insert.values.len();
-        let extra = self
-            .context
-            .piece
-            .value(wanted.min(given.saturating_sub(1)));
-        let mut columns = String::new(alloc);
-        if self.insert.columns.is_none() {
-            columns.push_str(": ")?;
-            for (place, column) in self.schema.columns().iter().enumerate() {
-                if place > 0 {
-                    columns.push_str(", ")?;
+        let place = wanted.min(given.saturating_sub(1));
+        let columns = match &self.insert.columns {
+            Some(_) => format!(in alloc; "Listed are {wanted} columns")?,
+            None => {
+                let mut names = Vec::new(alloc);
+                for column in self.schema.columns() {
+                    let name = &column.name;
+                    names.push(format!(in alloc; "{name}")?)?;
                 }
-                let name = &column.name;
-                write!(columns, "{name}")?;
+                let names = enumeration(alloc, &names, " and ")?;
+                format!(in alloc; "The table has {wanted} columns: {names}")?
             }
-        }
-        let whose = if self.insert.columns.is_none() {
-            "The table has"
-        } else {
-            "Listed are"
         };
-        let found = Diagnosis::new(
+        Diagnosis::new(
             alloc,
             self.context.which,
             5,
             counted(alloc, given, wanted)?,
-            self.context.at(extra),
-        );
-        found.with(format!(in alloc;
-            "{whose} {wanted} columns{columns}. A column that is not listed is NULL."
-        )?)
+            self.context.at(self.context.piece.value(place)),
+        )
+        .with(format!(in alloc; "{columns}. A column that is not listed is NULL.")?)
     }
 
     fn mistyped(
@@ -178,7 +170,10 @@ impl<'a> Known<'a> {
             format!(in alloc; "a value of type {given} for a column of type {declared}")?,
             self.context.at(self.context.piece.value(place)),
         )
-        .with(format!(in alloc; "{name} is of type {declared}, and {value} of type {given}.")?)
+        .with(format!(in alloc;
+            "{name} is of type {declared}, and {value} of type {given}. A text stands in quotes, a \
+             number without."
+        )?)
     }
 
     /// The place of the value for a column.
@@ -199,19 +194,25 @@ impl<'a> Known<'a> {
     }
 
     fn null(&self, alloc: Global, column: &Text) -> Result<Diagnosis, AllocError> {
-        let found = Diagnosis::new(
+        let why = if self.schema.column(column) == Some(self.schema.key()) {
+            "is the key"
+        } else {
+            "is NOT NULL"
+        };
+        let advice = match self.place_of(column) {
+            Some(_) => format!(in alloc; "{column} {why}: give it a value.")?,
+            None => format!(in alloc;
+                "{column} {why}, and a column that is not listed is NULL: list it, and give it a value."
+            )?,
+        };
+        Diagnosis::new(
             alloc,
             self.context.which,
             6,
             format!(in alloc; "{column} takes no NULL")?,
             self.value_at(column),
-        );
-        if self.place_of(column).is_none() {
-            return found.with(format!(in alloc;
-                "A column that is not listed is NULL: list {column}, and give it a value."
-            )?);
-        }
-        found.with(text(alloc, "It is NOT NULL, or the key.")?)
+        )
+        .with(advice)
     }
 
     fn excess(
@@ -227,11 +228,14 @@ impl<'a> Known<'a> {
         let (what, said) = match (excess, most) {
             (Excess::Text, Some(ColType::Varchar(most))) => (
                 format!(in alloc; "this text is too long for {column}")?,
-                format!(in alloc; "{column} is VARCHAR({most}).")?,
+                format!(in alloc;
+                    "{column} is VARCHAR({most}): write a shorter text, or a greater length (up to 255) \
+                     in its CREATE TABLE."
+                )?,
             ),
             _ => (
                 format!(in alloc; "this number is out of the range of {column}")?,
-                text(alloc, "INTEGER holds the numbers from -10^15 to 10^15.")?,
+                String::from_str(alloc, "INTEGER holds the numbers from -10^15 to 10^15.")?,
             ),
         };
         Diagnosis::new(alloc, self.context.which, 9, what, self.value_at(column)).with(said)
@@ -244,13 +248,17 @@ impl<'a> Known<'a> {
             Some(column) => self.value_at(&column.name),
             None => self.context.at(None),
         };
-        Ok(Diagnosis::new(
+        Diagnosis::new(
             alloc,
             self.context.which,
             7,
             format!(in alloc; "{table} has a row under the key {key} already")?,
             place,
-        ))
+        )
+        .with(String::from_str(
+            alloc,
+            "Each row has a key of its own: give this one another, or leave it out.",
+        )?)
     }
 }
 

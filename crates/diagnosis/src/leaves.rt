@@ -55,24 +55,7 @@ pub fn of_expression(expression: &Expression) -> usize {
 /// The leaves of a query: SELECT, what it lists, its table and the name that it goes by, and those of its clauses.
 #[cycle(leaves)]
 pub fn of_query(query: &Query) -> usize {
-    let listed = match &query.select_list {
-        SelectList::Star => 0,
-        SelectList::One(listed) => of_expression(listed),
-    };
-    let keeps = match &query.keeps {
-        Some(keeps) => of_condition(keeps),
-        None => 0,
-    };
-    let having = match &query.having {
-        Some(having) => of_condition(having),
-        None => 0,
-    };
-    listed
-        .saturating_add(of_names(&query.correlation_name))
-        .saturating_add(keeps)
-        .saturating_add(of_group(&query.group))
-        .saturating_add(having)
-        .saturating_add(2)
+    clauses_of(query, 0).end
 }
 
 /// The leaves of a column's name: its qualifier too, where one is written.
@@ -83,7 +66,8 @@ pub fn of_column(column: &ColumnName) -> usize {
     }
 }
 
-fn of_names(name: &Option<Text>) -> usize {
+/// The leaves of a name that may be left out.
+pub fn of_name(name: &Option<Text>) -> usize {
     match name {
         Some(_) => 1,
         None => 0,
@@ -97,9 +81,31 @@ fn of_group(group: &Option<ColumnName>) -> usize {
     }
 }
 
-/// Where the leaves of the parts of a query begin.
+/// Leaves of a text, from one place up to another.
+#[derive(Clone, Copy, Debug)]
+pub struct Range {
+    pub from: usize,
+    pub to: usize,
+}
+
+impl Range {
+    /// So many leaves from a place on.
+    pub fn new(from: usize, count: usize) -> Range {
+        Range {
+            from,
+            to: from.saturating_add(count),
+        }
+    }
+
+    /// The leaves of an expression that begin here.
+    pub fn of(expression: &Expression, at: usize) -> Range {
+        Range::new(at, of_expression(expression))
+    }
+}
+
+/// Where the leaves of the clauses of a query begin, and where they end.
 #[derive(Clone, Copy)]
-pub struct Parts {
+pub struct Clauses {
     pub listed: usize,
     pub table: usize,
     pub keeps: usize,
@@ -108,15 +114,16 @@ pub struct Parts {
     pub end: usize,
 }
 
-/// Where the leaves of the parts of a query begin, if its own begin here.
-pub fn parts_of(query: &Query, at: usize) -> Parts {
+/// Where the leaves of the clauses of a query begin, if its own begin here.
+#[cycle(leaves)]
+pub fn clauses_of(query: &Query, at: usize) -> Clauses {
     let listed = at.saturating_add(1);
     let table = listed.saturating_add(match &query.select_list {
         SelectList::Star => 0,
         SelectList::One(listed) => of_expression(listed),
     });
     let keeps = table
-        .saturating_add(of_names(&query.correlation_name))
+        .saturating_add(of_name(&query.correlation_name))
         .saturating_add(1);
     let group = keeps.saturating_add(match &query.keeps {
         Some(keeps) => of_condition(keeps),
@@ -127,7 +134,7 @@ pub fn parts_of(query: &Query, at: usize) -> Parts {
         Some(having) => of_condition(having),
         None => 0,
     });
-    Parts {
+    Clauses {
         listed,
         table,
         keeps,

@@ -1,14 +1,13 @@
-//! The first name of a condition that stands for nothing: where it stands, and what was meant.
+//! The first name of a condition or an expression that stands for nothing: where it stands, and what was meant.
 //!
 //! The order is that of `name_check`: of a query its table comes first, then its list, WHERE, GROUP BY and HAVING.
 
-use crate::expected::joined;
-use crate::leaves::{of_column, of_condition, of_expression, parts_of};
-use crate::near::Nearest;
+use crate::leaves::{clauses_of, of_column};
+use crate::parts::{Node, Part};
+use faults::{Nearest, enumeration};
 use name_check::{Scope, exposed_name};
 use std::alloc::{AllocError, Global};
-use std::str;
-use syntax::{ColumnName, Condition, Expression, Query, SelectList};
+use syntax::ColumnName;
 use table::Catalog;
 use value::Text;
 
@@ -34,146 +33,83 @@ pub struct Unknown {
     pub around: String,
 }
 
-/// The first unknown name of a condition whose leaves begin here.
-#[cycle(unknown)]
-pub fn in_condition(
+/// The first unknown name of the parts of a tree, which is seen from these tables, the innermost last.
+pub fn first_unknown<'a>(
     alloc: Global,
-    catalog: &Catalog,
-    scopes: &[Scope],
-    condition: &Condition,
-    at: usize,
+    catalog: &'a Catalog,
+    outer: &[Scope<'a>],
+    parts: &[Part<'a>],
 ) -> Result<Option<Unknown>, AllocError> {
-    match condition {
-        Condition::Or(parts) | Condition::And(parts) => {
-            let mut at = at;
-            for part in parts.as_slice() {
-                if let Some(unknown) = in_condition(alloc, catalog, scopes, part, at)? {
+    let mut scopes = Vec::from_slice(alloc, outer)?;
+    for part in parts {
+        match part.node {
+            Node::Column(column) => {
+                let at = part.range.from;
+                if let Some(unknown) = unknown_in(alloc, &scopes, column, at)? {
                     return Ok(Some(unknown));
                 }
-                at = at.saturating_add(of_condition(part));
             }
-            Ok(None)
-        }
-        Condition::Not(part) | Condition::Is(part, _) => {
-            in_condition(alloc, catalog, scopes, part.get(), at)
-        }
-        Condition::Exists(query) => {
-            in_query(alloc, catalog, scopes, query.get(), at.saturating_add(1))
-        }
-        Condition::Compare(left, _, right) => {
-            if let Some(unknown) = in_expression(alloc, catalog, scopes, left, at)? {
-                return Ok(Some(unknown));
-            }
-            let at = at.saturating_add(of_expression(left)).saturating_add(1);
-            in_expression(alloc, catalog, scopes, right, at)
-        }
-        Condition::IsNull(part) => in_expression(alloc, catalog, scopes, part, at),
-        Condition::Between(subject, low, high) => {
-            if let Some(unknown) = in_expression(alloc, catalog, scopes, subject, at)? {
-                return Ok(Some(unknown));
-            }
-            let at = at.saturating_add(of_expression(subject));
-            if let Some(unknown) = in_expression(alloc, catalog, scopes, low, at)? {
-                return Ok(Some(unknown));
-            }
-            let at = at.saturating_add(of_expression(low));
-            in_expression(alloc, catalog, scopes, high, at)
-        }
-        Condition::In(subject, values) => {
-            if let Some(unknown) = in_expression(alloc, catalog, scopes, subject, at)? {
-                return Ok(Some(unknown));
-            }
-            let mut at = at.saturating_add(of_expression(subject));
-            for value in values.as_slice() {
-                if let Some(unknown) = in_expression(alloc, catalog, scopes, value, at)? {
+            Node::Function(Some(column)) => {
+                let at = part.range.from.saturating_add(1);
+                if let Some(unknown) = unknown_in(alloc, &scopes, column, at)? {
                     return Ok(Some(unknown));
                 }
-                at = at.saturating_add(of_expression(value));
             }
-            Ok(None)
+            Node::Exists(_) | Node::Value(_) => {
+                if let Some(unknown) = enter(alloc, catalog, part, &mut scopes)? {
+                    return Ok(Some(unknown));
+                }
+            }
+            Node::End => {
+                scopes.pop();
+            }
+            Node::Function(None) | Node::Arithmetic(_) => {}
         }
     }
+    Ok(None)
 }
 
-/// The first unknown name of an expression whose leaves begin here.
-#[cycle(unknown)]
-pub fn in_expression(
+/// Puts the table of a query inside the others, if there is such a table.
+fn enter<'a>(
     alloc: Global,
-    catalog: &Catalog,
-    scopes: &[Scope],
-    expression: &Expression,
-    at: usize,
+    catalog: &'a Catalog,
+    part: &Part<'a>,
+    scopes: &mut Vec<Scope<'a>>,
 ) -> Result<Option<Unknown>, AllocError> {
-    match expression {
-        Expression::Number(_) | Expression::Text(_) | Expression::CountRows => Ok(None),
-        Expression::Column(column) => in_column(alloc, scopes, column, at),
-        Expression::Aggregate(_, column) => in_column(alloc, scopes, column, at.saturating_add(1)),
-        Expression::Subquery(query) => in_query(alloc, catalog, scopes, query.get(), at),
-        Expression::Negation(part) => in_expression(alloc, catalog, scopes, part.get(), at),
-        Expression::Sum(parts) | Expression::Product(parts) => {
-            let mut at = at;
-            for part in parts.as_slice() {
-                if let Some(unknown) = in_expression(alloc, catalog, scopes, part, at)? {
-                    return Ok(Some(unknown));
-                }
-                at = at.saturating_add(of_expression(part));
-            }
-            Ok(None)
-        }
-    }
-}
-
-/// The first unknown name of a query whose leaves begin here.
-#[cycle(unknown)]
-fn in_query(
-    alloc: Global,
-    catalog: &Catalog,
-    outer: &[Scope],
-    query: &Query,
-    at: usize,
-) -> Result<Option<Unknown>, AllocError> {
-    let parts = parts_of(query, at);
-    let Some(schema) = catalog.get(&query.table) else {
-        return Ok(Some(unknown_table(alloc, catalog, &query.table, parts.table)?));
+    let Some((query, at)) = part.query() else {
+        return Ok(None);
     };
-    let inner = Scope {
+    let Some(schema) = catalog.get(&query.table) else {
+        let leaf = clauses_of(query, at).table;
+        return Ok(Some(unknown_table(alloc, catalog, &query.table, leaf)?));
+    };
+    scopes.push(Scope {
         exposed_name: exposed_name(&query.correlation_name, &query.table),
         schema,
-    };
-    let scopes = put_inside(alloc, inner, outer)?;
-    if let SelectList::One(listed) = &query.select_list {
-        if let Some(unknown) = in_expression(alloc, catalog, &scopes, listed, parts.listed)? {
-            return Ok(Some(unknown));
-        }
-    }
-    if let Some(keeps) = &query.keeps {
-        if let Some(unknown) = in_condition(alloc, catalog, &scopes, keeps, parts.keeps)? {
-            return Ok(Some(unknown));
-        }
-    }
-    if let Some(group) = &query.group {
-        if let Some(unknown) = in_column(alloc, &scopes, group, parts.group)? {
-            return Ok(Some(unknown));
-        }
-    }
-    match &query.having {
-        Some(having) => in_condition(alloc, catalog, &scopes, having, parts.having),
-        None => Ok(None),
-    }
+    })?;
+    Ok(None)
 }
 
-/// The scopes with one more inside them.
-pub fn put_inside<'a>(
+/// The unknown part of a column's name, if there is one.
+fn unknown_in(
     alloc: Global,
-    inner: Scope<'a>,
-    outer: &[Scope<'a>],
-) -> Result<Vec<Scope<'a>>, AllocError> {
-    let mut scopes = Vec::new(alloc);
-    scopes.push(inner)?;
-    for scope in outer {
-        scopes.push(*scope)?;
+    scopes: &[Scope],
+    column: &ColumnName,
+    at: usize,
+) -> Result<Option<Unknown>, AllocError> {
+    let last = at.saturating_add(of_column(column)).saturating_sub(1);
+    for scope in scopes.iter().rev() {
+        if scope.is_named(column) {
+            if scope.own(column).is_some() {
+                return Ok(None);
+            }
+            return Ok(Some(unknown_column(alloc, &[*scope], &column.name, last)?));
+        }
     }
-    Ok(scopes)
+    match &column.qualifier {
+        Some(qualifier) => Ok(Some(unknown_qualifier(alloc, scopes, qualifier, at)?)),
+        None => Ok(Some(unknown_column(alloc, scopes, &column.name, last)?)),
+    }
 }
 
 /// A table that there is not.
@@ -195,28 +131,6 @@ pub fn unknown_table(
         nearest,
         around: String::new(alloc),
     })
-}
-
-/// The unknown part of a column's name, if there is one.
-fn in_column(
-    alloc: Global,
-    scopes: &[Scope],
-    column: &ColumnName,
-    at: usize,
-) -> Result<Option<Unknown>, AllocError> {
-    let last = at.saturating_add(of_column(column)).saturating_sub(1);
-    for scope in scopes {
-        if scope.is_named(column) {
-            if scope.own(column).is_some() {
-                return Ok(None);
-            }
-            return Ok(Some(unknown_column(alloc, &[*scope], &column.name, last)?));
-        }
-    }
-    match &column.qualifier {
-        Some(qualifier) => Ok(Some(unknown_qualifier(alloc, scopes, qualifier, at)?)),
-        None => Ok(Some(unknown_column(alloc, scopes, &column.name, last)?)),
-    }
 }
 
 /// A column that none of the tables around has.
@@ -259,11 +173,12 @@ fn unknown_qualifier(
     })
 }
 
-/// The names that tables go by.
+/// The names that tables go by, the innermost first.
 fn exposed_names(alloc: Global, scopes: &[Scope]) -> Result<String, AllocError> {
-    let mut names: Vec<&str> = Vec::new(alloc);
-    for scope in scopes {
-        names.push(str::from_utf8(scope.exposed_name.as_bytes()).unwrap_or(""))?;
+    let mut names = Vec::new(alloc);
+    for scope in scopes.iter().rev() {
+        let name = scope.exposed_name;
+        names.push(format!(in alloc; "{name}")?)?;
     }
-    joined(alloc, &names, " and ")
+    enumeration(alloc, &names, " and ")
 }

@@ -1,9 +1,45 @@
 //! What each rule of the class says, and how to write what was meant.
 
-use crate::diagnoses::text;
-use crate::shapes::{Outside, Rule};
+use crate::shapes::Outside;
+use name_check::Scope;
 use std::alloc::{AllocError, Global};
-use table::Catalog;
+
+/// Which rule of the class a part breaks.
+#[derive(Clone, Copy, Debug, PartialEq, Eq)]
+pub enum Rule {
+    /// GROUP BY without HAVING.
+    GroupWithoutHaving,
+    /// HAVING without GROUP BY.
+    HavingWithoutGroup,
+    /// A query under EXISTS lists `*`, a constant or a column of its own table (by groups the grouping column).
+    Listed,
+    /// A set function stands in a WHERE.
+    FunctionInWhere,
+    /// A query stands where none may: in a WHERE that is not that of the outer query of a rule by rows.
+    QueryInWhere,
+    /// A query stands in a HAVING.
+    QueryInHaving,
+    /// A column in a HAVING is not the grouping column.
+    ColumnInHaving,
+    /// A subquery has no WHERE, or no part of it is a link.
+    NoLink,
+    /// A subquery is linked to another column than the key of the row around it.
+    LinkToOther,
+    /// A subquery has two links.
+    TwoLinks,
+    /// A part of a subquery's WHERE besides the link looks at the row around it.
+    OuterColumn,
+    /// A subquery has a GROUP BY or a HAVING.
+    GroupInSubquery,
+    /// A query that stands for a value lists no set function.
+    ValueOfRow,
+    /// EXISTS stands in a condition of its own.
+    ExistsAlone,
+    /// Several EXISTS in one rule.
+    SeveralRules,
+    /// A set function stands in a condition of its own, outside a query.
+    FunctionAlone,
+}
 
 /// What is wrong with a part that breaks a rule of the class.
 pub fn wrong(rule: Rule) -> &'static str {
@@ -28,92 +64,92 @@ pub fn wrong(rule: Rule) -> &'static str {
 }
 
 /// How to write it in the class.
-pub fn advice(alloc: Global, catalog: &Catalog, outside: &Outside) -> Result<String, AllocError> {
-    match outside.rule {
-        Rule::GroupWithoutHaving => text(
-            alloc,
-            "Say by HAVING what no group may be: GROUP BY OWNER HAVING COUNT(*) > 2. Without groups leave GROUP BY out.",
-        ),
-        Rule::HavingWithoutGroup => text(
-            alloc,
-            "Name the groups: GROUP BY OWNER HAVING SUM(BAL) < 0. Over the whole table write a condition of its own: CHECK ((SELECT SUM(BAL) FROM ACCT) >= 0).",
-        ),
-        Rule::Listed => text(
-            alloc,
-            "Write SELECT *. (A constant or one column of the query's own table means the same, and with GROUP BY the grouping column.)",
-        ),
-        Rule::FunctionInWhere => text(
-            alloc,
-            "A WHERE looks at one row. Of groups of rows write GROUP BY .. HAVING COUNT(*) > 2; of the rows that are linked to a row, (SELECT COUNT(*) FROM D WHERE D.COLUMN = R.KEY) > 2.",
-        ),
-        Rule::QueryInWhere => text(
-            alloc,
-            "Queries stand in the outermost WHERE of NOT EXISTS (SELECT * FROM T R WHERE ..) alone, each linked to R. Keep what the inner query asks for in a column, or write an assertion of its own.",
-        ),
-        Rule::QueryInHaving => text(
-            alloc,
-            "HAVING compares set functions of the group, its grouping column and constants.",
-        ),
-        Rule::ColumnInHaving => text(
-            alloc,
-            "Of the other columns a group has many values: take MIN(..), MAX(..), SUM(..) or COUNT(..) of it, or put the test into WHERE.",
-        ),
-        Rule::NoLink => link_advice(alloc, catalog, outside.root),
-        Rule::LinkToOther => link_advice(alloc, catalog, outside.root),
-        Rule::TwoLinks => text(
-            alloc,
-            "A query in a rule is linked once: to the key of the row around it. Its other parts look at its own rows.",
-        ),
-        Rule::OuterColumn => text(
-            alloc,
-            "Besides its one link a query looks at its own rows. Compare what it gives outside: (SELECT MAX(D.X) FROM D WHERE D.COLUMN = R.KEY) > R.Y.",
-        ),
-        Rule::GroupInSubquery => text(
-            alloc,
-            "The link makes the group: (SELECT COUNT(*) FROM D WHERE D.COLUMN = R.KEY) > 2.",
-        ),
-        Rule::ValueOfRow => text(
-            alloc,
-            "COUNT(*), COUNT(C), SUM(C), MIN(C) or MAX(C). Where there is one row, MAX(C) is its value.",
-        ),
-        Rule::ExistsAlone => text(
-            alloc,
-            "That a row is there is a count: CHECK ((SELECT COUNT(*) FROM T WHERE ..) >= 1). That each row of T has one: NOT EXISTS (SELECT * FROM T R WHERE NOT EXISTS (..)).",
-        ),
-        Rule::SeveralRules => text(
-            alloc,
-            "Write one assertion for each EXISTS. What holds where another thing does is one query: NOT EXISTS (SELECT * FROM T WHERE .. AND NOT ..).",
-        ),
-        Rule::FunctionAlone => text(
-            alloc,
-            "Say of which table: (SELECT SUM(BAL) FROM ACCT) >= 0.",
-        ),
+pub fn advice(alloc: Global, outside: &Outside) -> Result<String, AllocError> {
+    match (outside.rule, outside.root) {
+        (Rule::NoLink | Rule::LinkToOther, Some(root)) => link_advice(alloc, root),
+        (rule, _) => String::from_str(alloc, form_of(rule)),
     }
 }
 
-/// What a link is.
-fn link_advice(
-    alloc: Global,
-    catalog: &Catalog,
-    root: Option<usize>,
-) -> Result<String, AllocError> {
-    let Some(place) = root else {
-        return text(alloc, "A link is a part D.COLUMN = R.KEY of its WHERE.");
-    };
-    match (catalog.name(place), catalog.at(place)) {
-        (Some(name), Some(schema)) => match schema.columns().get(schema.key()) {
-            Some(key) => {
-                let key = &key.name;
-                format!(in alloc;
-                    "Its WHERE has one part, joined by AND, that sets a column of its own table equal to {key}, the key of {name}."
-                )
-            }
-            None => text(alloc, "A link is a part D.COLUMN = R.KEY of its WHERE."),
-        },
-        _ => text(alloc, "A link is a part D.COLUMN = R.KEY of its WHERE."),
+/// The nearest form that is taken, where a part breaks a rule of the class.
+fn form_of(rule: Rule) -> &'static str {
+    match rule {
+        Rule::GroupWithoutHaving => GROUP_WITHOUT_HAVING,
+        Rule::HavingWithoutGroup => HAVING_WITHOUT_GROUP,
+        Rule::Listed => LISTED,
+        Rule::FunctionInWhere => FUNCTION_IN_WHERE,
+        Rule::QueryInWhere => QUERY_IN_WHERE,
+        Rule::QueryInHaving => QUERY_IN_HAVING,
+        Rule::ColumnInHaving => COLUMN_IN_HAVING,
+        Rule::NoLink | Rule::LinkToOther => LINK,
+        Rule::TwoLinks => TWO_LINKS,
+        Rule::OuterColumn => OUTER_COLUMN,
+        Rule::GroupInSubquery => GROUP_IN_SUBQUERY,
+        Rule::ValueOfRow => VALUE_OF_ROW,
+        Rule::ExistsAlone => EXISTS_ALONE,
+        Rule::SeveralRules => SEVERAL_RULES,
+        Rule::FunctionAlone => FUNCTION_ALONE,
     }
 }
+
+const GROUP_WITHOUT_HAVING: &str = "Say by HAVING what no group may be: GROUP BY OWNER HAVING \
+     COUNT(*) > 2. Without groups leave GROUP BY out.";
+
+const HAVING_WITHOUT_GROUP: &str = "Name the groups: GROUP BY OWNER HAVING SUM(BAL) < 0. Over the \
+     whole table write a condition of its own: CHECK ((SELECT SUM(BAL) FROM ACCT) >= 0).";
+
+const LISTED: &str = "Write SELECT *. (A constant or one column of the query's own table means the \
+     same, and with GROUP BY the grouping column.)";
+
+const FUNCTION_IN_WHERE: &str = "A WHERE looks at one row. Of groups of rows write GROUP BY .. \
+     HAVING COUNT(*) > 2; of the rows that are linked to a row, (SELECT COUNT(*) FROM D WHERE \
+     D.COLUMN = R.KEY) > 2.";
+
+const QUERY_IN_WHERE: &str =
+    "Queries stand in the outermost WHERE of NOT EXISTS (SELECT * FROM T R \
+     WHERE ..) alone, each linked to R. Keep what the inner query asks for in a column, or write \
+     an assertion of its own.";
+
+const QUERY_IN_HAVING: &str =
+    "HAVING compares set functions of the group, its grouping column and constants.";
+
+const COLUMN_IN_HAVING: &str = "Of the other columns a group has many values: take MIN(..), \
+     MAX(..), SUM(..) or COUNT(..) of it, or put the test into WHERE.";
+
+const LINK: &str = "A link is a part D.COLUMN = R.KEY of its WHERE.";
+
+const TWO_LINKS: &str = "A query in a rule is linked once: to the key of the row around it. Its \
+     other parts look at its own rows.";
+
+const OUTER_COLUMN: &str = "Besides its one link a query looks at its own rows. Compare what it \
+     gives outside: (SELECT MAX(D.X) FROM D WHERE D.COLUMN = R.KEY) > R.Y.";
+
+const GROUP_IN_SUBQUERY: &str =
+    "The link makes the group: (SELECT COUNT(*) FROM D WHERE D.COLUMN = R.KEY) > 2.";
+
+const VALUE_OF_ROW: &str = "COUNT(*), COUNT(C), SUM(C), MIN(C) or MAX(C). Where there is one row, \
+     MAX(C) is its value.";
+
+const EXISTS_ALONE: &str = "That a row is there is a count: CHECK ((SELECT COUNT(*) FROM T WHERE \
+     ..) >= 1). That each row of T has one: NOT EXISTS (SELECT * FROM T R WHERE NOT EXISTS (..)).";
+
+const SEVERAL_RULES: &str = "Write one assertion for each EXISTS. What holds where another thing \
+     does is one query: NOT EXISTS (SELECT * FROM T WHERE .. AND NOT ..).";
+
+const FUNCTION_ALONE: &str = "Say of which table: (SELECT SUM(BAL) FROM ACCT) >= 0.";
 
 /// What is said of a condition in which no part was found to break a rule.
-pub const OUTSIDE: &str =
-    "A rule is NOT EXISTS (SELECT * FROM T R WHERE ..), NOT EXISTS (SELECT K FROM T GROUP BY K HAVING ..), or a comparison of (SELECT function FROM T WHERE ..).";
+pub const FORMS: &str = "A rule is NOT EXISTS (SELECT * FROM T R WHERE ..), NOT EXISTS (SELECT K \
+     FROM T GROUP BY K HAVING ..), or a comparison of (SELECT function FROM T WHERE ..).";
+
+/// What a link to a row of this table is.
+fn link_advice(alloc: Global, root: Scope) -> Result<String, AllocError> {
+    let Some(key) = root.schema.columns().get(root.schema.key()) else {
+        return String::from_str(alloc, LINK);
+    };
+    let (row, key) = (root.exposed_name, &key.name);
+    format!(in alloc;
+        "Its WHERE has one part, joined by AND, that sets a column of its own table equal to \
+         {row}.{key}, the key of the row around it."
+    )
+}

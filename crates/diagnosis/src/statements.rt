@@ -2,24 +2,22 @@
 //! constants that no row may hold.
 
 use crate::conditions::{
-    Context, diagnose_condition, diagnose_name, diagnose_shape, diagnose_types, diagnose_whole,
-    diagnose_width,
+    Context, Site, diagnose_condition, diagnose_name, diagnose_shape, diagnose_types,
+    diagnose_whole, diagnose_width, type_name,
 };
-use crate::diagnoses::{Diagnosis, text};
-use crate::expected::Which;
 use crate::inserts::diagnose_insert;
-use crate::leaves::of_expression;
-use crate::names::{in_expression as unknown_in_expression, unknown_column, unknown_table};
-use crate::near::Nearest;
-use crate::pieces::{Piece, but_memory};
-use crate::shapes::{in_assigned, in_where};
-use crate::types::{of_type, range_of};
-use crate::widths::in_expression as wide_in_expression;
+use crate::leaves::{Range, of_expression};
+use crate::names::{first_unknown, unknown_column, unknown_table};
+use crate::parts::parts_of_expression;
+use crate::shapes::in_parts;
+use crate::types::of_type;
+use crate::widths::first_wide;
 use assertcheck::{check_delete, check_insert, check_select, check_update};
 use delta::View;
+use faults::{At, Diagnosis, Nearest, Piece, Span, Which, enumeration};
 use name_check::Scope;
 use sqlite_items::Boxed;
-use statement_syntax::{Assigned, Assignment, Insert, Mode, Statement, Which as Listed};
+use statement_syntax::{Assigned, Assignment, Insert, Statement, Which as Listed};
 use std::alloc::{AllocError, Global};
 use syntax::Condition;
 use table::Catalog;
@@ -46,6 +44,15 @@ pub fn diagnose_statement(
     Ok(Some(diagnose(alloc, context, view, statement, &refusal)?))
 }
 
+/// The refusal of an answer, where it is no want of memory.
+fn refusal_in<T: Drop>(answer: Result<T, Refusal>) -> Result<Option<Refusal>, AllocError> {
+    match answer {
+        Ok(_) => Ok(None),
+        Err(Refusal::NoMemory) => Err(AllocError),
+        Err(refusal) => Ok(Some(refusal)),
+    }
+}
+
 /// The refusal that a statement gets whatever the rows are.
 fn refusal_of(
     alloc: Global,
@@ -55,31 +62,19 @@ fn refusal_of(
     let catalog = view.catalog();
     match statement {
         Statement::Insert(insert) => insert_refusal(alloc, catalog, insert),
-        Statement::Update { table, sets, keeps } => Ok(but_memory(check_update(
-            alloc,
-            catalog,
-            table,
-            sets.as_slice(),
-            keeps,
-        ))?.err()),
+        Statement::Update { table, sets, keeps } => {
+            refusal_in(check_update(alloc, catalog, table, sets.as_slice(), keeps))
+        }
         Statement::Delete { table, keeps } => {
-            Ok(but_memory(check_delete(alloc, catalog, table, keeps))?.err())
+            refusal_in(check_delete(alloc, catalog, table, keeps))
         }
         Statement::Select {
             columns,
             table,
             keeps,
-        } => Ok(but_memory(check_select(alloc, catalog, columns, table, keeps))?.err()),
-        Statement::SetConstraints { assertions, mode } => {
-            settable(alloc, view, assertions, *mode)
-        }
-        Statement::Verdict(name) => {
-            if is_assertion(view, name) {
-                Ok(None)
-            } else {
-                Ok(Some(Refusal::UnknownName { name: name.copy()? }))
-            }
-        }
+        } => refusal_in(check_select(alloc, catalog, columns, table, keeps)),
+        Statement::SetConstraints { assertions, .. } => refusal_to_set(view, assertions),
+        Statement::Verdict(name) => unknown_assertion(view, name),
     }
 }
 
@@ -88,38 +83,33 @@ fn insert_refusal(
     catalog: &Catalog,
     insert: &Insert,
 ) -> Result<Option<Refusal>, AllocError> {
-    let new = match but_memory(check_insert(alloc, catalog, insert))? {
-        Ok(new) => new,
-        Err(refusal) => return Ok(Some(refusal)),
-    };
-    match catalog.get(&insert.table) {
-        Some(schema) => Ok(but_memory(schema.admits(&new.row))?.err()),
-        None => Ok(None),
+    match (
+        check_insert(alloc, catalog, insert),
+        catalog.get(&insert.table),
+    ) {
+        (Ok(new), Some(schema)) => refusal_in(schema.admits(&new.row)),
+        (answer, _) => refusal_in(answer),
     }
 }
 
-fn is_assertion(view: &View, name: &Text) -> bool {
+/// UnknownName, if no assertion has this name.
+fn unknown_assertion(view: &View, name: &Text) -> Result<Option<Refusal>, AllocError> {
     for assertion in view.assertions() {
         if assertion.name == *name {
-            return true;
+            return Ok(None);
         }
     }
-    false
+    Ok(Some(Refusal::UnknownName { name: name.copy()? }))
 }
 
-/// The first of the names that SET CONSTRAINTS does not take.
-fn settable(
-    _alloc: Global,
-    view: &View,
-    assertions: &Listed,
-    _mode: Mode,
-) -> Result<Option<Refusal>, AllocError> {
+/// Why SET CONSTRAINTS does not take the first of its names that it refuses.
+fn refusal_to_set(view: &View, assertions: &Listed) -> Result<Option<Refusal>, AllocError> {
     let Listed::Names(names) = assertions else {
         return Ok(None);
     };
     for name in names.as_slice() {
-        if !is_assertion(view, name) {
-            return Ok(Some(Refusal::UnknownName { name: name.copy()? }));
+        if let Some(refusal) = unknown_assertion(view, name)? {
+            return Ok(Some(refusal));
         }
         for assertion in view.assertions() {
             if assertion.name == *name && !assertion.attributes.deferrable {
@@ -163,6 +153,9 @@ fn diagnose(
     }
 }
 
+/// At most so many names of assertions are listed.
+const MOST_NAMES: usize = 8;
+
 /// The scope of a statement's table.
 fn scope_of<'a>(catalog: &'a Catalog, table: &'a Text) -> Option<Scope<'a>> {
     Some(Scope {
@@ -187,12 +180,12 @@ fn diagnose_rows(
     };
     match keeps {
         Some(keeps) => {
-            let keeps = keeps.get();
-            let outside = in_where(keeps, keeps_at);
-            if matches!(refusal, Refusal::OutsideClass) && outside.is_none() {
-                return Ok(None);
-            }
-            diagnose_condition(alloc, context, &[scope], keeps, keeps_at, outside, refusal)
+            let site = Site {
+                condition: keeps.get(),
+                at: keeps_at,
+                scopes: &[scope],
+            };
+            diagnose_condition(alloc, context, site, refusal)
         }
         None => Ok(None),
     }
@@ -285,7 +278,7 @@ fn diagnose_column(
                 format!(in alloc; "{key} is the key, and no UPDATE assigns it")?,
                 context.name_at(context.piece.leaf(at), key),
             )
-            .with(text(
+            .with(String::from_str(
                 alloc,
                 "Put the row in under its new key, and take the old one out.",
             )?)?;
@@ -308,15 +301,16 @@ fn diagnose_value(
         return Ok(None);
     };
     let at = at.saturating_add(2);
+    let parts = parts_of_expression(alloc, expression, at)?;
     match refusal {
         Refusal::UnknownName { name } => {
-            match unknown_in_expression(alloc, context.catalog, &[scope], expression, at)? {
+            match first_unknown(alloc, context.catalog, &[scope], &parts)? {
                 Some(unknown) => Ok(Some(diagnose_name(alloc, context, name, &unknown)?)),
                 None => Ok(None),
             }
         }
-        Refusal::OutsideClass => match in_assigned(expression, at) {
-            Some(outside) => Ok(Some(diagnose_shape(alloc, context, Some(outside))?)),
+        Refusal::OutsideClass => match in_parts(&parts) {
+            Some(outside) => Ok(Some(diagnose_shape(alloc, context, outside)?)),
             None => Ok(None),
         },
         Refusal::TypeMismatch => {
@@ -325,7 +319,7 @@ fn diagnose_value(
                 Ok(found) => diagnose_assigned(alloc, context, scope, assignment, found, at),
             }
         }
-        Refusal::TooWide => match wide_in_expression(alloc, expression, at)? {
+        Refusal::TooWide => match first_wide(alloc, &parts)? {
             Some(wide) => Ok(Some(diagnose_width(alloc, context, &wide)?)),
             None => Ok(None),
         },
@@ -355,17 +349,14 @@ fn diagnose_assigned(
     if wanted == found {
         return Ok(None);
     }
-    let (one, other) = (
-        crate::conditions::type_name(wanted),
-        crate::conditions::type_name(found),
-    );
+    let (one, other) = (type_name(wanted), type_name(found));
     let name = &column.name;
     let made = Diagnosis::new(
         alloc,
         context.which,
         5,
         format!(in alloc; "a value of type {other} for a column of type {one}")?,
-        context.range(range_of(expression, at)),
+        context.range(Range::of(expression, at)),
     )
     .with(format!(in alloc; "{name} is of type {one}.")?)?;
     Ok(Some(made))
@@ -379,23 +370,14 @@ fn diagnose_asserted(
     refusal: &Refusal,
 ) -> Result<Diagnosis, AllocError> {
     match refusal {
-        Refusal::UnknownName { name } => {
-            let mut nearest = Nearest::of(alloc, name)?;
-            for assertion in view.assertions() {
-                nearest.offer_name(alloc, &assertion.name)?;
-            }
-            let found = Diagnosis::new(
-                alloc,
-                context.which,
-                3,
-                format!(in alloc; "there is no assertion {name}")?,
-                asserted_at(context, name),
-            );
-            match nearest.found() {
-                Some(near) => found.with(format!(in alloc; "The nearest name is {near}.")?),
-                None => Ok(found),
-            }
-        }
+        Refusal::UnknownName { name } => Diagnosis::new(
+            alloc,
+            context.which,
+            3,
+            format!(in alloc; "there is no assertion {name}")?,
+            asserted_at(context, name),
+        )
+        .with(assertions_there(alloc, view, name)?),
         Refusal::NotDeferrable { assertion } => Diagnosis::new(
             alloc,
             context.which,
@@ -403,7 +385,7 @@ fn diagnose_asserted(
             format!(in alloc; "{assertion} is not deferrable")?,
             asserted_at(context, assertion),
         )
-        .with(text(
+        .with(String::from_str(
             alloc,
             "Write DEFERRABLE behind its CREATE ASSERTION .. CHECK (..), if it may be checked at COMMIT alone.",
         )?),
@@ -411,22 +393,38 @@ fn diagnose_asserted(
     }
 }
 
+/// Which assertion may be meant, or which there are.
+fn assertions_there(alloc: Global, view: &View, name: &Text) -> Result<String, AllocError> {
+    let mut nearest = Nearest::of(alloc, name)?;
+    let mut names = Vec::new(alloc);
+    for assertion in view.assertions() {
+        let other = &assertion.name;
+        nearest.offer_name(alloc, other)?;
+        if names.len() < MOST_NAMES {
+            names.push(format!(in alloc; "{other}")?)?;
+        }
+    }
+    match nearest.found() {
+        Some(near) => format!(in alloc; "The nearest name is {near}."),
+        None if names.is_empty() => String::from_str(alloc, "DEFS has no assertion."),
+        None => {
+            let names = enumeration(alloc, &names, " and ")?;
+            format!(in alloc; "The assertions: {names}.")
+        }
+    }
+}
+
 /// The first of the names behind the session's that is this one.
-fn asserted_at(context: Context, name: &Text) -> crate::diagnoses::At {
-    let mut place = 1usize;
-    for leaf in context.piece.leaves.iter().skip(1) {
-        let span = crate::places::Span {
+fn asserted_at(context: Context, name: &Text) -> At {
+    let leaves = context.piece.leaves.iter().skip(1);
+    for leaf in leaves {
+        let span = Span {
             start: leaf.start,
             end: leaf.end,
         };
-        if context
-            .piece
-            .bytes(span)
-            .eq_ignore_ascii_case(name.as_bytes())
-        {
-            break;
+        if let At::Bytes(span) = context.name_at(Some(span), name) {
+            return At::Bytes(span);
         }
-        place = place.saturating_add(1);
     }
-    context.name_at(context.piece.leaf(place), name)
+    context.at(None)
 }

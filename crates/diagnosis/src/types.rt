@@ -2,21 +2,12 @@
 //!
 //! What has which type is told by `type_check`: numbers and texts. Names and shapes are right when this is asked.
 
-use crate::leaves::{of_condition, of_expression, parts_of};
-use crate::names::put_inside;
+use crate::leaves::{Range, clauses_of, of_condition, of_expression};
 use name_check::{Scope, exposed_name};
 use std::alloc::{AllocError, Global};
 use syntax::{Aggregate, ColumnName, Condition, Expression, Query, SelectList};
 use table::Catalog;
 use type_check::DataType;
-use value::ColType;
-
-/// A part of a text: its leaves, from one place up to another.
-#[derive(Clone, Copy, Debug)]
-pub struct Range {
-    pub from: usize,
-    pub to: usize,
-}
 
 /// Types that do not fit.
 #[derive(Clone, Copy, Debug)]
@@ -37,7 +28,7 @@ pub enum Mismatch {
 /// The type of an expression, or the first mismatch in it.
 pub type Typed = Result<DataType, Mismatch>;
 
-/// The first mismatch of a condition whose leaves begin here.
+/// The first mismatch of a condition whose leaves begin here, seen from these tables, the innermost last.
 #[cycle(types)]
 pub fn in_condition(
     alloc: Global,
@@ -65,50 +56,32 @@ pub fn in_condition(
             Ok(listed_type(alloc, catalog, scopes, query.get(), at)?.err())
         }
         Condition::Compare(left, _, right) => {
-            let second = at.saturating_add(of_expression(left)).saturating_add(1);
-            let first = make_side(
-                of_type(alloc, catalog, scopes, left, at)?,
-                range_of(left, at),
-            );
-            let other = make_side(
-                of_type(alloc, catalog, scopes, right, second)?,
-                range_of(right, second),
-            );
-            Ok(compared(first, other))
+            let left = side_of(alloc, catalog, scopes, left, at)?;
+            let right = side_of(
+                alloc,
+                catalog,
+                scopes,
+                right,
+                left.range.to.saturating_add(1),
+            )?;
+            Ok(compared(left, right))
         }
         Condition::IsNull(part) => Ok(of_type(alloc, catalog, scopes, part, at)?.err()),
         Condition::Between(subject, low, high) => {
-            let second = at.saturating_add(of_expression(subject));
-            let third = second.saturating_add(of_expression(low));
-            let subject = make_side(
-                of_type(alloc, catalog, scopes, subject, at)?,
-                range_of(subject, at),
-            );
-            let low = make_side(
-                of_type(alloc, catalog, scopes, low, second)?,
-                range_of(low, second),
-            );
-            let high = make_side(
-                of_type(alloc, catalog, scopes, high, third)?,
-                range_of(high, third),
-            );
+            let subject = side_of(alloc, catalog, scopes, subject, at)?;
+            let low = side_of(alloc, catalog, scopes, low, subject.range.to)?;
+            let high = side_of(alloc, catalog, scopes, high, low.range.to)?;
             Ok(compared(subject, low).or(compared(subject, high)))
         }
         Condition::In(subject, values) => {
-            let mut next = at.saturating_add(of_expression(subject));
-            let subject = make_side(
-                of_type(alloc, catalog, scopes, subject, at)?,
-                range_of(subject, at),
-            );
+            let subject = side_of(alloc, catalog, scopes, subject, at)?;
+            let mut at = subject.range.to;
             for value in values.as_slice() {
-                let listed = make_side(
-                    of_type(alloc, catalog, scopes, value, next)?,
-                    range_of(value, next),
-                );
-                if let Some(mismatch) = compared(subject, listed) {
+                let value = side_of(alloc, catalog, scopes, value, at)?;
+                if let Some(mismatch) = compared(subject, value) {
                     return Ok(Some(mismatch));
                 }
-                next = next.saturating_add(of_expression(value));
+                at = value.range.to;
             }
             Ok(None)
         }
@@ -116,15 +89,24 @@ pub fn in_condition(
 }
 
 /// A side of a comparison: its leaves, and its type or the first mismatch in it.
-#[derive(Clone, Copy, Debug)]
+#[derive(Clone, Copy)]
 struct Side {
     range: Range,
     typed: Typed,
 }
 
-/// A side of a comparison.
-fn make_side(typed: Typed, range: Range) -> Side {
-    Side { range, typed }
+/// A side of a comparison, whose leaves begin here.
+#[cycle(types)]
+fn side_of(
+    alloc: Global,
+    catalog: &Catalog,
+    scopes: &[Scope],
+    expression: &Expression,
+    at: usize,
+) -> Result<Side, AllocError> {
+    let typed = of_type(alloc, catalog, scopes, expression, at)?;
+    let range = Range::of(expression, at);
+    Ok(Side { range, typed })
 }
 
 /// The mismatch of two sides, or that of one of them.
@@ -138,14 +120,6 @@ fn compared(left: Side, right: Side) -> Option<Mismatch> {
             left_type,
             right_type,
         }),
-    }
-}
-
-/// The leaves of an expression.
-pub fn range_of(expression: &Expression, at: usize) -> Range {
-    Range {
-        from: at,
-        to: at.saturating_add(of_expression(expression)),
     }
 }
 
@@ -165,12 +139,12 @@ pub fn of_type(
         Expression::Aggregate(function, column) => Ok(function_type(
             *function,
             column_type(scopes, column),
-            range_of(expression, at),
+            Range::of(expression, at),
         )),
         Expression::Subquery(query) => listed_type(alloc, catalog, scopes, query.get(), at),
         Expression::Negation(part) => {
             match of_type(alloc, catalog, scopes, part.get(), at)? {
-                Ok(DataType::Text) => Ok(Err(Mismatch::Computed(range_of(part.get(), at)))),
+                Ok(DataType::Text) => Ok(Err(Mismatch::Computed(Range::of(part.get(), at)))),
                 found => Ok(found),
             }
         }
@@ -179,7 +153,7 @@ pub fn of_type(
             for part in parts.as_slice() {
                 match of_type(alloc, catalog, scopes, part, at)? {
                     Ok(DataType::Number) => {}
-                    Ok(DataType::Text) => return Ok(Err(Mismatch::Computed(range_of(part, at)))),
+                    Ok(DataType::Text) => return Ok(Err(Mismatch::Computed(Range::of(part, at)))),
                     Err(mismatch) => return Ok(Err(mismatch)),
                 }
                 at = at.saturating_add(of_expression(part));
@@ -198,22 +172,17 @@ fn function_type(function: Aggregate, column: DataType, range: Range) -> Typed {
     }
 }
 
-/// The type that a column was declared with, seen from the tables around, the innermost first.
+/// The type that a column was declared with, seen from these tables.
 fn column_type(scopes: &[Scope], column: &ColumnName) -> DataType {
-    match declared(scopes, column) {
-        Some(kind) => DataType::from(kind),
-        None => DataType::Number,
-    }
-}
-
-/// What a column was declared as, seen from the tables around, the innermost first.
-pub fn declared(scopes: &[Scope], column: &ColumnName) -> Option<ColType> {
-    for scope in scopes {
+    for scope in scopes.iter().rev() {
         if let Some(place) = scope.own(column) {
-            return scope.schema.columns().get(place).map(|column| column.kind);
+            return match scope.schema.columns().get(place) {
+                Some(column) => DataType::from(column.kind),
+                None => DataType::Number,
+            };
         }
     }
-    None
+    DataType::Number
 }
 
 /// The type of what a query lists, or the first mismatch in the query.
@@ -225,7 +194,7 @@ fn listed_type(
     query: &Query,
     at: usize,
 ) -> Result<Typed, AllocError> {
-    let parts = parts_of(query, at);
+    let clauses = clauses_of(query, at);
     let Some(schema) = catalog.get(&query.table) else {
         return Ok(Ok(DataType::Number));
     };
@@ -233,19 +202,20 @@ fn listed_type(
         exposed_name: exposed_name(&query.correlation_name, &query.table),
         schema,
     };
-    let scopes = put_inside(alloc, inner, &*outer)?;
+    let mut scopes = Vec::from_slice(alloc, outer)?;
+    scopes.push(inner)?;
     if let Some(keeps) = &query.keeps {
-        if let Some(mismatch) = in_condition(alloc, catalog, &scopes, keeps, parts.keeps)? {
+        if let Some(mismatch) = in_condition(alloc, catalog, &scopes, keeps, clauses.keeps)? {
             return Ok(Err(mismatch));
         }
     }
     if let Some(having) = &query.having {
-        if let Some(mismatch) = in_condition(alloc, catalog, &scopes, having, parts.having)? {
+        if let Some(mismatch) = in_condition(alloc, catalog, &scopes, having, clauses.having)? {
             return Ok(Err(mismatch));
         }
     }
     match &query.select_list {
         SelectList::Star => Ok(Ok(DataType::Number)),
-        SelectList::One(listed) => of_type(alloc, catalog, &scopes, listed, parts.listed),
+        SelectList::One(listed) => of_type(alloc, catalog, &scopes, listed, clauses.listed),
     }
 }

@@ -1,13 +1,13 @@
-//! The first expression of a condition that has no bound: where it stands, and the bounds of its parts.
+//! The first sum or product that has no bound: where it stands, and the bounds of its parts.
 //!
 //! Bounds are those of `cond::bound`. Names, shapes and types are right when this is asked.
 
-use crate::leaves::{of_condition, of_expression, parts_of};
-use crate::types::{Range, range_of};
+use crate::leaves::Range;
+use crate::parts::{Node, Part};
 use cond::{Expr, SlotKind, bound};
 use sqlite_items::{Boxed, Items};
 use std::alloc::{AllocError, Global};
-use syntax::{Aggregate, Condition, Expression, Query, SelectList};
+use syntax::{Aggregate, Expression, SelectList};
 use value::Value;
 
 /// A part of an expression, and the greatest number that it can be.
@@ -25,111 +25,35 @@ pub struct Wide {
     pub parts: Vec<Bounded>,
 }
 
-/// The first expression of a condition without a bound, if its leaves begin here.
-#[cycle(widths)]
-pub fn in_condition(
-    alloc: Global,
-    condition: &Condition,
-    at: usize,
-) -> Result<Option<Wide>, AllocError> {
-    match condition {
-        Condition::Or(parts) | Condition::And(parts) => {
-            let mut at = at;
-            for part in parts.as_slice() {
-                if let Some(wide) = in_condition(alloc, part, at)? {
-                    return Ok(Some(wide));
-                }
-                at = at.saturating_add(of_condition(part));
+/// The first expression without a bound among the parts of a tree, the innermost of those that hold one another.
+pub fn first_wide(alloc: Global, parts: &[Part]) -> Result<Option<Wide>, AllocError> {
+    for part in parts {
+        if let Node::Arithmetic(expression) = part.node {
+            if bound_of(alloc, expression)?.is_none() {
+                return Ok(wide_of(alloc, expression, part.range)?);
             }
-            Ok(None)
-        }
-        Condition::Not(part) | Condition::Is(part, _) => in_condition(alloc, part.get(), at),
-        Condition::Exists(query) => in_query(alloc, query.get(), at.saturating_add(1)),
-        Condition::Compare(left, _, right) => {
-            if let Some(wide) = in_expression(alloc, left, at)? {
-                return Ok(Some(wide));
-            }
-            let at = at.saturating_add(of_expression(left)).saturating_add(1);
-            in_expression(alloc, right, at)
-        }
-        Condition::IsNull(part) => in_expression(alloc, part, at),
-        Condition::Between(subject, low, high) => {
-            if let Some(wide) = in_expression(alloc, subject, at)? {
-                return Ok(Some(wide));
-            }
-            let at = at.saturating_add(of_expression(subject));
-            if let Some(wide) = in_expression(alloc, low, at)? {
-                return Ok(Some(wide));
-            }
-            in_expression(alloc, high, at.saturating_add(of_expression(low)))
-        }
-        Condition::In(subject, values) => {
-            if let Some(wide) = in_expression(alloc, subject, at)? {
-                return Ok(Some(wide));
-            }
-            let mut at = at.saturating_add(of_expression(subject));
-            for value in values.as_slice() {
-                if let Some(wide) = in_expression(alloc, value, at)? {
-                    return Ok(Some(wide));
-                }
-                at = at.saturating_add(of_expression(value));
-            }
-            Ok(None)
         }
     }
+    Ok(None)
 }
 
-/// The innermost expression without a bound, if there is one in an expression whose leaves begin here.
-#[cycle(widths)]
-pub fn in_expression(
+/// A sum or a product with the bounds of its parts.
+fn wide_of(
     alloc: Global,
     expression: &Expression,
-    at: usize,
+    range: Range,
 ) -> Result<Option<Wide>, AllocError> {
-    match expression {
-        Expression::Number(_)
-        | Expression::Text(_)
-        | Expression::CountRows
-        | Expression::Column(_)
-        | Expression::Aggregate(_, _) => Ok(None),
-        Expression::Subquery(query) => in_query(alloc, query.get(), at),
-        Expression::Negation(part) => in_expression(alloc, part.get(), at),
-        Expression::Sum(parts) | Expression::Product(parts) => {
-            let mut next = at;
-            for part in parts.as_slice() {
-                if let Some(wide) = in_expression(alloc, part, next)? {
-                    return Ok(Some(wide));
-                }
-                next = next.saturating_add(of_expression(part));
-            }
-            if bound_of(alloc, expression)?.is_some() {
-                return Ok(None);
-            }
-            let range = range_of(expression, at);
-            let is_product = matches!(expression, Expression::Product(_));
-            let parts = bounds_of(alloc, parts.as_slice(), at)?;
-            Ok(Some(Wide {
-                range,
-                is_product,
-                parts,
-            }))
-        }
-    }
-}
-
-/// The first expression of a query without a bound, if its leaves begin here.
-#[cycle(widths)]
-fn in_query(alloc: Global, query: &Query, at: usize) -> Result<Option<Wide>, AllocError> {
-    let parts = parts_of(query, at);
-    if let Some(keeps) = &query.keeps {
-        if let Some(wide) = in_condition(alloc, keeps, parts.keeps)? {
-            return Ok(Some(wide));
-        }
-    }
-    match &query.having {
-        Some(having) => in_condition(alloc, having, parts.having),
-        None => Ok(None),
-    }
+    let (parts, is_product) = match expression {
+        Expression::Sum(parts) => (parts, false),
+        Expression::Product(parts) => (parts, true),
+        _ => return Ok(None),
+    };
+    let parts = bounds_of(alloc, parts.as_slice(), range.from)?;
+    Ok(Some(Wide {
+        range,
+        is_product,
+        parts,
+    }))
 }
 
 /// The bounds of parts that each have one, and whose leaves begin here.
@@ -137,7 +61,7 @@ fn bounds_of(alloc: Global, parts: &[Expression], at: usize) -> Result<Vec<Bound
     let mut made = Vec::new(alloc);
     let mut at = at;
     for part in parts {
-        let range = range_of(part, at);
+        let range = Range::of(part, at);
         if let Some(bound) = bound_of(alloc, part)? {
             made.push(Bounded { range, bound })?;
         }

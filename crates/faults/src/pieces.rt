@@ -2,13 +2,12 @@
 //!
 //! Trees keep no places. What stands at a part of a tree is found by counting: some kinds of tokens, the *leaves*,
 //! stand in the text in the order in which the tree has them, each once. They are names, numbers and texts, the words
-//! COUNT, SUM, MIN, MAX, SELECT and EXISTS, and the comparisons. So the leaf at some place of a tree is the token at the
-//! same place among the leaves of its text (`leaves` counts them).
+//! COUNT, SUM, MIN, MAX, SELECT and EXISTS, and the comparisons. So the leaf at some place of a tree is the token at
+//! the same place among the leaves of its text.
 
 use crate::places::{Span, between};
 use std::alloc::{AllocError, Global};
 use token::{Kind, Token, read_tokens};
-use value::Refusal;
 
 /// One definition or step: its text, all of its tokens without the semicolon, and its leaves.
 #[derive(Drop)]
@@ -44,18 +43,7 @@ impl<'a> Piece<'a> {
 
     /// All of it.
     pub fn whole(&self) -> Span {
-        span_of(&self.tokens)
-    }
-
-    /// Its first token.
-    pub fn first(&self) -> Span {
-        match self.tokens.first() {
-            Some(token) => Span {
-                start: token.start,
-                end: token.end,
-            },
-            None => Span { start: 0, end: 0 },
-        }
+        span_of(&self.tokens).unwrap_or(Span { start: 0, end: 0 })
     }
 
     /// From the leaf at one place up to that before another.
@@ -69,66 +57,35 @@ impl<'a> Piece<'a> {
     }
 
     /// The leaf at a place.
-    pub fn leaf(&self, at: usize) -> Option<Span> {
-        self.leaves_from(at, at.saturating_add(1))
+    pub fn leaf(&self, place: usize) -> Option<Span> {
+        self.leaves_from(place, place.saturating_add(1))
     }
 
-    /// The name at a place among the names alone.
-    pub fn name(&self, place: usize) -> Option<Span> {
-        let mut found = 0usize;
-        for token in &self.leaves {
-            if token.kind == Kind::Name {
-                if found == place {
+    /// The token of a kind before which so many others of that kind stand.
+    pub fn token(&self, kind: Kind, place: usize) -> Option<Span> {
+        let mut left = place;
+        for token in &self.tokens {
+            if token.kind == kind {
+                if left == 0 {
                     return Some(Span {
                         start: token.start,
                         end: token.end,
                     });
                 }
-                found = found.saturating_add(1);
+                left = left.saturating_sub(1);
             }
         }
         None
-    }
-
-    /// The first token of a kind, from a place among the tokens on.
-    pub fn token(&self, kind: Kind, from: usize) -> Option<usize> {
-        for (place, token) in self.tokens.iter().enumerate() {
-            if place >= from && token.kind == kind {
-                return Some(place);
-            }
-        }
-        None
-    }
-
-    /// The token at a place.
-    pub fn span_at(&self, place: usize) -> Option<Span> {
-        let token = self.tokens.get(place)?;
-        Some(Span {
-            start: token.start,
-            end: token.end,
-        })
     }
 
     /// The value at a place of the list in parentheses behind VALUES, its sign with it.
     pub fn value(&self, place: usize) -> Option<Span> {
-        let values = self.token(Kind::Values, 0)?;
-        let mut found = 0usize;
-        let mut span: Option<Span> = None;
-        for (at, token) in self.tokens.iter().enumerate() {
-            if at <= values.saturating_add(1) {
-                continue;
-            }
-            if token.kind == Kind::Comma || token.kind == Kind::Close {
-                found = found.saturating_add(1);
-            } else if found == place {
-                let start = span.map_or(token.start, |span| span.start);
-                span = Some(Span {
-                    start,
-                    end: token.end,
-                });
-            }
-        }
-        span
+        let mut tokens = self.tokens.iter();
+        let values = tokens.position(|token| token.kind == Kind::Values)?;
+        // (the parenthesis stands behind it)
+        let list = self.tokens.get(values.saturating_add(2)..)?;
+        let mut parts = list.split(|token| token.kind == Kind::Comma || token.kind == Kind::Close);
+        span_of(parts.nth(place)?)
     }
 
     /// The bytes of a span.
@@ -138,14 +95,13 @@ impl<'a> Piece<'a> {
 }
 
 /// From the first token to the last.
-fn span_of(tokens: &[Token]) -> Span {
-    match (tokens.first(), tokens.last()) {
-        (Some(first), Some(last)) => Span {
-            start: first.start,
-            end: last.end,
-        },
-        _ => Span { start: 0, end: 0 },
-    }
+fn span_of(tokens: &[Token]) -> Option<Span> {
+    let first = tokens.first()?;
+    let last = tokens.last()?;
+    Some(Span {
+        start: first.start,
+        end: last.end,
+    })
 }
 
 /// All tokens of a text.
@@ -176,13 +132,4 @@ fn is_leaf(kind: Kind) -> bool {
             | Kind::Greater
             | Kind::AtLeast
     )
-}
-
-/// A refusal of the layers below, where it is no want of memory.
-pub fn but_memory<T>(answer: Result<T, Refusal>) -> Result<Result<T, Refusal>, AllocError> {
-    match answer {
-        Err(Refusal::NoMemory) => Err(AllocError),
-        Err(refusal) => Ok(Err(refusal)),
-        Ok(found) => Ok(Ok(found)),
-    }
 }

@@ -147,6 +147,7 @@ fn push_definition(
     let last = place_of(bytes, span.end.saturating_sub(1).max(span.start));
     push_place(shown, name, first, colour)?;
     let margin = margin_of(alloc, last.line)?;
+    let digits = margin.len();
     let (blue, end) = (colour.blue(), colour.end());
     writeln!(shown, " {margin} {blue}|{end}")?;
     let mut line_number = first.line;
@@ -158,7 +159,7 @@ fn push_definition(
         let text = printable(alloc, cut)?;
         let text = text.as_str();
         let behind = if cut.len() < line.len() { ".." } else { "" };
-        writeln!(shown, " {blue}{line_number} |{end} {text}{behind}")?;
+        writeln!(shown, " {blue}{line_number:>digits$} |{end} {text}{behind}")?;
         line_number = line_number.saturating_add(1);
     }
     if last.line.saturating_sub(first.line) >= LINES {

@@ -14,7 +14,7 @@ pub struct Nearest {
 }
 
 impl Nearest {
-    /// None was offered yet. A word that is further than a third of its letters (and a letter, for a short one) is none.
+    /// None was offered yet. A word is near where at most a third of its letters differ, and one more.
     pub fn new(alloc: Global, word: &str) -> Result<Nearest, AllocError> {
         Ok(Nearest {
             word: String::from_str(alloc, word)?,

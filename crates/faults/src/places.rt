@@ -22,20 +22,12 @@ pub struct Place {
 
 /// The bytes of a text from an offset on.
 pub fn bytes_from(text: &[u8], start: usize) -> &[u8] {
-    if start <= text.len() {
-        &text[start..]
-    } else {
-        &[]
-    }
+    text.get(start..).unwrap_or(&[])
 }
 
 /// The bytes of a text between two offsets.
 pub fn between(text: &[u8], start: usize, end: usize) -> &[u8] {
-    if start <= end && end <= text.len() {
-        &text[start..end]
-    } else {
-        &[]
-    }
+    text.get(start..end).unwrap_or(&[])
 }
 
 /// Where a byte stands. Past the end it is the end.

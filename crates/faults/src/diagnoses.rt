@@ -86,8 +86,3 @@ pub fn number_of(refusal: &Refusal) -> u8 {
         Refusal::TooManySessions => 24,
     }
 }
-
-/// A text of the program.
-pub fn text(alloc: Global, words: &str) -> Result<String, AllocError> {
-    String::from_str(alloc, words)
-}

@@ -1,10 +1,11 @@
 //! What is wrong with a text that is none of the language.
 
-use crate::diagnoses::{At, Diagnosis, text};
-use crate::expected::{Which, has, told, words_at};
+use crate::diagnoses::{At, Diagnosis};
+use crate::expected::{Which, kinds_at};
 use crate::hints::{Stop, hint};
 use crate::pieces::tokens_of;
 use crate::places::{Span, between, printable};
+use crate::words::choice;
 use std::alloc::{AllocError, Global};
 use token::{Kind, Token};
 use value::Refusal;
@@ -33,10 +34,10 @@ fn too_deep(alloc: Global, which: Which, at: usize) -> Result<Diagnosis, AllocEr
         alloc,
         which,
         19,
-        text(alloc, "the text nests too deep")?,
+        String::from_str(alloc, "the text nests too deep")?,
         At::Bytes(span),
     )
-    .with(text(
+    .with(String::from_str(
         alloc,
         "At most 64 parentheses are open at once, and this one is the 65th. AND and OR need none around their parts.",
     )?)
@@ -79,19 +80,19 @@ fn syntax(alloc: Global, which: Which, bytes: &[u8], at: usize) -> Result<Diagno
         before,
         token,
     } = find_around(alloc, bytes, at)?;
-    let words = words_at(alloc, which, bytes, start, at)?;
-    let expected = told(alloc, &words)?;
+    let kinds = kinds_at(alloc, which, bytes, start, at)?;
+    let choice = choice(alloc, &kinds)?;
     // (a number that may not stand where one may is too great there, which the hint tells)
-    let is_told = token.is_some_and(|token| has(&words, token.kind));
-    let stands = if words.is_empty() || is_told {
+    let is_told = token.is_some_and(|token| kinds.contains(&token.kind));
+    let stands = if kinds.is_empty() || is_told {
         None
     } else {
-        Some(format!(in alloc; "Here may stand {expected}.")?)
+        Some(format!(in alloc; "Here may stand {choice}.")?)
     };
     match token {
         None => {
             let end = before.last().map_or(0, |token| token.end);
-            let what = text(alloc, "the text ends too early")?;
+            let what = String::from_str(alloc, "the text ends too early")?;
             let span = Span { start: end, end };
             Diagnosis::new(alloc, which, 2, what, At::Bytes(span)).with_some(stands)
         }
@@ -101,7 +102,7 @@ fn syntax(alloc: Global, which: Which, bytes: &[u8], at: usize) -> Result<Diagno
                 text: bytes,
                 before: &before,
                 token,
-                words: &words,
+                kinds: &kinds,
             };
             let meant = hint(alloc, stop)?;
             let what = stopped(alloc, stop)?;
@@ -128,7 +129,7 @@ fn shown_span(token: Token) -> Span {
 /// What may not stand there.
 fn stopped(alloc: Global, stop: Stop) -> Result<String, AllocError> {
     if stop.token.kind == Kind::Bad {
-        return text(alloc, "no word, number, text or sign begins here");
+        return bad(alloc, stop);
     }
     let token = between(
         stop.text,
@@ -137,4 +138,14 @@ fn stopped(alloc: Global, stop: Stop) -> Result<String, AllocError> {
     );
     let spelled = printable(alloc, token)?;
     format!(in alloc; "`{spelled}` may not stand here")
+}
+
+/// Which token is none of the language.
+fn bad(alloc: Global, stop: Stop) -> Result<String, AllocError> {
+    match stop.bytes().first() {
+        Some(b'\'') => String::from_str(alloc, "this quote opens no text"),
+        Some(b'0'..=b'9') => String::from_str(alloc, "this number is too great"),
+        Some(b'a'..=b'z' | b'A'..=b'Z') => String::from_str(alloc, "this name is too long"),
+        _ => String::from_str(alloc, "no word, number, text or sign begins here"),
+    }
 }

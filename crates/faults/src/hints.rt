@@ -1,10 +1,9 @@
 //! What a person most likely meant where a text stops being one of the language.
 
-use crate::diagnoses::text;
-use crate::expected::{Which, has};
+use crate::expected::Which;
 use crate::near::Nearest;
 use crate::places::{between, bytes_from, printable};
-use crate::words::Word;
+use crate::words::{WORDS, is_reserved};
 use std::alloc::{AllocError, Global};
 use token::{Kind, Token};
 
@@ -16,8 +15,8 @@ pub struct Stop<'a> {
     /// The tokens of its definition or step that stand before it.
     pub before: &'a [Token],
     pub token: Token,
-    /// Of what may stand there.
-    pub words: &'a [Word],
+    /// The kinds of tokens that may stand there.
+    pub kinds: &'a [Kind],
 }
 
 impl<'a> Stop<'a> {
@@ -46,6 +45,11 @@ impl<'a> Stop<'a> {
 
     fn has_before(&self, kind: Kind) -> bool {
         self.before.iter().any(|token| token.kind == kind)
+    }
+
+    /// Whether a token of this kind may stand there.
+    fn may_be(&self, kind: Kind) -> bool {
+        self.kinds.contains(&kind)
     }
 }
 
@@ -102,7 +106,8 @@ const ELSEWHERE: [(&str, &str); 44] = [
     ),
     (
         "FOREIGN",
-        "A foreign key is an assertion: NOT EXISTS (SELECT * FROM CHILD C WHERE NOT EXISTS (SELECT * FROM PARENT P WHERE ..)), where the link is to a key.",
+        "A foreign key is an assertion: NOT EXISTS (SELECT * FROM CHILD C WHERE NOT EXISTS \
+         (SELECT * FROM PARENT P WHERE ..)), where the link is to a key.",
     ),
     (
         "IF",
@@ -147,7 +152,8 @@ const ELSEWHERE: [(&str, &str); 44] = [
     ),
     (
         "REFERENCES",
-        "A foreign key is an assertion: NOT EXISTS (SELECT * FROM CHILD C WHERE NOT EXISTS (SELECT * FROM PARENT P WHERE ..)), where the link is to a key.",
+        "A foreign key is an assertion: NOT EXISTS (SELECT * FROM CHILD C WHERE NOT EXISTS \
+         (SELECT * FROM PARENT P WHERE ..)), where the link is to a key.",
     ),
     (
         "RETURNING",
@@ -208,12 +214,12 @@ pub fn hint(alloc: Global, stop: Stop) -> Result<Option<String>, AllocError> {
         return Ok(Some(sentence));
     }
     if let Some(sentence) = by_kind(stop) {
-        return Ok(Some(text(alloc, sentence)?));
+        return Ok(Some(String::from_str(alloc, sentence)?));
     }
     if let Some(sentence) = near_word(alloc, stop)? {
         return Ok(Some(sentence));
     }
-    if is_reserved(stop.token.kind) && has(stop.words, Kind::Name) {
+    if is_reserved(stop.token.kind) && stop.may_be(Kind::Name) {
         let spelled = printable(alloc, stop.bytes())?;
         return Ok(Some(format!(in alloc;
             "{spelled} is a reserved word and can be no name: take another one."
@@ -222,119 +228,101 @@ pub fn hint(alloc: Global, stop: Stop) -> Result<Option<String>, AllocError> {
     Ok(None)
 }
 
-/// Whether a kind is a reserved word.
-pub fn is_reserved(kind: Kind) -> bool {
-    !matches!(
-        kind,
-        Kind::End
-            | Kind::Bad
-            | Kind::Name
-            | Kind::Number
-            | Kind::Text
-            | Kind::Open
-            | Kind::Close
-            | Kind::Comma
-            | Kind::Semicolon
-            | Kind::Colon
-            | Kind::Dot
-            | Kind::Star
-            | Kind::Plus
-            | Kind::Minus
-            | Kind::Equal
-            | Kind::NotEqual
-            | Kind::AtMost
-            | Kind::AtLeast
-            | Kind::Less
-            | Kind::Greater
-    )
-}
-
 /// By what stands there and before it.
 fn by_kind(stop: Stop) -> Option<&'static str> {
-    let words = stop.words;
+    by_sign(stop).or(by_beginning(stop)).or(by_list(stop))
+}
+
+/// Of numbers, texts, signs and NULL.
+fn by_sign(stop: Stop) -> Option<&'static str> {
     match (stop.token.kind, stop.last()) {
         (_, Kind::Text) if stop.is_glued() => {
             Some("The text before it ends here. A quote inside a text is written twice: 'O''HARA'.")
         }
-        (Kind::Number, _) if has(words, Kind::Number) => {
+        (Kind::Number, _) if stop.may_be(Kind::Number) => {
             Some("The length of a VARCHAR is from 1 to 255.")
         }
-        (Kind::Create | Kind::Insert, _) if has(words, Kind::Semicolon) => {
-            Some("The definition before it wants its semicolon.")
-        }
-        (Kind::Name, _) if stop.which == Which::Script && has(words, Kind::Semicolon) => {
-            Some("If the next event begins here, the one before it wants its semicolon.")
-        }
-        (Kind::Null, _) if has(words, Kind::Number) => {
+        (Kind::Null, _) if stop.may_be(Kind::Number) => {
             Some("A comparison with NULL is never true: write IS NULL or IS NOT NULL.")
         }
         (Kind::Equal, Kind::Equal) => Some("Equal is written as one sign: =."),
         (Kind::Greater, Kind::Equal) => Some("At least is written >=."),
         (Kind::Less, Kind::Equal) => Some("At most is written <=."),
-        (Kind::Primary, Kind::Comma) => {
-            Some("PRIMARY KEY stands behind the type of its column: ID INTEGER PRIMARY KEY.")
-        }
-        (Kind::Check, _) if stop.has_before(Kind::Table) => Some(
-            "A rule of a table is a definition of its own: CREATE ASSERTION name CHECK (NOT EXISTS (SELECT * FROM T WHERE ..)), where WHERE says what no row may be.",
-        ),
-        (Kind::Comma, Kind::Close)
-            if stop.first() == Kind::Insert || stop.has_before(Kind::Values) => {
-            Some("An INSERT puts one row in: write one INSERT for each row.")
-        }
-        (Kind::Comma, _) if is_behind_group(stop.before) => { Some("GROUP BY takes one column.") }
-        (Kind::Comma, _) if is_behind_from(stop.before) => Some(
-            "A query has one table. Link another one: EXISTS (SELECT * FROM D WHERE D.COLUMN = R.KEY).",
-        ),
-        (Kind::Comma, _) if stop.has_before(Kind::Select) && !stop.has_before(Kind::Group) => {
-            Some("A query in a rule lists *, or one thing.")
-        }
-        (Kind::Open, Kind::Name) if has(words, Kind::Dot) => {
+        (Kind::Open, Kind::Name) if stop.may_be(Kind::Dot) => {
             Some("The functions are COUNT, SUM, MIN and MAX.")
-        }
-        (
-            Kind::Begin
-            | Kind::Commit
-            | Kind::Rollback
-            | Kind::Select
-            | Kind::Update
-            | Kind::Delete,
-            Kind::End,
-        ) if stop.which == Which::Defs => {
-            Some(
-                "DEFS defines tables and assertions, and puts rows in. What sessions do stands in SCRIPT.",
-            )
-        }
-        (Kind::Create, Kind::Colon | Kind::End) if stop.which == Which::Script => {
-            Some("Tables and assertions are defined in DEFS, before the sessions begin.")
-        }
-        (_, Kind::End) if stop.which == Which::Script => {
-            Some(
-                "Each event stands behind the name of its session and a colon, as in ALICE: BEGIN;",
-            )
         }
         _ => None,
     }
 }
 
-/// Whether a FROM and its table stand last.
-fn is_behind_from(before: &[Token]) -> bool {
-    for token in before.iter().rev().take(4) {
-        match token.kind {
-            Kind::From => return true,
-            Kind::Name | Kind::As => {}
-            _ => return false,
+/// Of what begins a definition, an event or a rule.
+fn by_beginning(stop: Stop) -> Option<&'static str> {
+    match (stop.which, stop.token.kind, stop.last()) {
+        (Which::Defs, Kind::Create | Kind::Insert, _) if stop.may_be(Kind::Semicolon) => {
+            Some("The definition before it wants its semicolon.")
         }
+        (Which::Script, Kind::Name, _) if stop.may_be(Kind::Semicolon) => {
+            Some("If the next event begins here, the one before it wants its semicolon.")
+        }
+        (Which::Defs, kind, Kind::End) if is_of_sessions(kind) => Some(
+            "DEFS defines tables and assertions, and puts rows in. What sessions do stands in SCRIPT.",
+        ),
+        (Which::Script, Kind::Create, Kind::Colon | Kind::End) => {
+            Some("Tables and assertions are defined in DEFS, before the sessions begin.")
+        }
+        (Which::Script, _, Kind::End) => Some(
+            "Each event stands behind the name of its session and a colon, as in ALICE: BEGIN;",
+        ),
+        (_, Kind::Check, _) if stop.has_before(Kind::Table) => Some(
+            "A rule of a table is a definition of its own: CREATE ASSERTION name CHECK (NOT EXISTS \
+             (SELECT * FROM T WHERE ..)), where WHERE says what no row may be.",
+        ),
+        _ => None,
     }
-    false
 }
 
-/// Whether a GROUP BY and its column stand last.
-fn is_behind_group(before: &[Token]) -> bool {
+/// Whether a word begins a statement that is no definition.
+fn is_of_sessions(kind: Kind) -> bool {
+    matches!(
+        kind,
+        Kind::Begin
+            | Kind::Commit
+            | Kind::Rollback
+            | Kind::Select
+            | Kind::Update
+            | Kind::Delete
+            | Kind::Set
+            | Kind::Verdict
+    )
+}
+
+/// Of what stands behind a comma, or of the comma itself.
+fn by_list(stop: Stop) -> Option<&'static str> {
+    match (stop.token.kind, stop.last()) {
+        (Kind::Primary, Kind::Comma) => {
+            Some("PRIMARY KEY stands behind the type of its column: ID INTEGER PRIMARY KEY.")
+        }
+        (Kind::Comma, Kind::Close)
+            if stop.first() == Kind::Insert || stop.has_before(Kind::Values) => {
+            Some("An INSERT puts one row in: write one INSERT for each row.")
+        }
+        (Kind::Comma, _) if is_behind(Kind::By, stop.before) => Some("GROUP BY takes one column."),
+        (Kind::Comma, _) if is_behind(Kind::From, stop.before) => Some(
+            "A query has one table. Link another one: EXISTS (SELECT * FROM D WHERE D.COLUMN = R.KEY).",
+        ),
+        (Kind::Comma, _) if stop.has_before(Kind::Select) && !stop.has_before(Kind::Group) => {
+            Some("A query in a rule lists *, or one thing.")
+        }
+        _ => None,
+    }
+}
+
+/// Whether a word stands last but for a name, with its qualifier or the name that it goes by.
+fn is_behind(word: Kind, before: &[Token]) -> bool {
     for token in before.iter().rev().take(5) {
         match token.kind {
-            Kind::By => return true,
-            Kind::Name | Kind::Dot => {}
-            _ => return false,
+            Kind::Name | Kind::As | Kind::Dot => {}
+            kind => return kind == word,
         }
     }
     false
@@ -351,15 +339,11 @@ fn elsewhere(alloc: Global, stop: Stop) -> Result<Option<String>, AllocError> {
         _ => String::new(alloc),
     };
     for (word, sentence) in &ELSEWHERE {
-        if is_word(here.as_str(), word) || is_word(last.as_str(), word) {
-            return Ok(Some(text(alloc, sentence)?));
+        if here.as_str() == *word || last.as_str() == *word {
+            return Ok(Some(String::from_str(alloc, sentence)?));
         }
     }
     Ok(None)
-}
-
-fn is_word(spelled: &str, word: &str) -> bool {
-    spelled == word
 }
 
 /// Bytes as a word in upper case.
@@ -380,9 +364,9 @@ fn near_word(alloc: Global, stop: Stop) -> Result<Option<String>, AllocError> {
     }
     let here = upper(alloc, stop.bytes())?;
     let mut nearest = Nearest::new(alloc, here.as_str())?;
-    for word in stop.words {
-        if is_reserved(word.kind) {
-            nearest.offer(alloc, word.spelling)?;
+    for (kind, spelling) in &WORDS {
+        if is_reserved(*kind) && stop.may_be(*kind) {
+            nearest.offer(alloc, spelling)?;
         }
     }
     match nearest.found() {
@@ -397,23 +381,23 @@ fn bad_token(alloc: Global, stop: Stop) -> Result<String, AllocError> {
     let first = bytes.first().copied().unwrap_or(0);
     match first {
         b'\'' => text_fault(alloc, bytes),
-        b'0'..=b'9' => text(alloc, "A number is at most 1000000000000000 (10^15)."),
-        b'a'..=b'z' | b'A'..=b'Z' => text(alloc, "A name has at most 128 letters."),
-        b'"' | b'`' | b'[' => text(
+        b'0'..=b'9' => String::from_str(alloc, "A number is at most 1000000000000000 (10^15)."),
+        b'a'..=b'z' | b'A'..=b'Z' => String::from_str(alloc, "A name has at most 128 letters."),
+        b'"' | b'`' | b'[' => String::from_str(
             alloc,
             "Names stand without quotes, and texts in single ones: 'KIM'.",
         ),
-        b'!' => text(alloc, "Not equal is written <>."),
-        b'/' | b'%' => text(
+        b'!' => String::from_str(alloc, "Not equal is written <>."),
+        b'/' | b'%' => String::from_str(
             alloc,
             "There is no division. Multiply the other side of the comparison. A comment begins with --.",
         ),
-        b'|' => text(alloc, "Texts are compared whole, and not put together."),
-        b'#' => text(
+        b'|' => String::from_str(alloc, "Texts are compared whole, and not put together."),
+        b'#' => String::from_str(
             alloc,
             "A comment begins with -- and goes to the end of its line.",
         ),
-        b'_' => text(alloc, "A name begins with a letter."),
+        b'_' => String::from_str(alloc, "A name begins with a letter."),
         _ => format!(in alloc; "The byte {first:#04x} stands in comments alone."),
     }
 }
@@ -425,18 +409,20 @@ fn text_fault(alloc: Global, bytes: &[u8]) -> Result<String, AllocError> {
             break;
         }
         if *byte == b'\n' {
-            return text(
+            return String::from_str(
                 alloc,
-                "The text that this quote opens has no end in its line. A quote inside a text is written twice: 'O''HARA'.",
+                "The text that this quote opens has no end in its line. A quote inside a text is \
+                 written twice: 'O''HARA'.",
             );
         }
         if !(b' ' <= *byte && *byte <= b'~') {
             return format!(in alloc;
-                "A text holds letters, digits and signs of ASCII alone (0x20 to 0x7e), and this one has the byte {byte:#04x}."
+                "A text holds letters, digits and signs of ASCII alone (0x20 to 0x7e), and this one \
+                 has the byte {byte:#04x}."
             );
         }
     }
-    text(
+    String::from_str(
         alloc,
         "The text that this quote opens has no end. A quote inside a text is written twice: 'O''HARA'.",
     )
