@@ -5,14 +5,14 @@
 //! knows of it.
 //!
 //! - [`diagnose_definitions`]: the first definition that was not taken in. Which one it is, is found by taking ever
-//!   fewer of them in. Trees keep no places, so the part at fault is found in its tree by the rules of the layers below
-//!   (names by `name_check`'s scopes, bounds by `cond::bound`), and its place in the text by counting leaves (`leaves`).
+//!   fewer of them in. Trees keep no places, so the part at fault is found in its tree by the rules of the layers
+//!   below (names by `name_check`'s scopes, bounds by `cond::bound`), and its place in the text by counting leaves.
 //! - [`diagnose_false`]: an assertion that is false on the rows that the definitions put in.
 //! - [`diagnose_statement`]: a statement of a script that is refused whatever the rows are.
 //!
 //! A place is never guessed: where the part at fault is not found, the whole definition is shown
-//! (`faults::At::Definition`). Nothing here is proved but that each call is safe and ends, and that want of memory is an
-//! error: what it says is held against a table of faulty texts (`tools/faulty_texts.py`).
+//! (`faults::At::Definition`). Nothing here is proved but that each call is safe and ends, and that want of memory is
+//! an error: what it says is held against a table of faulty texts (`tools/faulty_texts.py`).
 #![tactic(auto)]
 
 mod conditions;

@@ -74,18 +74,31 @@ pub fn in_condition(
             Ok(compared(subject, low).or(compared(subject, high)))
         }
         Condition::In(subject, values) => {
-            let subject = side_of(alloc, catalog, scopes, subject, at)?;
-            let mut at = subject.range.to;
-            for value in values.as_slice() {
-                let value = side_of(alloc, catalog, scopes, value, at)?;
-                if let Some(mismatch) = compared(subject, value) {
-                    return Ok(Some(mismatch));
-                }
-                at = value.range.to;
-            }
-            Ok(None)
+            in_list(alloc, catalog, scopes, subject, values.as_slice(), at)
         }
     }
+}
+
+/// The first mismatch of a value and those that it is looked for among.
+#[cycle(types)]
+fn in_list(
+    alloc: Global,
+    catalog: &Catalog,
+    scopes: &[Scope],
+    subject: &Expression,
+    values: &[Expression],
+    at: usize,
+) -> Result<Option<Mismatch>, AllocError> {
+    let subject = side_of(alloc, catalog, scopes, subject, at)?;
+    let mut at = subject.range.to;
+    for value in values {
+        let value = side_of(alloc, catalog, scopes, value, at)?;
+        if let Some(mismatch) = compared(subject, value) {
+            return Ok(Some(mismatch));
+        }
+        at = value.range.to;
+    }
+    Ok(None)
 }
 
 /// A side of a comparison: its leaves, and its type or the first mismatch in it.
