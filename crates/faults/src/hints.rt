@@ -92,7 +92,7 @@ const ELSEWHERE: [(&str, &str); 44] = [
     ),
     (
         "DEFAULT",
-        "There is no DEFAULT. A column that an INSERT does not list is NULL.",
+        "There is no DEFAULT: write the value into each INSERT. A column that is not listed is NULL.",
     ),
     ("DESC", "Rows come in the order of their keys, always."),
     (
@@ -111,7 +111,7 @@ const ELSEWHERE: [(&str, &str); 44] = [
     ),
     (
         "IF",
-        "There is no IF. Names are checked, and a name that is taken is refused.",
+        "There is no IF: each name is created once, and a name that is taken is refused.",
     ),
     (
         "INDEX",
@@ -311,7 +311,7 @@ fn by_list(stop: Stop) -> Option<&'static str> {
             "A query has one table. Link another one: EXISTS (SELECT * FROM D WHERE D.COLUMN = R.KEY).",
         ),
         (Kind::Comma, _) if stop.has_before(Kind::Select) && !stop.has_before(Kind::Group) => {
-            Some("A query in a rule lists *, or one thing.")
+            Some("A query in a rule lists one thing: *, a column or a set function.")
         }
         _ => None,
     }
