@@ -1,5 +1,5 @@
 #!/usr/bin/env python3
-"""Forty faulty texts, and what a person is shown of each: the program's `check` is run on all of them.
+"""Faulty texts, and what a person is shown of each: the program's `check` is run on all of them.
 
     tools/faulty_texts.py            runs them, and compares what is shown with docs/faulty_texts.txt
     tools/faulty_texts.py --write    runs them, and writes that file

@@ -14,7 +14,7 @@ use table::{Aggregate, Row};
 use value::Value;
 
 /// How the rows of a table go into groups.
-#[derive(Clone, Copy, Debug, PartialEq, Eq)]
+#[derive(Clone, Copy)]
 pub enum Grouping {
     /// All are one group.
     Whole,
@@ -43,7 +43,7 @@ struct Selection<'a> {
 }
 
 /// How many rows a WHERE keeps that go to a group, and how many groups they make.
-#[derive(Clone, Copy, Debug, PartialEq, Eq)]
+#[derive(Clone, Copy)]
 pub struct Counts {
     pub rows: usize,
     pub groups: usize,

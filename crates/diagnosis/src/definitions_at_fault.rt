@@ -2,9 +2,8 @@
 
 use crate::conditions::{Context, Site, diagnose_condition, diagnose_whole};
 use crate::inserts::diagnose_insert;
+use crate::refused::first_refused;
 use crate::rules::FORMS;
-use definitions::Definitions;
-use delta::View;
 use faults::{At, Diagnosis, Piece, Which, place_of};
 use statement_syntax::{ColumnDefinition, Definition};
 use std::alloc::{AllocError, Global};
@@ -21,8 +20,7 @@ pub fn diagnose_definitions(
     definitions: &[Definition],
     refusal: &Refusal,
 ) -> Result<Diagnosis, AllocError> {
-    let place = first_refused(alloc, definitions)?;
-    let before = view_of(alloc, &definitions[..place.min(definitions.len())])?;
+    let (place, before) = first_refused(alloc, definitions, refusal)?;
     let piece = Piece::at(alloc, bytes, place)?;
     let context = Context {
         which: Which::Defs,
@@ -38,44 +36,6 @@ pub fn diagnose_definitions(
             found.with_some(created_below(alloc, bytes, definitions, place, name)?)
         }
         _ => Ok(found),
-    }
-}
-
-/// The place of the first definition that is refused. Those before it are taken in, and with it they are not: so it is
-/// found by halving.
-fn first_refused(alloc: Global, definitions: &[Definition]) -> Result<usize, AllocError> {
-    let mut taken = 0usize;
-    let mut refused = definitions.len();
-    while taken < refused {
-        let middle = taken + (refused - taken) / 2;
-        if are_taken(alloc, definitions, middle + 1)? {
-            taken = middle + 1;
-        } else {
-            refused = middle;
-        }
-    }
-    Ok(taken)
-}
-
-/// Whether the first so many definitions are taken in.
-fn are_taken(alloc: Global, definitions: &[Definition], count: usize) -> Result<bool, AllocError> {
-    let some = &definitions[..count.min(definitions.len())];
-    match Definitions::take(alloc, some) {
-        Ok(_) => Ok(true),
-        Err(Refusal::NoMemory) => Err(AllocError),
-        Err(_) => Ok(false),
-    }
-}
-
-/// What definitions define that are taken in.
-fn view_of(alloc: Global, definitions: &[Definition]) -> Result<View, AllocError> {
-    let taken = match Definitions::take(alloc, definitions) {
-        Ok(taken) => taken,
-        Err(_) => return Err(AllocError),
-    };
-    match taken.load(alloc) {
-        Ok(view) => Ok(view),
-        Err(_) => Err(AllocError),
     }
 }
 

@@ -2,13 +2,38 @@
 
 use crate::conditions::{Context, diagnose_name, diagnose_whole, type_name};
 use crate::names::{unknown_column, unknown_table};
+use assertcheck::check_insert;
 use faults::{At, Diagnosis, enumeration};
 use name_check::Scope;
 use statement_syntax::Insert;
 use std::alloc::{AllocError, Global};
-use table::{Column, Schema};
+use table::{Catalog, Column, Schema};
 use type_check::DataType;
 use value::{ColType, Excess, Refusal, Text, Value};
+
+/// The refusal of an answer, where it is no want of memory.
+pub fn refusal_in<T: Drop>(answer: Result<T, Refusal>) -> Result<Option<Refusal>, AllocError> {
+    match answer {
+        Ok(_) => Ok(None),
+        Err(Refusal::NoMemory) => Err(AllocError),
+        Err(refusal) => Ok(Some(refusal)),
+    }
+}
+
+/// The refusal that an INSERT gets whatever the rows are.
+pub fn insert_refusal(
+    alloc: Global,
+    catalog: &Catalog,
+    insert: &Insert,
+) -> Result<Option<Refusal>, AllocError> {
+    match (
+        check_insert(alloc, catalog, insert),
+        catalog.get(&insert.table),
+    ) {
+        (Ok(new), Some(schema)) => refusal_in(schema.admits(&new.row)),
+        (answer, _) => refusal_in(answer),
+    }
+}
 
 /// What is wrong with an INSERT that was refused so. `names` is how many names stand before that of its table.
 pub fn diagnose_insert(
@@ -128,8 +153,8 @@ impl<'a> Known<'a> {
     fn miscounted(&self, alloc: Global, wanted: usize) -> Result<Diagnosis, AllocError> {
         let given = self.insert.values.len();
         let place = wanted.min(given.saturating_sub(1));
-        let columns = match &self.insert.columns {
-            Some(_) => format!(in alloc; "Listed are {wanted} columns")?,
+        let advice = match &self.insert.columns {
+            Some(_) => String::from_str(alloc, "Give one value for each column that is listed.")?,
             None => {
                 let mut names = Vec::new(alloc);
                 for column in self.schema.columns() {
@@ -137,7 +162,10 @@ impl<'a> Known<'a> {
                     names.push(format!(in alloc; "{name}")?)?;
                 }
                 let names = enumeration(alloc, &names, " and ")?;
-                format!(in alloc; "The table has {wanted} columns: {names}")?
+                format!(in alloc;
+                    "The table has {names}: give a value for each, or list those that get one. The others \
+                     are NULL."
+                )?
             }
         };
         Diagnosis::new(
@@ -147,7 +175,7 @@ impl<'a> Known<'a> {
             counted(alloc, given, wanted)?,
             self.context.at(self.context.piece.value(place)),
         )
-        .with(format!(in alloc; "{columns}. A column that is not listed is NULL.")?)
+        .with(advice)
     }
 
     fn mistyped(

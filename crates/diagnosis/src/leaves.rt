@@ -82,7 +82,7 @@ fn of_group(group: &Option<ColumnName>) -> usize {
 }
 
 /// Leaves of a text, from one place up to another.
-#[derive(Clone, Copy, Debug)]
+#[derive(Clone, Copy)]
 pub struct Range {
     pub from: usize,
     pub to: usize,

@@ -4,9 +4,9 @@
 //! found here of the text, of the refusal and of the trees, after the fact; it changes no answer, and no layer below
 //! knows of it.
 //!
-//! - [`diagnose_definitions`]: the first definition that was not taken in. Which one it is, is found by taking ever
-//!   fewer of them in. Trees keep no places, so the part at fault is found in its tree by the rules of the layers
-//!   below (names by `name_check`'s scopes, bounds by `cond::bound`), and its place in the text by counting leaves.
+//! - [`diagnose_definitions`]: the first definition that was not taken in. Trees keep no places, so the part at fault
+//!   is found in its tree by the rules of the layers below (names by `name_check`'s scopes, bounds by `cond::bound`),
+//!   and its place in the text by counting leaves.
 //! - [`diagnose_false`]: an assertion that is false on the rows that the definitions put in.
 //! - [`diagnose_statement`]: a statement of a script that is refused whatever the rows are.
 //!
@@ -21,6 +21,7 @@ mod inserts;
 mod leaves;
 mod names;
 mod parts;
+mod refused;
 mod rules;
 mod shapes;
 mod statements;

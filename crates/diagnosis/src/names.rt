@@ -12,7 +12,7 @@ use table::Catalog;
 use value::Text;
 
 /// What a name was looked up among.
-#[derive(Clone, Copy, Debug, PartialEq, Eq)]
+#[derive(Clone, Copy)]
 pub enum Sought {
     Table,
     /// The tables around, by the names that they go by.

@@ -5,7 +5,7 @@ use name_check::Scope;
 use std::alloc::{AllocError, Global};
 
 /// Which rule of the class a part breaks.
-#[derive(Clone, Copy, Debug, PartialEq, Eq)]
+#[derive(Clone, Copy)]
 pub enum Rule {
     /// GROUP BY without HAVING.
     GroupWithoutHaving,

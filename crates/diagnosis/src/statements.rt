@@ -5,19 +5,19 @@ use crate::conditions::{
     Context, Site, diagnose_condition, diagnose_name, diagnose_shape, diagnose_types,
     diagnose_whole, diagnose_width, type_name,
 };
-use crate::inserts::diagnose_insert;
+use crate::inserts::{diagnose_insert, insert_refusal, refusal_in};
 use crate::leaves::{Range, of_expression};
 use crate::names::{first_unknown, unknown_column, unknown_table};
 use crate::parts::parts_of_expression;
 use crate::shapes::in_parts;
 use crate::types::of_type;
 use crate::widths::first_wide;
-use assertcheck::{check_delete, check_insert, check_select, check_update};
+use assertcheck::{check_delete, check_select, check_update};
 use delta::View;
 use faults::{At, Diagnosis, Nearest, Piece, Span, Which, enumeration};
 use name_check::Scope;
 use sqlite_items::Boxed;
-use statement_syntax::{Assigned, Assignment, Insert, Statement, Which as Listed};
+use statement_syntax::{Assigned, Assignment, Statement, Which as Listed};
 use std::alloc::{AllocError, Global};
 use syntax::Condition;
 use table::Catalog;
@@ -44,15 +44,6 @@ pub fn diagnose_statement(
     Ok(Some(diagnose(alloc, context, view, statement, &refusal)?))
 }
 
-/// The refusal of an answer, where it is no want of memory.
-fn refusal_in<T: Drop>(answer: Result<T, Refusal>) -> Result<Option<Refusal>, AllocError> {
-    match answer {
-        Ok(_) => Ok(None),
-        Err(Refusal::NoMemory) => Err(AllocError),
-        Err(refusal) => Ok(Some(refusal)),
-    }
-}
-
 /// The refusal that a statement gets whatever the rows are.
 fn refusal_of(
     alloc: Global,
@@ -75,20 +66,6 @@ fn refusal_of(
         } => refusal_in(check_select(alloc, catalog, columns, table, keeps)),
         Statement::SetConstraints { assertions, .. } => refusal_to_set(view, assertions),
         Statement::Verdict(name) => unknown_assertion(view, name),
-    }
-}
-
-fn insert_refusal(
-    alloc: Global,
-    catalog: &Catalog,
-    insert: &Insert,
-) -> Result<Option<Refusal>, AllocError> {
-    match (
-        check_insert(alloc, catalog, insert),
-        catalog.get(&insert.table),
-    ) {
-        (Ok(new), Some(schema)) => refusal_in(schema.admits(&new.row)),
-        (answer, _) => refusal_in(answer),
     }
 }
 

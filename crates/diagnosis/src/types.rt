@@ -10,7 +10,7 @@ use table::Catalog;
 use type_check::DataType;
 
 /// Types that do not fit.
-#[derive(Clone, Copy, Debug)]
+#[derive(Clone, Copy)]
 pub enum Mismatch {
     /// A comparison of a number and a text. The places are those of its two sides.
     Compared {

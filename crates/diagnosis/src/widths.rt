@@ -11,7 +11,7 @@ use syntax::{Aggregate, Expression, SelectList};
 use value::Value;
 
 /// A part of an expression, and the greatest number that it can be.
-#[derive(Clone, Copy, Debug)]
+#[derive(Clone, Copy)]
 pub struct Bounded {
     pub range: Range,
     pub bound: u128,

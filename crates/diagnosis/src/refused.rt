@@ -1,0 +1,131 @@
+//! Which of the definitions is the first that is refused.
+//!
+//! What is taken in is not kept up to the fault, so it is asked for again. A schema has few tables and assertions and
+//! may have a great many rows, and those mostly stand last: the rows behind the last table and assertion are gone
+//! through once, and only what stands before is taken in time and again.
+
+use crate::inserts::insert_refusal;
+use assertcheck::check_insert;
+use definitions::Definitions;
+use delta::View;
+use statement_syntax::{Definition, Insert};
+use std::alloc::{AllocError, Global};
+use table::Catalog;
+use value::{Refusal, Text, Value};
+
+/// The place of the first definition that is refused, and what those before it define: all tables and assertions, if
+/// not every row.
+pub fn first_refused(
+    alloc: Global,
+    definitions: &[Definition],
+    refusal: &Refusal,
+) -> Result<(usize, View), AllocError> {
+    let front = &definitions[..front_of(definitions).min(definitions.len())];
+    match view_of(alloc, front)? {
+        Some(view) => {
+            let place = first_row(alloc, view.catalog(), definitions, refusal)?;
+            Ok((place, view))
+        }
+        None => {
+            let place = by_halving(alloc, front)?;
+            match view_of(alloc, &front[..place.min(front.len())])? {
+                Some(view) => Ok((place, view)),
+                None => Err(AllocError),
+            }
+        }
+    }
+}
+
+/// How many definitions stand before the rows that stand last.
+fn front_of(definitions: &[Definition]) -> usize {
+    let mut front = 0usize;
+    for (place, definition) in definitions.iter().enumerate() {
+        if !matches!(definition, Definition::Insert(_)) {
+            front = place.saturating_add(1);
+        }
+    }
+    front
+}
+
+/// What definitions define, if they are taken in.
+fn view_of(alloc: Global, definitions: &[Definition]) -> Result<Option<View>, AllocError> {
+    let taken = match Definitions::take(alloc, definitions) {
+        Ok(taken) => taken,
+        Err(Refusal::NoMemory) => return Err(AllocError),
+        Err(_) => return Ok(None),
+    };
+    match taken.load(alloc) {
+        Ok(view) => Ok(Some(view)),
+        Err(_) => Err(AllocError),
+    }
+}
+
+/// The place of the first definition that is refused, among some of which one is. Those before it are taken in, and
+/// with it they are not.
+fn by_halving(alloc: Global, definitions: &[Definition]) -> Result<usize, AllocError> {
+    let mut taken = 0usize;
+    let mut refused = definitions.len();
+    while taken < refused {
+        let middle = taken + (refused - taken) / 2;
+        if are_taken(alloc, definitions, middle.saturating_add(1))? {
+            taken = middle + 1;
+        } else {
+            refused = middle;
+        }
+    }
+    Ok(taken)
+}
+
+/// Whether the first so many definitions are taken in.
+fn are_taken(alloc: Global, definitions: &[Definition], count: usize) -> Result<bool, AllocError> {
+    match Definitions::take(alloc, &definitions[..count.min(definitions.len())]) {
+        Ok(_) => Ok(true),
+        Err(Refusal::NoMemory) => Err(AllocError),
+        Err(_) => Ok(false),
+    }
+}
+
+/// The place of the first INSERT that is refused so, over these tables.
+fn first_row(
+    alloc: Global,
+    catalog: &Catalog,
+    definitions: &[Definition],
+    refusal: &Refusal,
+) -> Result<usize, AllocError> {
+    let mut is_there = false;
+    for (place, definition) in definitions.iter().enumerate() {
+        if let Definition::Insert(insert) = definition {
+            let is_refused = match refusal {
+                Refusal::DuplicateKey { table, key } => {
+                    let is_put = puts(alloc, catalog, insert, table, key)?;
+                    let is_second = is_put && is_there;
+                    is_there = is_there || is_put;
+                    is_second
+                }
+                _ => insert_refusal(alloc, catalog, insert)?.is_some(),
+            };
+            if is_refused {
+                return Ok(place);
+            }
+        }
+    }
+    Ok(definitions.len())
+}
+
+/// Whether an INSERT puts a row under this key of this table.
+fn puts(
+    alloc: Global,
+    catalog: &Catalog,
+    insert: &Insert,
+    table: &Text,
+    key: &Value,
+) -> Result<bool, AllocError> {
+    if insert.table != *table {
+        return Ok(false);
+    }
+    match (check_insert(alloc, catalog, insert), catalog.get(table)) {
+        (Ok(new), Some(schema)) => Ok(new.row.values().get(schema.key()) == Some(key)),
+        (Err(Refusal::NoMemory), _) => Err(AllocError),
+        _ => Ok(false),
+    }
+}
