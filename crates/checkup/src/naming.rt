@@ -64,15 +64,3 @@ pub fn function_name(
     let column = column_name(alloc, catalog, table, column)?;
     format!(in alloc; "{word}({column})")
 }
-
-/// Names with a comma between each two.
-pub fn listed(alloc: Global, names: &[String]) -> Result<String, AllocError> {
-    let mut text = String::new(alloc);
-    for (place, name) in names.iter().enumerate() {
-        if place > 0 {
-            text.push_str(", ")?;
-        }
-        text.push_str(name.as_str())?;
-    }
-    Ok(text)
-}

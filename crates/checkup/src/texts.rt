@@ -2,7 +2,7 @@
 
 use crate::examinations::{Examination, MOST_NOTES};
 use crate::figures::{Figures, Grouping, Kept, Reading, figures_of, key_of, row_count};
-use crate::naming::{column_name, column_names, function_name, listed, table_name};
+use crate::naming::{column_name, column_names, function_name, table_name};
 use assertion::{Assertion, Form};
 use delta::View;
 use faults::{Colour, Diagnosis, Which, picture};
@@ -226,7 +226,7 @@ fn show_kept(
     }
     if !kept.filter.is_empty() {
         let names = column_names(alloc, catalog, kept.table, &kept.filter)?;
-        let names = listed(alloc, &names)?;
+        let names = names.join(alloc, ", ")?;
         let names = names.as_str();
         write!(shown, ", WHERE on {names}")?;
     }
@@ -246,7 +246,7 @@ fn show_reading(
     let table = table_name(alloc, catalog, reading.table)?;
     let table = table.as_str();
     let names = column_names(alloc, catalog, reading.table, &reading.columns)?;
-    let names = listed(alloc, &names)?;
+    let names = names.join(alloc, ", ")?;
     let names = if names.is_empty() {
         "no column"
     } else {
