@@ -69,10 +69,10 @@ pub struct Site<'a> {
 }
 
 /// What is wrong with a condition that was refused so, if that is found in it.
-pub fn diagnose_condition(
+pub fn diagnose_condition<'a>(
     alloc: Global,
-    context: Context,
-    site: Site,
+    context: Context<'a>,
+    site: Site<'a>,
     refusal: &Refusal,
 ) -> Result<Option<Diagnosis>, AllocError> {
     let Site {

@@ -30,11 +30,11 @@ pub type Typed = Result<DataType, Mismatch>;
 
 /// The first mismatch of a condition whose leaves begin here, seen from these tables, the innermost last.
 #[cycle(types)]
-pub fn in_condition(
+pub fn in_condition<'a>(
     alloc: Global,
-    catalog: &Catalog,
-    scopes: &[Scope],
-    condition: &Condition,
+    catalog: &'a Catalog,
+    scopes: &[Scope<'a>],
+    condition: &'a Condition,
     at: usize,
 ) -> Result<Option<Mismatch>, AllocError> {
     match condition {
@@ -81,12 +81,12 @@ pub fn in_condition(
 
 /// The first mismatch of a value and those that it is looked for among.
 #[cycle(types)]
-fn in_list(
+fn in_list<'a>(
     alloc: Global,
-    catalog: &Catalog,
-    scopes: &[Scope],
-    subject: &Expression,
-    values: &[Expression],
+    catalog: &'a Catalog,
+    scopes: &[Scope<'a>],
+    subject: &'a Expression,
+    values: &'a [Expression],
     at: usize,
 ) -> Result<Option<Mismatch>, AllocError> {
     let subject = side_of(alloc, catalog, scopes, subject, at)?;
@@ -110,11 +110,11 @@ struct Side {
 
 /// A side of a comparison, whose leaves begin here.
 #[cycle(types)]
-fn side_of(
+fn side_of<'a>(
     alloc: Global,
-    catalog: &Catalog,
-    scopes: &[Scope],
-    expression: &Expression,
+    catalog: &'a Catalog,
+    scopes: &[Scope<'a>],
+    expression: &'a Expression,
     at: usize,
 ) -> Result<Side, AllocError> {
     let typed = of_type(alloc, catalog, scopes, expression, at)?;
@@ -138,11 +138,11 @@ fn compared(left: Side, right: Side) -> Option<Mismatch> {
 
 /// The type of an expression whose leaves begin here, or the first mismatch in it.
 #[cycle(types)]
-pub fn of_type(
+pub fn of_type<'a>(
     alloc: Global,
-    catalog: &Catalog,
-    scopes: &[Scope],
-    expression: &Expression,
+    catalog: &'a Catalog,
+    scopes: &[Scope<'a>],
+    expression: &'a Expression,
     at: usize,
 ) -> Result<Typed, AllocError> {
     match expression {
@@ -200,11 +200,11 @@ fn column_type(scopes: &[Scope], column: &ColumnName) -> DataType {
 
 /// The type of what a query lists, or the first mismatch in the query.
 #[cycle(types)]
-fn listed_type(
+fn listed_type<'a>(
     alloc: Global,
-    catalog: &Catalog,
-    outer: &[Scope],
-    query: &Query,
+    catalog: &'a Catalog,
+    outer: &[Scope<'a>],
+    query: &'a Query,
     at: usize,
 ) -> Result<Typed, AllocError> {
     let clauses = clauses_of(query, at);
