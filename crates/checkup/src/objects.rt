@@ -45,10 +45,10 @@ pub fn object(
     Ok(text)
 }
 
-fn diagnoses(
+fn diagnoses<'a>(
     alloc: Global,
-    defs: Named,
-    script: Option<Named>,
+    defs: Named<'a>,
+    script: Option<Named<'a>>,
     found: &[Diagnosis],
 ) -> Result<Vec<Value>, AllocError> {
     let mut made = Vec::new(alloc);

@@ -52,10 +52,10 @@ pub fn show(
 }
 
 /// A fault or a note in the text that it is of.
-fn show_diagnosis(
+fn show_diagnosis<'a>(
     alloc: Global,
-    defs: Named,
-    script: Option<Named>,
+    defs: Named<'a>,
+    script: Option<Named<'a>>,
     diagnosis: &Diagnosis,
     shown: &mut String,
     colour: Colour,
