@@ -96,25 +96,27 @@ fn take(
         Ok(view) => view,
         Err(_) => return Err(AllocError),
     };
-    if let Some((name, root, row)) = first_false(alloc, &view)? {
-        let definitions = definitions.as_slice();
-        let fault = diagnose_false(alloc, bytes, definitions, name, root, row)?;
+    if let Some(fault) = first_false(alloc, bytes, definitions.as_slice(), &view)? {
         found.faults.push(fault)?;
     }
     found.view = Some(view);
     Ok(())
 }
 
-/// The first assertion that is false, its least bad root, and by rows the row that is bad.
+/// What is wrong with the first assertion that is false: its least bad root, and by rows the row that is bad.
 fn first_false(
     alloc: Global,
+    bytes: &[u8],
+    definitions: &[Definition],
     view: &View,
-) -> Result<Option<(&Text, &Root, Option<String>)>, AllocError> {
+) -> Result<Option<Diagnosis>, AllocError> {
     for place in 0..view.assertions().len() {
         if let Some(root) = view.least_bad(place) {
             let assertion = &view.assertions()[place];
             let row = bad_row(alloc, view, &assertion.form, root)?;
-            return Ok(Some((&assertion.name, root, row)));
+            let name = &assertion.name;
+            let fault = diagnose_false(alloc, bytes, definitions, name, root, row)?;
+            return Ok(Some(fault));
         }
     }
     Ok(None)
