@@ -65,7 +65,11 @@ fn view_of(alloc: Global, definitions: &[Definition]) -> Result<Option<View>, Al
 fn by_halving(alloc: Global, definitions: &[Definition]) -> Result<usize, AllocError> {
     let mut taken = 0usize;
     let mut refused = definitions.len();
-    while taken < refused {
+    // (a length has at most 64 bits, and each step halves what is left)
+    for _ in 0..64 {
+        if taken >= refused {
+            break;
+        }
         let middle = taken + (refused - taken) / 2;
         if are_taken(alloc, definitions, middle.saturating_add(1))? {
             taken = middle + 1;

@@ -74,31 +74,18 @@ pub fn in_condition<'a>(
             Ok(compared(subject, low).or(compared(subject, high)))
         }
         Condition::In(subject, values) => {
-            in_list(alloc, catalog, scopes, subject, values.as_slice(), at)
+            let subject = side_of(alloc, catalog, scopes, subject, at)?;
+            let mut at = subject.range.to;
+            for value in values.as_slice() {
+                let value = side_of(alloc, catalog, scopes, value, at)?;
+                if let Some(mismatch) = compared(subject, value) {
+                    return Ok(Some(mismatch));
+                }
+                at = value.range.to;
+            }
+            Ok(None)
         }
     }
-}
-
-/// The first mismatch of a value and those that it is looked for among.
-#[cycle(types)]
-fn in_list<'a>(
-    alloc: Global,
-    catalog: &'a Catalog,
-    scopes: &[Scope<'a>],
-    subject: &'a Expression,
-    values: &'a [Expression],
-    at: usize,
-) -> Result<Option<Mismatch>, AllocError> {
-    let subject = side_of(alloc, catalog, scopes, subject, at)?;
-    let mut at = subject.range.to;
-    for value in values {
-        let value = side_of(alloc, catalog, scopes, value, at)?;
-        if let Some(mismatch) = compared(subject, value) {
-            return Ok(Some(mismatch));
-        }
-        at = value.range.to;
-    }
-    Ok(None)
 }
 
 /// A side of a comparison: its leaves, and its type or the first mismatch in it.
