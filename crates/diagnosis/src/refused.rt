@@ -70,9 +70,9 @@ fn by_halving(alloc: Global, definitions: &[Definition]) -> Result<usize, AllocE
         if taken >= refused {
             break;
         }
-        let middle = taken + (refused - taken) / 2;
+        let middle = taken.saturating_add((refused - taken) / 2);
         if are_taken(alloc, definitions, middle.saturating_add(1))? {
-            taken = middle + 1;
+            taken = middle.saturating_add(1);
         } else {
             refused = middle;
         }
