@@ -1,8 +1,9 @@
 -- What is opened, and what is then written, is the report that the contract has.
 use Rattle.std.proofs.Common.{◌≡◌, ℕ, Bool, true, false, List, Option, Result, Ok, Err, ap, sym, ◌∙◌, subst, inl}
-use Rattle.std.specs.Prelude.{◌≢◌, OnOk, IfErr}
+use Rattle.std.specs.Prelude.{◌≢◌, OnOk, IfErr, IfOk}
 use Rattle.std.specs.Io.KnownBytes.{Appends}
 use Rattle.value.specs.Results.{and_then}
+use Rattle.value.specs.declared.refusals.Refusal.{Refusal}
 use Rattle.value.specs.declared.refusals.Refusal.TheVariants.{NoMemory}
 use Rattle.statement_syntax.specs.declared.definitions.Definition.{Definition}
 use Rattle.statement_syntax.specs.declared.statements.Step.{Step}
@@ -22,11 +23,18 @@ use Rattle.running.proofs.Late.{late_fault}
 use Rattle.threads.specs.Grouping.{grouped}
 use Rattle.threads.specs.Grouped.{AreOpened, IsAdmitted, PrintsGrouped, WritesGrouped, all_ran, grouped_report}
 
-pub is_admitted : (definitions : List Definition) (shown : Shown) → taken definitions ≡ Ok shown → AreWritten definitions shown.declared
+is_admitted : (definitions : List Definition) (shown : Shown) → taken definitions ≡ Ok shown → AreWritten definitions shown.declared
     → satisfied shown ≡ Ok shown → (view : Shown) → view ≡ shown → IsAdmitted definitions view
 is_admitted definitions shown takes written holds view is =
     let made : IsAdmitted definitions shown = record { admits = ap (λ r. and_then r satisfied) takes ∙ holds; written = written } in
     subst (IsAdmitted definitions) (sym is) made
+
+-- what is opened over them has their tables
+pub opens_admitted : {M : Type 0} (P Q : M → Type 0) (view_of : M → Shown) (opened : Result M Refusal) (definitions : List Definition) (shown : Shown)
+    → taken definitions ≡ Ok shown → AreWritten definitions shown.declared → IfOk opened (λ m. satisfied shown ≡ Ok shown)
+    → IfOk opened (λ m. P m × Q m × (view_of m ≡ shown)) → IfOk opened (λ m. IsAdmitted definitions (view_of m))
+opens_admitted P Q view_of (Ok m) definitions shown takes written holds is = is_admitted definitions shown takes written holds (view_of m) is.2
+opens_admitted P Q view_of (Err refusal) definitions shown takes written holds is = tt
 
 pub are_opened : (defs script : List ℕ) (definitions : List Definition) (steps : List Step) (scripts : List Script)
     → AreRead defs script definitions steps → (shown : Shown) → IsAdmitted definitions shown → HasFewSessions steps → scripts ≡ grouped steps

@@ -125,7 +125,6 @@ fn open_manager<N: Named, R: Wait>(
 }
 
 /// A manager of what these definitions define, if no assertion is false on the rows that they begin with.
-#[tactic(auto, using(crate::proofs::Reporting::is_admitted))]
 fn manage<N: Named, R: Wait>(
     rt: &R,
     alloc: Global,
