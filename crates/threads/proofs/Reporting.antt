@@ -1,10 +1,10 @@
 -- What is opened, and what is then written, is the report that the contract has.
-use Rattle.std.proofs.Common.{◌≡◌, ℕ, Bool, true, false, List, Option, Result, Ok, Err, ap, sym, ◌∙◌, subst, inl}
-use Rattle.std.specs.Prelude.{◌≢◌, OnOk, IfErr, IfOk}
+use Rattle.std.proofs.Common.{◌≡◌, ℕ, Bool, true, false, List, Option, Result, Ok, Err, ap, sym, ◌∙◌, subst, inl, inr}
+use Rattle.std.specs.Prelude.{◌≢◌, ◌⊎◌, OnOk, IfErr, IfOk}
 use Rattle.std.specs.Io.KnownBytes.{Appends}
 use Rattle.value.specs.Results.{and_then}
 use Rattle.value.specs.declared.refusals.Refusal.{Refusal}
-use Rattle.value.specs.declared.refusals.Refusal.TheVariants.{NoMemory}
+use Rattle.value.specs.declared.refusals.Refusal.TheVariants.{NoMemory, TooManySessions}
 use Rattle.statement_syntax.specs.declared.definitions.Definition.{Definition}
 use Rattle.statement_syntax.specs.declared.statements.Step.{Step}
 use Rattle.commit.specs.Views.{Shown}
@@ -18,7 +18,8 @@ use Rattle.workers.specs.declared.scripts.ScriptAnswers.{ScriptAnswers}
 use Rattle.workers.specs.Scripts.{AreAnswered}
 use Rattle.running.specs.declared.faults.ProgramFault.{ProgramFault}
 use Rattle.running.specs.declared.faults.ProgramFault.TheVariants.{Defs, NoThread, Output, Stopped, Script as ScriptFault}
-use Rattle.running.specs.Texts.{AreRead, HasFewSessions, IsFirstFault, IsInTheRun, IsRun, is_before_the_run}
+use Rattle.statement_syntax.specs.SchemaGrammar.{IsScript}
+use Rattle.running.specs.Texts.{AreRead, HasFewSessions, HasManySessions, HasTooManySessions, IsFirstFault, IsInTheRun, IsNoScript, IsRun, IsUnread, is_before_the_run}
 use Rattle.running.proofs.Late.{late_fault}
 use Rattle.threads.specs.Grouping.{grouped}
 use Rattle.threads.specs.Grouped.{AreOpened, IsAdmitted, PrintsGrouped, WritesGrouped, all_ran, grouped_report}
@@ -47,6 +48,20 @@ are_opened defs script definitions steps scripts read shown admits few are = rec
   };
   are = are;
 }
+
+-- a script that can't be run, where the definitions are admitted: it has too many sessions, or there was no memory
+pub scripts_refused : (defs script : List ℕ) (definitions : List Definition) (steps : List Step) (shown : Shown) → AreRead defs script definitions steps
+    → IsAdmitted definitions shown → (refusal : Refusal) → (refusal ≡ NoMemory) ⊎ (HasManySessions steps × (refusal ≡ TooManySessions))
+    → IsNoScript defs script refusal ⊎ HasTooManySessions defs script refusal
+scripts_refused defs script definitions steps shown read admits refusal (inl none) =
+    inl (record { definitions = definitions; defs_read = read.defs_read; refused = subst (IsUnread IsScript script) (sym none) tt })
+scripts_refused defs script definitions steps shown read admits refusal (inr many) = inr (record {
+  shown = shown;
+  steps = steps;
+  taken = record { definitions = definitions; read = read; admits = admits.admits; written = admits.written };
+  many = many.0;
+  refused = many.1;
+})
 
 pub prints : (scripts : List Script) (found : List ScriptAnswers) (core : CoreState) (loaded : Shown) (limit : ℕ) (all : Bool) (old new : Option (List ℕ))
     → IsOver core loaded limit → IsSerializable core → all_ran found ≡ all → Appends old new (grouped_report scripts found core)
