@@ -1,9 +1,10 @@
 -- What is opened, and what is then written, is the report that the contract has.
-use Rattle.std.proofs.Common.{◌≡◌, ℕ, Bool, true, false, List, Option, Result, Ok, Err, ap, sym, ◌∙◌, subst, inl}
-use Rattle.std.specs.Prelude.{◌≢◌, OnOk, IfErr}
+use Rattle.std.proofs.Common.{◌≡◌, ℕ, Bool, true, false, List, Option, Result, Ok, Err, ap, sym, ◌∙◌, subst, inl, inr}
+use Rattle.std.specs.Prelude.{◌≢◌, ◌⊎◌, OnOk, IfErr, IfOk}
 use Rattle.std.specs.Io.KnownBytes.{Appends}
 use Rattle.value.specs.Results.{and_then}
-use Rattle.value.specs.declared.refusals.Refusal.TheVariants.{NoMemory}
+use Rattle.value.specs.declared.refusals.Refusal.{Refusal}
+use Rattle.value.specs.declared.refusals.Refusal.TheVariants.{NoMemory, TooManySessions}
 use Rattle.statement_syntax.specs.declared.definitions.Definition.{Definition}
 use Rattle.statement_syntax.specs.declared.statements.Step.{Step}
 use Rattle.commit.specs.Views.{Shown}
@@ -17,16 +18,24 @@ use Rattle.workers.specs.declared.scripts.ScriptAnswers.{ScriptAnswers}
 use Rattle.workers.specs.Scripts.{AreAnswered}
 use Rattle.running.specs.declared.faults.ProgramFault.{ProgramFault}
 use Rattle.running.specs.declared.faults.ProgramFault.TheVariants.{Defs, NoThread, Output, Stopped, Script as ScriptFault}
-use Rattle.running.specs.Texts.{AreRead, HasFewSessions, IsFirstFault, IsInTheRun, IsRun, is_before_the_run}
+use Rattle.statement_syntax.specs.SchemaGrammar.{IsScript}
+use Rattle.running.specs.Texts.{AreRead, HasFewSessions, HasManySessions, HasTooManySessions, IsFirstFault, IsInTheRun, IsNoScript, IsRun, IsUnread, is_before_the_run}
 use Rattle.running.proofs.Late.{late_fault}
 use Rattle.threads.specs.Grouping.{grouped}
 use Rattle.threads.specs.Grouped.{AreOpened, IsAdmitted, PrintsGrouped, WritesGrouped, all_ran, grouped_report}
 
-pub is_admitted : (definitions : List Definition) (shown : Shown) → taken definitions ≡ Ok shown → AreWritten definitions shown.declared
+is_admitted : (definitions : List Definition) (shown : Shown) → taken definitions ≡ Ok shown → AreWritten definitions shown.declared
     → satisfied shown ≡ Ok shown → (view : Shown) → view ≡ shown → IsAdmitted definitions view
 is_admitted definitions shown takes written holds view is =
     let made : IsAdmitted definitions shown = record { admits = ap (λ r. and_then r satisfied) takes ∙ holds; written = written } in
     subst (IsAdmitted definitions) (sym is) made
+
+-- what is opened over them has their tables
+pub opens_admitted : {M : Type 0} (P Q : M → Type 0) (view_of : M → Shown) (opened : Result M Refusal) (definitions : List Definition) (shown : Shown)
+    → taken definitions ≡ Ok shown → AreWritten definitions shown.declared → IfOk opened (λ m. satisfied shown ≡ Ok shown)
+    → IfOk opened (λ m. P m × Q m × (view_of m ≡ shown)) → IfOk opened (λ m. IsAdmitted definitions (view_of m))
+opens_admitted P Q view_of (Ok m) definitions shown takes written holds is = is_admitted definitions shown takes written holds (view_of m) is.2
+opens_admitted P Q view_of (Err refusal) definitions shown takes written holds is = tt
 
 pub are_opened : (defs script : List ℕ) (definitions : List Definition) (steps : List Step) (scripts : List Script)
     → AreRead defs script definitions steps → (shown : Shown) → IsAdmitted definitions shown → HasFewSessions steps → scripts ≡ grouped steps
@@ -39,6 +48,20 @@ are_opened defs script definitions steps scripts read shown admits few are = rec
   };
   are = are;
 }
+
+-- a script that can't be run, where the definitions are admitted: it has too many sessions, or there was no memory
+pub scripts_refused : (defs script : List ℕ) (definitions : List Definition) (steps : List Step) (shown : Shown) → AreRead defs script definitions steps
+    → IsAdmitted definitions shown → (refusal : Refusal) → (refusal ≡ NoMemory) ⊎ (HasManySessions steps × (refusal ≡ TooManySessions))
+    → IsNoScript defs script refusal ⊎ HasTooManySessions defs script refusal
+scripts_refused defs script definitions steps shown read admits refusal (inl none) =
+    inl (record { definitions = definitions; defs_read = read.defs_read; refused = subst (IsUnread IsScript script) (sym none) tt })
+scripts_refused defs script definitions steps shown read admits refusal (inr many) = inr (record {
+  shown = shown;
+  steps = steps;
+  taken = record { definitions = definitions; read = read; admits = admits.admits; written = admits.written };
+  many = many.0;
+  refused = many.1;
+})
 
 pub prints : (scripts : List Script) (found : List ScriptAnswers) (core : CoreState) (loaded : Shown) (limit : ℕ) (all : Bool) (old new : Option (List ℕ))
     → IsOver core loaded limit → IsSerializable core → all_ran found ≡ all → Appends old new (grouped_report scripts found core)

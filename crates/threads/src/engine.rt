@@ -1,6 +1,6 @@
 //! From two texts to a report.
 
-ghost use Rattle.std.specs.Prelude.{◌≡◌, ◌≢◌, ◌≤◌, true, false, Err, IfOk, IfErr, OnOk};
+ghost use Rattle.std.specs.Prelude.{◌≡◌, ◌≢◌, ◌≤◌, ◌⊎◌, true, false, Err, IfOk, IfErr, OnOk};
 ghost use Rattle.value.specs.declared.refusals.Refusal.TheVariants.{NoMemory, TooManySessions};
 ghost use Rattle.commit.specs.Admission.{admitted};
 ghost use Rattle.running.specs.declared.faults.ProgramFault.TheVariants.{NoThread, Stopped};
@@ -125,7 +125,6 @@ fn open_manager<N: Named, R: Wait>(
 }
 
 /// A manager of what these definitions define, if no assertion is false on the rows that they begin with.
-#[tactic(auto, using(crate::proofs::Reporting::is_admitted))]
 fn manage<N: Named, R: Wait>(
     rt: &R,
     alloc: Global,
@@ -164,7 +163,7 @@ fn require_few_scripts(alloc: Global, steps: Items<Step>) -> Result<Vec<Script>,
     ensures grouped { IfOk result (λ scripts. scripts.items ≡ grouped steps) }
     ensures few { IfOk result (λ _. HasFewSessions steps) }
     ensures refused { IfErr result (λ refusal.
-        refusal ≢ NoMemory → HasManySessions steps × (refusal ≡ TooManySessions)) }
+        (refusal ≡ NoMemory) ⊎ (HasManySessions steps × (refusal ≡ TooManySessions))) }
 {
     if !has_few_sessions(alloc, steps.as_slice(), MOST_SESSIONS)? {
         let_go(steps);
