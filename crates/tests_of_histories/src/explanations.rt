@@ -1,6 +1,7 @@
 //! Explanations of small scripts.
 
 use explain::{ExplainFault, explain_into};
+use std::alloc::Global;
 use std::process::Abort;
 use std::test::Fail;
 
