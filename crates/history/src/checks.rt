@@ -61,9 +61,9 @@ fn only_one(alloc: Global, count: usize, place: usize) -> Result<Vec<bool>, Refu
     ensures only_memory { IsOkUnless result NoMemory }
     ensures long { IfOk result (λ meant. length meant.items ≡ count) }
 {
-    let mut meant = Vec::new(alloc);
-    for at in 0..count {
-        meant.push(at == place)?;
+    let mut meant = vec![in alloc; false; count]?;
+    if place < count {
+        meant[place] = true;
     }
     Ok(meant)
 }

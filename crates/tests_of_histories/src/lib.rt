@@ -7,3 +7,5 @@
 mod explanations;
 #[cfg(test)]
 mod pictures;
+#[cfg(test)]
+mod writers;
