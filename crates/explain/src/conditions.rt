@@ -4,7 +4,6 @@ use cond::{Cond, Expr};
 use delta::View;
 use history::column_name;
 use std::alloc::AllocError;
-use threeval::Truth;
 use value::Comparison;
 
 /// Adds a condition without slots over the columns of a table. BETWEEN and IN are written as what they abbreviate.

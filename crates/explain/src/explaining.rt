@@ -5,7 +5,7 @@ ghost use Rattle.std.specs.Prelude.{◌≤◌};
 use crate::happenings::add_event;
 use crate::stories::Story;
 use answer::Answer;
-use history::{History, Source, read_history};
+use history::{Source, read_history};
 use running::{ProgramFault, flush, write_all};
 use std::alloc::Global;
 use std::io::Write;

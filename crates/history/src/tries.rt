@@ -1,6 +1,6 @@
 //! What a statement does to the rows of a view, whatever its assertions say of it.
 
-ghost use Rattle.std.specs.Prelude.{◌≡◌, IsOkUnless};
+ghost use Rattle.std.specs.Prelude.{IsOkUnless};
 ghost use Rattle.value.specs.declared.refusals.Refusal.TheVariants.{NoMemory};
 ghost use Rattle.assertion.specs.Declarations.{layouts_in};
 ghost use Rattle.txn.specs.Effects.{ArePutIn};
