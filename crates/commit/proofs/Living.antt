@@ -264,3 +264,30 @@ all_seated_live core steps below idle =
       begun = below;
       idle = idle;
     }
+
+-- a free seat more opens no transaction
+open_before : (seats : List Seat) (session : List ℕ) (place : ℕ) (t : OpenTransaction) → txn_of (slice_get (seats ++ free_seat session ∷ []) place) ≡ Some t
+    → txn_of (slice_get seats place) ≡ Some t
+open_before [] session zero t h = let no : ⊥ = cc in absurd no
+open_before [] session (suc place) t h = h
+open_before (seat ∷ rest) session zero t h = h
+open_before (seat ∷ rest) session (suc place) t h = open_before rest session place t h
+
+unless_live : (core : CoreState) (seats : List Seat) (session : List ℕ) (at : Option ℕ) → AreLive core seats → AreLive core (unless_seated at seats session)
+unless_live core seats session (Some at) live = live
+unless_live core seats session None live = record {
+  each = λ place t h. live.each place t (open_before seats session place t h);
+  apart = λ place other t u h g same. live.apart place other t u (open_before seats session place t h) (open_before seats session other u g) same;
+  begun = live.begun;
+  idle = live.idle;
+}
+
+-- nor does a seat for a session
+seated_live : (core : CoreState) (seats : List Seat) (session : List ℕ) → AreLive core seats → AreLive core (seated seats session)
+seated_live core seats session live = unless_live core seats session (seat_of seats session) live
+
+-- and where there was no memory for it, there are the seats of before
+pub live_with_seat : {A : Type 0} (core : CoreState) (old new : List Seat) (session : List ℕ) (result : Result A Refusal)
+    → OnOk result (new ≡ seated old session) → OnErr result (new ≡ old) → AreLive core old → AreLive core new
+live_with_seat core old new session (Ok made) more same live = subst (AreLive core) (sym more) (seated_live core old session live)
+live_with_seat core old new session (Err refusal) more same live = subst (AreLive core) (sym same) live

@@ -1,23 +1,23 @@
 //! Events of many sessions, one after the other.
 
-ghost use Rattle.std.specs.Prelude.{◌≡◌, ◌≤◌, [], true, false, length, take, IfOk, IsOkUnless};
+ghost use Rattle.std.specs.Prelude.{◌≡◌, ◌≤◌, [], true, false, length, take, IfOk, IsOkUnless, OnErr, OnOk};
 ghost use Rattle.value.specs.declared.refusals.Refusal.TheVariants.{NoMemory};
 ghost use Rattle.alone.specs.Alone.{IsSound};
 ghost use Rattle.commit.specs.Cores.{IsSerializable};
 ghost use Rattle.commit.specs.Events.{IsAnswered, after, as_answer};
 ghost use Rattle.commit.specs.Fitting.{AllFit};
-ghost use Rattle.commit.specs.Runs.{AreAnswers, IsNext, beginning, led_to};
+ghost use Rattle.commit.specs.Runs.{AreAnswers, IsNext, beginning, led_to, seated};
 ghost use Rattle.commit.specs.Told.{WereToldAlone};
 
 use crate::cores::Core;
 use crate::laws::answers_lead_to_a_serial_order;
-use crate::seats::{Seat, answer_event, find_seat, make_seats};
+use crate::seats::{Seat, answer_event, find_seat, make_seats, seat_session};
 use answer::Answer;
 use delta::View;
 use statement_syntax::Step;
 use std::alloc::Global;
 use std::marker::Model;
-use value::Refusal;
+use value::{Refusal, Text};
 
 /// What stands between two events: the committed transactions, and the sessions with the open ones.
 #[derive(Drop)]
@@ -60,6 +60,19 @@ impl Engine {
         let seats = make_seats(alloc, steps)?;
         let core = Core::new(alloc, limit, loaded)?;
         Ok(Engine { core, seats })
+    }
+
+    /// A seat for a session that comes later, if it has none. An event of a session without a seat is refused.
+    ///
+    /// # Errors
+    ///
+    /// [`Refusal::NoMemory`] alone. Nothing has changed then.
+    pub fn seat(&mut self, session: &Text) -> Result<(), Refusal>
+        ensures only_memory { IsOkUnless result NoMemory }
+        ensures seated { OnOk result (self.new ≡ record self.old { seats = seated self.old.seats session.now }) }
+        ensures same { OnErr result (self.new ≡ self.old) }
+    {
+        seat_session(&mut self.seats, session)
     }
 
     /// Answers an event. Where no memory is found, that is the answer, and nothing has changed. That can come only to

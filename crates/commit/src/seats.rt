@@ -83,15 +83,15 @@ pub fn has_few_sessions(alloc: Global, steps: &[Step], most: usize) -> Result<bo
 }
 
 /// A seat for a session, if it has none.
-fn seat_session(seats: &mut Vec<Seat>, session: &Text) -> Result<(), Refusal>
+pub fn seat_session(seats: &mut Vec<Seat>, session: &Text) -> Result<(), Refusal>
     ensures only_memory { IsOkUnless result NoMemory }
     ensures seated { OnOk result (seats.new.items ≡ seated seats.old.items session.now) }
+    ensures same { OnErr result (seats.new.items ≡ seats.old.items) }
 {
     if find_seat(seats, session).is_none() {
-        seats.push(Seat {
-            session: session.copy()?,
-            txn: None,
-        })?;
+        let session = session.copy()?;
+        seats.reserve(1)?;
+        seats.push_reserved(Seat { session, txn: None });
     }
     Ok(())
 }

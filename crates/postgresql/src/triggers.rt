@@ -42,7 +42,6 @@ pub fn add_triggers(sql: &mut String, view: &View, table: usize) -> Result<(), A
     {
         return Ok(());
     }
-    let place = table.saturating_add(1);
     sql.push_str("-- After each statement on ")?;
     add_table_name(sql, view, table)?;
     sql.push_str(".\n")?;
