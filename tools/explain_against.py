@@ -9,6 +9,7 @@ event N, and which boxes and arrows `PROGRAM picture DEFS SCRIPT` has to draw. L
 an event and of a rule, and the WHERE of a set function. With --files these are tried in place of random cases.
 """
 import argparse
+import itertools
 import os
 import re
 import subprocess
@@ -283,7 +284,7 @@ class One(frozenset):
 
 
 def some(lines, front):
-    """Lines in any order, ten at most, and how many more there are."""
+    """Lines in any order, each once, ten at most, and how many more there are."""
     left = [f'{front}and {len(lines) - MOST_LINES} more'] if len(lines) > MOST_LINES else []
     return [One(lines)] * min(len(lines), MOST_LINES) + left
 
@@ -354,8 +355,15 @@ def titles(svg):
     return boxes, arrows
 
 
+def free_lists(want, got):
+    """The lines of each list whose order is free: each of them may stand there once."""
+    for _, pairs in itertools.groupby(zip(want, got), lambda pair: id(pair[0])):
+        yield [line for one, line in pairs if isinstance(one, One)]
+
+
 def compare(name, want, got, defs, script):
     fits = [line in one if isinstance(one, One) else line == one for one, line in zip(want, got)]
+    fits += [len(lines) == len(set(lines)) for lines in free_lists(want, got)]
     if len(want) == len(got) and all(fits):
         return True
     print(f'{name}\n--- defs\n{defs.decode("latin1")}\n--- script\n{script.decode("latin1")}\n--- wanted')

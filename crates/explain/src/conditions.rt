@@ -4,7 +4,6 @@ use cond::{Cond, Expr};
 use delta::View;
 use history::column_name;
 use std::alloc::AllocError;
-use threeval::Truth;
 use value::Comparison;
 
 /// Adds a condition without slots over the columns of a table. BETWEEN and IN are written as what they abbreviate.
@@ -37,31 +36,29 @@ pub fn add_condition(
             add_condition(part.get(), view, table, out)?;
             out.push_str(")")
         }
-        Cond::And(parts) => add_parts(parts.as_slice(), " AND ", view, table, out),
-        Cond::Or(parts) => {
-            out.push_str("(")?;
-            add_parts(parts.as_slice(), " OR ", view, table, out)?;
-            out.push_str(")")
+        Cond::And(parts) | Cond::Or(parts) => {
+            let (open, word, close) = marks_of(condition);
+            out.push_str(open)?;
+            let mut front = "";
+            for part in parts.as_slice() {
+                out.push_str(front)?;
+                add_condition(part, view, table, out)?;
+                front = word;
+            }
+            out.push_str(close)
         }
     }
 }
 
-fn add_parts(
-    parts: &[Cond],
-    word: &str,
-    view: &View,
-    table: usize,
-    out: &mut String,
-) -> Result<(), AllocError> {
-    let mut front = "";
-    for part in parts {
-        out.push_str(front)?;
-        add_condition(part, view, table, out)?;
-        front = word;
+/// What stands before the parts of a condition, between them and behind them.
+fn marks_of(condition: &Cond) -> (&'static str, &'static str, &'static str) {
+    match condition {
+        Cond::Or(_) => ("(", " OR ", ")"),
+        _ => ("", " AND ", ""),
     }
-    Ok(())
 }
 
+/// Adds an expression, a sum or a product in parentheses.
 fn add_expression(
     expression: &Expr,
     view: &View,
@@ -79,25 +76,26 @@ fn add_expression(
             out.push_str("-")?;
             add_expression(part.get(), view, table, out)
         }
-        Expr::Sum(parts) => add_terms(parts.as_slice(), " + ", view, table, out),
-        Expr::Product(parts) => add_terms(parts.as_slice(), " * ", view, table, out),
+        Expr::Sum(parts) | Expr::Product(parts) => {
+            let sign = sign_between(expression);
+            out.push_str("(")?;
+            let mut front = "";
+            for part in parts.as_slice() {
+                out.push_str(front)?;
+                add_expression(part, view, table, out)?;
+                front = sign;
+            }
+            out.push_str(")")
+        }
     }
 }
 
-fn add_terms(
-    parts: &[Expr],
-    sign: &str,
-    view: &View,
-    table: usize,
-    out: &mut String,
-) -> Result<(), AllocError> {
-    let mut front = "(";
-    for part in parts {
-        out.push_str(front)?;
-        add_expression(part, view, table, out)?;
-        front = sign;
+/// What stands between the parts of an expression.
+fn sign_between(expression: &Expr) -> &'static str {
+    match expression {
+        Expr::Product(_) => " * ",
+        _ => " + ",
     }
-    out.push_str(")")
 }
 
 /// A comparison as SQL writes it.

@@ -122,6 +122,13 @@ fn is_changer(it: &Transaction, happening: &Happening, change: &Change) -> bool 
             .any(|made| is_of_row(made, change))
 }
 
+/// A transaction of a dangerous triple, by the part that it has there.
+#[derive(Clone, Copy)]
+struct Role<'a> {
+    name: &'static str,
+    transaction: &'a Transaction,
+}
+
 /// Adds the two conflicts of a dangerous triple.
 pub fn add_triple(
     alloc: Global,
@@ -132,111 +139,107 @@ pub fn add_triple(
     writer: Party,
     out: &mut String,
 ) -> Result<(), AllocError> {
+    let (Some(reader), Some(pivot), Some(writer)) = (
+        role_of(story, this, "reader", reader),
+        role_of(story, this, "pivot", pivot),
+        role_of(story, this, "writer", writer),
+    ) else {
+        return Ok(());
+    };
     out.push_str("  a dangerous triple: reader, pivot and writer may have no serial order\n")?;
-    let named = [("reader", reader), ("pivot", pivot), ("writer", writer)];
-    for (name, party) in &named {
-        if let Some(it) = party_of(story, this, *party) {
-            write!(out, "  {name}: ")?;
-            add_who(story, it, out)?;
-            out.push_str("\n")?;
-        }
+    for role in &[reader, pivot, writer] {
+        let name = role.name;
+        write!(out, "  {name}: ")?;
+        add_who(story, role.transaction, out)?;
+        out.push_str("\n")?;
     }
-    add_edge(
-        alloc,
-        story,
-        "the reader",
-        "the pivot",
-        party_of(story, this, reader),
-        party_of(story, this, pivot),
-        out,
-    )?;
-    add_edge(
-        alloc,
-        story,
-        "the pivot",
-        "the writer",
-        party_of(story, this, pivot),
-        party_of(story, this, writer),
-        out,
-    )
+    add_edge(alloc, story, reader, pivot, out)?;
+    add_edge(alloc, story, pivot, writer, out)
 }
 
-/// The transaction that a refusal names.
-fn party_of<'a>(story: Story<'a>, this: &'a Transaction, party: Party) -> Option<&'a Transaction> {
-    match party {
-        Party::This => Some(this),
-        Party::Number(number) => story.history.commit(number),
-    }
+/// The transaction that a refusal names, with this part.
+fn role_of<'a>(
+    story: Story<'a>,
+    this: &'a Transaction,
+    name: &'static str,
+    party: Party,
+) -> Option<Role<'a>> {
+    let transaction = match party {
+        Party::This => this,
+        Party::Number(number) => story.history.commit(number)?,
+    };
+    Some(Role { name, transaction })
 }
 
 /// Adds what one transaction read that another changed.
 fn add_edge(
     alloc: Global,
     story: Story<'_>,
-    from: &str,
-    to: &str,
-    reader: Option<&Transaction>,
-    writer: Option<&Transaction>,
+    from: Role<'_>,
+    to: Role<'_>,
     out: &mut String,
 ) -> Result<(), AllocError> {
-    let (Some(reader), Some(writer)) = (reader, writer) else {
-        return Ok(());
-    };
-    let found = conflicts_between(alloc, reader, writer)?;
-    let listed = first_ones(alloc, found.as_slice())?;
-    let count = listed.len();
+    let conflicts = conflicts_between(alloc, from.transaction, to.transaction)?;
+    let firsts = first_ones(alloc, conflicts.as_slice())?;
+    let (reader, writer, count) = (from.name, to.name, firsts.len());
     write!(
         out,
-        "  {from} read what {to} changed and neither saw the other, by keys: {count}\n"
+        "  the {reader} read what the {writer} changed and neither saw the other, by keys: {count}\n"
     )?;
-    for conflict in listed.as_slice().iter().take(MOST_LINES) {
-        add_conflict(story, *conflict, found.as_slice(), out)?;
+    for conflict in firsts.as_slice().iter().take(MOST_LINES) {
+        add_conflict(story, *conflict, conflicts.as_slice(), out)?;
     }
     add_left_out("    ", count, out)
 }
 
 /// Of some conflicts the first of each key and reader.
-fn first_ones<'a>(alloc: Global, found: &[Conflict<'a>]) -> Result<Vec<Conflict<'a>>, AllocError> {
-    let mut first: Vec<Conflict<'a>> = Vec::new(alloc);
-    for conflict in found {
-        if !first.iter().any(|it| is_again(it, conflict)) {
-            first.push(*conflict)?;
+fn first_ones<'a>(
+    alloc: Global,
+    conflicts: &[Conflict<'a>],
+) -> Result<Vec<Conflict<'a>>, AllocError> {
+    let mut firsts: Vec<Conflict<'a>> = Vec::new(alloc);
+    for conflict in conflicts {
+        if !firsts.iter().any(|it| it.read.is_again(conflict.read)) {
+            firsts.push(*conflict)?;
         }
     }
-    Ok(first)
-}
-
-/// Whether two conflicts are of one key and one reader.
-fn is_again(one: &Conflict<'_>, other: &Conflict<'_>) -> bool {
-    one.read.reader == other.read.reader && one.read.key == other.read.key
+    Ok(firsts)
 }
 
 /// Adds a key with who read it and when, and the change that touches it.
 fn add_conflict(
     story: Story<'_>,
     conflict: Conflict<'_>,
-    found: &[Conflict<'_>],
+    conflicts: &[Conflict<'_>],
     out: &mut String,
 ) -> Result<(), AllocError> {
     out.push_str("    ")?;
     add_key(&story.history.loaded, &conflict.read.key, out)?;
     add_reader(story, conflict.read.reader, out)?;
-    let mut last = None;
-    for other in found {
-        if is_again(other, &conflict) && last != Some(other.read.event) {
-            let number = number_of(other.read.event);
-            let front = if last.is_none() {
-                " at event "
-            } else {
-                " and "
-            };
-            write!(out, "{front}{number}")?;
-            last = Some(other.read.event);
-        }
-    }
+    add_events_of(conflict, conflicts, out)?;
     out.push_str("; changed was ")?;
     add_change(&story.history.loaded, conflict.change, out)?;
     out.push_str("\n")
+}
+
+/// Adds the events at which the key of a conflict was read by the same reader.
+fn add_events_of(
+    conflict: Conflict<'_>,
+    conflicts: &[Conflict<'_>],
+    out: &mut String,
+) -> Result<(), AllocError> {
+    let mut front = " at event ";
+    let mut last = None;
+    for other in conflicts {
+        let event = other.read.event;
+        if conflict.read.is_again(other.read) && last != Some(event) {
+            let number = number_of(event);
+            write!(out, "{front}{number}")?;
+            front = " and ";
+            last = Some(event);
+        }
+    }
+    Ok(())
 }
 
 /// Adds who read a key.

@@ -5,7 +5,7 @@ ghost use Rattle.std.specs.Prelude.{◌≤◌};
 use crate::happenings::add_event;
 use crate::stories::Story;
 use answer::Answer;
-use history::{History, Source, read_history};
+use history::{Source, read_history};
 use running::{ProgramFault, flush, write_all};
 use std::alloc::Global;
 use std::io::Write;
@@ -17,7 +17,7 @@ use value::Refusal;
 pub enum ExplainFault {
     /// The run, or the writer.
     #[error("{0}")]
-    Run(ProgramFault),
+    Run(#[from] ProgramFault),
     /// The script has no event of the number that was asked for, and so many events.
     #[error("the script has {0} events")]
     NoEvent(usize),
@@ -41,13 +41,9 @@ pub fn explain_into<W: Write>(
 ) -> Result<(), ExplainFault>
     requires within { max_commits ≤ 4294967295 }
 {
-    let history = match read_history(alloc, defs, script, max_commits) {
-        Ok(history) => history,
-        Err(fault) => return Err(ExplainFault::Run(fault)),
-    };
-    let (definitions, events) = match read_sources(alloc, defs, script) {
-        Ok(sources) => sources,
-        Err(_) => return Err(ExplainFault::Run(ProgramFault::Stopped)),
+    let history = read_history(alloc, defs, script, max_commits)?;
+    let Ok((definitions, events)) = read_sources(alloc, defs, script) else {
+        return Err(ExplainFault::Run(ProgramFault::Stopped));
     };
     let story = Story {
         history: &history,
@@ -81,7 +77,7 @@ fn explain_number<W: Write>(
         return Err(ExplainFault::NoEvent(count));
     }
     explain_one(alloc, story, (number - 1) as usize, out)?;
-    finish(out)
+    Ok(flush(out)?)
 }
 
 /// Explains each event that was refused.
@@ -98,9 +94,9 @@ fn explain_refused<W: Write>(
         }
     }
     if refused == 0 {
-        put(b"no event was refused\n", out)?;
+        write_all(b"no event was refused\n", out)?;
     }
-    finish(out)
+    Ok(flush(out)?)
 }
 
 /// Explains an event.
@@ -114,19 +110,5 @@ fn explain_one<W: Write>(
     if add_event(alloc, story, event, &mut text).is_err() {
         return Err(ExplainFault::Run(ProgramFault::Stopped));
     }
-    put(text.as_bytes(), out)
-}
-
-fn put<W: Write>(bytes: &[u8], out: &mut W) -> Result<(), ExplainFault> {
-    match write_all(bytes, out) {
-        Ok(()) => Ok(()),
-        Err(fault) => Err(ExplainFault::Run(fault)),
-    }
-}
-
-fn finish<W: Write>(out: &mut W) -> Result<(), ExplainFault> {
-    match flush(out) {
-        Ok(()) => Ok(()),
-        Err(fault) => Err(ExplainFault::Run(fault)),
-    }
+    Ok(write_all(text.as_bytes(), out)?)
 }

@@ -2,11 +2,10 @@
 
 use crate::conflicts::{add_triple, add_write_conflict};
 use crate::figures::add_violation;
+use crate::parts::row_under;
 use crate::stories::{Story, number_of};
 use delta::View;
 use history::{Happening, add_row};
-use net::row_in;
-use siread::Place;
 use std::alloc::{AllocError, Global};
 use value::{Excess, Refusal, Text, Value};
 
@@ -20,49 +19,47 @@ pub fn add_refusal(
     refusal: &Refusal,
     out: &mut String,
 ) -> Result<(), Refusal> {
-    match refusal {
-        Refusal::Violated { assertion, group } => match &happening.view {
-            Some(view) => add_violation(alloc, story, view, assertion, group, out),
-            None => Ok(()),
-        },
-        Refusal::WriteConflict { table: _, key, by } => {
-            if let Some(this) = story.transaction_of(event) {
-                add_write_conflict(story, this, key, *by, out)?;
-            }
-            Ok(())
+    match (refusal, &happening.view, story.transaction_of(event)) {
+        (Refusal::Violated { assertion, group }, Some(view), _) => {
+            add_violation(alloc, story, view, assertion, group, out)?;
         }
-        Refusal::Dangerous {
-            reader,
-            pivot,
-            writer,
-        } => {
-            if let Some(this) = story.transaction_of(event) {
-                add_triple(alloc, story, this, *reader, *pivot, *writer, out)?;
-            }
-            Ok(())
+        (Refusal::WriteConflict { table: _, key, by }, _, Some(this)) => {
+            add_write_conflict(story, this, key, *by, out)?;
         }
-        Refusal::DuplicateKey { table, key } => {
+        (
+            Refusal::Dangerous {
+                reader,
+                pivot,
+                writer,
+            },
+            _,
+            Some(this),
+        ) => add_triple(alloc, story, this, *reader, *pivot, *writer, out)?,
+        (Refusal::DuplicateKey { table, key }, Some(view), _) => {
             add_sentence(refusal, out)?;
-            if let Some(view) = &happening.view {
-                add_taken(view, table, key, out)?;
-            }
-            Ok(())
+            add_row_under(view, table, key, out)?;
         }
-        Refusal::TransactionOpen => {
-            if let Some(begun) = begun_of(story, event, happening.session) {
-                let number = number_of(begun);
-                write!(
-                    out,
-                    "  A transaction is open in this session since event {number}; COMMIT or ROLLBACK ends it.\n"
-                )?;
-            }
-            Ok(())
-        }
-        _ => {
-            add_sentence(refusal, out)?;
-            Ok(())
-        }
+        (Refusal::TransactionOpen, _, _) => add_open(story, event, happening.session, out)?,
+        _ => add_sentence(refusal, out)?,
     }
+    Ok(())
+}
+
+/// Adds since when a transaction is open in a session.
+fn add_open(
+    story: Story<'_>,
+    event: usize,
+    session: usize,
+    out: &mut String,
+) -> Result<(), AllocError> {
+    let Some(begun) = begun_of(story, event, session) else {
+        return Ok(());
+    };
+    let number = number_of(begun);
+    write!(
+        out,
+        "  A transaction is open in this session since event {number}; COMMIT or ROLLBACK ends it.\n"
+    )
 }
 
 /// The BEGIN of a session's last transaction before an event.
@@ -78,15 +75,11 @@ fn begun_of(story: Story<'_>, event: usize, session: usize) -> Option<usize> {
 }
 
 /// Adds the row that stands under a key.
-fn add_taken(view: &View, table: &Text, key: &Value, out: &mut String) -> Result<(), Refusal> {
+fn add_row_under(view: &View, table: &Text, key: &Value, out: &mut String) -> Result<(), Refusal> {
     let Some(table) = view.catalog().position(table) else {
         return Ok(());
     };
-    let place = Place {
-        table,
-        key: key.copy()?,
-    };
-    if let Some(row) = row_in(view, &place) {
+    if let Some(row) = row_under(view, table, key)? {
         out.push_str("    ")?;
         add_row(row, out)?;
         out.push_str("\n")?;
@@ -101,21 +94,41 @@ fn add_sentence(refusal: &Refusal, out: &mut String) -> Result<(), AllocError> {
             write!(out, "  Nothing that may stand there has the name {name}.\n")
         }
         Refusal::NameTaken { name } => write!(out, "  The column {name} is named twice.\n"),
-        Refusal::TypeMismatch => out.push_str(
-            "  The values do not fit the columns, in number or in type.\n",
-        ),
+        Refusal::NotDeferrable { assertion } => {
+            write!(out, "  {assertion} was not created DEFERRABLE.\n")
+        }
+        Refusal::NoTransaction => {
+            out.push_str("  No transaction is open in this session; BEGIN begins one.\n")
+        }
+        Refusal::EpochFull => {
+            out.push_str("  There are as many commits as --max-commits allows.\n")
+        }
+        Refusal::TooWide => {
+            out.push_str("  An expression could pass 2^126, so it is not evaluated exactly.\n")
+        }
+        Refusal::OutsideClass => {
+            out.push_str("  A condition of a statement may hold no set function and no query.\n")
+        }
+        _ => add_value_sentence(refusal, out),
+    }
+}
+
+/// Adds a fault of the values of a statement in a sentence.
+fn add_value_sentence(refusal: &Refusal, out: &mut String) -> Result<(), AllocError> {
+    match refusal {
+        Refusal::TypeMismatch => {
+            out.push_str("  The values do not fit the columns, in number or in type.\n")
+        }
         Refusal::NullNotAllowed { column } => {
             write!(out, "  The column {column} takes no NULL.\n")
         }
         Refusal::DuplicateKey { table, key } => {
             write!(out, "  {table} has a row under the key {key} already:\n")
         }
-        Refusal::KeyUpdate { column } => {
-            write!(
-                out,
-                "  {column} is the key, and an UPDATE leaves the key as it is.\n"
-            )
-        }
+        Refusal::KeyUpdate { column } => write!(
+            out,
+            "  {column} is the key, and an UPDATE leaves the key as it is.\n"
+        ),
         Refusal::OutOfRange {
             column,
             excess: Excess::Number,
@@ -124,21 +137,6 @@ fn add_sentence(refusal: &Refusal, out: &mut String) -> Result<(), AllocError> {
             column,
             excess: Excess::Text,
         } => write!(out, "  The text for {column} is longer than the column.\n"),
-        Refusal::NotDeferrable { assertion } => {
-            write!(out, "  {assertion} was not created DEFERRABLE.\n")
-        }
-        Refusal::NoTransaction => {
-            out.push_str("  No transaction is open in this session; BEGIN begins one.\n")
-        }
-        Refusal::EpochFull => out.push_str(
-            "  There are as many commits as --max-commits allows.\n",
-        ),
-        Refusal::TooWide => out.push_str(
-            "  An expression could pass 2^126, so it is not evaluated exactly.\n",
-        ),
-        Refusal::OutsideClass => out.push_str(
-            "  A condition of a statement may hold no set function and no query.\n",
-        ),
         _ => Ok(()),
     }
 }

@@ -1,14 +1,12 @@
 //! The figures of an assertion that would be false.
 
 use crate::conditions::add_condition;
-use crate::parts::{Part, figure_of, lists_of, parts_of, rows_at};
+use crate::parts::{Part, figure_of, lists_of, parts_of, row_under, rows_at};
 use crate::stories::{MOST_LINES, Story, add_left_out};
 use assertion::{Assertion, Form};
 use cond::{Cond, Expr, SlotValue};
 use delta::View;
 use history::{add_row, add_table, column_name};
-use net::row_in;
-use siread::Place;
 use std::alloc::{AllocError, Global};
 use table::{Aggregate, Row};
 use value::{Comparison, Refusal, Root, Text, Value};
@@ -58,7 +56,9 @@ fn add_root_line(view: &View, form: &Form, root: &Root, out: &mut String) -> Res
             write!(out, "  would be false at row {key} of ")?;
             add_table(view, *table, out)?;
             out.push_str(": ")?;
-            add_row_at(view, *table, key, out)?;
+            if let Some(row) = row_under(view, *table, key)? {
+                add_row(row, out)?;
+            }
             out.push_str("\n")?;
         }
         (Form::ByGroup { table, group, .. }, Root::Of(value)) => {
@@ -67,18 +67,6 @@ fn add_root_line(view: &View, form: &Form, root: &Root, out: &mut String) -> Res
             out.push_str("\n")?;
         }
         _ => out.push_str("  would be false as a whole\n")?,
-    }
-    Ok(())
-}
-
-/// Adds the row that stands under a key.
-fn add_row_at(view: &View, table: usize, key: &Value, out: &mut String) -> Result<(), Refusal> {
-    let place = Place {
-        table,
-        key: key.copy()?,
-    };
-    if let Some(row) = row_in(view, &place) {
-        add_row(row, out)?;
     }
     Ok(())
 }

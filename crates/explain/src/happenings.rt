@@ -4,7 +4,7 @@ use crate::conflicts::add_reader;
 use crate::faults::add_refusal;
 use crate::stories::{MOST_LINES, Story, add_left_out, number_of};
 use answer::Answer;
-use history::{End, Happening, Read, Transaction, add_change, add_key};
+use history::{End, Happening, Read, Transaction, add_bytes, add_change, add_key};
 use report::Report;
 use statement_syntax::Step;
 use std::alloc::{AllocError, Global};
@@ -49,10 +49,7 @@ fn add_heading(
     out.push_str("\n")?;
     let mut report = Report::new(alloc);
     report.add_answer(step, &happening.answer)?;
-    for byte in report.as_bytes() {
-        out.push(char::from(*byte))?;
-    }
-    Ok(())
+    add_bytes(report.as_bytes(), out)
 }
 
 /// Adds what an event that was not refused rests on.
@@ -123,18 +120,13 @@ fn reads_of<'a>(
     event: usize,
     it: &'a Transaction,
 ) -> Result<Vec<&'a Read>, AllocError> {
-    let mut found: Vec<&'a Read> = Vec::new(alloc);
+    let mut reads: Vec<&'a Read> = Vec::new(alloc);
     for read in &it.reads {
-        if read.event == event && !found.iter().any(|other| is_again(other, read)) {
-            found.push(read)?;
+        if read.event == event && !reads.iter().any(|other| read.is_again(other)) {
+            reads.push(read)?;
         }
     }
-    Ok(found)
-}
-
-/// Whether a read is another one again.
-fn is_again(one: &Read, other: &Read) -> bool {
-    one.reader == other.reader && one.key == other.key
+    Ok(reads)
 }
 
 /// Adds changes of rows, ten at most.

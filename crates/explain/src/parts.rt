@@ -3,13 +3,14 @@
 ghost use Rattle.std.specs.Prelude.{[], All, IsTrue};
 ghost use Rattle.cond.specs.Bounds.{IsSmallRow, is_bounded};
 
-use assertion::Form;
+use assertion::{Form, Query};
 use cond::{Cond, SlotValue, is_bounded, passes};
 use delta::View;
 use groups::{Member, Totals};
 use mvrows::Rows;
+use net::row_in;
 use roots::value_at;
-use siread::is_same;
+use siread::{Place, is_same};
 use std::alloc::{AllocError, Global};
 use table::{Aggregate, Row};
 use value::{Refusal, Root, Value};
@@ -24,18 +25,25 @@ pub struct Part<'a> {
     pub column: Option<usize>,
 }
 
+impl<'a> Part<'a> {
+    /// The set function of a subquery, over the rows with the root's value in this column, if there is one.
+    fn of_query<G>(query: &'a Query<G>, column: Option<usize>) -> Part<'a> {
+        Part {
+            aggregate: query.aggregate,
+            table: query.table,
+            filter: &query.filter,
+            column,
+        }
+    }
+}
+
 /// The set functions of an assertion, in the order of the slots of its condition.
 pub fn parts_of<'a>(alloc: Global, form: &'a Form) -> Result<Vec<Part<'a>>, AllocError> {
     let mut parts = Vec::new(alloc);
     match form {
         Form::ByRow { queries, .. } => {
             for query in queries.as_slice() {
-                parts.push(Part {
-                    aggregate: query.aggregate,
-                    table: query.table,
-                    filter: &query.filter,
-                    column: Some(query.grouping.column()),
-                })?;
+                parts.push(Part::of_query(query, Some(query.grouping.column())))?;
             }
         }
         Form::ByGroup {
@@ -56,12 +64,7 @@ pub fn parts_of<'a>(alloc: Global, form: &'a Form) -> Result<Vec<Part<'a>>, Allo
         }
         Form::Single { queries, .. } => {
             for query in queries.as_slice() {
-                parts.push(Part {
-                    aggregate: query.aggregate,
-                    table: query.table,
-                    filter: &query.filter,
-                    column: None,
-                })?;
+                parts.push(Part::of_query(query, None))?;
             }
         }
     }
@@ -131,6 +134,19 @@ fn is_at(row: &Row, column: Option<usize>, root: &Root) -> bool {
         },
         _ => true,
     }
+}
+
+/// The row that stands under a key.
+pub fn row_under<'a>(
+    view: &'a View,
+    table: usize,
+    key: &Value,
+) -> Result<Option<&'a Row>, Refusal> {
+    let place = Place {
+        table,
+        key: key.copy()?,
+    };
+    Ok(row_in(view, &place))
 }
 
 /// What a set function gives of some rows.

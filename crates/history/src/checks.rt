@@ -1,6 +1,6 @@
 //! What the check of each assertion read.
 
-ghost use Rattle.std.specs.Prelude.{◌≡◌, ◌<◌, length, IfOk, IsOkUnless, OnOk};
+ghost use Rattle.std.specs.Prelude.{◌≡◌, length, IfOk, IsOkUnless};
 ghost use Rattle.value.specs.declared.refusals.Refusal.TheVariants.{NoMemory};
 
 use crate::histories::{Read, Reader};
@@ -44,7 +44,7 @@ fn push_check(
 }
 
 /// Puts keys behind the reads, as read by this event and this reader.
-pub fn push_reads(
+fn push_reads(
     reads: &mut Vec<Read>,
     keys: Vec<LockKey>,
     event: usize,
@@ -59,11 +59,11 @@ pub fn push_reads(
 /// Of so many assertions the one at a place.
 fn only_one(alloc: Global, count: usize, place: usize) -> Result<Vec<bool>, Refusal>
     ensures only_memory { IsOkUnless result NoMemory }
-    ensures long { IfOk result (λ made. length made.items ≡ count) }
+    ensures long { IfOk result (λ meant. length meant.items ≡ count) }
 {
-    let mut made = Vec::new(alloc);
-    for at in 0..count {
-        made.push(at == place)?;
+    let mut meant = vec![in alloc; false; count]?;
+    if place < count {
+        meant[place] = true;
     }
-    Ok(made)
+    Ok(meant)
 }

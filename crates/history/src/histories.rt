@@ -24,6 +24,13 @@ pub struct Read {
     pub reader: Reader,
 }
 
+impl Read {
+    /// Whether another read is of the same key by the same reader, whatever their events.
+    pub fn is_again(&self, other: &Read) -> bool {
+        self.reader == other.reader && self.key == other.key
+    }
+}
+
 /// How a transaction ended.
 #[derive(Clone, Copy, Debug, PartialEq, Eq)]
 pub enum End {

@@ -10,7 +10,8 @@
 //! - a transaction alone is a `txn::Txn`, begun on the same tables and given the same statements, and at COMMIT a
 //!   `txn::Closed`: so what it reads and its net change are what the engine's own transaction has;
 //! - the keys of a check are those of `reads::checks_read` for one assertion at a time, in the modes of `modes`, over
-//!   the changes that the statement makes (`txn::effect_of`, `reads::real_changes`), or over the net change at COMMIT;
+//!   the changes that the statement makes (those of its `txn::Effect`, `reads::real_changes`), or over the net change
+//!   at COMMIT;
 //! - a view on which an assertion would be false is `delta::View::after` of these changes;
 //! - a change touches a read where `siread::touches` says so ([`conflict_between`]).
 //!
@@ -20,6 +21,7 @@
 mod checks;
 mod conflicts;
 mod histories;
+mod mirrors;
 mod recorders;
 mod sources;
 mod tries;
@@ -29,4 +31,4 @@ pub use conflicts::{Conflict, are_apart, conflict_between, conflicts_between};
 pub use histories::{End, Happening, History, Read, Reader, Transaction};
 pub use recorders::read_history;
 pub use sources::Source;
-pub use words::{add_change, add_key, add_row, add_table, column_name, table_name};
+pub use words::{add_bytes, add_change, add_key, add_row, add_table, column_name, table_name};

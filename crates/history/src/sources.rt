@@ -1,5 +1,6 @@
 //! The texts of events and definitions, found again.
 
+use crate::words::add_bytes;
 use std::alloc::{AllocError, Global};
 use token::{Kind, Token, read_tokens};
 use value::Refusal;
@@ -87,19 +88,7 @@ fn begins_assertion(tokens: &[Token]) -> bool {
 
 /// The line of an offset, from 1 upwards.
 fn line_at(text: &[u8], at: usize) -> usize {
-    let mut line = 1usize;
-    for byte in text.get(..at).unwrap_or(&[]) {
-        if *byte == b'\n' {
-            line = line.saturating_add(1);
-        }
-    }
-    line
-}
-
-/// Adds bytes, each as the character of its number.
-fn add_bytes(bytes: &[u8], out: &mut String) -> Result<(), AllocError> {
-    for byte in bytes {
-        out.push(char::from(*byte))?;
-    }
-    Ok(())
+    let before = text.get(..at).unwrap_or(text);
+    let ends = before.iter().filter(|byte| **byte == b'\n').count();
+    ends.saturating_add(1)
 }

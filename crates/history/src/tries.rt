@@ -1,6 +1,6 @@
 //! What a statement does to the rows of a view, whatever its assertions say of it.
 
-ghost use Rattle.std.specs.Prelude.{◌≡◌, IsOkUnless};
+ghost use Rattle.std.specs.Prelude.{IsOkUnless};
 ghost use Rattle.value.specs.declared.refusals.Refusal.TheVariants.{NoMemory};
 ghost use Rattle.assertion.specs.Declarations.{layouts_in};
 ghost use Rattle.txn.specs.Effects.{ArePutIn};
@@ -17,7 +17,7 @@ use value::Refusal;
 
 /// The rows that a statement changes, and the view with these changes.
 #[derive(Drop)]
-pub struct Tried {
+pub struct Trial {
     pub changes: Vec<Change>,
     pub view: View,
 }
@@ -28,14 +28,14 @@ pub fn try_statement(
     alloc: Global,
     own: &View,
     statement: &Statement,
-) -> Result<Option<Tried>, Refusal>
+) -> Result<Option<Trial>, Refusal>
     ensures only_memory { IsOkUnless result NoMemory }
 {
     let resolved = resolve(alloc, own, statement)?;
     try_resolved(alloc, own, &resolved)
 }
 
-fn try_resolved(alloc: Global, own: &View, statement: &Resolved) -> Result<Option<Tried>, Refusal>
+fn try_resolved(alloc: Global, own: &View, statement: &Resolved) -> Result<Option<Trial>, Refusal>
     requires runnable { IsRunnable own.now.declared statement.now }
     ensures only_memory { IsOkUnless result NoMemory }
 {
@@ -57,21 +57,21 @@ fn try_resolved(alloc: Global, own: &View, statement: &Resolved) -> Result<Optio
 }
 
 /// The view with the changes of an effect.
-fn put_in(own: &View, effect: Effect) -> Result<Option<Tried>, Refusal>
+fn put_in(own: &View, effect: Effect) -> Result<Option<Trial>, Refusal>
     requires changes { ArePutIn (layouts_in own.now.declared) effect.changes.items own.now.state }
     ensures only_memory { IsOkUnless result NoMemory }
 {
     let Effect { reply: _, changes } = effect;
     recall_order(own);
     let view = own.after(changes.as_slice())?;
-    Ok(Some(Tried {
+    Ok(Some(Trial {
         changes: real_changes(changes),
         view,
     }))
 }
 
 /// Nothing, unless memory ran out.
-fn unless_memory(refusal: Refusal) -> Result<Option<Tried>, Refusal>
+fn unless_memory(refusal: Refusal) -> Result<Option<Trial>, Refusal>
     ensures only_memory { IsOkUnless result NoMemory }
 {
     match refusal {

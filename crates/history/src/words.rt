@@ -20,6 +20,14 @@ pub fn column_name(view: &View, table: usize, column: usize) -> Option<&Text> {
     }
 }
 
+/// Adds bytes, each as the character of its number.
+pub fn add_bytes(bytes: &[u8], out: &mut String) -> Result<(), AllocError> {
+    for byte in bytes {
+        out.push(char::from(*byte))?;
+    }
+    Ok(())
+}
+
 /// Adds the name of a table.
 pub fn add_table(view: &View, table: usize, out: &mut String) -> Result<(), AllocError> {
     match table_name(view, table) {

@@ -7,7 +7,7 @@ use std::alloc::{AllocError, Global};
 use value::{Party, Refusal};
 
 /// At most so many arrows are drawn.
-pub const MOST_ARROWS: usize = 40;
+const MOST_ARROWS: usize = 40;
 
 /// What an arrow is of.
 #[derive(Clone, Copy, Debug, PartialEq, Eq)]
@@ -30,7 +30,7 @@ pub struct Arrow<'a> {
     pub read: Option<&'a Read>,
 }
 
-/// The arrows between transactions that are drawn, those of refusals first, and how many more conflicts there are.
+/// The arrows between transactions that are drawn, those of refusals first, and how many more there are.
 pub fn arrows_of<'a>(
     alloc: Global,
     history: &'a History,
@@ -40,27 +40,27 @@ pub fn arrows_of<'a>(
     for place in &layout.boxes {
         push_refused(history, layout, *place, &mut arrows)?;
     }
-    let mut left = 0usize;
     for from in &layout.boxes {
         for to in &layout.boxes {
             if let Some(arrow) = conflict_of(history, *from, *to) {
-                if is_there(arrows.as_slice(), *from, *to) {
-                    continue;
-                }
-                if arrows.len() < MOST_ARROWS {
-                    arrows.push(arrow)?;
-                } else {
-                    left = left.saturating_add(1);
-                }
+                push_new(arrow, &mut arrows)?;
             }
         }
     }
+    let left = arrows.len().saturating_sub(MOST_ARROWS);
+    arrows.truncate(MOST_ARROWS);
     Ok((arrows, left))
 }
 
-/// Whether an arrow from the one to the other is there.
-fn is_there(arrows: &[Arrow<'_>], from: usize, to: usize) -> bool {
-    arrows.iter().any(|it| it.from == from && it.to == to)
+/// Puts an arrow behind the others, unless one is there from the one transaction to the other.
+fn push_new<'a>(arrow: Arrow<'a>, arrows: &mut Vec<Arrow<'a>>) -> Result<(), AllocError> {
+    let is_there = arrows
+        .iter()
+        .any(|it| it.from == arrow.from && it.to == arrow.to);
+    if !is_there {
+        arrows.push(arrow)?;
+    }
+    Ok(())
 }
 
 /// The conflict of one commit to another, if there is one.
@@ -153,19 +153,17 @@ fn push_danger<'a>(
     let (Some(from), Some(to)) = (from, to) else {
         return Ok(());
     };
-    if !is_drawn(layout, from) || !is_drawn(layout, to) || is_there(arrows.as_slice(), from, to) {
+    if !layout.boxes.contains(&from) || !layout.boxes.contains(&to) {
         return Ok(());
     }
     let transactions = history.transactions.as_slice();
     let (Some(reader), Some(writer)) = (transactions.get(from), transactions.get(to)) else {
         return Ok(());
     };
-    if let Some(arrow) = arrow_between(Kind::Danger, from, reader, to, writer) {
-        if arrows.len() < MOST_ARROWS {
-            arrows.push(arrow)?;
-        }
+    match arrow_between(Kind::Danger, from, reader, to, writer) {
+        Some(arrow) => push_new(arrow, arrows),
+        None => Ok(()),
     }
-    Ok(())
 }
 
 /// Puts the tie of two that changed one row behind the others, where both have a box.
@@ -178,7 +176,7 @@ fn push_overwrite(
     let Some(to) = to else {
         return Ok(());
     };
-    if is_drawn(layout, to) && arrows.len() < MOST_ARROWS {
+    if layout.boxes.contains(&to) {
         arrows.push(Arrow {
             kind: Kind::Overwrite,
             from,
@@ -187,9 +185,4 @@ fn push_overwrite(
         })?;
     }
     Ok(())
-}
-
-/// Whether a transaction has a box.
-fn is_drawn(layout: &Layout, place: usize) -> bool {
-    layout.boxes.iter().any(|it| *it == place)
 }

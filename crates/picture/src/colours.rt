@@ -1,4 +1,15 @@
-//! Colours: as attributes, and for a dark ground as a style.
+//! How it looks: letters and colours as attributes, and colours for a dark ground as a style.
+
+/// The letters of a number on a badge.
+pub const TINY: &str = "font-size=\"10\"";
+/// The letters of texts in a box.
+pub const SMALL: &str = "font-size=\"11\"";
+/// The letters of the legend.
+pub const MIDDLING: &str = "font-size=\"12\"";
+/// Bold letters.
+pub const BOLD: &str = "font-weight=\"bold\"";
+/// The letters of a statement.
+pub const CODE: &str = "font-family=\"monospace\"";
 
 /// The ground.
 pub const GROUND: &str = "class=\"ground\" fill=\"#ffffff\"";

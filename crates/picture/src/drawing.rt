@@ -3,10 +3,14 @@
 ghost use Rattle.std.specs.Prelude.{◌≤◌};
 
 use crate::arrows::arrows_of;
-use crate::boxes::{add_arrow, add_box, add_lane, add_row_numbers};
+use crate::boxes::{add_box, add_texts};
 use crate::colours::{GROUND, STYLE};
+use crate::curves::{add_arrows, add_badges};
+use crate::lanes::add_lanes;
 use crate::layouts::Layout;
-use crate::lists::{add_arrow_list, add_heading, add_legend};
+use crate::legends::add_legend;
+use crate::lists::{add_arrow_list, add_heading};
+use crate::scenes::Scene;
 use history::{History, Source, read_history};
 use running::{ProgramFault, flush, write_all};
 use std::alloc::{AllocError, Global};
@@ -46,24 +50,26 @@ fn draw(
     events: &Source,
     script: &[u8],
 ) -> Result<String, AllocError> {
-    let layout = Layout::of(alloc, history)?;
+    let layout = Layout::of(alloc, history, events, script)?;
+    let scene = Scene {
+        history,
+        events,
+        script,
+        layout: &layout,
+    };
     let mut body = String::new(alloc);
-    let bottom = add_body(alloc, history, events, script, &layout, &mut body)?;
+    let height = add_body(alloc, scene, &mut body)?;
     let mut whole = String::new(alloc);
-    add_head(&layout, bottom, &mut whole)?;
+    add_head(layout.width(), height, &mut whole)?;
     whole.push_str(body.as_str())?;
     whole.push_str("</g>\n</svg>\n")?;
     Ok(whole)
 }
 
 /// Adds the element itself, its style, and the ground.
-fn add_head(layout: &Layout, height: u32, out: &mut String) -> Result<(), AllocError> {
-    let width = layout.width();
+fn add_head(width: u32, height: u32, out: &mut String) -> Result<(), AllocError> {
     out.push_str("<?xml version=\"1.0\" encoding=\"UTF-8\"?>\n")?;
-    write!(
-        out,
-        "<svg xmlns=\"http://www.w3.org/2000/svg\" version=\"1.1\" "
-    )?;
+    out.push_str("<svg xmlns=\"http://www.w3.org/2000/svg\" version=\"1.1\" ")?;
     write!(
         out,
         "width=\"{width}\" height=\"{height}\" viewBox=\"0 0 {width} {height}\">\n"
@@ -78,28 +84,25 @@ fn add_head(layout: &Layout, height: u32, out: &mut String) -> Result<(), AllocE
 }
 
 /// Adds the heading, the lanes with their boxes, the arrows, their list and the legend, and gives where they end.
-fn add_body(
-    alloc: Global,
-    history: &History,
-    events: &Source,
-    script: &[u8],
-    layout: &Layout,
-    out: &mut String,
-) -> Result<u32, AllocError> {
-    add_heading(alloc, history, layout, out)?;
-    for session in &layout.lanes {
-        add_lane(alloc, history, layout, *session, out)?;
-    }
-    add_row_numbers(alloc, layout, out)?;
-    for place in &layout.boxes {
-        if let Some(it) = history.transactions.as_slice().get(*place) {
-            add_box(alloc, history, events, script, layout, it, out)?;
+fn add_body(alloc: Global, scene: Scene<'_>, out: &mut String) -> Result<u32, AllocError> {
+    add_heading(alloc, scene, out)?;
+    add_lanes(alloc, scene, out)?;
+    for place in &scene.layout.boxes {
+        if let Some(it) = scene.transaction(*place) {
+            add_box(alloc, scene, it, out)?;
         }
     }
-    let (arrows, left) = arrows_of(alloc, history, layout)?;
-    for (place, arrow) in arrows.iter().enumerate() {
-        add_arrow(alloc, history, layout, *arrow, place.saturating_add(1), out)?;
+    let (arrows, left) = arrows_of(alloc, scene.history, scene.layout)?;
+    let badges = add_arrows(alloc, scene, arrows.as_slice(), out)?;
+    // A pointer over a number or a text finds the arrow or the box below it.
+    out.push_str("<g pointer-events=\"none\">\n")?;
+    add_badges(alloc, arrows.as_slice(), badges.as_slice(), out)?;
+    for place in &scene.layout.boxes {
+        if let Some(it) = scene.transaction(*place) {
+            add_texts(alloc, scene, it, out)?;
+        }
     }
-    let y = add_arrow_list(alloc, history, layout, arrows.as_slice(), left, out)?;
-    add_legend(alloc, layout, y, out)
+    out.push_str("</g>\n")?;
+    let y = add_arrow_list(alloc, scene, arrows.as_slice(), left, out)?;
+    add_legend(y, out)
 }

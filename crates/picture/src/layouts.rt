@@ -1,23 +1,34 @@
 //! What is drawn, and where.
 
-use history::{History, Transaction};
+use crate::words::add_event;
+use history::{History, Source, Transaction};
 use std::alloc::{AllocError, Global};
 
 /// At most so many sessions are drawn.
-pub const MOST_LANES: usize = 12;
+const MOST_LANES: usize = 12;
 /// At most so many transactions are drawn.
-pub const MOST_BOXES: usize = 60;
-/// The events of so many lanes at most are written out, where there are few of them.
+const MOST_BOXES: usize = 60;
+/// Events are written out where there are so many lanes at most ..
 const MOST_WRITTEN_LANES: usize = 4;
-
+/// .. and so many rows at most.
 const MOST_WRITTEN_ROWS: usize = 60;
 
 /// The height of a row.
 pub const ROW: u32 = 22;
-/// Where the first lane begins, and the least space to the right.
-pub const LEFT: u32 = 52;
 /// Where the first row stands.
 pub const TOP: u32 = 96;
+/// Where the first lane begins.
+const LEFT: u32 = 52;
+/// What is free at the right of the last lane.
+const RIGHT: u32 = 16;
+/// The least width of the whole, for the legend.
+const LEAST_WIDTH: u32 = 760;
+/// The width of a character of a statement.
+const LETTER: u32 = 7;
+/// The least width of a lane whose events are written out.
+const LEAST_LANE: u32 = 170;
+/// The width of a lane whose events are not written out.
+const NARROW_LANE: u32 = 92;
 
 /// What is drawn of a history: lanes of sessions, boxes of transactions, rows of events.
 #[derive(Drop)]
@@ -30,54 +41,66 @@ pub struct Layout {
     pub rows: Vec<usize>,
     /// Whether each event of a box is written out.
     pub is_written: bool,
+    pub lane_width: u32,
 }
 
 impl Layout {
     /// What is drawn of a history: the first sessions, their first transactions, and of these all events, or, where
     /// they are many, the first and the last.
-    pub fn of(alloc: Global, history: &History) -> Result<Layout, AllocError> {
+    pub fn of(
+        alloc: Global,
+        history: &History,
+        events: &Source,
+        script: &[u8],
+    ) -> Result<Layout, AllocError> {
         let lanes = lanes_of(alloc, history)?;
         let boxes = boxes_of(alloc, history, lanes.as_slice())?;
-        let all = rows_of(alloc, history, boxes.as_slice(), true)?;
-        let is_written = lanes.len() <= MOST_WRITTEN_LANES && all.len() <= MOST_WRITTEN_ROWS;
-        let rows = if is_written {
-            all
-        } else {
-            rows_of(alloc, history, boxes.as_slice(), false)?
-        };
+        let rows = rows_of(alloc, history, boxes.as_slice(), true)?;
+        if lanes.len() <= MOST_WRITTEN_LANES && rows.len() <= MOST_WRITTEN_ROWS {
+            let longest = longest_text(alloc, events, script, rows.as_slice())?;
+            return Ok(Layout {
+                lane_width: written_width(longest, lanes.len()),
+                lanes,
+                boxes,
+                rows,
+                is_written: true,
+            });
+        }
         Ok(Layout {
+            rows: rows_of(alloc, history, boxes.as_slice(), false)?,
             lanes,
             boxes,
-            rows,
-            is_written,
+            is_written: false,
+            lane_width: NARROW_LANE,
         })
-    }
-
-    /// The width of a lane.
-    pub fn lane_width(&self) -> u32 {
-        match (self.is_written, self.lanes.len()) {
-            (true, 0..=2) => 370,
-            (true, 3) => 340,
-            (true, _) => 300,
-            (false, _) => 92,
-        }
     }
 
     /// How many characters of a statement fit into a lane.
     pub fn most_characters(&self) -> usize {
-        (self.lane_width() / 7) as usize
+        (self.lane_width / LETTER) as usize
     }
 
-    /// The space between two lanes.
-    pub fn lane_gap(&self) -> u32 {
-        if self.is_written { 84 } else { 26 }
+    /// From where a lane begins to where the next one does.
+    fn lane_step(&self) -> u32 {
+        let gap = if self.is_written { 84 } else { 34 };
+        self.lane_width.saturating_add(gap)
     }
 
     /// Where the lane of a session begins.
     pub fn lane_x(&self, session: usize) -> u32 {
         let lane = self.lanes.iter().position(|it| *it == session).unwrap_or(0);
-        let step = self.lane_width().saturating_add(self.lane_gap());
-        LEFT.saturating_add(as_u32(lane).saturating_mul(step))
+        LEFT.saturating_add(as_u32(lane).saturating_mul(self.lane_step()))
+    }
+
+    /// Whether a number at this place covers no lane.
+    pub fn is_between_lanes(&self, x: u32) -> bool {
+        let step = self.lane_step();
+        match x.saturating_sub(LEFT).checked_rem(step) {
+            Some(inside) => {
+                inside >= self.lane_width.saturating_add(5) && inside <= step.saturating_sub(5)
+            }
+            None => false,
+        }
     }
 
     /// The height at which an event stands: that of its own row, or of the next one that there is.
@@ -97,25 +120,50 @@ impl Layout {
 
     /// The width of the whole.
     pub fn width(&self) -> u32 {
-        let step = self.lane_width().saturating_add(self.lane_gap());
-        let lanes = as_u32(self.lanes.len()).saturating_mul(step);
-        LEFT.saturating_add(lanes).max(760)
+        let before = as_u32(self.lanes.len()).saturating_sub(1);
+        let lanes = before.saturating_mul(self.lane_step());
+        let right = LEFT.saturating_add(lanes).saturating_add(self.lane_width);
+        right.saturating_add(RIGHT).max(LEAST_WIDTH)
     }
 }
 
-/// A small number as a coordinate.
-pub fn as_u32(number: usize) -> u32 {
-    match u32::try_from(number) {
-        Ok(number) => number,
-        Err(_) => u32::MAX,
+/// The width of lanes in which texts of so many characters at most are written out.
+fn written_width(longest: usize, lanes: usize) -> u32 {
+    let most = match lanes {
+        0..=2 => 370,
+        3 => 340,
+        _ => 300,
+    };
+    let width = as_u32(longest).saturating_mul(LETTER).saturating_add(14);
+    width.max(LEAST_LANE).min(most)
+}
+
+/// How many characters the longest text of these events has.
+fn longest_text(
+    alloc: Global,
+    events: &Source,
+    script: &[u8],
+    rows: &[usize],
+) -> Result<usize, AllocError> {
+    let mut longest = 0usize;
+    for event in rows {
+        let mut text = String::new(alloc);
+        add_event(alloc, events, script, *event, &mut text)?;
+        longest = longest.max(text.len());
     }
+    Ok(longest)
+}
+
+/// A small number as a coordinate.
+fn as_u32(number: usize) -> u32 {
+    u32::try_from(number).unwrap_or(u32::MAX)
 }
 
 /// The first sessions that have a transaction.
 fn lanes_of(alloc: Global, history: &History) -> Result<Vec<usize>, AllocError> {
     let mut lanes: Vec<usize> = Vec::new(alloc);
     for it in &history.transactions {
-        if lanes.len() < MOST_LANES && !lanes.iter().any(|lane| *lane == it.session) {
+        if lanes.len() < MOST_LANES && !lanes.contains(&it.session) {
             lanes.push(it.session)?;
         }
     }
@@ -126,7 +174,7 @@ fn lanes_of(alloc: Global, history: &History) -> Result<Vec<usize>, AllocError> 
 fn boxes_of(alloc: Global, history: &History, lanes: &[usize]) -> Result<Vec<usize>, AllocError> {
     let mut boxes = Vec::new(alloc);
     for (place, it) in history.transactions.iter().enumerate() {
-        if boxes.len() < MOST_BOXES && lanes.iter().any(|lane| *lane == it.session) {
+        if boxes.len() < MOST_BOXES && lanes.contains(&it.session) {
             boxes.push(place)?;
         }
     }
@@ -145,7 +193,7 @@ fn rows_of(
         let Some(place) = happening.transaction else {
             continue;
         };
-        if !boxes.iter().any(|it| *it == place) {
+        if !boxes.contains(&place) {
             continue;
         }
         let Some(it) = history.transactions.as_slice().get(place) else {

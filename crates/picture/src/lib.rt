@@ -15,9 +15,14 @@
 mod arrows;
 mod boxes;
 mod colours;
+mod curves;
 mod drawing;
+mod lanes;
 mod layouts;
+mod legends;
 mod lists;
+mod scenes;
 mod svg;
+mod words;
 
 pub use drawing::picture_into;

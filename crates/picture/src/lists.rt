@@ -1,13 +1,15 @@
-//! What stands above and below the lanes: what is drawn, what each arrow is of, and what the signs mean.
+//! What stands above the lanes and below them: what is drawn, and what each arrow is of.
 
 use crate::arrows::{Arrow, Kind};
-use crate::colours::{ARROW, COMMITTED, INK, PALE, RED_ARROW, RED_INK, RED_TIE, REFUSED, UNDONE};
+use crate::colours::{INK, PALE, RED_INK};
 use crate::layouts::{Layout, ROW};
-use crate::svg::{Anchor, Area, add_area, add_cut, add_text};
-use history::{End, History, Transaction, add_key};
+use crate::scenes::Scene;
+use crate::svg::{Anchor, Point, add_cut, add_text};
+use crate::words::add_meaning;
+use history::{End, History};
 use std::alloc::{AllocError, Global};
 
-/// Adds a line that begins at the left, as long as the picture is wide.
+/// Adds a line that begins at the left, cut where the picture ends.
 fn add_line(
     alloc: Global,
     layout: &Layout,
@@ -18,188 +20,81 @@ fn add_line(
 ) -> Result<(), AllocError> {
     let mut cut = String::new(alloc);
     add_cut(text, (layout.width() / 7) as usize, &mut cut)?;
-    let attributes = format!(in alloc; "font-size=\"13\" {colours}")?;
-    add_text(8, y, Anchor::Start, attributes.as_str(), cut.as_str(), out)
+    add_text(
+        Point { x: 8, y },
+        Anchor::Start,
+        &[colours],
+        cut.as_str(),
+        out,
+    )
 }
 
 /// Adds how many transactions there are, and how many of them are not drawn.
-pub fn add_heading(
-    alloc: Global,
-    history: &History,
-    layout: &Layout,
-    out: &mut String,
-) -> Result<(), AllocError> {
+pub fn add_heading(alloc: Global, scene: Scene<'_>, out: &mut String) -> Result<(), AllocError> {
+    let Scene {
+        history,
+        layout,
+        ..
+    } = scene;
     let mut text = String::new(alloc);
-    add_counts(history, |_| true, &mut text)?;
+    text.push_str("transactions: ")?;
+    add_counts(history, &[], &mut text)?;
     add_line(alloc, layout, 22, INK, text.as_str(), out)?;
     if history.transactions.len() == layout.boxes.len() {
         return Ok(());
     }
     let mut rest = String::new(alloc);
     rest.push_str("not drawn: ")?;
-    let drawn = layout.boxes.as_slice();
-    add_counts(history, |place| !drawn.contains(&place), &mut rest)?;
+    add_counts(history, layout.boxes.as_slice(), &mut rest)?;
     add_line(alloc, layout, 42, PALE, rest.as_str(), out)
 }
 
-/// Adds how many of some transactions ended how.
-fn add_counts<F: Fn(usize) -> bool>(
-    history: &History,
-    is_meant: F,
-    out: &mut String,
-) -> Result<(), AllocError>
-    requires { F.IsAlwaysCallable is_meant }
-{
+/// Adds how many transactions there are but for some, and how these ended.
+fn add_counts(history: &History, but: &[usize], out: &mut String) -> Result<(), AllocError> {
     let (mut all, mut committed, mut refused) = (0usize, 0usize, 0usize);
     for (place, it) in history.transactions.iter().enumerate() {
-        if is_meant(place) {
-            all = all.saturating_add(1);
-            match it.end {
-                End::Committed => committed = committed.saturating_add(1),
-                End::Refused => refused = refused.saturating_add(1),
-                End::RolledBack | End::Open => {}
-            }
+        if but.contains(&place) {
+            continue;
+        }
+        all = all.saturating_add(1);
+        match it.end {
+            End::Committed => committed = committed.saturating_add(1),
+            End::Refused => refused = refused.saturating_add(1),
+            End::RolledBack | End::Open => {}
         }
     }
     let others = all.saturating_sub(committed).saturating_sub(refused);
     write!(
         out,
-        "{all} transactions: {committed} committed, {refused} refused, {others} rolled back or open"
+        "{all} ({committed} committed, {refused} refused, {others} rolled back or open)"
     )
 }
 
-/// Adds what each arrow is of, and where the next line stands.
+/// Adds what each arrow is of, and how many conflicts are left out, and gives where the next line stands.
 pub fn add_arrow_list(
     alloc: Global,
-    history: &History,
-    layout: &Layout,
+    scene: Scene<'_>,
     arrows: &[Arrow<'_>],
     left: usize,
     out: &mut String,
 ) -> Result<u32, AllocError> {
-    let mut y = layout.bottom().saturating_add(24);
+    let mut y = scene.layout.bottom().saturating_add(24);
     for (place, arrow) in arrows.iter().enumerate() {
         let mut text = String::new(alloc);
         let number = place.saturating_add(1);
         write!(text, "{number}: ")?;
-        add_meaning(history, *arrow, &mut text)?;
-        let colours = if arrow.kind == Kind::Conflict {
-            INK
-        } else {
-            RED_INK
+        add_meaning(scene.history, *arrow, &mut text)?;
+        let colours = match arrow.kind {
+            Kind::Conflict => INK,
+            Kind::Danger | Kind::Overwrite => RED_INK,
         };
-        add_line(alloc, layout, y, colours, text.as_str(), out)?;
+        add_line(alloc, scene.layout, y, colours, text.as_str(), out)?;
         y = y.saturating_add(ROW - 2);
     }
     if left > 0 {
         let text = format!(in alloc; "and {left} more conflicts between these")?;
-        add_line(alloc, layout, y, PALE, text.as_str(), out)?;
+        add_line(alloc, scene.layout, y, PALE, text.as_str(), out)?;
         y = y.saturating_add(ROW - 2);
     }
     Ok(y)
-}
-
-/// Adds what an arrow says.
-pub fn add_meaning(
-    history: &History,
-    arrow: Arrow<'_>,
-    out: &mut String,
-) -> Result<(), AllocError> {
-    let transactions = history.transactions.as_slice();
-    let (Some(from), Some(to)) = (transactions.get(arrow.from), transactions.get(arrow.to)) else {
-        return Ok(());
-    };
-    add_who(history, from, out)?;
-    match arrow.read {
-        Some(read) => {
-            out.push_str(" read ")?;
-            add_key(&history.loaded, &read.key, out)?;
-            out.push_str(", which ")?;
-            add_who(history, to, out)?;
-            out.push_str(" changed")
-        }
-        None => {
-            out.push_str(" changed a row that ")?;
-            add_who(history, to, out)?;
-            out.push_str(" changed")
-        }
-    }
-}
-
-/// Adds who a transaction is.
-fn add_who(history: &History, it: &Transaction, out: &mut String) -> Result<(), AllocError> {
-    match it.end {
-        End::Committed => {
-            let number = it.number;
-            write!(out, "commit {number}")?;
-        }
-        _ => out.push_str("the refused transaction")?,
-    }
-    match history.sessions.as_slice().get(it.session) {
-        Some(name) => write!(out, " of {name}"),
-        None => Ok(()),
-    }
-}
-
-/// Adds what the signs mean, from a height on, and where the picture ends.
-pub fn add_legend(
-    alloc: Global,
-    layout: &Layout,
-    y: u32,
-    out: &mut String,
-) -> Result<u32, AllocError> {
-    let mut y = y.saturating_add(10);
-    let boxes = [
-        (
-            COMMITTED,
-            "a commit: its number, and its place in the serial order",
-        ),
-        (
-            REFUSED,
-            "a refused COMMIT: 10 an assertion, 12 a row that another changed, 13 a triple; or a refused statement",
-        ),
-        (UNDONE, "rolled back, or open when the script ends"),
-    ];
-    for (colours, text) in &boxes {
-        let area = Area {
-            x: 8,
-            y: y.saturating_sub(11),
-            width: 34,
-            height: 14,
-        };
-        let attributes = format!(in alloc; "rx=\"3\" {colours}")?;
-        add_area(area, attributes.as_str(), out)?;
-        add_meaning_line(alloc, y, text, out)?;
-        y = y.saturating_add(ROW - 2);
-    }
-    let lines = [
-        (
-            ARROW,
-            "head",
-            "read what the other changed, and neither saw the other: it stands before it in each serial order",
-        ),
-        (RED_ARROW, "redhead", "the same, in a dangerous triple"),
-        (
-            RED_TIE,
-            "",
-            "both changed one row, and the first to commit won",
-        ),
-    ];
-    for (colours, head, text) in &lines {
-        let middle = y.saturating_sub(4);
-        write!(out, "<path d=\"M8 {middle}H42\" {colours}")?;
-        if !head.is_empty() {
-            write!(out, " marker-end=\"url(#{head})\"")?;
-        }
-        out.push_str("/>\n")?;
-        add_meaning_line(alloc, y, text, out)?;
-        y = y.saturating_add(ROW - 2);
-    }
-    Ok(y)
-}
-
-/// Adds the meaning of a sign.
-fn add_meaning_line(alloc: Global, y: u32, text: &str, out: &mut String) -> Result<(), AllocError> {
-    let attributes = format!(in alloc; "font-size=\"12\" {PALE}")?;
-    add_text(52, y, Anchor::Start, attributes.as_str(), text, out)
 }

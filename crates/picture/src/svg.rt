@@ -9,6 +9,13 @@ pub enum Anchor {
     Middle,
 }
 
+/// A point, from the left and from the top.
+#[derive(Clone, Copy, Debug)]
+pub struct Point {
+    pub x: u32,
+    pub y: u32,
+}
+
 /// A rectangle by its corner and its size.
 #[derive(Clone, Copy, Debug)]
 pub struct Area {
@@ -18,8 +25,9 @@ pub struct Area {
     pub height: u32,
 }
 
-/// Adds a text with each character escaped that has a meaning in XML. What XML takes nowhere becomes a question mark.
-pub fn add_escaped(text: &str, out: &mut String) -> Result<(), AllocError> {
+/// Adds a text with each character escaped that has a meaning in XML. What is no printable character of ASCII becomes a
+/// question mark.
+fn add_escaped(text: &str, out: &mut String) -> Result<(), AllocError> {
     for character in text.chars() {
         match character {
             '&' => out.push_str("&amp;")?,
@@ -33,16 +41,25 @@ pub fn add_escaped(text: &str, out: &mut String) -> Result<(), AllocError> {
     Ok(())
 }
 
+/// Adds attributes, each behind a space.
+fn add_attributes(attributes: &[&str], out: &mut String) -> Result<(), AllocError> {
+    for attribute in attributes {
+        write!(out, " {attribute}")?;
+    }
+    Ok(())
+}
+
 /// Adds the text of an element at a point, with these attributes beside its place.
 pub fn add_text(
-    x: u32,
-    y: u32,
+    point: Point,
     anchor: Anchor,
-    attributes: &str,
+    attributes: &[&str],
     text: &str,
     out: &mut String,
 ) -> Result<(), AllocError> {
-    write!(out, "<text x=\"{x}\" y=\"{y}\" {attributes}")?;
+    let Point { x, y } = point;
+    write!(out, "<text x=\"{x}\" y=\"{y}\"")?;
+    add_attributes(attributes, out)?;
     if anchor == Anchor::Middle {
         out.push_str(" text-anchor=\"middle\"")?;
     }
@@ -52,7 +69,7 @@ pub fn add_text(
 }
 
 /// Adds a rectangle with these attributes.
-pub fn add_area(area: Area, attributes: &str, out: &mut String) -> Result<(), AllocError> {
+pub fn add_area(area: Area, attributes: &[&str], out: &mut String) -> Result<(), AllocError> {
     let Area {
         x,
         y,
@@ -61,8 +78,10 @@ pub fn add_area(area: Area, attributes: &str, out: &mut String) -> Result<(), Al
     } = area;
     write!(
         out,
-        "<rect x=\"{x}\" y=\"{y}\" width=\"{width}\" height=\"{height}\" {attributes}/>\n"
-    )
+        "<rect x=\"{x}\" y=\"{y}\" width=\"{width}\" height=\"{height}\""
+    )?;
+    add_attributes(attributes, out)?;
+    out.push_str("/>\n")
 }
 
 /// Adds what a pointer shows over an element.

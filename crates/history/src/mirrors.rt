@@ -1,0 +1,320 @@
+//! The transactions of the engine's sessions, run once more beside it.
+
+use crate::checks::push_checks;
+use crate::histories::{End, Happening, Read, Reader, Transaction};
+use crate::tries::{Trial, try_statement};
+use alone::Resolved;
+use answer::Answer;
+use commit::{Engine, Seat};
+use copies::copy_changes;
+use delta::View;
+use modes::Modes;
+use sqlite_items::Items;
+use statement_syntax::{Event, Mode, Statement, Step};
+use std::alloc::Global;
+use std::mem;
+use txn::{Closed, Txn, Unclosed};
+use value::Refusal;
+
+/// A session's open transaction, run beside the engine's.
+#[derive(Drop)]
+pub struct Mirror {
+    pub seat: Seat,
+    pub modes: Modes,
+    /// The transaction, by its place in the history.
+    pub transaction: usize,
+}
+
+/// What is noted of the run so far.
+#[derive(Drop)]
+pub struct Notes {
+    pub events: Vec<Happening>,
+    pub transactions: Vec<Transaction>,
+}
+
+/// Follows an event, with what it was answered, in the session's own transaction. NoMemory is the only error, also
+/// where it is the answer.
+pub fn follow(
+    alloc: Global,
+    engine: &Engine,
+    mirror: &mut Mirror,
+    event: usize,
+    step: &Step,
+    happening: &mut Happening,
+    notes: &mut Notes,
+) -> Result<(), Refusal> {
+    let core = engine.core();
+    match &happening.answer {
+        Answer::Refused(Refusal::NoMemory) => Err(Refusal::NoMemory),
+        Answer::Begun(snapshot) => {
+            let snapshot = *snapshot;
+            follow_begin(
+                alloc,
+                core.newest(),
+                snapshot,
+                mirror,
+                event,
+                happening,
+                notes,
+            )
+        }
+        _ => {
+            let commits = core.records().len() as u64;
+            follow_inside(alloc, commits, mirror, event, step, happening, notes)
+        }
+    }
+}
+
+/// Follows an event that is no BEGIN, where a transaction is open.
+fn follow_inside(
+    alloc: Global,
+    commits: u64,
+    mirror: &mut Mirror,
+    event: usize,
+    step: &Step,
+    happening: &mut Happening,
+    notes: &mut Notes,
+) -> Result<(), Refusal> {
+    if mirror.seat.txn.is_none() {
+        return Ok(());
+    }
+    let Some(transaction) = notes.transactions.get_mut(mirror.transaction) else {
+        return Ok(());
+    };
+    happening.transaction = Some(mirror.transaction);
+    transaction.ended = event;
+    match &step.event {
+        Event::Begin => Ok(()),
+        Event::Run(statement) => follow_statement(
+            alloc,
+            mirror,
+            event,
+            statement,
+            happening,
+            transaction,
+        ),
+        Event::Commit => follow_commit(alloc, commits, mirror, event, happening, transaction),
+        Event::Rollback => {
+            transaction.end = End::RolledBack;
+            set_txn(&mut mirror.seat, None);
+            Ok(())
+        }
+    }
+}
+
+/// Begins on the tables that the engine's transaction begins on.
+fn follow_begin(
+    alloc: Global,
+    newest: &View,
+    snapshot: u64,
+    mirror: &mut Mirror,
+    event: usize,
+    happening: &mut Happening,
+    notes: &mut Notes,
+) -> Result<(), Refusal> {
+    let txn = Txn::begin(alloc, 0, snapshot, newest)?;
+    set_txn(&mut mirror.seat, Some(txn));
+    mirror.modes = Modes::initial(alloc, newest.assertions())?;
+    mirror.transaction = notes.transactions.len();
+    happening.transaction = Some(mirror.transaction);
+    notes.transactions.push(Transaction {
+        session: happening.session,
+        begun: event,
+        ended: event,
+        end: End::Open,
+        snapshot,
+        number: 0,
+        reads: Vec::new(alloc),
+        changes: Items::new(alloc),
+    })?;
+    Ok(())
+}
+
+/// Runs the statement, and notes what it and the checks behind it read.
+fn follow_statement(
+    alloc: Global,
+    mirror: &mut Mirror,
+    event: usize,
+    statement: &Statement,
+    happening: &mut Happening,
+    transaction: &mut Transaction,
+) -> Result<(), Refusal> {
+    let Some(txn) = &mut mirror.seat.txn else {
+        return Ok(());
+    };
+    let trial = try_statement(alloc, txn.own(), statement)?;
+    let own = txn.own().copy()?;
+    execute(txn, event, statement, transaction)?;
+    match trial {
+        Some(Trial { changes, view }) => {
+            let meant = mirror.modes.as_slice();
+            let reads = &mut transaction.reads;
+            push_checks(alloc, reads, &own, meant, changes.as_slice(), event)?;
+            happening.changes = changes;
+            note_view(happening, view);
+            Ok(())
+        }
+        None => {
+            note_view(happening, own);
+            follow_modes(alloc, mirror, event, happening, transaction)
+        }
+    }
+}
+
+/// Keeps the view of a refused event.
+fn note_view(happening: &mut Happening, view: View) {
+    if let Answer::Refused(_) = &happening.answer {
+        happening.view = Some(view);
+    }
+}
+
+/// Runs the statement, and notes what it read itself.
+fn execute(
+    txn: &mut Txn,
+    event: usize,
+    statement: &Statement,
+    transaction: &mut Transaction,
+) -> Result<(), Refusal> {
+    let before = txn.reads().len();
+    if let Err(Refusal::NoMemory) = txn.execute(statement) {
+        return Err(Refusal::NoMemory);
+    }
+    let most = match txn.trace().last() {
+        Some(Resolved::Refused(_) | Resolved::SetModes { .. }) | None => 0,
+        Some(Resolved::Verdict(_)) => usize::MAX,
+        Some(_) => 1,
+    };
+    for key in txn.reads().iter().skip(before).take(most) {
+        transaction.reads.push(Read {
+            key: key.copy()?,
+            event,
+            reader: Reader::Statement,
+        })?;
+    }
+    Ok(())
+}
+
+/// The modes after SET CONSTRAINTS, and what its checks read.
+fn follow_modes(
+    alloc: Global,
+    mirror: &mut Mirror,
+    event: usize,
+    happening: &Happening,
+    transaction: &mut Transaction,
+) -> Result<(), Refusal> {
+    let Some(txn) = mirror.seat.txn.take() else {
+        return Ok(());
+    };
+    let closed = match txn.close_check() {
+        Ok(closed) => closed,
+        Err(unclosed) => return give_up(unclosed),
+    };
+    let followed = follow_modes_in(alloc, &closed, mirror, event, happening, transaction);
+    set_txn(&mut mirror.seat, Some(closed.reopen()));
+    followed
+}
+
+fn follow_modes_in(
+    alloc: Global,
+    closed: &Closed,
+    mirror: &mut Mirror,
+    event: usize,
+    happening: &Happening,
+    transaction: &mut Transaction,
+) -> Result<(), Refusal> {
+    let Some(Resolved::SetModes { names, mode }) = closed.trace().last() else {
+        return Ok(());
+    };
+    let own = closed.own();
+    let assertions = own.assertions();
+    if *mode == Mode::Immediate {
+        let meant = Modes::named_immediate(alloc, assertions, names.as_slice())?;
+        let changes = closed.changes();
+        push_checks(
+            alloc,
+            &mut transaction.reads,
+            own,
+            meant.as_slice(),
+            changes,
+            event,
+        )?;
+    }
+    let is_set = !matches!(happening.answer, Answer::Refused(_));
+    if is_set && mirror.modes.as_slice().len() == assertions.len() {
+        mirror.modes = mirror.modes.set(assertions, names.as_slice(), *mode)?;
+    }
+    Ok(())
+}
+
+/// Takes the transaction to COMMIT, and notes what the check of all assertions read, and its net change.
+fn follow_commit(
+    alloc: Global,
+    commits: u64,
+    mirror: &mut Mirror,
+    event: usize,
+    happening: &mut Happening,
+    transaction: &mut Transaction,
+) -> Result<(), Refusal> {
+    let Some(txn) = mirror.seat.txn.take() else {
+        return Ok(());
+    };
+    let closed = match txn.close_check() {
+        Ok(closed) => closed,
+        Err(unclosed) => return give_up(unclosed),
+    };
+    match &happening.answer {
+        Answer::Committed(number) => {
+            transaction.end = End::Committed;
+            transaction.number = *number;
+        }
+        _ => {
+            transaction.end = End::Refused;
+            transaction.number = commits.saturating_add(1);
+        }
+    }
+    let noted = note_closed(alloc, &closed, event, happening, transaction);
+    let_go(closed.into_parts());
+    noted
+}
+
+fn note_closed(
+    alloc: Global,
+    closed: &Closed,
+    event: usize,
+    happening: &mut Happening,
+    transaction: &mut Transaction,
+) -> Result<(), Refusal> {
+    let own = closed.own();
+    let meant = Modes::all_immediate(alloc, own.assertions())?;
+    let changes = closed.changes();
+    push_checks(
+        alloc,
+        &mut transaction.reads,
+        own,
+        meant.as_slice(),
+        changes,
+        event,
+    )?;
+    transaction.changes = copy_changes(alloc, changes)?;
+    let view = own.copy()?;
+    note_view(happening, view);
+    Ok(())
+}
+
+/// The transaction could not be taken to COMMIT for want of memory.
+fn give_up(unclosed: Unclosed) -> Result<(), Refusal> {
+    let Unclosed { refusal, txn } = unclosed;
+    let_go(txn.abandon());
+    Err(refusal)
+}
+
+/// Seats a transaction, or none. One that was open is ended.
+fn set_txn(seat: &mut Seat, txn: Option<Txn>) {
+    match mem::replace(&mut seat.txn, txn) {
+        None => {}
+        Some(old) => let_go(old.abandon()),
+    }
+}
+
+/// Lets a value go. Its type is a parameter here, so that the caller's proof does not go over its fields.
+fn let_go<T: Drop>(_value: T) {}

@@ -1,0 +1,206 @@
+//! The lines of arrows, with their numbers.
+
+use crate::arrows::{Arrow, Kind};
+use crate::colours::{ARROW, BADGE, BOLD, ON_BADGE, RED_ARROW, RED_BADGE, RED_TIE, TINY};
+use crate::layouts::Layout;
+use crate::scenes::Scene;
+use crate::svg::{Anchor, Point, add_text, add_title};
+use crate::words::add_meaning;
+use std::alloc::{AllocError, Global};
+
+/// Where a number may stand on its curve, in sixteenths of the way, the best places first.
+const STEPS: [u32; 14] = [4, 3, 5, 2, 6, 1, 7, 8, 9, 10, 11, 12, 13, 14];
+
+/// Two numbers that are nearer to one another than this cover one another.
+const NEAR: u32 = 16;
+
+/// A curve by its two ends, at which it runs to the side.
+#[derive(Clone, Copy)]
+struct Curve {
+    from: Point,
+    to: Point,
+}
+
+impl Curve {
+    /// Halfway between the ends, from the left.
+    fn middle(self) -> u32 {
+        (self.from.x / 2).saturating_add(self.to.x / 2)
+    }
+
+    /// The point after so many sixteenths of the way.
+    fn point(self, step: u32) -> Point {
+        let middle = self.middle();
+        Point {
+            x: on_curve(step, [self.from.x, middle, middle, self.to.x]),
+            y: on_curve(step, [self.from.y, self.from.y, self.to.y, self.to.y]),
+        }
+    }
+}
+
+/// So many sixteenths of the way along a cubic curve of these four points, in one direction.
+fn on_curve(step: u32, points: [u32; 4]) -> u32 {
+    let [from, leave, arrive, to] = points;
+    let first = between(step, from, leave);
+    let second = between(step, leave, arrive);
+    let third = between(step, arrive, to);
+    between(
+        step,
+        between(step, first, second),
+        between(step, second, third),
+    )
+}
+
+/// So many sixteenths of the way from one number to another.
+fn between(step: u32, from: u32, to: u32) -> u32 {
+    let before = from.saturating_mul(16u32.saturating_sub(step));
+    before.saturating_add(to.saturating_mul(step)) / 16
+}
+
+/// Adds the lines of arrows, and gives where the number of each stands.
+pub fn add_arrows(
+    alloc: Global,
+    scene: Scene<'_>,
+    arrows: &[Arrow<'_>],
+    out: &mut String,
+) -> Result<Vec<Point>, AllocError> {
+    let mut badges = Vec::new(alloc);
+    for arrow in arrows {
+        if let Some(curve) = curve_of(scene, *arrow) {
+            add_arrow(alloc, scene, *arrow, curve, out)?;
+            let badge = badge_on(scene.layout, curve, badges.as_slice());
+            badges.push(badge)?;
+        }
+    }
+    Ok(badges)
+}
+
+/// The curve of an arrow: from the event that read to the end of the other transaction.
+fn curve_of(scene: Scene<'_>, arrow: Arrow<'_>) -> Option<Curve> {
+    let from = scene.transaction(arrow.from)?;
+    let to = scene.transaction(arrow.to)?;
+    let event = match arrow.read {
+        Some(read) => read.event,
+        None => from.ended,
+    };
+    let layout = scene.layout;
+    let (left, right) = (layout.lane_x(from.session), layout.lane_x(to.session));
+    let (start, end) = if left < right {
+        (left.saturating_add(layout.lane_width), right)
+    } else {
+        (left, right.saturating_add(layout.lane_width))
+    };
+    Some(Curve {
+        from: Point {
+            x: start,
+            y: layout.event_y(event),
+        },
+        to: Point {
+            x: end,
+            y: layout.event_y(to.ended),
+        },
+    })
+}
+
+/// Where the number of a curve covers least: on the curve or beside it.
+fn badge_on(layout: &Layout, curve: Curve, badges: &[Point]) -> Point {
+    let mut best = curve.point(4);
+    let mut least = u32::MAX;
+    for step in &STEPS {
+        let Point { x, y } = curve.point(*step);
+        for place in [y, y.saturating_add(NEAR), y.saturating_sub(NEAR)] {
+            let point = Point { x, y: place };
+            let cost = cost_of(layout, badges, point).saturating_add(u32::from(place != y));
+            if cost < least {
+                best = point;
+                least = cost;
+            }
+        }
+    }
+    best
+}
+
+/// What a number at a point would cover: another number is worst, and a box is bad.
+fn cost_of(layout: &Layout, badges: &[Point], point: Point) -> u32 {
+    let on_badge = badges.iter().any(|it| is_near(*it, point));
+    let on_box = !layout.is_between_lanes(point.x);
+    match (on_badge, on_box) {
+        (true, _) => 4,
+        (false, true) => 2,
+        (false, false) => 0,
+    }
+}
+
+/// Whether the numbers at two points cover one another.
+fn is_near(one: Point, other: Point) -> bool {
+    one.x.abs_diff(other.x) < NEAR && one.y.abs_diff(other.y) < NEAR
+}
+
+/// Adds the line of an arrow, with what it is of for a pointer over it.
+fn add_arrow(
+    alloc: Global,
+    scene: Scene<'_>,
+    arrow: Arrow<'_>,
+    curve: Curve,
+    out: &mut String,
+) -> Result<(), AllocError> {
+    out.push_str("<g>\n")?;
+    let mut title = String::new(alloc);
+    add_meaning(scene.history, arrow, &mut title)?;
+    add_title(title.as_str(), out)?;
+    add_curve(curve, arrow.kind, out)?;
+    out.push_str("</g>\n")
+}
+
+/// Adds the line of an arrow, with its head.
+fn add_curve(curve: Curve, kind: Kind, out: &mut String) -> Result<(), AllocError> {
+    let (line, head) = match kind {
+        Kind::Conflict => (ARROW, " marker-end=\"url(#head)\""),
+        Kind::Danger => (RED_ARROW, " marker-end=\"url(#redhead)\""),
+        Kind::Overwrite => (RED_TIE, ""),
+    };
+    let (Point { x: x1, y: y1 }, Point { x: x2, y: y2 }) = (curve.from, curve.to);
+    let middle = curve.middle();
+    write!(
+        out,
+        "<path d=\"M{x1} {y1}C{middle} {y1} {middle} {y2} {x2} {y2}\" {line}{head}/>\n"
+    )
+}
+
+/// Adds the numbers of arrows, each on a badge at its point.
+pub fn add_badges(
+    alloc: Global,
+    arrows: &[Arrow<'_>],
+    badges: &[Point],
+    out: &mut String,
+) -> Result<(), AllocError> {
+    for (place, (arrow, badge)) in arrows.iter().zip(badges.iter()).enumerate() {
+        add_badge(alloc, *badge, arrow.kind, place.saturating_add(1), out)?;
+    }
+    Ok(())
+}
+
+/// Adds the number of an arrow on its badge.
+fn add_badge(
+    alloc: Global,
+    badge: Point,
+    kind: Kind,
+    number: usize,
+    out: &mut String,
+) -> Result<(), AllocError> {
+    let Point { x, y } = badge;
+    let colour = match kind {
+        Kind::Conflict => BADGE,
+        Kind::Danger | Kind::Overwrite => RED_BADGE,
+    };
+    write!(out, "<circle cx=\"{x}\" cy=\"{y}\" r=\"8\" {colour}/>\n")?;
+    let text = format!(in alloc; "{number}")?;
+    let y = y.saturating_add(4);
+    let attributes = [TINY, BOLD, ON_BADGE];
+    add_text(
+        Point { x, y },
+        Anchor::Middle,
+        &attributes,
+        text.as_str(),
+        out,
+    )
+}

@@ -1,0 +1,26 @@
+//! A run of a script as it is drawn.
+
+use crate::layouts::Layout;
+use history::{History, Source, Transaction};
+use value::Text;
+
+/// A run of a script, the texts of its events, and where they stand.
+#[derive(Clone, Copy)]
+pub struct Scene<'a> {
+    pub history: &'a History,
+    pub events: &'a Source,
+    pub script: &'a [u8],
+    pub layout: &'a Layout,
+}
+
+impl<'a> Scene<'a> {
+    /// The name of a session.
+    pub fn session(self, session: usize) -> Option<&'a Text> {
+        self.history.sessions.as_slice().get(session)
+    }
+
+    /// A transaction by its place in the history.
+    pub fn transaction(self, place: usize) -> Option<&'a Transaction> {
+        self.history.transactions.as_slice().get(place)
+    }
+}
