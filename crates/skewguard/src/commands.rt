@@ -64,7 +64,7 @@ Example:
   event 2, line 1: A: INSERT INTO T VALUES (1, -5)
   A: REFUSED 10 23000 POSITIVE 1
     the rule, line 2 of DEFS: CREATE ASSERTION POSITIVE CHECK (..)
-    would be false at ID 1
+    would be false at row 1 of T: (1, -5)
   ..";
 
 const AFTER_PICTURE: &str = "\
