@@ -39,11 +39,11 @@ pub fn add_condition(
         Cond::And(parts) | Cond::Or(parts) => {
             let (open, word, close) = marks_of(condition);
             out.push_str(open)?;
-            let mut front = "";
-            for part in parts.as_slice() {
-                out.push_str(front)?;
+            for (place, part) in parts.as_slice().iter().enumerate() {
+                if place > 0 {
+                    out.push_str(word)?;
+                }
                 add_condition(part, view, table, out)?;
-                front = word;
             }
             out.push_str(close)
         }
@@ -79,11 +79,11 @@ fn add_expression(
         Expr::Sum(parts) | Expr::Product(parts) => {
             let sign = sign_between(expression);
             out.push_str("(")?;
-            let mut front = "";
-            for part in parts.as_slice() {
-                out.push_str(front)?;
+            for (place, part) in parts.as_slice().iter().enumerate() {
+                if place > 0 {
+                    out.push_str(sign)?;
+                }
                 add_expression(part, view, table, out)?;
-                front = sign;
             }
             out.push_str(")")
         }
