@@ -1,6 +1,6 @@
 //! `skewguard postgresql`.
 
-ghost use Rattle.std.specs.Prelude.{◌≤◌};
+ghost use Rattle.std.specs.Prelude.{◌≡◌, ◌≤◌};
 
 use crate::endings::end_run;
 use crate::files::{REFUSED, Streams, USAGE, named, read, report_unread, tell_long};
