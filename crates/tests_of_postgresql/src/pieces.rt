@@ -31,12 +31,10 @@ fn sql_of(alloc: Global, defs: &str) -> Result<Vec<u8>, Fail> {
 
 /// Whether bytes stand somewhere in others.
 fn is_in(piece: &str, text: &[u8]) -> bool {
-    let mut left = text;
-    while let Some((_, others)) = left.split_first() {
-        if left.starts_with(piece.as_bytes()) {
+    for at in 0..text.len() {
+        if text[at..].starts_with(piece.as_bytes()) {
             return true;
         }
-        left = others;
     }
     false
 }
