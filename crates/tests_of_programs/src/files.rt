@@ -74,10 +74,10 @@ fn readers_that_fail(rt: HostRuntime) -> Result<(), Fail> {
         };
         let read = read_all(rt.alloc(), &mut reader);
         if reader.calls <= fails_at {
-            assert!(rt; matches!(read, Ok(bytes) if bytes.as_slice() == LEDGER.as_bytes()));
+            assert!(rt; matches!(&read, Ok(bytes) if bytes.as_slice() == LEDGER.as_bytes()));
             return Ok(());
         }
-        assert!(rt; matches!(read, Err(ReadFault::Unreadable)));
+        assert!(rt; matches!(&read, Err(ReadFault::Unreadable)));
         assert_eq!(rt; reader.calls, fails_at.saturating_add(1));
     }
     Err(Fail::from("each run met a fault of the reader"))
