@@ -1,5 +1,6 @@
 //! Events.
 
+ghost use Rattle.statement_syntax.specs.Grammar.{begin_of};
 ghost use Rattle.statement_syntax.specs.Readers as reader;
 ghost use Rattle.token.specs.declared.kinds.Kind.TheVariants as k;
 ghost use Rattle.leaf_parser.specs.Reading as rd;
@@ -10,6 +11,19 @@ use leaf_parser::{Cursor, Stop};
 use statement_syntax::Event;
 use std::alloc::Global;
 use token::Kind;
+
+/// `[READ ONLY]`, behind BEGIN.
+fn parse_begin(cursor: &mut Cursor<'_>) -> Result<Event, Stop>
+    ensures { Reads (rd.◌<$>◌ begin_of (rd.optional k.Read (rd.◌>>◌ (rd.expect k.Read) (rd.expect k.Only)))
+        cursor.old) result cursor.new }
+{
+    if !cursor.is(Kind::Read) {
+        return Ok(Event::Begin);
+    }
+    cursor.expect(Kind::Read)?;
+    cursor.expect(Kind::Only)?;
+    Ok(Event::BeginReadOnly)
+}
 
 /// `[WORK]`, behind COMMIT.
 fn parse_commit(cursor: &mut Cursor<'_>) -> Result<Event, Stop>
@@ -33,7 +47,7 @@ fn parse_rollback(cursor: &mut Cursor<'_>) -> Result<Event, Stop>
     Ok(Event::Rollback)
 }
 
-/// `BEGIN | COMMIT [WORK] | ROLLBACK [WORK] | stmt`
+/// `BEGIN [READ ONLY] | COMMIT [WORK] | ROLLBACK [WORK] | stmt`
 #[tactic(auto, unfolding(statement_syntax::specs::Readers::one_event))]
 pub fn parse_event(alloc: Global, cursor: &mut Cursor<'_>, depth: usize) -> Result<Event, Stop>
     ensures { Reads (reader.one_event depth cursor.old) result cursor.new }
@@ -41,7 +55,7 @@ pub fn parse_event(alloc: Global, cursor: &mut Cursor<'_>, depth: usize) -> Resu
     match cursor.peek() {
         Kind::Begin => {
             cursor.take(Kind::Begin);
-            Ok(Event::Begin)
+            parse_begin(cursor)
         }
         Kind::Commit => {
             cursor.take(Kind::Commit);
