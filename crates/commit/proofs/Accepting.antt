@@ -52,7 +52,7 @@ each_ordered P (commit ∷ earlier) l e =
     subst (Each P) (sym (numbers_after commit earlier l))
     (each_before P (least_out earlier commit) commit.number (map (λ (r : Record). r.number) (serial_order earlier)) e.0 (each_ordered P earlier l.1 e.1))
 
-module _ (now : CoreState) (tables : Shown) (places order : List ℕ) (core : IsCore now tables places order) where
+module _ (now : CoreState) (tables : Shown) (places reaches order : List ℕ) (core : IsCore now tables places reaches order) where
   abbrev records : List Record
   records = now.records
 
@@ -71,8 +71,9 @@ module _ (now : CoreState) (tables : Shown) (places order : List ℕ) (core : Is
       (each_weaker (λ (w : Record). w.number < length records + 1) (λ (w : Record). P w.number) (λ w l e. omega (arith, l, e)) log (below now core.epoch.accepted))))
 
   -- a transaction that begins
-  pub begun_live : IsLive (with_begun now) (begun now.live.begun (length records) tables)
-  begun_live = subst (λ (s : Shown). IsLive (with_begun now) (begun now.live.begun (length records) s)) (sym core.newest_is) (begin_live now core.epoch.accepted)
+  pub begun_live : (read_only : Bool) → IsLive (with_begun now) (begun now.live.begun (length records) read_only tables)
+  begun_live read_only =
+      subst (λ (s : Shown). IsLive (with_begun now) (begun now.live.begun (length records) read_only s)) (sym core.newest_is) (begin_live now core.epoch.accepted read_only)
 
   module _ (session : List ℕ) (t : OpenTransaction) (live : IsLive now t) where
     abbrev commit : Record

@@ -8,7 +8,7 @@ use Rattle.value.specs.declared.refusals.Refusal.{Refusal}
 use Rattle.value.specs.declared.refusals.Refusal.TheVariants.{NoMemory}
 use Rattle.statement_syntax.specs.declared.statements.Step.{Step}
 use Rattle.statement_syntax.specs.declared.statements.Event.{Event}
-use Rattle.statement_syntax.specs.declared.statements.Event.TheVariants.{Begin, Commit, Rollback, Run}
+use Rattle.statement_syntax.specs.declared.statements.Event.TheVariants.{Begin, BeginReadOnly, Commit, Rollback, Run}
 use Rattle.answer.specs.declared.answers.Answer.{Answer}
 use Rattle.answer.specs.declared.answers.Answer.TheVariants.{Begun, Committed, Refused, Replied, RolledBack}
 use Rattle.live.specs.Live.{AreBelow}
@@ -77,6 +77,8 @@ IsApart txn other = (t : OpenTransaction) → txn ≡ Some t → other.ticket �
 live_after : (c : CoreState) (session : List ℕ) (event : Event) (txn : Option OpenTransaction) (answer : Answer) (other : OpenTransaction) → IsApart txn other → IsLive c other → IsLive (core_after c session event txn answer) other
 live_after c session Begin None answer other apart l = live_begun c other l
 live_after c session Begin (Some t) answer other apart l = l
+live_after c session BeginReadOnly None answer other apart l = live_begun c other l
+live_after c session BeginReadOnly (Some t) answer other apart l = l
 live_after c session (Run statement) txn answer other apart l = l
 live_after c session Commit None answer other apart l = l
 live_after c session Commit (Some t) answer other apart l = live_decided c session t answer other (apart t refl) l
@@ -95,6 +97,8 @@ below_after : (c : CoreState) (session : List ℕ) (event : Event) (txn : Option
     → AreBelow (core_after c session event txn answer).live.begun (core_after c session event txn answer).live.snapshots
 below_after c session Begin None answer below = one_more c.live (length c.records) below
 below_after c session Begin (Some t) answer below = below
+below_after c session BeginReadOnly None answer below = one_more c.live (length c.records) below
+below_after c session BeginReadOnly (Some t) answer below = below
 below_after c session (Run statement) txn answer below = below
 below_after c session Commit None answer below = below
 below_after c session Commit (Some t) answer below = below_decided c session t answer below
@@ -111,6 +115,8 @@ idle_decided c session t (Refused refusal) idle = idle
 idle_after : (c : CoreState) (session : List ℕ) (event : Event) (txn : Option OpenTransaction) (answer : Answer) → c.prepared ≡ None → (core_after c session event txn answer).prepared ≡ None
 idle_after c session Begin None answer idle = idle
 idle_after c session Begin (Some t) answer idle = idle
+idle_after c session BeginReadOnly None answer idle = idle
+idle_after c session BeginReadOnly (Some t) answer idle = idle
 idle_after c session (Run statement) txn answer idle = idle
 idle_after c session Commit None answer idle = idle
 idle_after c session Commit (Some t) answer idle = idle_decided c session t answer idle
@@ -128,6 +134,8 @@ IsFrom c txn t = (t.ticket ≡ c.live.begun) ⊎ ((old : OpenTransaction) × (tx
 is_from : (c : CoreState) (event : Event) (txn : Option OpenTransaction) (t : OpenTransaction) → txn_after c event txn ≡ Some t → IsFrom c txn t
 is_from c Begin None t e = inl (sym (ap (ticket_or 0) e))
 is_from c Begin (Some old) t e = inr (old, refl, ap (ticket_or 0) e)
+is_from c BeginReadOnly None t e = inl (sym (ap (ticket_or 0) e))
+is_from c BeginReadOnly (Some old) t e = inr (old, refl, ap (ticket_or 0) e)
 is_from c (Run statement) None t e = let no : ⊥ = cc in absurd no
 is_from c (Run statement) (Some old) t e = inr (old, refl, ap (ticket_or 0) e)
 is_from c Commit txn t e = let no : ⊥ = cc in absurd no
@@ -152,6 +160,16 @@ set_elsewhere (y ∷ ys) zero zero x apart = absurd (apart refl)
 set_elsewhere (y ∷ ys) zero (suc place) x apart = refl
 set_elsewhere (y ∷ ys) (suc other) zero x apart = refl
 set_elsewhere (y ∷ ys) (suc other) (suc place) x apart = set_elsewhere ys other place x (λ e. apart (ap suc e))
+
+-- what holds of each open transaction, and of the one of a seat that is set, holds of each then
+pub each_set : (P : OpenTransaction → Type 0) (seats : List Seat) (place : ℕ) (left : Seat) → place < length seats
+    → ((i : ℕ) (t : OpenTransaction) → txn_of (slice_get seats i) ≡ Some t → P t) → HoldsOf P left.txn
+    → (i : ℕ) (t : OpenTransaction) → txn_of (slice_get (slice_set seats place left) i) ≡ Some t → P t
+each_set P seats place left within each own i t h = go (cases_eq i place)
+  where
+    go : (i ≡ place) ⊎ (i ≡ place → ⊥) → P t
+    go (inl same) = holds_at P left.txn t own (sym (ap txn_of (ap (slice_get (slice_set seats place left)) same ∙ set_there seats place left within)) ∙ h)
+    go (inr other) = each i t (sym (ap txn_of (set_elsewhere seats i place left other)) ∙ h)
 
 -- What an event leaves, whose session has this seat.
 module _ (now : EngineState) (step : Step) (place : ℕ) (seat : Seat) (core : CoreState) (left : Seat) where

@@ -61,6 +61,7 @@ abbrev pub record_of : CoreState → List ℕ → OpenTransaction → Record
 record_of c session t = record {
   number = length c.records + 1;
   snapshot = t.snapshot;
+  read_only = t.read_only;
   session = session;
   trace = t.trace;
   reads = keys_of t;

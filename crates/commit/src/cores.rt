@@ -1,6 +1,6 @@
 //! The committed transactions.
 
-ghost use Rattle.std.specs.Prelude.{◌≡◌, ◌≢◌, ◌≤◌, ◌<◌, ◌+◌, ◌++◌, ◌∷◌, [], ℕ, List, length, true, vec_capacity, vec_len, Contains, IfOk, IfErr, IfSome, IfNone, IsOkUnless, OnErr, OnOk, Ok, Err, None, Some};
+ghost use Rattle.std.specs.Prelude.{◌≡◌, ◌≢◌, ◌≤◌, ◌<◌, ◌+◌, ◌++◌, ◌∷◌, [], ℕ, List, length, true, false, vec_capacity, vec_len, Contains, IfOk, IfErr, IfSome, IfNone, IsOkUnless, OnErr, OnOk, Ok, Err, None, Some};
 ghost use Rattle.value.specs.declared.refusals.Refusal.TheVariants.{NoMemory};
 ghost use Rattle.txn.specs.Modes.{assertion_of};
 ghost use Rattle.siread.specs.Locks.{IsCount, above, readers_at};
@@ -40,6 +40,8 @@ pub struct Core {
     records: Vec<Record>,
     /// For each commit the least one to which it conflicts, or its own number.
     places: Vec<u64>,
+    /// For each commit the last number that may stand before it.
+    reaches: Vec<u64>,
     /// The numbers in serial order.
     order: Vec<u64>,
     refused: Vec<RefusedCommit>,
@@ -68,9 +70,9 @@ impl Model for Core {
 
     ghost invariant = { λ c.
         IsKept (idle_core c.limit c.loaded c.records.items c.refused.items c.live) c.newest c.places.items
-        c.order.items (readers_at c.locks) c.prepared
+        c.reaches.items c.order.items (readers_at c.locks) c.prepared
         ((vec_len c.records < vec_capacity c.records) × (vec_len c.places < vec_capacity c.places)
-        × (vec_len c.order < vec_capacity c.order)) };
+        × (vec_len c.reaches < vec_capacity c.reaches) × (vec_len c.order < vec_capacity c.order)) };
 }
 
 impl Drop for Core {
@@ -81,6 +83,7 @@ impl Drop for Core {
             newest: _,
             records: _,
             places: _,
+            reaches: _,
             order: _,
             refused: _,
             live: _,
@@ -114,6 +117,7 @@ impl Core {
             loaded,
             records: Vec::new(alloc),
             places: Vec::new(alloc),
+            reaches: Vec::new(alloc),
             order: Vec::new(alloc),
             refused: Vec::new(alloc),
             live: Live::new(alloc),
@@ -127,19 +131,27 @@ impl Core {
         requires idle { self.old.prepared ≡ None }
         ensures only_memory { IsOkUnless result NoMemory }
         ensures begun { IfOk result (λ txn.
-            txn ≡ begun self.old.live.begun (length self.old.records) (newest_tables self.old)) }
+            txn ≡ begun self.old.live.begun (length self.old.records) false (newest_tables self.old)) }
         ensures live { IfOk result (λ txn. IsLive self.new txn) }
         ensures after { OnOk result (self.new ≡ with_begun self.old) }
         ensures same { OnErr result (self.new ≡ self.old) }
     {
-        let alloc = *self.records.allocator();
-        let snapshot = self.records.len() as u64;
-        let txn = Txn::begin(alloc, self.live.next_ticket(), snapshot, &self.newest)?;
-        if let Err(refusal) = self.live.begin(snapshot) {
-            let_go(txn.abandon());
-            return Err(refusal);
-        }
-        Ok(txn)
+        self.begin_as(false)
+    }
+
+    /// A transaction that is read only begins on the newest tables: its INSERT, UPDATE and DELETE are refused, and it
+    /// may stand earlier in the serial order, so that fewer commits are refused for it. NoMemory is the only error, and
+    /// then nothing has changed.
+    pub fn begin_read_only(&mut self) -> Result<Txn, Refusal>
+        requires idle { self.old.prepared ≡ None }
+        ensures only_memory { IsOkUnless result NoMemory }
+        ensures begun { IfOk result (λ txn.
+            txn ≡ begun self.old.live.begun (length self.old.records) true (newest_tables self.old)) }
+        ensures live { IfOk result (λ txn. IsLive self.new txn) }
+        ensures after { OnOk result (self.new ≡ with_begun self.old) }
+        ensures same { OnErr result (self.new ≡ self.old) }
+    {
+        self.begin_as(true)
     }
 
     /// COMMIT (ISO/IEC 9075:1992, commit statement). The transaction is the next commit, unless an assertion is
@@ -212,9 +224,11 @@ impl Core {
         let number = self.records.len() as u64 + 1;
         let ticket = closed.ticket();
         let snapshot = closed.snapshot();
-        let record = record_of(number, snapshot, session, closed.into_parts());
+        let read_only = closed.is_read_only();
+        let record = record_of(number, snapshot, read_only, session, closed.into_parts());
         put_in_order(&mut self.order, place, number);
         self.places.push_reserved(place);
+        self.reaches.push_reserved(record.reach());
         self.records.push_reserved(record);
         self.newest = tables;
         forget(&mut self.live, &mut self.locks, ticket, number);
@@ -343,6 +357,32 @@ impl Core {
 }
 
 impl Core {
+    /// A transaction, read only or not, begins on the newest tables.
+    pub(crate) fn begin_as(&mut self, read_only: bool) -> Result<Txn, Refusal>
+        requires idle { self.old.prepared ≡ None }
+        ensures only_memory { IsOkUnless result NoMemory }
+        ensures begun { IfOk result (λ txn.
+            txn ≡ begun self.old.live.begun (length self.old.records) read_only (newest_tables self.old)) }
+        ensures live { IfOk result (λ txn. IsLive self.new txn) }
+        ensures after { OnOk result (self.new ≡ with_begun self.old) }
+        ensures same { OnErr result (self.new ≡ self.old) }
+    {
+        let alloc = *self.records.allocator();
+        let snapshot = self.records.len() as u64;
+        let txn = Txn::begin(
+            alloc,
+            self.live.next_ticket(),
+            snapshot,
+            read_only,
+            &self.newest,
+        )?;
+        if let Err(refusal) = self.live.begin(snapshot) {
+            let_go(txn.abandon());
+            return Err(refusal);
+        }
+        Ok(txn)
+    }
+
     /// What the COMMIT of a transaction is answered.
     fn decide(&self, closed: &Closed) -> Result<Decision, Refusal>
         requires live { IsLive self.now closed.now }
@@ -375,10 +415,17 @@ impl Core {
         let candidate = Candidate {
             number: records.len() as u64 + 1,
             snapshot: closed.snapshot(),
+            read_only: closed.is_read_only(),
             reads: closed.reads(),
             changes,
         };
-        match judge(records, self.places.as_slice(), &self.locks, &candidate) {
+        match judge(
+            records,
+            self.places.as_slice(),
+            self.reaches.as_slice(),
+            &self.locks,
+            &candidate,
+        ) {
             Verdict::Fine { place } => Ok(Decision::Accepted(place)),
             Verdict::WriteConflict { row, by } => {
                 let refusal = refuse_for_writer(self.loaded.catalog(), changes, row, by)?;
@@ -443,7 +490,14 @@ impl Core {
             Ok(made) => made,
             Err(refusal) => return Err(give_back(refusal, closed)),
         };
-        if let Err(refusal) = make_room(&mut self.records, &mut self.places, &mut self.order) {
+        // (that a read-only transaction has changed nothing is a clause of this call)
+        closed.reads_only();
+        if let Err(refusal) = make_room(
+            &mut self.records,
+            &mut self.places,
+            &mut self.reaches,
+            &mut self.order,
+        ) {
             return Err(give_back(refusal, closed));
         }
         if let Err(refusal) = self.locks.put(number, closed.reads()) {
@@ -490,11 +544,18 @@ fn forget(live: &mut Live, locks: &mut LockTable, ticket: u64, newest: u64)
 }
 
 /// The record of a commit.
-fn record_of(number: u64, snapshot: u64, session: Text, parts: Parts) -> Record
+fn record_of(
+    number: u64,
+    snapshot: u64,
+    read_only: bool,
+    session: Text,
+    parts: Parts,
+) -> Record
     ensures { result
         ≡ record {
           number = number;
           snapshot = snapshot;
+          read_only = read_only;
           session = session;
           trace = parts.trace.items;
           reads = parts.reads.items;
@@ -509,6 +570,7 @@ fn record_of(number: u64, snapshot: u64, session: Text, parts: Parts) -> Record
     Record {
         number,
         snapshot,
+        read_only,
         session,
         trace: Items::from_vec(trace),
         reads: Items::from_vec(reads),
@@ -520,17 +582,21 @@ fn record_of(number: u64, snapshot: u64, session: Text, parts: Parts) -> Record
 fn make_room(
     records: &mut Vec<Record>,
     places: &mut Vec<u64>,
+    reaches: &mut Vec<u64>,
     order: &mut Vec<u64>,
 ) -> Result<(), Refusal>
     ensures only_memory { IsOkUnless result NoMemory }
     ensures records { records.new.items ≡ records.old.items }
     ensures places { places.new.items ≡ places.old.items }
+    ensures reaches { reaches.new.items ≡ reaches.old.items }
     ensures order { order.new.items ≡ order.old.items }
     ensures room { OnOk result ((vec_len records.new < vec_capacity records.new)
-        × (vec_len places.new < vec_capacity places.new) × (vec_len order.new < vec_capacity order.new)) }
+        × (vec_len places.new < vec_capacity places.new) × (vec_len reaches.new < vec_capacity reaches.new)
+        × (vec_len order.new < vec_capacity order.new)) }
 {
     records.reserve(1)?;
     places.reserve(1)?;
+    reaches.reserve(1)?;
     order.reserve(1)?;
     Ok(())
 }

@@ -83,9 +83,10 @@ pub record Ticketed : Type 0 where
 abbrev pub IsTicketed : Ticketed → Type 0
 IsTicketed t = t.ticket.token.value.view ≡ record { declared = t.inner.declared; state = t.inner.start }
 
--- A transaction that has just begun: it has run no statement, its ticket is of this id and epoch, and its own view is
--- what stands on this shelf under the number of its snapshot.
-pub record IsFresh (shelf : Shelves) (id epoch : ℕ) (t : Ticketed) : Type 0 where
+-- A transaction that has just begun, read only or not: it has run no statement, its ticket is of this id and epoch, and
+-- its own view is what stands on this shelf under the number of its snapshot.
+pub record IsFresh (shelf : Shelves) (id epoch : ℕ) (read_only : Bool) (t : Ticketed) : Type 0 where
+  pub read_only_is : t.inner.read_only ≡ read_only
   pub empty : t.inner.trace ≡ []
   pub id_is : t.ticket.id ≡ id
   pub epoch_is : t.ticket.epoch ≡ epoch

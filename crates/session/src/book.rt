@@ -145,7 +145,6 @@ impl<N: Named> Book<N> {
     ///
     /// [`Refusal::Stranger`] exactly where the Book or the session is not of the manager that asks, or the session
     /// has seen a number above the Book's; or [`Refusal::NoMemory`]. All is then as it was.
-    #[tactic(auto, using(crate::proofs::Tokens::begun_fresh))]
     pub fn begin(
         &mut self,
         id: u64,
@@ -154,24 +153,47 @@ impl<N: Named> Book<N> {
     ) -> Result<Txn<N>, Refusal>
         ensures known { IfOk result (λ _. knows self.old session.old id epoch ≡ true) }
         ensures begun { IfOk result (λ txn.
-            txn.inner ≡ begun self.old.core.live.begun (length self.old.core.records) (newest_tables self.old.core)) }
+            txn.inner
+            ≡ begun self.old.core.live.begun (length self.old.core.records) false (newest_tables self.old.core)) }
         ensures whose { IfOk result (λ txn. (txn.ticket.id ≡ id) × (txn.ticket.epoch ≡ epoch)) }
         ensures token { IfOk result (λ txn. slice_get self.old.tokens txn.inner.snapshot ≡ Some txn.ticket.token) }
         ensures item { IfOk result (λ txn. txn.ticket.token.value.number ≡ txn.inner.snapshot) }
-        ensures empty { IfOk result (IsFresh (N.shelf id) id epoch) }
+        ensures empty { IfOk result (IsFresh (N.shelf id) id epoch false) }
         ensures fresh { IfOk result (λ txn. session.old.seen ≤ txn.inner.snapshot) }
         ensures after { IfOk result (λ _. self.new ≡ after_begin self.old) }
         ensures seen { IfOk result (λ txn. session.new ≡ record session.old { seen = txn.inner.snapshot }) }
         ensures unbegun { IfErr result (IsUnbegun (knows self.old session.old id epoch)) }
         ensures same { IfErr result (λ _. (self.new ≡ self.old) × (session.new ≡ session.old)) }
     {
-        if !self.knows(session, id, epoch) {
-            return Err(Refusal::Stranger);
-        }
-        let token = self.newest_token();
-        let inner = self.core.begin()?;
-        session.note_seen(inner.snapshot());
-        Ok(Txn::new(inner, Ticket::new(id, epoch, token)))
+        self.begin_as(id, epoch, session, false)
+    }
+
+    /// A transaction that is read only begins on the newest tables.
+    ///
+    /// # Errors
+    ///
+    /// Those of [`Book::begin`].
+    pub fn begin_read_only(
+        &mut self,
+        id: u64,
+        epoch: u64,
+        session: &mut Session<N>,
+    ) -> Result<Txn<N>, Refusal>
+        ensures known { IfOk result (λ _. knows self.old session.old id epoch ≡ true) }
+        ensures begun { IfOk result (λ txn.
+            txn.inner
+            ≡ begun self.old.core.live.begun (length self.old.core.records) true (newest_tables self.old.core)) }
+        ensures whose { IfOk result (λ txn. (txn.ticket.id ≡ id) × (txn.ticket.epoch ≡ epoch)) }
+        ensures token { IfOk result (λ txn. slice_get self.old.tokens txn.inner.snapshot ≡ Some txn.ticket.token) }
+        ensures item { IfOk result (λ txn. txn.ticket.token.value.number ≡ txn.inner.snapshot) }
+        ensures empty { IfOk result (IsFresh (N.shelf id) id epoch true) }
+        ensures fresh { IfOk result (λ txn. session.old.seen ≤ txn.inner.snapshot) }
+        ensures after { IfOk result (λ _. self.new ≡ after_begin self.old) }
+        ensures seen { IfOk result (λ txn. session.new ≡ record session.old { seen = txn.inner.snapshot }) }
+        ensures unbegun { IfErr result (IsUnbegun (knows self.old session.old id epoch)) }
+        ensures same { IfErr result (λ _. (self.new ≡ self.old) × (session.new ≡ session.old)) }
+    {
+        self.begin_as(id, epoch, session, true)
     }
 
     /// COMMIT of a transaction of the session. It is the next commit, with a record on the shelf, or is answered as
@@ -303,6 +325,42 @@ impl<N: Named> Book<N> {
 }
 
 impl<N: Named> Book<N> {
+    /// A transaction, read only or not, begins on the newest tables.
+    #[tactic(auto, using(crate::proofs::Tokens::begun_fresh))]
+    fn begin_as(
+        &mut self,
+        id: u64,
+        epoch: u64,
+        session: &mut Session<N>,
+        read_only: bool,
+    ) -> Result<Txn<N>, Refusal>
+        ensures known { IfOk result (λ _. knows self.old session.old id epoch ≡ true) }
+        ensures begun { IfOk result (λ txn.
+            txn.inner
+            ≡ begun self.old.core.live.begun (length self.old.core.records) read_only (newest_tables self.old.core)) }
+        ensures whose { IfOk result (λ txn. (txn.ticket.id ≡ id) × (txn.ticket.epoch ≡ epoch)) }
+        ensures token { IfOk result (λ txn. slice_get self.old.tokens txn.inner.snapshot ≡ Some txn.ticket.token) }
+        ensures item { IfOk result (λ txn. txn.ticket.token.value.number ≡ txn.inner.snapshot) }
+        ensures empty { IfOk result (IsFresh (N.shelf id) id epoch read_only) }
+        ensures fresh { IfOk result (λ txn. session.old.seen ≤ txn.inner.snapshot) }
+        ensures after { IfOk result (λ _. self.new ≡ after_begin self.old) }
+        ensures seen { IfOk result (λ txn. session.new ≡ record session.old { seen = txn.inner.snapshot }) }
+        ensures unbegun { IfErr result (IsUnbegun (knows self.old session.old id epoch)) }
+        ensures same { IfErr result (λ _. (self.new ≡ self.old) × (session.new ≡ session.old)) }
+    {
+        if !self.knows(session, id, epoch) {
+            return Err(Refusal::Stranger);
+        }
+        let token = self.newest_token();
+        let inner = if read_only {
+            self.core.begin_read_only()?
+        } else {
+            self.core.begin()?
+        };
+        session.note_seen(inner.snapshot());
+        Ok(Txn::new(inner, Ticket::new(id, epoch, token)))
+    }
+
     /// The Book, and what was handed out by this id and epoch, are of the manager that asks.
     #[tactic(auto, using(crate::proofs::Known::of_facts))]
     fn is_of(&self, own_id: u64, own_epoch: u64, id: u64, epoch: u64) -> bool

@@ -15,21 +15,21 @@ use Rattle.commit.proofs.cores.Core.finish.Goals as goal
 pub put_in_order-requires-clause-distinct : goal.put_in_order-requires-clause-distinct
 put_in_order-requires-clause-distinct c =
     order_distinct (idle_core c.self.inside.limit c.self.inside.loaded c.self.inside.records.items c.self.inside.refused.items c.self.inside.live)
-    c.self.inside.newest c.self.inside.places.items c.self.inside.order.items c.self.invariant.0
+    c.self.inside.newest c.self.inside.places.items c.self.inside.reaches.items c.self.inside.order.items c.self.invariant.0
 
 pub put_in_order-requires-clause-fresh : goal.put_in_order-requires-clause-fresh
 put_in_order-requires-clause-fresh c =
     subst (λ n. All (λ other. other ≢ n + 1) c.self.inside.order.items) (sym (c.len.ensures ∙ c.self.inside.records.ok.0))
     (order_fresh (idle_core c.self.inside.limit c.self.inside.loaded c.self.inside.records.items c.self.inside.refused.items c.self.inside.live)
-    c.self.inside.newest c.self.inside.places.items c.self.inside.order.items c.self.invariant.0)
+    c.self.inside.newest c.self.inside.places.items c.self.inside.reaches.items c.self.inside.order.items c.self.invariant.0)
 
 pub invariant_of-self-2 : goal.invariant_of-self-2
 invariant_of-self-2 c =
     let now = idle_core c.self.inside.limit c.self.inside.loaded c.self.inside.records.items c.self.inside.refused.items c.self.inside.live in
-    let Room : Type 0 = (vec_len c.self.inside.records < vec_capacity c.self.inside.records) × (vec_len c.self.inside.places < vec_capacity c.self.inside.places) × (vec_len c.self.inside.order < vec_capacity c.self.inside.order) in
+    let Room : Type 0 = (vec_len c.self.inside.records < vec_capacity c.self.inside.records) × (vec_len c.self.inside.places < vec_capacity c.self.inside.places) × (vec_len c.self.inside.reaches < vec_capacity c.self.inside.reaches) × (vec_len c.self.inside.order < vec_capacity c.self.inside.order) in
     let p = c.in-Some.prepared in
     let there : c.self.inside.prepared ≡ Some p = sym c.take.ensures.value ∙ c.in-Some.is in
-    let ready = kept_ready now c.self.inside.newest c.self.inside.places.items c.self.inside.order.items (readers_at c.self.inside.locks) Room p c.self.inside.prepared there c.self.invariant in
+    let ready = kept_ready now c.self.inside.newest c.self.inside.places.items c.self.inside.reaches.items c.self.inside.order.items (readers_at c.self.inside.locks) Room p c.self.inside.prepared there c.self.invariant in
     let t = p.closed in
     let long = c.len.ensures ∙ c.self.inside.records.ok.0 in
     let commit = record_of now p.session t in
@@ -55,6 +55,6 @@ invariant_of-self-2 c =
     ∙ kept_committed c.self.inside.live c.self.inside.records.items t.ticket commit in
     kept_idle _ p.tables c.push_reserved.new.self.items c.put_in_order.new.order.items (readers_at c.forget.new.locks) _ c.take.new.self c.take.ensures.after
     (same_core after _ p.tables p.tables (c.self.inside.places.items ++ p.place ∷ []) _ c.put_in_order.new.order.items _ same (λ i. p.tables) (sym c.push_reserved.ensures.items) (λ i. c.put_in_order.new.order.items)
-    (core_next now c.self.inside.newest c.self.inside.places.items c.self.inside.order.items c.self.invariant.0 p.session t ready.1.live p.tables p.place c.put_in_order.new.order.items
+    (core_next now c.self.inside.newest c.self.inside.places.items c.self.inside.reaches.items c.self.inside.order.items c.self.invariant.0 p.session t ready.1.live p.tables p.place c.put_in_order.new.order.items
     ready.1.satisfied ready.1.room ready.1.answer ready.1.tables_are ready.1.place_is order))
     (left ∙ (λ i. reads_kept (same i)))
