@@ -12,7 +12,7 @@ invariant_of-self-2 c =
     rw (c.settle.ensures, c.settle_modes.ensures, c.push_reserved.ensures.items, c.make_room.ensures.trace)
     (held_after (txn.the_view c.self.inside)
     c.self.inside.own c.self.inside.modes c.self.inside.touched c.make_room.new.touched c.self.inside.reads.items c.make_room.new.reads.items c.args.statement c.in-Ok.done c.runs_are_joined.ensures c.self.invariant
-    c.in-Ok.ensures.done c.in-Ok.ensures.of c.in-Ok.ensures.changes c.make_room.ensures.kept (rw (c.as_slice.ensures.value) at c.in_default.ensures.added) c.in_default.ensures.read)
+    c.in-Ok.ensures.done c.in-Ok.ensures.of c.in-Ok.ensures.changes c.make_room.ensures.kept (rw (c.as_slice.ensures.value) at c.in_default.ensures.added) c.in_default.ensures.read c.requires.may_run)
 
 pub returns-clause-replied : goal.returns-clause-replied
 returns-clause-replied c =
