@@ -491,7 +491,7 @@ impl Core {
             Err(refusal) => return Err(give_back(refusal, closed)),
         };
         // (that a read-only transaction has changed nothing is a clause of this call)
-        closed.reads_only();
+        closed.recall_read_only();
         if let Err(refusal) = make_room(
             &mut self.records,
             &mut self.places,

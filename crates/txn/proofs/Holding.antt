@@ -60,7 +60,7 @@ long_left modes None declared e h = e
 long_left modes (Some after) declared e h = h
 
 -- a statement that changes no rows, behind such
-no_changes_with : (trace : List Resolved) (s : Resolved) → list_all is_read_only trace ≡ true → is_read_only s ≡ true → list_all is_read_only (trace ++ s ∷ []) ≡ true
+pub no_changes_with : (trace : List Resolved) (s : Resolved) → list_all is_read_only trace ≡ true → is_read_only s ≡ true → list_all is_read_only (trace ++ s ∷ []) ≡ true
 no_changes_with trace s before now = list_all-append is_read_only trace (s ∷ []) ∙ and_from _ _ before (and_from _ _ now refl)
 
 pub held_after : (t : OpenTransaction) (own : Shown) (modes : Immediates) (touched more : List Place) (reads all : List LockKey) (s : Resolved) (d : Done) → InParts
