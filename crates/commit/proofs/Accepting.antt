@@ -71,9 +71,9 @@ module _ (now : CoreState) (tables : Shown) (places reaches order : List ℕ) (c
       (each_weaker (λ (w : Record). w.number < length records + 1) (λ (w : Record). P w.number) (λ w l e. omega (arith, l, e)) log (below now core.epoch.accepted))))
 
   -- a transaction that begins
-  pub begun_live : (read_only : Bool) → IsLive (with_begun now) (begun now.live.begun (length records) read_only tables)
+  pub begun_live : (read_only : Bool) → IsLive (with_begun read_only now) (begun now.live.begun (length records) read_only tables)
   begun_live read_only =
-      subst (λ (s : Shown). IsLive (with_begun now) (begun now.live.begun (length records) read_only s)) (sym core.newest_is) (begin_live now core.epoch.accepted read_only)
+      subst (λ (s : Shown). IsLive (with_begun read_only now) (begun now.live.begun (length records) read_only s)) (sym core.newest_is) (begin_live now core.epoch.accepted read_only)
 
   module _ (session : List ℕ) (t : OpenTransaction) (live : IsLive now t) where
     abbrev commit : Record

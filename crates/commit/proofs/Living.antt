@@ -1,5 +1,5 @@
 -- Open transactions live on as others begin, are committed, and end.
-use Rattle.std.proofs.Common.{◌≡◌, ◌<◌, ℕ, zero, suc, true, false, cond, List, [], ◌∷◌, ◌++◌, Option, Some, None, Result, Ok, Err, length, reverse, inl, inr, refl, sym, ap, ◌∙◌, subst, arith}
+use Rattle.std.proofs.Common.{◌≡◌, ◌<◌, Bool, ℕ, zero, suc, true, false, cond, List, [], ◌∷◌, ◌++◌, Option, Some, None, Result, Ok, Err, length, reverse, inl, inr, refl, sym, ap, ◌∙◌, subst, arith}
 use Rattle.std.specs.Prelude.{◌⊎◌, slice_get, slice_set, OnOk, OnErr, IfOk, IsOkUnless}
 use Rattle.std.proofs.lemmas.Bool.{cases_eq}
 use Rattle.std.proofs.lemmas.List.{length-append}
@@ -23,9 +23,9 @@ use Rattle.commit.specs.Events.{AreLive, EngineState, IsAnswered, IsAnsweredAt, 
 use Rattle.commit.proofs.Recording.{log_with}
 use Rattle.commit.proofs.Tickets.{fewer, held_more, held_other, one_more, ticket_below}
 
-live_begun : (c : CoreState) (other : OpenTransaction) → IsLive c other → IsLive (with_begun c) other
-live_begun c other l = record {
-  held = held_more c.live (length c.records) (record { ticket = other.ticket; snapshot = other.snapshot }) l.held;
+live_begun : (c : CoreState) (read_only : Bool) (other : OpenTransaction) → IsLive c other → IsLive (with_begun read_only c) other
+live_begun c read_only other l = record {
+  held = held_more c.live (length c.records) read_only (record { ticket = other.ticket; snapshot = other.snapshot; read_only = other.read_only }) l.held;
   declared_is = l.declared_is;
   within = l.within;
   start_is = l.start_is;
@@ -33,7 +33,7 @@ live_begun c other l = record {
 
 live_ended : (c : CoreState) (t other : OpenTransaction) → (other.ticket ≡ t.ticket → ⊥) → IsLive c other → IsLive (ended c t) other
 live_ended c t other apart l = record {
-  held = held_other c.live t.ticket (record { ticket = other.ticket; snapshot = other.snapshot }) apart l.held;
+  held = held_other c.live t.ticket (record { ticket = other.ticket; snapshot = other.snapshot; read_only = other.read_only }) apart l.held;
   declared_is = l.declared_is;
   within = l.within;
   start_is = l.start_is;
@@ -48,7 +48,7 @@ tables_stay c commit snapshot later =
 
 live_committed : (c : CoreState) (session : List ℕ) (t other : OpenTransaction) → (other.ticket ≡ t.ticket → ⊥) → IsLive c other → IsLive (committed c session t) other
 live_committed c session t other apart l = record {
-  held = held_other c.live t.ticket (record { ticket = other.ticket; snapshot = other.snapshot }) apart l.held;
+  held = held_other c.live t.ticket (record { ticket = other.ticket; snapshot = other.snapshot; read_only = other.read_only }) apart l.held;
   declared_is = l.declared_is;
   within = (let within = l.within in let long = length-append c.records (record_of c session t ∷ []) in omega arith);
   start_is = l.start_is ∙ tables_stay c (record_of c session t) other.snapshot (let within = l.within in omega arith);
@@ -56,7 +56,7 @@ live_committed c session t other apart l = record {
 
 live_refused : (c : CoreState) (session : List ℕ) (t : OpenTransaction) (refusal : Refusal) (other : OpenTransaction) → (other.ticket ≡ t.ticket → ⊥) → IsLive c other → IsLive (refused_to c session t refusal) other
 live_refused c session t refusal other apart l = record {
-  held = held_other c.live t.ticket (record { ticket = other.ticket; snapshot = other.snapshot }) apart l.held;
+  held = held_other c.live t.ticket (record { ticket = other.ticket; snapshot = other.snapshot; read_only = other.read_only }) apart l.held;
   declared_is = l.declared_is;
   within = l.within;
   start_is = l.start_is;
@@ -75,9 +75,9 @@ IsApart txn other = (t : OpenTransaction) → txn ≡ Some t → other.ticket �
 
 -- as an event is answered
 live_after : (c : CoreState) (session : List ℕ) (event : Event) (txn : Option OpenTransaction) (answer : Answer) (other : OpenTransaction) → IsApart txn other → IsLive c other → IsLive (core_after c session event txn answer) other
-live_after c session Begin None answer other apart l = live_begun c other l
+live_after c session Begin None answer other apart l = live_begun c false other l
 live_after c session Begin (Some t) answer other apart l = l
-live_after c session BeginReadOnly None answer other apart l = live_begun c other l
+live_after c session BeginReadOnly None answer other apart l = live_begun c true other l
 live_after c session BeginReadOnly (Some t) answer other apart l = l
 live_after c session (Run statement) txn answer other apart l = l
 live_after c session Commit None answer other apart l = l
@@ -95,9 +95,9 @@ below_decided c session t (Refused refusal) below = fewer c.live t.ticket below
 
 below_after : (c : CoreState) (session : List ℕ) (event : Event) (txn : Option OpenTransaction) (answer : Answer) → AreBelow c.live.begun c.live.snapshots
     → AreBelow (core_after c session event txn answer).live.begun (core_after c session event txn answer).live.snapshots
-below_after c session Begin None answer below = one_more c.live (length c.records) below
+below_after c session Begin None answer below = one_more c.live (length c.records) false below
 below_after c session Begin (Some t) answer below = below
-below_after c session BeginReadOnly None answer below = one_more c.live (length c.records) below
+below_after c session BeginReadOnly None answer below = one_more c.live (length c.records) true below
 below_after c session BeginReadOnly (Some t) answer below = below
 below_after c session (Run statement) txn answer below = below
 below_after c session Commit None answer below = below
@@ -187,7 +187,7 @@ module _ (now : EngineState) (step : Step) (place : ℕ) (seat : Seat) (core : C
 
     none_of : (i j : ℕ) (t u : OpenTransaction) → (j ≡ place → ⊥) → txn_of (slice_get now.seats j) ≡ Some u → t.ticket ≡ u.ticket → IsFrom now.core seat.txn t → ⊥
     none_of i j t u apart g e (inl new) =
-        let low = ticket_below now.core.live (record { ticket = u.ticket; snapshot = u.snapshot }) live.begun (live.each j u g).held in
+        let low = ticket_below now.core.live (record { ticket = u.ticket; snapshot = u.snapshot; read_only = u.read_only }) live.begun (live.each j u g).held in
         omega (arith, low, new, e)
     none_of i j t u apart g e (inr old) = apart (sym (live.apart place j old.0 u (seat_txn old.0 old.1) g (old.2 ∙ e)))
 

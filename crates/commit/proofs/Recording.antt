@@ -33,9 +33,9 @@ module _ (now : CoreState) (accepted : IsLog (log_of now)) where
   newest_at = ap (newest now.declared now.start) (held_all (length now.records) (log_of now) (each_weaker (λ w. w.number < length now.records + 1) (λ w. w.number ≤ length now.records) (λ w l. omega arith) (log_of now) below))
 
   -- a transaction that begins
-  pub begin_live : (read_only : Bool) → IsLive (with_begun now) (begun now.live.begun (length now.records) read_only (newest_tables now))
+  pub begin_live : (read_only : Bool) → IsLive (with_begun read_only now) (begun now.live.begun (length now.records) read_only (newest_tables now))
   begin_live read_only = record {
-    held = held_last now.live (length now.records);
+    held = held_last now.live (length now.records) read_only;
     declared_is = λ i. now.declared;
     within = omega arith;
     start_is = sym newest_at;

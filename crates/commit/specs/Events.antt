@@ -101,13 +101,13 @@ decided_core core session t (Committed number) = committed core session t
 decided_core core session t (Refused refusal) = refused_to core session t refusal
 decided_core core session t answer = core
 
-abbrev pub core_begun : CoreState → Option OpenTransaction → CoreState
-core_begun core None = with_begun core
-core_begun core (Some t) = core
+abbrev pub core_begun : CoreState → (read_only : Bool) → Option OpenTransaction → CoreState
+core_begun core read_only None = with_begun read_only core
+core_begun core read_only (Some t) = core
 
 abbrev pub core_after : CoreState → List ℕ → Event → Option OpenTransaction → Answer → CoreState
-core_after core session Begin txn answer = core_begun core txn
-core_after core session BeginReadOnly txn answer = core_begun core txn
+core_after core session Begin txn answer = core_begun core false txn
+core_after core session BeginReadOnly txn answer = core_begun core true txn
 core_after core session (Run statement) txn answer = core
 core_after core session Commit None answer = core
 core_after core session Commit (Some t) answer = decided_core core session t answer

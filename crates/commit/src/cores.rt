@@ -133,7 +133,7 @@ impl Core {
         ensures begun { IfOk result (λ txn.
             txn ≡ begun self.old.live.begun (length self.old.records) false (newest_tables self.old)) }
         ensures live { IfOk result (λ txn. IsLive self.new txn) }
-        ensures after { OnOk result (self.new ≡ with_begun self.old) }
+        ensures after { OnOk result (self.new ≡ with_begun false self.old) }
         ensures same { OnErr result (self.new ≡ self.old) }
     {
         self.begin_as(false)
@@ -148,7 +148,7 @@ impl Core {
         ensures begun { IfOk result (λ txn.
             txn ≡ begun self.old.live.begun (length self.old.records) true (newest_tables self.old)) }
         ensures live { IfOk result (λ txn. IsLive self.new txn) }
-        ensures after { OnOk result (self.new ≡ with_begun self.old) }
+        ensures after { OnOk result (self.new ≡ with_begun true self.old) }
         ensures same { OnErr result (self.new ≡ self.old) }
     {
         self.begin_as(true)
@@ -311,13 +311,14 @@ impl Core {
         self.order.as_slice()
     }
 
-    /// Whether a transaction with this ticket and this snapshot has begun and has not ended. It takes no memory.
-    pub fn holds(&self, ticket: u64, snapshot: u64) -> bool
-        ensures test { result ≡ is_held ticket snapshot self.now.live.snapshots }
-        ensures held { result ≡ true
-            → Contains self.now.live.snapshots (record { ticket = ticket; snapshot = snapshot }) }
+    /// Whether a transaction with this ticket and this snapshot, read only or not as is said, has begun and has not
+    /// ended. It takes no memory.
+    pub fn holds(&self, ticket: u64, snapshot: u64, read_only: bool) -> bool
+        ensures test { result ≡ is_held ticket snapshot read_only self.now.live.snapshots }
+        ensures held { result ≡ true → Contains self.now.live.snapshots
+            (record { ticket = ticket; snapshot = snapshot; read_only = read_only }) }
     {
-        self.live.holds(ticket, snapshot)
+        self.live.holds(ticket, snapshot, read_only)
     }
 
     /// The commit that is prepared, with the tables after it.
@@ -364,7 +365,7 @@ impl Core {
         ensures begun { IfOk result (λ txn.
             txn ≡ begun self.old.live.begun (length self.old.records) read_only (newest_tables self.old)) }
         ensures live { IfOk result (λ txn. IsLive self.new txn) }
-        ensures after { OnOk result (self.new ≡ with_begun self.old) }
+        ensures after { OnOk result (self.new ≡ with_begun read_only self.old) }
         ensures same { OnErr result (self.new ≡ self.old) }
     {
         let alloc = *self.records.allocator();
@@ -376,7 +377,7 @@ impl Core {
             read_only,
             &self.newest,
         )?;
-        if let Err(refusal) = self.live.begin(snapshot) {
+        if let Err(refusal) = self.live.begin(snapshot, read_only) {
             let_go(txn.abandon());
             return Err(refusal);
         }

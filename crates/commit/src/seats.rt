@@ -135,7 +135,7 @@ fn begin(core: &mut Core, seat: &mut Seat, read_only: bool) -> Result<Answer, Re
     ensures answered { IfOk result (λ answer. answer ≡ begin_answer core.old seat.old.txn) }
     ensures known { IfOk result (λ answer. found_no_memory answer ≡ false) }
     ensures takes { OnErr result (is_none seat.old.txn ≡ true) }
-    ensures commits { OnOk result (core.new ≡ core_begun core.old seat.old.txn) }
+    ensures commits { OnOk result (core.new ≡ core_begun core.old read_only seat.old.txn) }
     ensures seat { OnOk result (seat.new ≡ record seat.old { txn = txn_begun core.old read_only seat.old.txn }) }
     ensures same { OnErr result ((core.new ≡ core.old) × (seat.new ≡ seat.old)) }
     ensures live { HoldsOf (IsLive core.new) seat.new.txn }

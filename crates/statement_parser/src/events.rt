@@ -1,6 +1,5 @@
 //! Events.
 
-ghost use Rattle.statement_syntax.specs.Grammar.{begin_of};
 ghost use Rattle.statement_syntax.specs.Readers as reader;
 ghost use Rattle.token.specs.declared.kinds.Kind.TheVariants as k;
 ghost use Rattle.leaf_parser.specs.Reading as rd;
@@ -13,9 +12,9 @@ use std::alloc::Global;
 use token::Kind;
 
 /// `[READ ONLY]`, behind BEGIN.
-fn parse_begin(cursor: &mut Cursor<'_>) -> Result<Event, Stop>
-    ensures { Reads (rd.◌<$>◌ begin_of (rd.optional k.Read (rd.◌>>◌ (rd.expect k.Read) (rd.expect k.Only)))
-        cursor.old) result cursor.new }
+#[tactic(auto, unfolding(statement_syntax::specs::Readers::access))]
+fn parse_access(cursor: &mut Cursor<'_>) -> Result<Event, Stop>
+    ensures { Reads (reader.access cursor.old) result cursor.new }
 {
     if !cursor.is(Kind::Read) {
         return Ok(Event::Begin);
@@ -55,7 +54,7 @@ pub fn parse_event(alloc: Global, cursor: &mut Cursor<'_>, depth: usize) -> Resu
     match cursor.peek() {
         Kind::Begin => {
             cursor.take(Kind::Begin);
-            parse_begin(cursor)
+            parse_access(cursor)
         }
         Kind::Commit => {
             cursor.take(Kind::Commit);

@@ -69,10 +69,13 @@ verdict = token k.Verdict >> (s.Verdict <$> name)
 abbrev pub assignment_of : List ℕ → Assigned → Assignment
 assignment_of column value = record { column = column; value = value }
 
--- BEGIN, with READ ONLY behind it or without
+-- [READ ONLY], behind BEGIN
 abbrev pub begin_of : Option Lexeme → Event
 begin_of None = event.Begin
 begin_of (Some only) = event.BeginReadOnly
+
+unfoldable pub access : Language Event
+access = begin_of <$> optional (token k.Read >> token k.Only)
 
 module _ (inner : Language Found) where
   -- [WHERE cond]
@@ -109,7 +112,7 @@ module _ (inner : Language Found) where
   -- BEGIN [READ ONLY] | COMMIT [WORK] | ROLLBACK [WORK] | stmt
   unfoldable pub one_event : Language Event
   one_event =
-      (token k.Begin >> (begin_of <$> optional (token k.Read >> token k.Only)))
+      (token k.Begin >> access)
       ∪ (token k.Commit >> ((λ _. event.Commit) <$> optional (token k.Work)))
       ∪ (token k.Rollback >> ((λ _. event.Rollback) <$> optional (token k.Work)))
       ∪ (event.Run <$> statement)

@@ -61,6 +61,10 @@ set_constraints =
 unfoldable pub verdict : Reader Statement
 verdict = expect k.Verdict >> (s.Verdict <$> name)
 
+-- [READ ONLY], behind BEGIN
+unfoldable pub access : Reader Event
+access = begin_of <$> optional k.Read (expect k.Read >> expect k.Only)
+
 -- how many parentheses may be opened
 module _ (n : ℕ) where
   unfoldable pub columns : Reader (Option (List (List ℕ)))
@@ -110,7 +114,7 @@ module _ (n : ℕ) where
   statement = by_kind statement_by
 
   abbrev pub event_by : Kind → Reader Event
-  event_by k.Begin = expect k.Begin >> (begin_of <$> optional k.Read (expect k.Read >> expect k.Only))
+  event_by k.Begin = expect k.Begin >> access
   event_by k.Commit = expect k.Commit >> ((λ _. event.Commit) <$> optional k.Work (expect k.Work))
   event_by k.Rollback = expect k.Rollback >> ((λ _. event.Rollback) <$> optional k.Work (expect k.Work))
   event_by _ = event.Run <$> statement
