@@ -3,16 +3,17 @@
 ghost use Rattle.std.specs.Prelude.{List, ◌∷◌, IsPermutation};
 ghost use Rattle.serial.specs.declared.records.Record.{Record};
 ghost use Rattle.serial.specs.Commits.{IsLog, IsNext, IsAccepted};
-ghost use Rattle.serial.specs.Order.{serial_order, IsSerial, IsKept, IsFixed, IsPutIn};
+ghost use Rattle.serial.specs.Order.{serial_order, IsSerial, HasReadersPlaced, IsKept, IsFixed, IsPutIn};
 ghost use Rattle.serial.specs.Answer.{AreJudged, IsNumbered};
 ghost use Rattle.serial.specs.Epoch.{InEachEpoch, AreRecorded, AnswersAgain, EndsNewest, AreSound, InTurn};
 
 /// The order law: in the serial order of a log each commit stands once, after all that its snapshot holds, after the
-/// earlier writers of its rows, and before all to which it conflicts. One commit more leaves the others as they
-/// stood, and is put in just before the least to which it conflicts, or at the end.
+/// earlier writers of its rows, and before all to which it conflicts. One that is read only stands right behind the
+/// number of its snapshot. One commit more leaves the others as they stood, and is put in by its rank.
 pub fn commits_have_an_order()
     ensures once { (log : List Record) → IsLog log → IsPermutation log (serial_order log) }
     ensures serial { (log : List Record) → IsLog log → IsSerial log (serial_order log) }
+    ensures readers { (log : List Record) → IsLog log → HasReadersPlaced log (serial_order log) }
     ensures kept { (commit : Record) (earlier : List Record) → IsLog (commit ∷ earlier) → IsKept commit earlier }
     ensures fixed { (commit : Record) (earlier : List Record) → IsLog (commit ∷ earlier) → IsFixed commit earlier }
     ensures put_in { (commit : Record) (earlier : List Record) → IsLog (commit ∷ earlier) → IsPutIn commit earlier }

@@ -14,6 +14,8 @@ pub struct Record {
     pub number: u64,
     /// How many commits its snapshot holds.
     pub snapshot: u64,
+    /// Whether it began READ ONLY.
+    pub read_only: bool,
     /// The session that ran it.
     pub session: Text,
     /// Its statements, refused ones too, with their names found.
