@@ -1,6 +1,6 @@
 //! The committed transactions.
 
-ghost use Rattle.std.specs.Prelude.{◌≡◌, ◌≢◌, ◌≤◌, ◌<◌, ◌+◌, ◌++◌, ◌∷◌, [], ℕ, List, length, true, false, vec_capacity, vec_len, Contains, IfOk, IfErr, IfSome, IfNone, IsOkUnless, OnErr, OnOk, Ok, Err, None, Some};
+ghost use Rattle.std.specs.Prelude.{◌≡◌, ◌↔◌, ◌≢◌, ◌≤◌, ◌<◌, ◌+◌, ◌++◌, ◌∷◌, [], ℕ, List, length, true, false, vec_capacity, vec_len, Contains, IfOk, IfErr, IfSome, IfNone, IsOkUnless, OnErr, OnOk, Ok, Err, None, Some};
 ghost use Rattle.value.specs.declared.refusals.Refusal.TheVariants.{NoMemory};
 ghost use Rattle.txn.specs.Modes.{assertion_of};
 ghost use Rattle.siread.specs.Locks.{IsCount, above, readers_at};
@@ -13,11 +13,12 @@ ghost use Rattle.txn.specs.Transactions.{begun, truth_of};
 ghost use Rattle.commit.specs.Cores.{IsCommitAnswer, IsLive, IsSerializable, IsUncommitted, committed, ended, finished, locks_of, log_of, newest_tables, order_of, pending_txn, record_of, unprepared, with_begun, with_commit, with_prepared};
 ghost use Rattle.commit.specs.Decisions.{IsDecision, IsJudgment};
 ghost use Rattle.commit.specs.Runs.{empty_core};
+ghost use Rattle.commit.specs.Safe.{IsSafeReader};
 
 use crate::decisions::{Decision, refuse_for_triple, refuse_for_writer};
 use crate::prepared::{Prepared, give_up};
 use answer::RefusedCommit;
-use conflict::{Candidate, Verdict, judge, put_in_order};
+use conflict::{Candidate, Verdict, is_safe, judge, put_in_order};
 use delta::View;
 use live::Live;
 use serial::{Record, commits_have_an_order, replay_answers_again};
@@ -226,7 +227,13 @@ impl Core {
         let snapshot = closed.snapshot();
         let read_only = closed.is_read_only();
         let record = record_of(number, snapshot, read_only, session, closed.into_parts());
-        put_in_order(&mut self.order, place, number);
+        put_in_order(
+            &mut self.order,
+            self.records.as_slice(),
+            self.places.as_slice(),
+            &record,
+            place,
+        );
         self.places.push_reserved(place);
         self.reaches.push_reserved(record.reach());
         self.records.push_reserved(record);
@@ -319,6 +326,23 @@ impl Core {
             (record { ticket = ticket; snapshot = snapshot; read_only = read_only }) }
     {
         self.live.holds(ticket, snapshot, read_only)
+    }
+
+    /// Whether an open transaction is safe: it is read only, and is never refused any more for what others read and wrote
+    /// (`safe_readers_are_never_refused`). It takes no memory.
+    pub fn is_safe(&self, txn: &Txn) -> bool
+        requires live { IsLive self.now txn.now }
+        requires idle { self.now.prepared ≡ None }
+        ensures { (result ≡ true) ↔ IsSafeReader self.now txn.now }
+    {
+        let snapshot = txn.snapshot();
+        txn.is_read_only()
+            && (self.live.writers_hold(snapshot)
+                && is_safe(
+                    self.records.as_slice(),
+                    self.places.as_slice(),
+                    snapshot,
+                ))
     }
 
     /// The commit that is prepared, with the tables after it.

@@ -14,3 +14,4 @@ pub mod Turned
 pub mod Snapshots
 pub mod Kept
 pub mod Alike
+pub mod Safe

@@ -1,5 +1,8 @@
 //! Committed transactions.
 
+ghost use Rattle.std.specs.Prelude.{◌≡◌};
+ghost use Rattle.serial.specs.Commits.{reach};
+
 use alone::Resolved;
 use siread::LockKey;
 use sqlite_items::Items;
@@ -24,4 +27,18 @@ pub struct Record {
     pub reads: Items<LockKey>,
     /// Its net change, by table and key.
     pub changes: Items<Change>,
+}
+
+impl Record {
+    /// The last number that may stand before it in the serial order: that of its snapshot where it is read only, else
+    /// its own.
+    pub fn reach(&self) -> u64
+        ensures { result ≡ reach self.now }
+    {
+        if self.read_only {
+            self.snapshot
+        } else {
+            self.number
+        }
+    }
 }

@@ -40,6 +40,7 @@ returns-in-Fine-clause-judged c = λ session.
     (c.in-Fine.ensures (record_of now session c.args.closed.now) (record {
       number = ap (λ (records : List Record). length records + 1) c.as_slice-records.ensures.value;
       snapshot = c.snapshot.ensures;
+      read_only = c.is_read_only.ensures;
       reads = c.reads.ensures;
       changes = c.changes-changes.ensures.net;
     }))))
@@ -51,6 +52,7 @@ refuse_for_writer-requires-clause-within c =
     let at = c.in-WriteConflict.ensures (record_of now [] c.args.closed.now) (record {
       number = ap (λ (records : List Record). length records + 1) c.as_slice-records.ensures.value;
       snapshot = c.snapshot.ensures;
+      read_only = c.is_read_only.ensures;
       reads = c.reads.ensures;
       changes = c.changes-changes.ensures.net;
     }) in
@@ -75,6 +77,7 @@ returns-in_ok-refusal-in-WriteConflict-clause-judged c = λ session.
     (c.in-WriteConflict.ensures (record_of now session c.args.closed.now) (record {
       number = ap (λ (records : List Record). length records + 1) c.as_slice-records.ensures.value;
       snapshot = c.snapshot.ensures;
+      read_only = c.is_read_only.ensures;
       reads = c.reads.ensures;
       changes = c.changes-changes.ensures.net;
     })))
@@ -92,6 +95,7 @@ returns-in-Dangerous-clause-judged c = λ session.
     (c.in-Dangerous.ensures (record_of now session c.args.closed.now) (record {
       number = ap (λ (records : List Record). length records + 1) c.as_slice-records.ensures.value;
       snapshot = c.snapshot.ensures;
+      read_only = c.is_read_only.ensures;
       reads = c.reads.ensures;
       changes = c.changes-changes.ensures.net;
     }))))

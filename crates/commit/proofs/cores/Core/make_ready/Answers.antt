@@ -28,6 +28,6 @@ invariant_of-self-in-Err-put c =
     let locks = locks_idle now c.self.inside.newest c.self.inside.places.items c.self.inside.reaches.items c.self.inside.order.items (readers_at c.self.inside.locks) Room c.self.inside.prepared idle c.self.invariant in
     let made : now ≡ idle_core c.self.inside.limit c.self.inside.loaded c.make_room.new.records.items c.self.inside.refused.items c.self.inside.live
     = λ i. idle_core c.self.inside.limit c.self.inside.loaded (sym c.make_room.ensures.records i) c.self.inside.refused.items c.self.inside.live in
-    kept_idle _ c.self.inside.newest c.make_room.new.places.items c.make_room.new.order.items (readers_at c.put.new.self) _ c.self.inside.prepared idle
-    (same_core now _ c.self.inside.newest c.self.inside.newest c.self.inside.places.items _ c.self.inside.order.items _ made (λ i. c.self.inside.newest) (sym c.make_room.ensures.places) (sym c.make_room.ensures.order) c.self.invariant.0)
+    kept_idle _ c.self.inside.newest c.make_room.new.places.items c.make_room.new.reaches.items c.make_room.new.order.items (readers_at c.put.new.self) _ c.self.inside.prepared idle
+    (same_core now _ c.self.inside.newest c.self.inside.newest c.self.inside.places.items _ c.self.inside.reaches.items _ c.self.inside.order.items _ made (λ i. c.self.inside.newest) (sym c.make_room.ensures.places) (sym c.make_room.ensures.reaches) (sym c.make_room.ensures.order) c.self.invariant.0)
     (c.in-Err-put.ensures.unchanged ∙ locks ∙ (λ i. reads_kept (made i)))
