@@ -1,7 +1,6 @@
 -- Of a key's readers, which ascend, the last that reaches so far is the greatest that does.
 use Rattle.std.proofs.Common.{◌≡◌, ℕ, ◌<◌, ◌≤◌, Bool, true, false, cond, ltb, leb, List, [], ◌∷◌, ◌++◌, inl, inr, ◌⊎◌, refl, sym, subst, arith, ltb-true}
 use Rattle.std.specs.Prelude.{Contains, ⊤}
-use Rattle.std.specs.List.{AllByRecursion}
 use mathlib.Core.List.{reverse, reverse-cons}
 use Rattle.std.proofs.lemmas.Bool.{leb-true, leb-false}
 use Rattle.std.proofs.lemmas.List.Elements.{All-contains, All-from_recursion, Contains-append_left, Contains-append_right}

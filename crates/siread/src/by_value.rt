@@ -108,7 +108,7 @@ impl ByValue {
     {
         self.readers.retain(
             |_value, readers|
-                ensures kept { readers.new ≡ filter (reaches_above low reaches.now) readers.old }
+                ensures kept { readers.new ≡ filter (reaches_above low reaches.entry.now) readers.old }
                 ensures some { result ≡ not (is_none readers.new) }
             { readers.keeps_some_reaching(low, reaches) },
         );

@@ -191,7 +191,7 @@ fn keep_reaching(families: &mut BTreeMap<Family, ByValue>, low: u64, reaches: &[
 {
     families.retain(
         |_family, readers|
-            ensures kept { readers_of readers.new ≡ reaching_each low reaches.now (readers_of readers.old) }
+            ensures kept { readers_of readers.new ≡ reaching_each low reaches.entry.now (readers_of readers.old) }
             ensures some { result ≡ not (is_no_entry readers.new) }
         { readers.keeps_some_reaching(low, reaches) },
     );
