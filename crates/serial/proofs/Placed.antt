@@ -4,7 +4,7 @@ use Rattle.std.specs.Prelude.{Contains}
 use Rattle.std.proofs.lemmas.Bool.{cases_Bool, cases_lt}
 use Rattle.serial.specs.declared.records.Record.{Record}
 use Rattle.serial.specs.Commits.{IsLog}
-use Rattle.serial.specs.Order.{least_out, rank, sort_by, serial_order, Before, HasReadersPlaced}
+use Rattle.serial.specs.Order.{least_out, rank, sort_by, serial_order, Before, StandBySnapshot}
 use Rattle.alone.proofs.Lists.{Each, Pairs, each_weaker, each_both, each_left, pairs_put}
 use Rattle.serial.proofs.Arranged.{arranges_in, arranges_each, before_pairs, one_is_before}
 use Rattle.serial.proofs.Ranks.{Insertion, insertion, ascends, sorted_arranges, log_falls}
@@ -43,14 +43,15 @@ stands_before log h a b ma mb p =
     ]
 
 reader_rank : (log : List Record) (r : Record) → r.read_only ≡ true → rank log r ≡ 3 * r.snapshot + 2
-reader_rank log r e = ap (λ b. cond b (3 * r.snapshot + 2) (cond (eqb (least_out log r) r.number) (3 * r.number + 1) (3 * least_out log r))) e
+reader_rank log r e =
+    ap (λ b. cond b (3 * r.snapshot + 2) (cond (eqb (least_out log r) r.number) (3 * r.number + 1) (3 * least_out log r))) e
 
 -- the rank of another is three times its place, or one more
-record IsPlaced (log : List Record) (a : Record) : Type 0 where
+record IsRankOf (log : List Record) (a : Record) : Type 0 where
   pub low : 3 * least_out log a ≤ rank log a
   pub high : rank log a ≤ 3 * least_out log a + 1
 
-other_rank : (log : List Record) (a : Record) → a.read_only ≡ false → IsPlaced log a
+other_rank : (log : List Record) (a : Record) → a.read_only ≡ false → IsRankOf log a
 other_rank log a e =
     let placed : rank log a ≡ cond (eqb (least_out log a) a.number) (3 * a.number + 1) (3 * least_out log a)
     = ap (λ b. cond b (3 * a.snapshot + 2) (cond (eqb (least_out log a) a.number) (3 * a.number + 1) (3 * least_out log a))) e in
@@ -62,7 +63,7 @@ other_rank log a e =
       | inr moved ↦ (let is = placed ∙ ap (λ b. cond b (3 * a.number + 1) (3 * least_out log a)) moved in record { low = omega arith; high = omega arith })
     ]
 
-pub readers_placed : (log : List Record) → IsLog log → HasReadersPlaced log (serial_order log)
+pub readers_placed : (log : List Record) → IsLog log → StandBySnapshot log (serial_order log)
 readers_placed log h = record {
   behind = λ a r ma mr ea er l. let x = other_rank log a ea in let y = reader_rank log r er in stands_before log h a r ma mr (inl (omega (arith, x.high)));
   before = λ r a mr ma er ea l. let x = other_rank log a ea in let y = reader_rank log r er in stands_before log h r a mr ma (inl (omega (arith, x.low)));

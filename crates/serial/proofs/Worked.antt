@@ -9,8 +9,8 @@ use Rattle.serial.specs.Numbers.{is_pivot, is_reader, greatest_in}
 use Rattle.serial.specs.Order.{serial_order}
 
 -- a row put into a table
-abbrev written : ℕ → Change
-written table = record { table = table; key = Null; old = None; new = Some [] }
+abbrev one_row : ℕ → Change
+one_row table = record { table = table; key = Null; old = None; new = Some [] }
 
 -- a commit that reads some tables and writes others
 abbrev commit : (number snapshot : ℕ) → Bool → (reads writes : List ℕ) → Record
@@ -21,7 +21,7 @@ commit number snapshot read_only reads writes = record {
   session = [];
   trace = [];
   reads = map WholeTable reads;
-  changes = map written writes;
+  changes = map one_row writes;
 }
 
 abbrev numbers : List Record → List ℕ

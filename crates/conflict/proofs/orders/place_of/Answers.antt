@@ -1,0 +1,1 @@
+use Rattle.conflict.proofs.orders.place_of.Goals as goal
