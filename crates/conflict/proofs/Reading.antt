@@ -1,7 +1,8 @@
 -- The greatest reader of what a candidate changes, of those that reach its least conflict out, is the greatest commit
 -- that conflicts to it and reaches so far.
-use Rattle.std.proofs.Common.{◌≡◌, ℕ, zero, suc, ◌-◌, ◌<◌, ◌≤◌, true, List, [], ◌∷◌, ◌++◌, filter, get_or, map, length, nat_lt, inl, inr, refl, sym, ap, ◌∙◌, subst, arith, lt-ltb}
+use Rattle.std.proofs.Common.{◌≡◌, ℕ, zero, suc, ◌-◌, ◌<◌, ◌≤◌, true, List, [], ◌∷◌, ◌++◌, filter, get_or, map, length, inl, inr, refl, sym, ap, ◌∙◌, subst, arith, lt-ltb}
 use Rattle.std.specs.Prelude.{Contains}
+use mathlib.Core.Bool.{true≢false}
 use mathlib.Core.List.{reverse, reverse-cons}
 use Rattle.std.proofs.lemmas.Bool.{and_parts, cases_lt}
 use Rattle.std.proofs.lemmas.List.{get_or_append_left, get_or_past, length-map, length-reverse, length_push, map_push}
@@ -9,7 +10,7 @@ use Rattle.std.proofs.Math.Seq.{get_or-append_seam}
 use Rattle.siread.specs.declared.keys.LockKey.{LockKey}
 use Rattle.siread.specs.Keys.{same_key}
 use Rattle.siread.specs.Locks.{Reads, IsGreatestReader, touch}
-use Rattle.siread.specs.Readers.{ReachNoFurther, reach_of}
+use Rattle.siread.specs.Readers.{ReachNoFurther, reach_of, reaches_above}
 use Rattle.siread.proofs.KeyOrder.{same_key-true, same_key-refl}
 use Rattle.siread.proofs.Members.{in_head}
 use Rattle.alone.proofs.Lists.{each_at}
@@ -34,15 +35,27 @@ touches_some : (c w : Record) (key : LockKey) → Contains w.reads key → touch
 unfolding touch_any
 touches_some c w key m touched = any_from (touch c.changes) w.reads key m touched
 
-module _ (commits : List Record) (reads : Reads) (c : Record) (next : IsNext c (reverse commits)) (has : HasReaders reads commits c.snapshot) where
-  -- a commit after the snapshot stands under each key that it read
-  stands : (w : Record) (key : LockKey) → Contains commits w → Contains w.reads key → c.snapshot < w.number → Contains (reads key) w.number
-  stands w key m k after =
+module _ (commits : List Record) (reads : Reads) (c : Record) (next : IsNext c (reverse commits)) (has : HasReaders reads (map reach commits) commits c.snapshot) where
+  -- how far a commit reaches stands at its number
+  reach_is : (w : Record) → Contains (reverse commits) w → reach_of (map reach commits) w.number ≡ reach w
+  reach_is w m = go w.number refl
+    where
+      go : (n : ℕ) → n ≡ w.number → reach_of (map reach commits) n ≡ reach w
+      go zero e = (let s = (clean (reverse commits) next.accepted).snapshots w m in absurd (omega (arith, e, s)))
+      go (suc before) e =
+          let is : before ≡ w.number - 1 = omega (arith, e) in
+          ap (λ i. get_or (map reach commits) i 0) is ∙ kept_at reach commits next.accepted w m 0
+
+  -- a commit that reaches past the snapshot stands under each key that it read
+  stands : (w : Record) (key : LockKey) → Contains commits w → Contains w.reads key → c.snapshot < reach w → Contains (reads key) w.number
+  stands w key m k past =
       let read : has_read key w ≡ true = any_from (same_key key) w.reads key k (same_key-refl key) in
       let listed : Contains (reads_of commits key) w.number = in_map (λ (r : Record). r.number) (filter (has_read key) commits) w (in_filter (has_read key) commits w read m) in
       let low = has.within in
+      let is = reach_is w (in_turned commits w m) in
       subst (λ (rs : Reads). Contains (rs key) w.number) (sym has.are)
-      (in_filter (nat_lt has.low) (reads_of commits key) w.number (lt-ltb has.low w.number (omega (arith, low, after))) listed)
+      (in_filter (reaches_above has.low (map reach commits)) (reads_of commits key) w.number
+      (lt-ltb has.low (reach_of (map reach commits) w.number) (omega (arith, low, is, past))) listed)
 
   -- and who stands there is a commit that read it
   pub record IsReader (key : LockKey) (number : ℕ) : Type 0 where
@@ -53,7 +66,7 @@ module _ (commits : List Record) (reads : Reads) (c : Record) (next : IsNext c (
 
   reader : (key : LockKey) (number : ℕ) → Contains (reads key) number → IsReader key number
   reader key number m =
-      let all = from_filter (nat_lt has.low) (reads_of commits key) number (subst (λ (rs : Reads). Contains (rs key) number) has.are m) in
+      let all = from_filter (reaches_above has.low (map reach commits)) (reads_of commits key) number (subst (λ (rs : Reads). Contains (rs key) number) has.are m) in
       let found = from_map (λ (r : Record). r.number) (filter (has_read key) commits) number all in
       let k = any_met (same_key key) found.0.reads (filter_passes (has_read key) commits found.0 found.1.0) in
       record {
@@ -62,16 +75,6 @@ module _ (commits : List Record) (reads : Reads) (c : Record) (next : IsNext c (
         numbered = found.1.1;
         read = subst (Contains found.0.reads) (sym (same_key-true key k.0 k.2)) k.1;
       }
-
-  -- each reaches no further than its number
-  reach_is : (w : Record) → Contains (reverse commits) w → reach_of (map reach commits) w.number ≡ reach w
-  reach_is w m = go w.number refl
-    where
-      go : (n : ℕ) → n ≡ w.number → reach_of (map reach commits) n ≡ reach w
-      go zero e = (let s = (clean (reverse commits) next.accepted).snapshots w m in absurd (omega (arith, e, s)))
-      go (suc before) e =
-          let is : before ≡ w.number - 1 = omega (arith, e) in
-          ap (λ i. get_or (map reach commits) i 0) is ∙ kept_at reach commits next.accepted w m 0
 
   -- the candidate's least conflict out is after its snapshot
   least_after : c.snapshot < c.number → c.snapshot < least_out (reverse commits) c
@@ -98,11 +101,12 @@ module _ (commits : List Record) (reads : Reads) (c : Record) (next : IsNext c (
       (conflict_from w c (λ e. omega (arith, e, small, last)) (omega (arith, reaches, high, after)) (omega (arith, snap, small, last)) (touches_some c w key r.read touched)) reaches in
       omega (arith, l, is)
 
-  up_to : (greatest : ℕ) → IsGreatestReader reads c.changes (least_out (reverse commits) c) (map reach commits) greatest
+  up_to : c.snapshot < c.number → (greatest : ℕ) → IsGreatestReader reads c.changes (least_out (reverse commits) c) (map reach commits) greatest
       → (w : Record) → Contains (reverse commits) w → conflicts_to w c ≡ true → least_out (reverse commits) c ≤ reach w → w.number ≤ greatest
-  up_to greatest g w m h l =
+  up_to began greatest g w m h l =
       let key = touched_by c w h in
-      g.all key.0 w.number key.2 (stands w key.0 (from_turned commits w m) key.1 (conflict_overlaps w c h).first)
+      let after = least_after began in
+      g.all key.0 w.number key.2 (stands w key.0 (from_turned commits w m) key.1 (omega (arith, after, l)))
       (subst (λ n. least_out (reverse commits) c ≤ n) (sym (reach_is w m)) l)
 
   pub greatest_found : c.snapshot < c.number → (greatest : ℕ)
@@ -114,9 +118,18 @@ module _ (commits : List Record) (reads : Reads) (c : Record) (next : IsNext c (
       ] in
       let low : greatest_in (reverse commits) c ≤ greatest = elim (greatest_in_met (least_out (reverse commits) c) (reverse commits) c) [
         | inl none ↦ omega (arith, none)
-        | inr x ↦ (let l = up_to greatest g x.0 x.1 x.2 x.3 in omega (arith, l, x.4))
+        | inr x ↦ (let l = up_to began greatest g x.0 x.1 x.2 x.3 in omega (arith, l, x.4))
       ] in
       omega (arith, high, low)
+
+-- none conflicts to one that changes nothing
+pub none_conflict : (log : List Record) (c : Record) → c.changes ≡ [] → 0 ≡ greatest_in log c
+none_conflict log c nothing = elim (greatest_in_met (least_out log c) log c) [
+  | inl none ↦ sym none
+  | inr x ↦
+      let key = touched_by c x.0 x.2 in
+      absurd (true≢false (sym (subst (λ changes. touch changes key.0 ≡ true) nothing key.2)))
+]
 
 -- none reaches further than its number
 far_at : (log : List Record) → IsLog log → (at : ℕ) → get_or (map reach (reverse log)) at 0 ≤ suc at
