@@ -31,53 +31,62 @@ reads_more commits c = λ i key.
     ∙ go (has_read key c)) i
 
 -- all that read have numbers below the next
-all_below : (commits : List Record) (number : ℕ) → Each (λ (w : Record). w.number < number) (reverse commits) → AreBelow number (reads_of commits)
+all_below : (commits : List Record) (number : ℕ) → Each (λ (w : Record). w.number < number) (reverse commits)
+    → AreBelow number (reads_of commits)
 all_below commits number below = λ key reader m.
     All-contains (λ n. n < number) (reads_of commits key) reader
     (All-map (λ n. n < number) (λ (r : Record). r.number) (filter (has_read key) commits)
     (All-filter (has_read key) (λ (r : Record). r.number < number) commits
-    (All-from_recursion (λ (r : Record). r.number < number) commits (each_turned (λ (r : Record). r.number < number) commits below)))) m
+    (All-from_recursion (λ (r : Record). r.number < number) commits
+    (each_turned (λ (r : Record). r.number < number) commits below)))) m
 
-pub reads_below : (commits : List Record) (number low : ℕ) (reaches : List ℕ) → Each (λ (w : Record). w.number < number) (reverse commits)
-    → AreBelow number (reaching low reaches (reads_of commits))
+pub reads_below : (commits : List Record) (number low : ℕ) (reaches : List ℕ)
+    → Each (λ (w : Record). w.number < number) (reverse commits) → AreBelow number (reaching low reaches (reads_of commits))
 reads_below commits number low reaches below = λ key reader m.
     all_below commits number below key reader (from_filter (reaches_above low reaches) (reads_of commits key) reader m)
 
--- let go twice, the second time all that were let go the first time, and more
-filter_twice : (early late : ℕ → Bool) (xs : List ℕ) → ((x : ℕ) → Contains xs x → late x ≡ true → early x ≡ true) → filter late (filter early xs) ≡ filter late xs
-filter_twice early late [] more = refl
-filter_twice early late (x ∷ xs) more =
-    go (filter_twice early late xs (λ y m. more y (in_tail x xs y m))) (more x (in_head x xs)) (early x) refl
+-- some are let go twice, and who stays the second time would have stayed the first time
+filter_twice : (early late : ℕ → Bool) (xs : List ℕ)
+    → ((x : ℕ) → Contains xs x → late x ≡ true → early x ≡ true) → filter late (filter early xs) ≡ filter late xs
+filter_twice early late [] stayed = refl
+filter_twice early late (x ∷ xs) stayed =
+    go (filter_twice early late xs (λ y m. stayed y (in_tail x xs y m))) (stayed x (in_head x xs)) (early x) refl
   where
-    go : filter late (filter early xs) ≡ filter late xs → (late x ≡ true → early x ≡ true) → (b : Bool) → early x ≡ b
-        → filter late (cond b (x ∷ filter early xs) (filter early xs)) ≡ filter late (x ∷ xs)
+    go : filter late (filter early xs) ≡ filter late xs → (late x ≡ true → early x ≡ true)
+        → (b : Bool) → early x ≡ b → filter late (cond b (x ∷ filter early xs) (filter early xs)) ≡ filter late (x ∷ xs)
     go rest here true e = ap (λ those. cond (late x) (x ∷ those) those) rest
     go rest here false e = elim (cases_Bool (late x)) [
       | inl stays ↦ absurd (both_ways (early x) e (here stays))
       | inr goes ↦ rest ∙ sym (ap (λ b. cond b (x ∷ filter late xs) (filter late xs)) goes)
     ]
 
--- the second time by a number that is no less
-pub reaching_twice : (low high : ℕ) (reaches : List ℕ) → low ≤ high → (reads : Reads) → reaching high reaches (reaching low reaches reads) ≡ reaching high reaches reads
+-- the second time those that do not reach above a number that is no less
+pub reaching_twice : (low high : ℕ) (reaches : List ℕ) → low ≤ high → (reads : Reads)
+    → reaching high reaches (reaching low reaches reads) ≡ reaching high reaches reads
 reaching_twice low high reaches h reads = λ i key.
     filter_twice (reaches_above low reaches) (reaches_above high reaches) (reads key)
-    (λ reader m stays. let past = ltb-true high (reach_of reaches reader) stays in lt-ltb low (reach_of reaches reader) (omega (arith, h, past))) i
+    (λ reader m stays.
+    let past = ltb-true high (reach_of reaches reader) stays in
+    lt-ltb low (reach_of reaches reader) (omega (arith, h, past))) i
 
--- one commit more is said to reach so far, and how far those before it reach stays
-reach_before : (reaches : List ℕ) (far reader : ℕ) → reader < length reaches + 1 → reach_of (reaches ++ far ∷ []) reader ≡ reach_of reaches reader
+-- how far those reach that are there stays as one more is put behind them
+reach_before : (reaches : List ℕ) (far reader : ℕ) → reader < length reaches + 1
+    → reach_of (reaches ++ far ∷ []) reader ≡ reach_of reaches reader
 reach_before reaches far zero before = refl
 reach_before reaches far (suc at) before = get_or_append_left reaches (far ∷ []) 0 at (omega (arith, before))
 
-still_above : (low high far : ℕ) (reaches : List ℕ) → low ≤ high → (reader : ℕ) → reader < length reaches + 1
+stayed_above : (low high far : ℕ) (reaches : List ℕ) → low ≤ high → (reader : ℕ) → reader < length reaches + 1
     → reaches_above high (reaches ++ far ∷ []) reader ≡ true → reaches_above low reaches reader ≡ true
-still_above low high far reaches h reader before stays =
+stayed_above low high far reaches h reader before stays =
     let past = ltb-true high (reach_of (reaches ++ far ∷ []) reader) stays in
     let is = reach_before reaches far reader before in
     lt-ltb low (reach_of reaches reader) (omega (arith, h, past, is))
 
--- let go, then a reader is put, and then let go with its reach
-pub reaching_put : (low high number far : ℕ) (reaches : List ℕ) (keys : List LockKey) → low ≤ high → (reads : Reads) → AreBelow (length reaches + 1) reads
-    → reaching high (reaches ++ far ∷ []) (with_reader number keys (reaching low reaches reads)) ≡ reaching high (reaches ++ far ∷ []) (with_reader number keys reads)
+-- some are let go, a reader is put, and then, where it is known how far that one reaches, some are let go again
+pub reaching_put : (low high number far : ℕ) (reaches : List ℕ) (keys : List LockKey) → low ≤ high
+    → (reads : Reads) → AreBelow (length reaches + 1) reads
+    → reaching high (reaches ++ far ∷ []) (with_reader number keys (reaching low reaches reads))
+    ≡ reaching high (reaches ++ far ∷ []) (with_reader number keys reads)
 reaching_put low high number far reaches keys h reads below = λ i key. at key i
   where
     late : ℕ → Bool
@@ -87,26 +96,33 @@ reaching_put low high number far reaches keys h reads below = λ i key. at key i
     kept key = reaching low reaches reads key
 
     twice : (key : LockKey) → filter late (kept key) ≡ filter late (reads key)
-    twice key = filter_twice (reaches_above low reaches) late (reads key) (λ reader m stays. still_above low high far reaches h reader (below key reader m) stays)
+    twice key =
+        filter_twice (reaches_above low reaches) late (reads key)
+        (λ reader m stays. stayed_above low high far reaches h reader (below key reader m) stays)
 
-    go : (key : LockKey) (b : Bool) → filter late (cond b (kept key ++ number ∷ []) (kept key)) ≡ filter late (cond b (reads key ++ number ∷ []) (reads key))
+    go : (key : LockKey) (b : Bool) → filter late (cond b (kept key ++ number ∷ []) (kept key))
+        ≡ filter late (cond b (reads key ++ number ∷ []) (reads key))
     go key true =
         filter-append late (kept key) (number ∷ []) ∙ ap (λ xs. xs ++ filter late (number ∷ [])) (twice key)
         ∙ sym (filter-append late (reads key) (number ∷ []))
     go key false = twice key
 
-    at : (key : LockKey) → reaching high (reaches ++ far ∷ []) (with_reader number keys (reaching low reaches reads)) key
+    at : (key : LockKey)
+        → reaching high (reaches ++ far ∷ []) (with_reader number keys (reaching low reaches reads)) key
         ≡ reaching high (reaches ++ far ∷ []) (with_reader number keys reads) key
     at key = go key (list_any (same_key key) keys)
 
--- a commit more: let go of the readers before it, with it put, are those of all
-pub reaching_more : (low high : ℕ) (commits : List Record) (c : Record) → low ≤ high → Each (λ (w : Record). w.number < length commits + 1) (reverse commits)
-    → reaching high (map reach (commits ++ c ∷ [])) (with_reader c.number c.reads (reaching low (map reach commits) (reads_of commits)))
+-- so of the readers that were kept before a commit, and it, the same stay as of all
+pub reaching_more : (low high : ℕ) (commits : List Record) (c : Record) → low ≤ high
+    → Each (λ (w : Record). w.number < length commits + 1) (reverse commits)
+    → reaching high (map reach (commits ++ c ∷ []))
+    (with_reader c.number c.reads (reaching low (map reach commits) (reads_of commits)))
     ≡ reaching high (map reach (commits ++ c ∷ [])) (reads_of (commits ++ c ∷ []))
 reaching_more low high commits c h below =
     let longer : map reach (commits ++ c ∷ []) ≡ map reach commits ++ reach c ∷ [] = map_push reach commits c in
     let number : length commits ≡ length (map reach commits) = sym (length-map commits reach) in
-    (λ i. reaching high (longer i) (with_reader c.number c.reads (reaching low (map reach commits) (reads_of commits))))
+    let before = reaching low (map reach commits) (reads_of commits) in
+    (λ i. reaching high (longer i) (with_reader c.number c.reads before))
     ∙ reaching_put low high c.number (reach c) (map reach commits) c.reads h (reads_of commits)
     (subst (λ n. AreBelow (n + 1) (reads_of commits)) number (all_below commits (length commits + 1) below))
     ∙ (λ i. reaching high (sym longer i) (sym (reads_more commits c) i))

@@ -13,8 +13,8 @@ has_read key commit = list_any (same_key key) commit.reads
 abbrev pub reads_of : List Record → Reads
 reads_of commits key = map (λ (commit : Record). commit.number) (filter (has_read key) commits)
 
--- These are the readers of these commits, but for those that reach no further than a number that is at most the snapshot.
--- `reaches` says how far each commit reaches.
+-- These are the readers of these commits, but for those that reach no further than a number that is at most the
+-- snapshot. `reaches` says how far each commit reaches.
 pub record HasReaders (reads : Reads) (reaches : List ℕ) (commits : List Record) (snapshot : ℕ) : Type 0 where
   pub low : ℕ
   pub within : low ≤ snapshot

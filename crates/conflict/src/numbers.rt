@@ -39,8 +39,8 @@ fn least_with(other: &Record, candidate: &Candidate, least: u64) -> u64
 }
 
 /// The greatest of those that conflict to the candidate and reach the least to which it conflicts, 0 where there is
-/// none. Of those who read what it changes, all that reach so far reach past its snapshot. To one that is read only none
-/// conflicts, so who read what is not asked for.
+/// none. Of those who read what it changes, all that reach so far reach past its snapshot. To one that is read only
+/// none conflicts, so who read what is not asked for.
 pub fn greatest_in(locks: &LockTable, reaches: &[u64], least: u64, candidate: &Candidate) -> u64
     requires no_further { ReachNoFurther reaches.now }
     requires after_snapshot { candidate.now.snapshot < candidate.now.number }

@@ -30,8 +30,8 @@ pub enum Verdict {
 
 /// What the next candidate is answered by those committed: a write conflict, else a dangerous triple, else that it may
 /// join them. `places` are the least conflicts out of those committed, each kept since that one was judged, and
-/// `reaches` says how far each reaches; `locks` says who of them read what, of those that reach above a number that is at
-/// most the candidate's snapshot. One that is read only changes nothing, so that who read what need not be known for it.
+/// `reaches` says how far each reaches; `locks` says who of them read what, of those that reach above a number that is
+/// at most the candidate's snapshot. One that is read only changes nothing, so who read what need not be known for it.
 /// It takes no memory.
 pub fn judge(
     committed: &[Record],

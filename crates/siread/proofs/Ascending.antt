@@ -64,5 +64,6 @@ put_ascends number key reads a below = changed_ascends key (with_last number) re
 pub taken_ascends : (number : ℕ) (key : LockKey) (reads : Reads) → AreAscending reads → AreAscending (changed_at key (left_out number) reads)
 taken_ascends number key reads a = changed_ascends key (left_out number) reads a (filter_ascends _ (reads key) (a key))
 
-pub trimmed_ascends : (low : ℕ) (reaches : List ℕ) (reads : Reads) → AreAscending reads → AreAscending (reaching low reaches reads)
+pub trimmed_ascends : (low : ℕ) (reaches : List ℕ) (reads : Reads) → AreAscending reads
+    → AreAscending (reaching low reaches reads)
 trimmed_ascends low reaches reads a key = filter_ascends (reaches_above low reaches) (reads key) (a key)

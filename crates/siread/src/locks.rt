@@ -115,8 +115,8 @@ impl LockTable {
         }
     }
 
-    /// Keeps the readers alone that reach above a number, of all keys. How far a reader reaches stands in `reaches`, from
-    /// the number 1 on; past its end that is 0. It takes no memory.
+    /// Keeps the readers alone that reach above a number, of all keys. How far a reader reaches stands in `reaches`,
+    /// from the number 1 on; past its end that is 0. It takes no memory.
     pub fn trim(&mut self, low: u64, reaches: &[u64])
         ensures { readers_at self.new ≡ reaching low reaches.now (readers_at self.old) }
     {

@@ -10,11 +10,15 @@ pub returns : goal.returns
 returns c = λ commits next has reaches least.
     let reads = readers_at c.args.locks.now in
     let changes = c.args.candidate.now.changes.now in
-    let known = subst (λ far. HasReaders reads far commits c.args.candidate.now.snapshot) reaches (has c.if-candidate.false) in
-    greatest_found commits reads (record_of c.args.candidate.now) next known c.requires.after_snapshot c.greatest_reader.result
+    let known = subst (λ far. HasReaders reads far commits c.args.candidate.now.snapshot) reaches
+    (has c.if-candidate.false) in
+    greatest_found commits reads (record_of c.args.candidate.now) next known
+    c.requires.after_snapshot c.greatest_reader.result
     (subst (λ n. IsGreatestReader reads changes n (map reach commits) c.greatest_reader.result) least
-    (subst (λ far. IsGreatestReader reads changes c.args.least far c.greatest_reader.result) reaches c.greatest_reader.ensures))
+    (subst (λ far. IsGreatestReader reads changes c.args.least far c.greatest_reader.result) reaches
+    c.greatest_reader.ensures))
 
 pub returns-then-candidate : goal.returns-then-candidate
 returns-then-candidate c = λ commits next has reaches least.
-    none_conflict (reverse commits) (record_of c.args.candidate.now) (c.requires.changes_nothing c.if-candidate.true)
+    none_conflict (reverse commits) (record_of c.args.candidate.now)
+    (c.requires.changes_nothing c.if-candidate.true)

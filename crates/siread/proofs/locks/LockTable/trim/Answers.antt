@@ -7,4 +7,6 @@ pub returns : goal.returns
 returns c = c.keep_reaching.ensures ∙ ap (λ es. reaching c.args.low c.args.reaches.now (readers_at es)) c.self.view_is
 
 pub invariant_of-self : goal.invariant_of-self
-invariant_of-self c = subst AreAscending (sym c.keep_reaching.ensures) (trimmed_ascends c.args.low c.args.reaches.now (readers_at c.self.inside.families.entries) c.self.invariant)
+invariant_of-self c =
+    subst AreAscending (sym c.keep_reaching.ensures)
+    (trimmed_ascends c.args.low c.args.reaches.now (readers_at c.self.inside.families.entries) c.self.invariant)
