@@ -15,7 +15,7 @@ use Rattle.serial.proofs.Snapshots.{kept_at}
 use Rattle.conflict.specs.Ordered.{numbers_of, IsPlaceOf}
 
 -- any record
-abbrev nobody : Record
+abbrev pub nobody : Record
 nobody = record { number = 0; snapshot = 0; read_only = false; session = []; trace = []; reads = []; changes = [] }
 
 -- the serial order with one commit more
@@ -64,12 +64,14 @@ put_at_place log c of at e place =
     ∙ ap (λ o. numbers_of (put_by (rank log) c o)) (take-append-drop at order)
 
 -- one that stands at its own number is the last
-pub put_last : (log : List Record) (c : Record) → IsLog log → c.number ≡ suc (length log) → c.read_only ≡ false → least_out log c ≡ c.number
+pub put_last : (log : List Record) (c : Record) → IsLog log → c.number ≡ suc (length log)
+    → c.read_only ≡ false → least_out log c ≡ c.number
     → numbers_of (serial_order log) ++ c.number ∷ [] ≡ numbers_of (put_by (rank log) c (serial_order log))
 put_last log c h last writes own =
     let order = serial_order log in
     let placed : rank log c ≡ 3 * c.number + 1
-    = ap (λ b. cond b (3 * c.snapshot + 2) (cond (eqb (least_out log c) c.number) (3 * c.number + 1) (3 * least_out log c))) writes
+    = ap (λ b. cond b (3 * c.snapshot + 2)
+    (cond (eqb (least_out log c) c.number) (3 * c.number + 1) (3 * least_out log c))) writes
     ∙ ap (λ b. cond b (3 * c.number + 1) (3 * least_out log c)) (eq-eqb _ _ own) in
     let low : Each (λ w. rank log w ≤ rank log c) order
     = each_in_order (λ w. rank log w ≤ rank log c) log (each_from (λ w. rank log w ≤ rank log c) log (λ w m.
@@ -90,8 +92,9 @@ low_up_to key of (w ∷ order) (suc at) d up l low =
     = each_at (λ v. key w ≤ key v) order up.0 (get_or order at d) (Contains-get_or order at d (omega arith)) in
     (omega arith, low_up_to key of order at d up.1 (omega arith) low)
 
--- what is looked at from the end: the commit at a place of the order
-module _ (commits : List Record) (places : List ℕ) (h : IsLog (reverse commits)) (kept : places ≡ map (least_out (reverse commits)) commits) where
+-- what is looked at from the end: the commit before those that were
+module _ (commits : List Record) (places : List ℕ) (h : IsLog (reverse commits))
+    (kept : places ≡ map (least_out (reverse commits)) commits) where
   abbrev log : List Record
   log = reverse commits
 
@@ -99,45 +102,68 @@ module _ (commits : List Record) (places : List ℕ) (h : IsLog (reverse commits
   at_place at = get_or (serial_order log) at nobody
 
   pub record IsAt (at number : ℕ) : Type 0 where
+    pub inside : at < length (serial_order log)
     pub positive : 0 < number
     pub within : number ≤ length commits
     pub ranked : rank_at (get_or places (number - 1) 0) (get_or commits (number - 1) nobody) ≡ rank log (at_place at)
 
-  pub is_at : (at number : ℕ) → at < length (serial_order log) → number ≡ get_or (numbers_of (serial_order log)) at 0 → IsAt at number
+  is_at : (at number : ℕ) → at < length (serial_order log) → number ≡ get_or (numbers_of (serial_order log)) at 0
+      → IsAt at number
   is_at at number l e =
       let w = at_place at in
       let m : Contains log w = in_order log w (Contains-get_or (serial_order log) at nobody l) in
       let is : number ≡ w.number = e ∙ get_or-map (λ (r : Record). r.number) (serial_order log) at nobody 0 l in
       let positive = (clean log h).snapshots w m in
-      let below : w.number < suc (length log) = each_at (λ w. w.number < suc (length log)) log (numbers_below log h) w m in
+      let below : w.number < suc (length log)
+      = each_at (λ w. w.number < suc (length log)) log (numbers_below log h) w m in
       let long : length log ≡ length commits = length-reverse commits in
       let place : get_or places (number - 1) 0 ≡ least_out log w
       = ap (λ o. get_or o (number - 1) 0) kept ∙ ap (λ n. get_or (map (least_out log) commits) (n - 1) 0) is
       ∙ kept_at (least_out log) commits h w m 0 in
+      let short : number - 1 < length commits = omega (arith, is, positive, below, long) in
       let commit : get_or commits (number - 1) nobody ≡ w
-      = sym (get_or-map (λ (r : Record). r) commits (number - 1) nobody nobody (omega (arith, is, positive, below, long)))
+      = sym (get_or-map (λ (r : Record). r) commits (number - 1) nobody nobody short)
       ∙ ap (λ n. get_or (map (λ (r : Record). r) commits) (n - 1) nobody) is
       ∙ kept_at (λ (r : Record). r) commits h w m nobody in
       record {
+        inside = l;
         positive = omega (arith, is, positive);
         within = omega (arith, is, below, long);
         ranked = λ i. rank_at (place i) (commit i);
       }
 
-  -- it has a greater rank, as all behind it
-  pub one_less : (of at : ℕ) → at < length (serial_order log) → of < rank log (at_place at)
-      → AllByRecursion (λ w. of < rank log w) (drop (at + 1) (serial_order log)) → AllByRecursion (λ w. of < rank log w) (drop at (serial_order log))
-  one_less of at l greater behind =
-      subst (AllByRecursion (λ w. of < rank log w)) (sym (drop_more (serial_order log) at nobody l)) (greater, behind)
+  pub last_left : (order : List ℕ) (left : ℕ) → order ≡ numbers_of (serial_order log) → 0 < left → left ≤ length order
+      → IsAt (left - 1) (get_or order (left - 1) 0)
+  last_left order left e some within =
+      let long = length-map (serial_order log) (λ (r : Record). r.number) in
+      is_at (left - 1) (get_or order (left - 1) 0) (omega (arith, some, within, ap length e, long)) (ap (λ o. get_or o (left - 1) 0) e)
 
-  -- it has no greater rank
-  pub found_at : (of at : ℕ) → at < length (serial_order log) → rank log (at_place at) ≤ of
-      → AllByRecursion (λ w. of < rank log w) (drop (at + 1) (serial_order log)) → IsPlaceOf of log (at + 1)
-  found_at of at l low behind =
-      let next : suc at ≡ at + 1 = omega arith in
+  -- all from so far on have a greater rank
+  abbrev AreGreater : ℕ → ℕ → Type 0
+  AreGreater of from = AllByRecursion (λ w. of < rank log w) (drop from (serial_order log))
+
+  -- and so has this one
+  pub one_less : (of left number found : ℕ) → IsAt (left - 1) number → 0 < left
+      → found ≡ rank_at (get_or places (number - 1) 0) (get_or commits (number - 1) nobody) → of < found
+      → AreGreater of left → AreGreater of (left - 1)
+  one_less of left number found here some is greater behind =
+      let next : left ≡ left - 1 + 1 = omega (arith, some) in
+      let own : of < rank log (at_place (left - 1)) = omega (arith, greater, is ∙ here.ranked) in
+      subst (AllByRecursion (λ w. of < rank log w)) (sym (drop_more (serial_order log) (left - 1) nobody here.inside))
+      (own, subst (AreGreater of) next behind)
+
+  -- or it is the last that has not
+  pub found_at : (of left number found : ℕ) → IsAt (left - 1) number → 0 < left
+      → found ≡ rank_at (get_or places (number - 1) 0) (get_or commits (number - 1) nobody) → found ≤ of
+      → AreGreater of left → IsPlaceOf of log (left - 1 + 1)
+  found_at of left number found here some is low behind =
+      let next : left ≡ left - 1 + 1 = omega (arith, some) in
+      let end : suc (left - 1) ≡ left - 1 + 1 = omega arith in
+      let inside = here.inside in
+      let own : rank log (at_place (left - 1)) ≤ of = omega (arith, low, is ∙ here.ranked) in
       record {
-        within = omega (arith, l);
-        before = subst (λ n. AllByRecursion (λ w. rank log w ≤ of) (take n (serial_order log))) next
-            (low_up_to (rank log) of (serial_order log) at nobody (ascends (rank log) log) l low);
-        behind = behind;
+        within = omega (arith, inside);
+        before = subst (λ n. AllByRecursion (λ w. rank log w ≤ of) (take n (serial_order log))) end
+            (low_up_to (rank log) of (serial_order log) (left - 1) nobody (ascends (rank log) log) inside own);
+        behind = subst (AreGreater of) next behind;
       }

@@ -15,9 +15,9 @@
 //! own number. So the greatest reader of what a candidate changed is not always the one that counts, and how far each
 //! commit reaches is kept beside it ([`serial::Record::reach`]).
 //!
-//! [`put_in_order`] then puts its number into the serial order: behind all of no greater rank. What conflicts, dangerous
-//! triples and the serial order are is defined in the crate `serial`, and so is the answer (`specs/Answer`): what
-//! `judge` finds is that answer.
+//! [`put_in_order`] then puts its number into the serial order: behind all of no greater rank. What conflicts,
+//! dangerous triples and the serial order are is defined in the crate `serial`, and so is the answer (`specs/Answer`):
+//! what `judge` finds is that answer.
 //!
 //! Commits are passed in the order of their numbers. A number is then a place, and a commit on a snapshot overlaps with
 //! none that the snapshot holds, so only what stands after it is looked at. The least conflict out of each commit stays

@@ -36,17 +36,21 @@ at_number f (c ∷ log) h w m d =
     ap (λ xs. get_or xs (w.number - 1) d) whole
     ∙ elim (in_cases c log w m) [
       | inl same ↦
-          let here : w.number - 1 ≡ length (map f (reverse log)) = omega (arith, ap (λ z. z.number) same, h.0.numbered, long) in
-          ap (λ i. get_or (map f (reverse log) ++ f c ∷ []) i d) here ∙ get_or-append_seam (map f (reverse log)) (f c) [] d ∙ ap f same
+          let here : w.number - 1 ≡ length (map f (reverse log))
+          = omega (arith, ap (λ z. z.number) same, h.0.numbered, long) in
+          ap (λ i. get_or (map f (reverse log) ++ f c ∷ []) i d) here
+          ∙ get_or-append_seam (map f (reverse log)) (f c) [] d
+          ∙ ap f same
       | inr there ↦
           let small = earlier_numbers c log h.0 h.1 w there in
           let positive = (clean log h.1).snapshots w there in
-          get_or_append_left (map f (reverse log)) (f c ∷ []) d (w.number - 1) (omega (arith, small, positive, h.0.numbered, long))
+          get_or_append_left (map f (reverse log)) (f c ∷ []) d (w.number - 1)
+          (omega (arith, small, positive, h.0.numbered, long))
           ∙ at_number f log h.1 w there d
     ]
 
-pub kept_at : {X : Type 0} (f : Record → X) (commits : List Record) → IsLog (reverse commits) → (w : Record) → Contains (reverse commits) w → (d : X)
-    → get_or (map f commits) (w.number - 1) d ≡ f w
+pub kept_at : {X : Type 0} (f : Record → X) (commits : List Record) → IsLog (reverse commits)
+    → (w : Record) → Contains (reverse commits) w → (d : X) → get_or (map f commits) (w.number - 1) d ≡ f w
 kept_at f commits h w m d =
     ap (λ xs. get_or (map f xs) (w.number - 1) d) (sym (turned_twice commits)) ∙ at_number f (reverse commits) h w m d
 

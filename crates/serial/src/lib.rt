@@ -6,13 +6,13 @@
 //! the writer committed before both (Cahill, Röhm and Fekete 2008; that the writer comes first is the rule of Ports
 //! and Grittner 2012). Writer and reader may be one transaction.
 //!
-//! A transaction that began READ ONLY has written nothing. So none conflicts to it, and all that it conflicts to is what
-//! its snapshot does not hold: it may stand right behind its snapshot, before all later commits, however late it
-//! commits itself. There it is out of place only where something that its snapshot does not hold, and to which it
-//! conflicts, stands before a commit that the snapshot holds: where a pivot conflicts to a writer in the snapshot. It is
-//! therefore the reader of a dangerous triple only if its snapshot holds the writer (Ports and Grittner 2012; that a
-//! transaction which reads alone can be the reader of one at all is due to Fekete, O'Neil and O'Neil 2004). Such a commit
-//! *reaches* its snapshot, and each other its own number: what it doesn't reach is no writer for it as the reader.
+//! A transaction that began READ ONLY has written nothing, so none conflicts to it, and all that it conflicts to is
+//! past its snapshot. It may therefore stand right behind its snapshot, before all later commits, however late it
+//! commits itself. What speaks against that is only a commit to which it conflicts and which itself stands before one
+//! that the snapshot holds: a pivot whose writer the snapshot holds. So a read-only transaction is the reader of a
+//! dangerous triple only where its snapshot holds the writer (Ports and Grittner 2012; that one which only reads can
+//! be the reader of a triple at all was found by Fekete, O'Neil and O'Neil 2004). Such a commit *reaches* its
+//! snapshot, each other its own number: a writer that a commit does not reach makes no triple with it as the reader.
 //!
 //! These are definitions and laws alone, over a log of [`Record`]s, the newest first:
 //!
