@@ -63,7 +63,7 @@ module _ (commits : List Record) (reads : Reads) (c : Record) (next : IsNext c (
         read = subst (Contains found.0.reads) (sym (same_key-true key k.0 k.2)) k.1;
       }
 
-  -- each reaches no further than its number
+  -- how far each reaches stands at the place of its number
   reach_is : (w : Record) → Contains (reverse commits) w → reach_of (map reach commits) w.number ≡ reach w
   reach_is w m = go w.number refl
     where
@@ -80,8 +80,9 @@ module _ (commits : List Record) (reads : Reads) (c : Record) (next : IsNext c (
     | inr y ↦ (let o = conflict_overlaps c y.0 y.2 in omega (arith, o.second, y.4))
   ]
 
-  conflicts : c.snapshot < c.number → (key : LockKey) (number : ℕ) → touch c.changes key ≡ true → Contains (reads key) number
-      → least_out (reverse commits) c ≤ reach_of (map reach commits) number → number ≤ greatest_in (reverse commits) c
+  conflicts : c.snapshot < c.number → (key : LockKey) (number : ℕ) → touch c.changes key ≡ true
+      → Contains (reads key) number → least_out (reverse commits) c ≤ reach_of (map reach commits) number
+      → number ≤ greatest_in (reverse commits) c
   conflicts began key number touched m far =
       let r = reader key number m in
       let w = r.commit in
@@ -91,28 +92,34 @@ module _ (commits : List Record) (reads : Reads) (c : Record) (next : IsNext c (
       let is = r.numbered in
       let last = next.numbered in
       let reaches : least_out (reverse commits) c ≤ reach w
-      = subst (λ n. least_out (reverse commits) c ≤ n) (ap (reach_of (map reach commits)) (sym is) ∙ reach_is w listed) far in
+      = subst (λ n. least_out (reverse commits) c ≤ n)
+      (ap (reach_of (map reach commits)) (sym is) ∙ reach_is w listed) far in
       let high = reach_high (reverse commits) (clean (reverse commits) next.accepted) w listed in
       let after = least_after began in
       let l = greatest_in_up_to (least_out (reverse commits) c) (reverse commits) c w listed
-      (conflict_from w c (λ e. omega (arith, e, small, last)) (omega (arith, reaches, high, after)) (omega (arith, snap, small, last)) (touches_some c w key r.read touched)) reaches in
+      (conflict_from w c (λ e. omega (arith, e, small, last)) (omega (arith, reaches, high, after))
+      (omega (arith, snap, small, last)) (touches_some c w key r.read touched)) reaches in
       omega (arith, l, is)
 
-  up_to : (greatest : ℕ) → IsGreatestReader reads c.changes (least_out (reverse commits) c) (map reach commits) greatest
-      → (w : Record) → Contains (reverse commits) w → conflicts_to w c ≡ true → least_out (reverse commits) c ≤ reach w → w.number ≤ greatest
+  up_to : (greatest : ℕ)
+      → IsGreatestReader reads c.changes (least_out (reverse commits) c) (map reach commits) greatest
+      → (w : Record) → Contains (reverse commits) w → conflicts_to w c ≡ true
+      → least_out (reverse commits) c ≤ reach w → w.number ≤ greatest
   up_to greatest g w m h l =
       let key = touched_by c w h in
       g.all key.0 w.number key.2 (stands w key.0 (from_turned commits w m) key.1 (conflict_overlaps w c h).first)
       (subst (λ n. least_out (reverse commits) c ≤ n) (sym (reach_is w m)) l)
 
   pub greatest_found : c.snapshot < c.number → (greatest : ℕ)
-      → IsGreatestReader reads c.changes (least_out (reverse commits) c) (map reach commits) greatest → greatest ≡ greatest_in (reverse commits) c
+      → IsGreatestReader reads c.changes (least_out (reverse commits) c) (map reach commits) greatest
+      → greatest ≡ greatest_in (reverse commits) c
   greatest_found began greatest g =
       let high : greatest ≤ greatest_in (reverse commits) c = elim g.found [
         | inl none ↦ omega (arith, none)
         | inr f ↦ conflicts began f.0 greatest f.1 f.2 f.3
       ] in
-      let low : greatest_in (reverse commits) c ≤ greatest = elim (greatest_in_met (least_out (reverse commits) c) (reverse commits) c) [
+      let low : greatest_in (reverse commits) c ≤ greatest
+      = elim (greatest_in_met (least_out (reverse commits) c) (reverse commits) c) [
         | inl none ↦ omega (arith, none)
         | inr x ↦ (let l = up_to greatest g x.0 x.1 x.2 x.3 in omega (arith, l, x.4))
       ] in
@@ -132,11 +139,13 @@ far_at (c ∷ log) h at =
           omega (arith, is, rest)
       | inr past ↦ elim (cases_lt (length log) at) [
         | inl over ↦
-            let none = get_or_past (map reach (reverse log) ++ reach c ∷ []) at 0 (omega (arith, over, long, length_push (map reach (reverse log)) (reach c))) in
+            let more = length_push (map reach (reverse log)) (reach c) in
+            let none = get_or_past (map reach (reverse log) ++ reach c ∷ []) at 0 (omega (arith, over, long, more)) in
             omega (arith, none)
         | inr up_to ↦
             let here : at ≡ length (map reach (reverse log)) = omega (arith, past, up_to, long) in
-            let is = ap (λ i. get_or (map reach (reverse log) ++ reach c ∷ []) i 0) here ∙ get_or-append_seam (map reach (reverse log)) (reach c) [] 0 in
+            let is = ap (λ i. get_or (map reach (reverse log) ++ reach c ∷ []) i 0) here
+            ∙ get_or-append_seam (map reach (reverse log)) (reach c) [] 0 in
             let high = reach_high (c ∷ log) (clean (c ∷ log) h) c (in_head c log) in
             omega (arith, is, high, h.0.numbered, here, long)
       ]
@@ -145,4 +154,5 @@ far_at (c ∷ log) h at =
 pub no_further : (commits : List Record) → IsLog (reverse commits) → ReachNoFurther (map reach commits)
 no_further commits log zero = omega arith
 no_further commits log (suc before) =
-    subst (λ xs. get_or (map reach xs) before 0 ≤ suc before) (turned_twice commits) (far_at (reverse commits) log before)
+    subst (λ xs. get_or (map reach xs) before 0 ≤ suc before) (turned_twice commits)
+    (far_at (reverse commits) log before)

@@ -9,6 +9,8 @@ pub returns : goal.returns
 returns c = λ commits next has reaches least.
     let reads = readers_at c.args.locks.now in
     let changes = c.args.candidate.now.changes.now in
-    greatest_found commits reads (record_of c.args.candidate.now) next has c.requires.after_snapshot c.greatest_reader.result
+    greatest_found commits reads (record_of c.args.candidate.now) next has
+    c.requires.after_snapshot c.greatest_reader.result
     (subst (λ n. IsGreatestReader reads changes n (map reach commits) c.greatest_reader.result) least
-    (subst (λ far. IsGreatestReader reads changes c.args.least far c.greatest_reader.result) reaches c.greatest_reader.ensures))
+    (subst (λ far. IsGreatestReader reads changes c.args.least far c.greatest_reader.result) reaches
+    c.greatest_reader.ensures))
