@@ -18,17 +18,23 @@ use Rattle.serial.proofs.Turned.{each_turned}
 use Rattle.conflict.specs.Readers.{has_read, reads_of}
 
 -- one commit more has read its keys
-pub reads_more : (commits : List Record) (c : Record) → reads_of (commits ++ c ∷ []) ≡ with_reader c.number c.reads (reads_of commits)
-reads_more commits c = λ i key.
-    let number : Record → ℕ = λ (r : Record). r.number in
-    let go : (b : Bool) → map number (filter (has_read key) commits) ++ map number (cond b (c ∷ []) []) ≡ cond b (reads_of commits key ++ c.number ∷ []) (reads_of commits key)
-    = λ b. elim b as (λ b. map number (filter (has_read key) commits) ++ map number (cond b (c ∷ []) []) ≡ cond b (reads_of commits key ++ c.number ∷ []) (reads_of commits key)) [
-      | true ↦ refl
-      | false ↦ append-nil (reads_of commits key)
-    ] in
-    (ap (map number) (filter-append (has_read key) commits (c ∷ []))
-    ∙ map-append number (filter (has_read key) commits) (filter (has_read key) (c ∷ []))
-    ∙ go (has_read key c)) i
+pub reads_more : (commits : List Record) (c : Record)
+    → reads_of (commits ++ c ∷ []) ≡ with_reader c.number c.reads (reads_of commits)
+reads_more commits c = λ i key. at key i
+  where
+    number : Record → ℕ
+    number r = r.number
+
+    go : (key : LockKey) (b : Bool) → reads_of commits key ++ map number (cond b (c ∷ []) [])
+        ≡ cond b (reads_of commits key ++ c.number ∷ []) (reads_of commits key)
+    go key true = refl
+    go key false = append-nil (reads_of commits key)
+
+    at : (key : LockKey) → reads_of (commits ++ c ∷ []) key ≡ with_reader c.number c.reads (reads_of commits) key
+    at key =
+        ap (map number) (filter-append (has_read key) commits (c ∷ []))
+        ∙ map-append number (filter (has_read key) commits) (filter (has_read key) (c ∷ []))
+        ∙ go key (has_read key c)
 
 -- all that read have numbers below the next
 all_below : (commits : List Record) (number : ℕ) → Each (λ (w : Record). w.number < number) (reverse commits)
