@@ -1,9 +1,6 @@
 -- A statement more, and what is held is again what the trace leaves.
 use Rattle.std.proofs.Common.{◌≡◌, true, List, [], ◌∷◌, ◌++◌, Option, Some, None, Result, Ok, Err, map, length, refl, sym, ap, ◌∙◌, subst, append-nil}
 use Rattle.std.specs.Prelude.{Contains, unwrap_or, IfOk, IfErr, ◌≢◌}
-use Rattle.std.specs.List.{list_all}
-use Rattle.std.proofs.lemmas.List.Folds.{list_all-append}
-use Rattle.std.proofs.lemmas.Bool.{and_from}
 use Rattle.value.specs.declared.refusals.Refusal.{Refusal}
 use Rattle.value.specs.declared.refusals.Refusal.TheVariants.{NoMemory}
 use Rattle.value.specs.Ordered.{HoldsOf}
@@ -15,6 +12,7 @@ use Rattle.siread.specs.declared.keys.Place.{Place}
 use Rattle.siread.specs.Keys.{place_of}
 use Rattle.modes.specs.Modes.{Immediates}
 use Rattle.alone.specs.declared.statements.Resolved.{Resolved}
+use Rattle.alone.proofs.ReadOnly.{one_more}
 use Rattle.alone.specs.Alone.{Run, Standing, Step, followed, ran, stepped}
 use Rattle.alone.specs.Resolve.{is_read_only}
 use Rattle.delta.specs.Views.{Shown}
