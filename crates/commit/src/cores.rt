@@ -227,13 +227,9 @@ impl Core {
         let snapshot = closed.snapshot();
         let read_only = closed.is_read_only();
         let record = record_of(number, snapshot, read_only, session, closed.into_parts());
-        put_in_order(
-            &mut self.order,
-            self.records.as_slice(),
-            self.places.as_slice(),
-            &record,
-            place,
-        );
+        let committed = self.records.as_slice();
+        let places = self.places.as_slice();
+        put_in_order(&mut self.order, committed, places, &record, place);
         self.places.push_reserved(place);
         self.reaches.push_reserved(record.reach());
         self.records.push_reserved(record);
