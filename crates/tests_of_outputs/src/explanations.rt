@@ -1,6 +1,8 @@
 //! Explanations of small scripts.
 
+use crate::writers::Brittle;
 use explain::{ExplainFault, explain_into};
+use running::ProgramFault;
 use std::alloc::Global;
 use std::process::Abort;
 use std::test::Fail;
@@ -108,5 +110,18 @@ fn no_event(rt: HostRuntime) -> Result<(), Fail> {
     let explained = explain_into(rt.alloc(), defs, script, 1, Some(2), &mut out);
     assert!(rt; matches!(explained, Err(ExplainFault::NoEvent(1))));
     assert!(rt; out.is_empty());
+    Ok(())
+}
+
+/// What is printed is one write, and then it is flushed.
+#[test]
+fn each_call_failing(rt: HostRuntime) -> Result<(), Fail> {
+    let alloc = rt.alloc();
+    let (defs, script) = (b"CREATE TABLE T (ID INTEGER PRIMARY KEY);", b"A: COMMIT;");
+    for calls in 0..2 {
+        let mut out = Brittle { left: calls };
+        let explained = explain_into(alloc, defs, script, 1, None, &mut out);
+        assert!(&rt; matches!(explained, Err(ExplainFault::Run(ProgramFault::Output))));
+    }
     Ok(())
 }

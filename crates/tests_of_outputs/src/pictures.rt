@@ -1,6 +1,8 @@
 //! A picture of a small script.
 
+use crate::writers::Brittle;
 use picture::picture_into;
+use running::ProgramFault;
 use std::test::Fail;
 
 /// The first lines of the picture. Behind them stands its style.
@@ -48,5 +50,18 @@ fn one_transaction(rt: HostRuntime) -> Result<(), Fail> {
     assert!(rt; out.as_slice().starts_with(HEAD.as_bytes()));
     assert!(rt; place_of(BODY.as_bytes(), out.as_slice()).is_some());
     assert!(rt; out.as_slice().ends_with(b"</g>\n</svg>\n"));
+    Ok(())
+}
+
+/// What is printed is one write, and then it is flushed.
+#[test]
+fn each_call_failing(rt: HostRuntime) -> Result<(), Fail> {
+    let alloc = rt.alloc();
+    let (defs, script) = (b"CREATE TABLE T (ID INTEGER PRIMARY KEY);", b"A: COMMIT;");
+    for calls in 0..2 {
+        let mut out = Brittle { left: calls };
+        let picture = picture_into(alloc, defs, script, 1, &mut out);
+        assert!(&rt; matches!(picture, Err(ProgramFault::Output)));
+    }
     Ok(())
 }
