@@ -8,7 +8,7 @@ use crate::commands::make_command;
 use crate::explanations::{draw, explain};
 use crate::files::{OUTSIDE, Streams, USAGE, WELL, report_no_memory};
 use crate::runs::{Way, run};
-use crate::signs::{Behind, Task};
+use crate::signs::{Beside, Task};
 use crate::translations::translate;
 use clap::ArgMatches;
 use std::io::Write;
@@ -49,7 +49,7 @@ where
     }
 }
 
-/// Runs the subcommand that the words name, behind a sign of life where the second stream is a terminal.
+/// Runs the subcommand that the words name, beside a sign of life where the second stream is a terminal.
 fn run_matches<R, W, E>(rt: &R, matches: &ArgMatches<'_>, streams: &mut Streams<'_, W, E>) -> u8
 where
     R: Files + Eprint + AllocGlobal + Clock + Threads + Wait + Sync,
@@ -89,7 +89,7 @@ where
             ensures { result ≤ 3 }
         {
             let _ = scope.spawn(move || sign.show(rt, task));
-            let status = run_behind(rt, name, words, streams);
+            let status = run_beside(rt, name, words, streams);
             sign.end(rt);
             status
         },
@@ -114,8 +114,8 @@ fn task_of(name: &str) -> Task {
     }
 }
 
-/// Runs the subcommand of this name. Before it writes, the sign of life is wiped.
-fn run_behind<R, W, E>(
+/// Runs the subcommand of this name. The sign of life makes room for what it writes.
+fn run_beside<R, W, E>(
     rt: &R,
     name: &str,
     words: &ArgMatches<'_>,
@@ -127,26 +127,26 @@ where
     E: Write,
     ensures { result ≤ 3 }
 {
-    let mut out = Behind {
+    let mut out = Beside {
         rt,
         sign: streams.sign,
         to: &mut *streams.out,
         is_terminal: streams.out_is_terminal,
     };
-    let mut err = Behind {
+    let mut err = Beside {
         rt,
         sign: streams.sign,
         to: &mut *streams.err,
         is_terminal: true,
     };
-    let mut behind = Streams {
+    let mut beside = Streams {
         out: &mut out,
         err: &mut err,
         out_is_terminal: streams.out_is_terminal,
         err_is_terminal: streams.err_is_terminal,
         sign: streams.sign,
     };
-    run_named(rt, name, words, &mut behind)
+    run_named(rt, name, words, &mut beside)
 }
 
 /// Runs the subcommand of this name.

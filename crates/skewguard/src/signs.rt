@@ -1,12 +1,13 @@
 //! A sign of life: on a terminal, a line that says what is being done and for how long, while work takes long.
 //!
 //! A thread of its own brings the line up to date each second ([`Sign::show`]), on standard error. All else that is
-//! written goes through a [`Behind`], which wipes the line before. Of what is printed no byte depends on the line.
+//! written goes through a [`Beside`], so that the line is wiped before anything comes to a terminal. Of what is printed
+//! no byte depends on the line.
 
 use std::io;
 use std::io::Write;
 use std::sync::atomic::{AtomicU64, Ordering};
-use std::sync::{Condvar, Mutex, MutexGuard, Wait};
+use std::sync::{Condvar, Mutex, Wait};
 use std::time::{Clock, Duration, Instant};
 
 /// What is done with texts that were read.
@@ -101,26 +102,27 @@ impl Sign {
         }
     }
 
-    /// The line, wiped. It does not come back while what this gives is held.
-    fn wipe<R: Eprint + Wait>(&self, rt: &R) -> MutexGuard<'_, Line> {
-        let mut line = self.line.lock(rt);
-        if line.stands {
-            line.stands = false;
-            let _ = eprint!(rt; "\r\x1b[K");
-        }
-        line
-    }
-
     /// Ends the line.
     pub fn end<R: Eprint + Wait>(&self, rt: &R) {
-        self.wipe(rt).is_over = true;
+        self.line.lock(rt).end(rt);
         self.ended.notify_one();
     }
 }
 
-/// A writer that wipes the line before it writes.
+impl Line {
+    /// Wipes the line, which does not come again.
+    fn end<R: Eprint>(&mut self, rt: &R) {
+        if self.stands {
+            let _ = eprint!(rt; "\r\x1b[K");
+        }
+        self.stands = false;
+        self.is_over = true;
+    }
+}
+
+/// A writer beside the line, which does not change while a write takes its time.
 #[derive(Drop)]
-pub struct Behind<'a, R, W> {
+pub struct Beside<'a, R, W> {
     pub rt: &'a R,
     pub sign: &'a Sign,
     pub to: &'a mut W,
@@ -128,14 +130,14 @@ pub struct Behind<'a, R, W> {
     pub is_terminal: bool,
 }
 
-impl<'a, R: Eprint + Wait, W: Write> Write for Behind<'a, R, W> {
-    ghost contents = { λ behind. W.contents behind.to.now };
+impl<'a, R: Eprint + Wait, W: Write> Write for Beside<'a, R, W> {
+    ghost contents = { λ beside. W.contents beside.to.now };
 
     fn write(&mut self, buf: &[u8]) -> io::Result<usize> {
-        let mut line = self.sign.wipe(self.rt);
+        let mut line = self.sign.line.lock(self.rt);
         line.has_printed = true;
         if self.is_terminal {
-            line.is_over = true;
+            line.end(self.rt);
         }
         self.to.write(buf)
     }
