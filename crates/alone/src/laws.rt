@@ -1,6 +1,7 @@
 //! What the definitions of this crate entail. Each law is the contract of a function that does nothing.
 
-ghost use Rattle.std.specs.Prelude.{◌≡◌, ◌⊎◌, ◌<◌, ℕ, false, List, ◌++◌, length, map, filter, None, Option, Ok, Contains};
+ghost use Rattle.std.specs.Prelude.{◌≡◌, ◌⊎◌, ◌<◌, ℕ, true, false, List, [], ◌++◌, length, map, filter, None, Option, Ok, Contains};
+ghost use Rattle.std.specs.List.{list_all};
 ghost use Rattle.value.specs.declared.values.Root.{Root};
 ghost use Rattle.table.specs.declared.rows.Change.{Change};
 ghost use Rattle.table.specs.Rows.{Layout, Tables, layouts_of};
@@ -11,6 +12,7 @@ ghost use Rattle.assertion.specs.Roots.{is_bad_root, IsOrdered, AreChangesOf, st
 ghost use Rattle.cond.specs.declared.conds.Cond.{Cond};
 ghost use Rattle.syntax.specs.declared.trees.Condition.{Condition};
 ghost use Rattle.statement_syntax.specs.declared.statements.Assignment.{Assignment};
+ghost use Rattle.statement_syntax.specs.declared.statements.Statement.{Statement as AnyStatement};
 ghost use Rattle.assertcheck.specs.declared.updates.Setting.{Setting};
 ghost use Rattle.assertcheck.specs.declared.updates.Update.{Update};
 ghost use Rattle.assertcheck.specs.Updates.{update_of};
@@ -20,6 +22,7 @@ ghost use Rattle.alone.specs.States.{row_in, IsState, is_real, AreDue, AreDiffer
 ghost use Rattle.alone.specs.Checks.{keys_for};
 ghost use Rattle.assertion.specs.Declarations.{Declared};
 ghost use Rattle.alone.specs.declared.statements.Resolved.{Resolved};
+ghost use Rattle.alone.specs.Resolve.{is_read_only, resolved};
 ghost use Rattle.alone.specs.Statements.{found_rows, delete_effect, renewal, sets_key};
 ghost use Rattle.assertion.specs.Declarations.{layouts_in};
 ghost use Rattle.alone.specs.Alone.{Standing, ran, followed, transaction, transaction_keys, IsSound};
@@ -80,6 +83,15 @@ pub fn runs_are_joined()
     ensures { (declared : Declared) (start : State) (now : Standing) (first rest : List Resolved)
         → ran declared start now (first ++ rest)
         ≡ followed (ran declared start now first) (ran declared start (ran declared start now first).final rest) }
+{}
+
+/// A transaction without INSERT, UPDATE and DELETE has no net change, on any tables; and whatever is written, a
+/// read-only transaction runs none of them.
+pub fn read_only_statements_change_nothing()
+    ensures none { (declared : Declared) (trace : List Resolved) (state : State) → list_all is_read_only trace ≡ true
+        → (transaction declared trace state).changes ≡ [] }
+    ensures each { (declared : Declared) (statement : AnyStatement)
+        → is_read_only (resolved declared true statement) ≡ true }
 {}
 
 /// A transaction whose COMMIT is accepted leaves a state on which no assertion is false.

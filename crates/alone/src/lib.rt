@@ -13,7 +13,8 @@
 //! - `specs/Statements`: what each statement does to the rows;
 //! - `specs/Reads`, `specs/Checks`: under which keys a WHERE and a check of assertions read;
 //! - `specs/Alone`: a step, a run of statements, a transaction, and what it reads;
-//! - `specs/Resolve`: statements as they were written, with their names found.
+//! - `specs/Resolve`: statements as they were written, with their names found, and which of them a read-only
+//!   transaction may run.
 //!
 //! The laws are contracts of functions without parameters. The one that all of serializability rests on is
 //! [`transactions_agree`]: on two states that make no assertion false and hold the same rows under each key that a
@@ -25,7 +26,8 @@ mod laws;
 mod statements;
 
 pub use laws::{
-    changes_are_due, commits_are_sound, net_change_is_what_differs, roots_depend_on_their_keys,
-    runs_are_joined, transactions_agree, updates_leave_the_key,
+    changes_are_due, commits_are_sound, net_change_is_what_differs,
+    read_only_statements_change_nothing, roots_depend_on_their_keys, runs_are_joined,
+    transactions_agree, updates_leave_the_key,
 };
 pub use statements::Resolved;

@@ -6,7 +6,8 @@ use statement_syntax::Mode;
 use value::{Refusal, Text};
 
 /// A statement with its names found, as a transaction's trace holds it: it can be run again on other rows. One that
-/// was refused for its names, shape, types or width, or for a mode that it may not set, is just that refusal.
+/// was refused for its names, shape, types or width, for a mode that it may not set, or since its transaction is read
+/// only, is just that refusal.
 #[derive(Debug, Drop)]
 pub enum Resolved {
     Refused(Refusal),

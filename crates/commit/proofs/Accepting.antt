@@ -1,8 +1,7 @@
 -- One commit more: what is kept at hand is again what the commits determine.
-use Rattle.std.proofs.Common.{◌≡◌, ◌≢◌, ℕ, ◌+◌, ◌<◌, Bool, true, false, cond, List, [], ◌∷◌, ◌++◌, None, map, length, refl, sym, ap, ◌∙◌, subst, arith}
-use Rattle.std.specs.Prelude.{◌==◌, All, Contains, nat_eq}
-use Rattle.std.specs.List.{IsDistinct}
-use Rattle.std.proofs.lemmas.List.{length-append, length-map}
+use Rattle.std.proofs.Common.{◌≡◌, ℕ, ◌+◌, ◌<◌, Bool, true, false, List, [], ◌∷◌, ◌++◌, None, length, sym, ap, ◌∙◌, subst, arith}
+use Rattle.std.specs.Prelude.{◌==◌, All, Contains}
+use Rattle.std.proofs.lemmas.List.{length-append, length-map, map_push}
 use Rattle.std.proofs.lemmas.List.Elements.{All-from_recursion}
 use Rattle.std.proofs.lemmas.Bool.{eqb-false}
 use Rattle.table.specs.declared.rows.Change.{Change}
@@ -14,65 +13,38 @@ use Rattle.siread.specs.Keys.{place_of}
 use Rattle.alone.specs.Alone.{run_on}
 use Rattle.alone.specs.States.{AreDue, AreInOrder, IsPut, IsState, net_change, row_in}
 use Rattle.alone.proofs.Induction.{change_exact}
-use Rattle.alone.proofs.Lists.{Each, each_at, each_from, each_weaker}
+use Rattle.alone.proofs.Lists.{Each, each_at, each_from}
 use Rattle.alone.proofs.Nets.{net_exact, net_puts, put_net}
 use Rattle.alone.proofs.Orders.{due_changes, net_in_order}
 use Rattle.delta.specs.Views.{Shown}
 use Rattle.serial.specs.declared.records.Record.{Record}
 use Rattle.serial.specs.Answer.{IsAnswer, Number}
-use Rattle.serial.specs.Commits.{HasNoWriteConflict, IsLog}
+use Rattle.serial.specs.Commits.{HasNoWriteConflict, reach}
 use Rattle.serial.specs.Epoch.{IsEpoch, newest, state_of}
-use Rattle.serial.specs.Order.{least_out, serial_order}
+use Rattle.serial.specs.Order.{least_out, put_by, rank, serial_order}
 use Rattle.serial.proofs.Changes.{share_row-at}
-use Rattle.serial.proofs.Kept.{order_is_distinct, places_more}
+use Rattle.serial.proofs.Kept.{places_more}
 use Rattle.serial.proofs.Newest.{newest_fits, unwritten}
-use Rattle.serial.proofs.Ranks.{log_falls}
+use Rattle.serial.proofs.Ranks.{log_falls, order_step}
 use Rattle.serial.proofs.Semantics.{history_nets}
-use Rattle.conflict.specs.Ordered.{put_number_before}
-use Rattle.conflict.proofs.Puts.{numbers_after}
+use Rattle.conflict.specs.Ordered.{numbers_of}
 use Rattle.txn.specs.Transactions.{OpenTransaction, begun, outcome_of, own_view}
 use Rattle.commit.specs.Cores.{CoreState, IsLive, committed, log_of, newest_tables, record_of, with_begun, with_commit}
 use Rattle.commit.proofs.Tickets.{fewer, held_last}
-use Rattle.commit.proofs.Recording.{begin_live, below, changes_are, epoch_next, log_with, newest_at}
+use Rattle.commit.proofs.Recording.{begin_live, changes_are, epoch_next, log_with, newest_at}
 use Rattle.commit.specs.Kept.{IsCore}
 
--- what holds of the number of each commit holds of each number in the serial order
-each_before : (P : ℕ → Type 0) (place number : ℕ) (order : List ℕ) → P number → Each P order → Each P (put_number_before place number order)
-each_before P place number [] h e = (h, tt)
-each_before P place number (other ∷ rest) h e =
-    let go : (b : Bool) → Each P (cond b (number ∷ other ∷ rest) (other ∷ put_number_before place number rest)) = λ b. elim b as (λ b. Each P (cond b (number ∷ other ∷ rest) (other ∷ put_number_before place number rest))) [
-      | true ↦ (h, e)
-      | false ↦ (e.0, each_before P place number rest h e.1)
-    ] in
-    go (other == place)
-
-each_ordered : (P : ℕ → Type 0) (log : List Record) → IsLog log → Each (λ (w : Record). P w.number) log → Each P (map (λ (r : Record). r.number) (serial_order log))
-each_ordered P [] l e = tt
-each_ordered P (commit ∷ earlier) l e =
-    subst (Each P) (sym (numbers_after commit earlier l))
-    (each_before P (least_out earlier commit) commit.number (map (λ (r : Record). r.number) (serial_order earlier)) e.0 (each_ordered P earlier l.1 e.1))
-
-module _ (now : CoreState) (tables : Shown) (places order : List ℕ) (core : IsCore now tables places order) where
+module _ (now : CoreState) (tables : Shown) (places reaches order : List ℕ) (core : IsCore now tables places reaches order) where
   abbrev records : List Record
   records = now.records
 
   abbrev log : List Record
   log = log_of now
 
-  pub order_distinct : IsDistinct nat_eq order
-  order_distinct = subst (IsDistinct nat_eq) (sym core.order_is) (order_is_distinct log core.epoch.accepted)
-
-  -- the next number is not in the order yet
-  pub order_fresh : All (λ other. other ≢ length records + 1) order
-  order_fresh =
-      let P : ℕ → Type 0 = λ other. other ≢ length records + 1 in
-      subst (All P) (sym core.order_is)
-      (All-from_recursion P (map (λ (r : Record). r.number) (serial_order log)) (each_ordered P log core.epoch.accepted
-      (each_weaker (λ (w : Record). w.number < length records + 1) (λ (w : Record). P w.number) (λ w l e. omega (arith, l, e)) log (below now core.epoch.accepted))))
-
   -- a transaction that begins
-  pub begun_live : IsLive (with_begun now) (begun now.live.begun (length records) tables)
-  begun_live = subst (λ (s : Shown). IsLive (with_begun now) (begun now.live.begun (length records) s)) (sym core.newest_is) (begin_live now core.epoch.accepted)
+  pub begun_live : (read_only : Bool) → IsLive (with_begun read_only now) (begun now.live.begun (length records) read_only tables)
+  begun_live read_only =
+      subst (λ (s : Shown). IsLive (with_begun read_only now) (begun now.live.begun (length records) read_only s)) (sym core.newest_is) (begin_live now core.epoch.accepted read_only)
 
   module _ (session : List ℕ) (t : OpenTransaction) (live : IsLive now t) where
     abbrev commit : Record
@@ -142,21 +114,21 @@ module _ (now : CoreState) (tables : Shown) (places order : List ℕ) (core : Is
     -- after it
     pub core_next : (view : Shown) (place : ℕ) (after : List ℕ) → (outcome_of t).refused ≡ None → (length records == now.limit) ≡ false
         → IsAnswer log commit (Number (length records + 1)) → view ≡ newest_tables (with_commit now commit)
-        → place ≡ least_out log commit → after ≡ put_number_before place (length records + 1) order
-        → IsCore (committed now session t) view (places ++ place ∷ []) after
-    core_next view place after none room answer is there put = record {
-      epoch = subst (IsEpoch now.declared now.start) (sym (log_with records commit)) (epoch_next now session t live core.epoch answer none);
+        → (t.read_only ≡ true → (outcome_of t).changes ≡ []) → place ≡ least_out log commit → after ≡ numbers_of (put_by (rank log) commit (serial_order log))
+        → IsCore (committed now session t) view (places ++ place ∷ []) (reaches ++ reach commit ∷ []) after
+    core_next view place after none room answer is changes_nothing there put =
+      let next = epoch_next now session t live core.epoch answer none changes_nothing in record {
+      epoch = subst (IsEpoch now.declared now.start) (sym (log_with records commit)) next;
       newest_is = is;
       places_are =
           ap (λ p. places ++ p ∷ []) there
           ∙ ap (λ ps. ps ++ least_out log commit ∷ []) core.places_are
-          ∙ places_more records commit (epoch_next now session t live core.epoch answer none).accepted;
+          ∙ places_more records commit next.accepted;
+      reaches_are = ap (λ (rs : List ℕ). rs ++ reach commit ∷ []) core.reaches_are ∙ sym (map_push reach commit records);
       order_is =
           put
-          ∙ ap (λ p. put_number_before p (length records + 1) order) there
-          ∙ ap (put_number_before (least_out log commit) (length records + 1)) core.order_is
-          ∙ sym (numbers_after commit log (epoch_next now session t live core.epoch answer none).accepted)
-          ∙ ap (λ log. map (λ (r : Record). r.number) (serial_order log)) (sym (log_with records commit));
+          ∙ ap numbers_of (sym (order_step commit log next.accepted))
+          ∙ ap (λ log. numbers_of (serial_order log)) (sym (log_with records commit));
       within = (let within = core.within in let long = length-append records (commit ∷ []) in let other = eqb-false _ _ room in omega arith);
       small = core.small;
       tickets = fewer now.live t.ticket core.tickets;

@@ -25,27 +25,28 @@ is_idle core now prepared view idle = none_pending prepared (ap (λ (s : CoreSta
 pub idle_view : (core now : CoreState) (prepared : Option Prepared) → record core { prepared = pending_of prepared } ≡ now → now.prepared ≡ None → record core { prepared = None } ≡ now
 idle_view core now prepared view idle = ap (λ (s : CoreState). record s { prepared = None }) view ∙ (λ i. record now { prepared = sym idle i })
 
-module _ (core : CoreState) (newest : Shown) (places order : List ℕ) (locks : Reads) (Room : Type 0) where
+module _ (core : CoreState) (newest : Shown) (places reaches order : List ℕ) (locks : Reads) (Room : Type 0) where
   -- where nothing is prepared, the readers are those of the commits
-  pub kept_idle : (prepared : Option Prepared) → prepared ≡ None → IsCore core newest places order → locks ≡ reads_kept core → IsKept core newest places order locks prepared Room
+  pub kept_idle : (prepared : Option Prepared) → prepared ≡ None → IsCore core newest places reaches order → locks ≡ reads_kept core → IsKept core newest places reaches order locks prepared Room
   kept_idle None e h g = (h, tt, g, tt)
   kept_idle (Some p) e h g = let no : ⊥ = cc in absurd no
 
-  pub locks_idle : (prepared : Option Prepared) → prepared ≡ None → IsKept core newest places order locks prepared Room → locks ≡ reads_kept core
+  pub locks_idle : (prepared : Option Prepared) → prepared ≡ None → IsKept core newest places reaches order locks prepared Room → locks ≡ reads_kept core
   locks_idle None e h = h.2
   locks_idle (Some p) e h = let no : ⊥ = cc in absurd no
 
   -- where one is, it is ready
-  pub kept_ready : (p : Prepared) (prepared : Option Prepared) → prepared ≡ Some p → IsKept core newest places order locks prepared Room → IsKept core newest places order locks (Some p) Room
-  kept_ready p prepared e h = subst (λ o. IsKept core newest places order locks o Room) e h
+  pub kept_ready : (p : Prepared) (prepared : Option Prepared) → prepared ≡ Some p → IsKept core newest places reaches order locks prepared Room → IsKept core newest places reaches order locks (Some p) Room
+  kept_ready p prepared e h = subst (λ o. IsKept core newest places reaches order locks o Room) e h
 
   -- open transactions and refused commits leave what is kept of the commits as it is
-  pub same_commits : (live : LiveState) (refused : List RefusedCommit) → AreBelow live.begun live.snapshots → IsCore core newest places order
-      → IsCore (record core { live = live; refused = refused }) newest places order
+  pub same_commits : (live : LiveState) (refused : List RefusedCommit) → AreBelow live.begun live.snapshots → IsCore core newest places reaches order
+      → IsCore (record core { live = live; refused = refused }) newest places reaches order
   same_commits live refused tickets h = record {
     epoch = h.epoch;
     newest_is = h.newest_is;
     places_are = h.places_are;
+    reaches_are = h.reaches_are;
     order_is = h.order_is;
     within = h.within;
     small = h.small;
@@ -53,31 +54,34 @@ module _ (core : CoreState) (newest : Shown) (places order : List ℕ) (locks : 
   }
 
 -- the same of what is equal
-pub same_core : (core core' : CoreState) (newest newest' : Shown) (places places' order order' : List ℕ) → core ≡ core' → newest ≡ newest' → places ≡ places' → order ≡ order'
-    → IsCore core newest places order → IsCore core' newest' places' order'
-same_core core core' newest newest' places places' order order' a b c d h = subst (λ (X : Type 0). X) (λ i. IsCore (a i) (b i) (c i) (d i)) h
+pub same_core : (core core' : CoreState) (newest newest' : Shown) (places places' reaches reaches' order order' : List ℕ)
+    → core ≡ core' → newest ≡ newest' → places ≡ places' → reaches ≡ reaches' → order ≡ order'
+    → IsCore core newest places reaches order → IsCore core' newest' places' reaches' order'
+same_core core core' newest newest' places places' reaches reaches' order order' a b c d e h =
+    subst (λ (X : Type 0). X) (λ i. IsCore (a i) (b i) (c i) (d i) (e i)) h
 
 -- what is kept as a transaction has ended: of the readers, those that an open one may still ask for
-pub kept_left : (core : CoreState) (newest : Shown) (places order : List ℕ) (locks : Reads) (Room Room' : Type 0) (prepared : Option Prepared)
+pub kept_left : (core : CoreState) (newest : Shown) (places reaches order : List ℕ) (locks : Reads) (Room Room' : Type 0) (prepared : Option Prepared)
     (ticket : ℕ) (live : LiveState) (refused : List RefusedCommit) (count : ℕ) (after : Reads)
     → prepared ≡ None → live ≡ without ticket core.live → count ≡ length core.records
-    → after ≡ above (least_held count live.snapshots) locks → IsKept core newest places order locks prepared Room
-    → IsKept (record core { live = live; refused = refused }) newest places order after prepared Room'
-kept_left core newest places order locks Room Room' prepared ticket live refused count after idle e same f kept =
+    → after ≡ above (least_held count live.snapshots) locks → IsKept core newest places reaches order locks prepared Room
+    → IsKept (record core { live = live; refused = refused }) newest places reaches order after prepared Room'
+kept_left core newest places reaches order locks Room Room' prepared ticket live refused count after idle e same f kept =
     let left : after ≡ reads_kept (record core { live = live; refused = refused }) =
-    f ∙ (λ i. above (least_held (same i) (e i).snapshots) (locks_idle core newest places order locks Room prepared idle kept i))
+    f ∙ (λ i. above (least_held (same i) (e i).snapshots) (locks_idle core newest places reaches order locks Room prepared idle kept i))
     ∙ kept_ended core.live core.records ticket ∙ (λ i. reads_kept (record core { live = sym e i; refused = refused })) in
-    kept_idle (record core { live = live; refused = refused }) newest places order after Room' prepared idle
-    (same_commits core newest places order locks Room live refused
+    kept_idle (record core { live = live; refused = refused }) newest places reaches order after Room' prepared idle
+    (same_commits core newest places reaches order locks Room live refused
     (subst (λ (l : LiveState). AreBelow l.begun l.snapshots) (sym e) (fewer core.live ticket kept.0.tickets)) kept.0)
     left
 
 -- before the first commit
-pub empty_kept : (limit : ℕ) (loaded : Shown) → IsSound loaded.declared loaded.state → limit ≤ 4294967295 → IsCore (idle_core limit loaded [] [] none_live) loaded [] []
+pub empty_kept : (limit : ℕ) (loaded : Shown) → IsSound loaded.declared loaded.state → limit ≤ 4294967295 → IsCore (idle_core limit loaded [] [] none_live) loaded [] [] []
 empty_kept limit loaded sound within = record {
   epoch = record { admitted = sound; accepted = tt; history = tt };
   newest_is = refl;
   places_are = refl;
+  reaches_are = refl;
   order_is = refl;
   within = omega arith;
   small = within;

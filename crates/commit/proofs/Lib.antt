@@ -12,3 +12,4 @@ pub mod Fitting
 pub mod Weighing
 pub mod Seating
 pub mod Satisfying
+pub mod Safe

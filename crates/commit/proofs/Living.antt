@@ -1,5 +1,5 @@
 -- Open transactions live on as others begin, are committed, and end.
-use Rattle.std.proofs.Common.{◌≡◌, ◌<◌, ℕ, zero, suc, true, false, cond, List, [], ◌∷◌, ◌++◌, Option, Some, None, Result, Ok, Err, length, reverse, inl, inr, refl, sym, ap, ◌∙◌, subst, arith}
+use Rattle.std.proofs.Common.{◌≡◌, ◌<◌, Bool, ℕ, zero, suc, true, false, cond, List, [], ◌∷◌, ◌++◌, Option, Some, None, Result, Ok, Err, length, reverse, inl, inr, refl, sym, ap, ◌∙◌, subst, arith}
 use Rattle.std.specs.Prelude.{◌⊎◌, slice_get, slice_set, OnOk, OnErr, IfOk, IsOkUnless}
 use Rattle.std.proofs.lemmas.Bool.{cases_eq}
 use Rattle.std.proofs.lemmas.List.{length-append}
@@ -8,7 +8,7 @@ use Rattle.value.specs.declared.refusals.Refusal.{Refusal}
 use Rattle.value.specs.declared.refusals.Refusal.TheVariants.{NoMemory}
 use Rattle.statement_syntax.specs.declared.statements.Step.{Step}
 use Rattle.statement_syntax.specs.declared.statements.Event.{Event}
-use Rattle.statement_syntax.specs.declared.statements.Event.TheVariants.{Begin, Commit, Rollback, Run}
+use Rattle.statement_syntax.specs.declared.statements.Event.TheVariants.{Begin, BeginReadOnly, Commit, Rollback, Run}
 use Rattle.answer.specs.declared.answers.Answer.{Answer}
 use Rattle.answer.specs.declared.answers.Answer.TheVariants.{Begun, Committed, Refused, Replied, RolledBack}
 use Rattle.live.specs.Live.{AreBelow}
@@ -23,9 +23,9 @@ use Rattle.commit.specs.Events.{AreLive, EngineState, IsAnswered, IsAnsweredAt, 
 use Rattle.commit.proofs.Recording.{log_with}
 use Rattle.commit.proofs.Tickets.{fewer, held_more, held_other, one_more, ticket_below}
 
-live_begun : (c : CoreState) (other : OpenTransaction) → IsLive c other → IsLive (with_begun c) other
-live_begun c other l = record {
-  held = held_more c.live (length c.records) (record { ticket = other.ticket; snapshot = other.snapshot }) l.held;
+live_begun : (c : CoreState) (read_only : Bool) (other : OpenTransaction) → IsLive c other → IsLive (with_begun read_only c) other
+live_begun c read_only other l = record {
+  held = held_more c.live (length c.records) read_only (record { ticket = other.ticket; snapshot = other.snapshot; read_only = other.read_only }) l.held;
   declared_is = l.declared_is;
   within = l.within;
   start_is = l.start_is;
@@ -33,7 +33,7 @@ live_begun c other l = record {
 
 live_ended : (c : CoreState) (t other : OpenTransaction) → (other.ticket ≡ t.ticket → ⊥) → IsLive c other → IsLive (ended c t) other
 live_ended c t other apart l = record {
-  held = held_other c.live t.ticket (record { ticket = other.ticket; snapshot = other.snapshot }) apart l.held;
+  held = held_other c.live t.ticket (record { ticket = other.ticket; snapshot = other.snapshot; read_only = other.read_only }) apart l.held;
   declared_is = l.declared_is;
   within = l.within;
   start_is = l.start_is;
@@ -48,7 +48,7 @@ tables_stay c commit snapshot later =
 
 live_committed : (c : CoreState) (session : List ℕ) (t other : OpenTransaction) → (other.ticket ≡ t.ticket → ⊥) → IsLive c other → IsLive (committed c session t) other
 live_committed c session t other apart l = record {
-  held = held_other c.live t.ticket (record { ticket = other.ticket; snapshot = other.snapshot }) apart l.held;
+  held = held_other c.live t.ticket (record { ticket = other.ticket; snapshot = other.snapshot; read_only = other.read_only }) apart l.held;
   declared_is = l.declared_is;
   within = (let within = l.within in let long = length-append c.records (record_of c session t ∷ []) in omega arith);
   start_is = l.start_is ∙ tables_stay c (record_of c session t) other.snapshot (let within = l.within in omega arith);
@@ -56,7 +56,7 @@ live_committed c session t other apart l = record {
 
 live_refused : (c : CoreState) (session : List ℕ) (t : OpenTransaction) (refusal : Refusal) (other : OpenTransaction) → (other.ticket ≡ t.ticket → ⊥) → IsLive c other → IsLive (refused_to c session t refusal) other
 live_refused c session t refusal other apart l = record {
-  held = held_other c.live t.ticket (record { ticket = other.ticket; snapshot = other.snapshot }) apart l.held;
+  held = held_other c.live t.ticket (record { ticket = other.ticket; snapshot = other.snapshot; read_only = other.read_only }) apart l.held;
   declared_is = l.declared_is;
   within = l.within;
   start_is = l.start_is;
@@ -75,8 +75,10 @@ IsApart txn other = (t : OpenTransaction) → txn ≡ Some t → other.ticket �
 
 -- as an event is answered
 live_after : (c : CoreState) (session : List ℕ) (event : Event) (txn : Option OpenTransaction) (answer : Answer) (other : OpenTransaction) → IsApart txn other → IsLive c other → IsLive (core_after c session event txn answer) other
-live_after c session Begin None answer other apart l = live_begun c other l
+live_after c session Begin None answer other apart l = live_begun c false other l
 live_after c session Begin (Some t) answer other apart l = l
+live_after c session BeginReadOnly None answer other apart l = live_begun c true other l
+live_after c session BeginReadOnly (Some t) answer other apart l = l
 live_after c session (Run statement) txn answer other apart l = l
 live_after c session Commit None answer other apart l = l
 live_after c session Commit (Some t) answer other apart l = live_decided c session t answer other (apart t refl) l
@@ -93,8 +95,10 @@ below_decided c session t (Refused refusal) below = fewer c.live t.ticket below
 
 below_after : (c : CoreState) (session : List ℕ) (event : Event) (txn : Option OpenTransaction) (answer : Answer) → AreBelow c.live.begun c.live.snapshots
     → AreBelow (core_after c session event txn answer).live.begun (core_after c session event txn answer).live.snapshots
-below_after c session Begin None answer below = one_more c.live (length c.records) below
+below_after c session Begin None answer below = one_more c.live (length c.records) false below
 below_after c session Begin (Some t) answer below = below
+below_after c session BeginReadOnly None answer below = one_more c.live (length c.records) true below
+below_after c session BeginReadOnly (Some t) answer below = below
 below_after c session (Run statement) txn answer below = below
 below_after c session Commit None answer below = below
 below_after c session Commit (Some t) answer below = below_decided c session t answer below
@@ -111,6 +115,8 @@ idle_decided c session t (Refused refusal) idle = idle
 idle_after : (c : CoreState) (session : List ℕ) (event : Event) (txn : Option OpenTransaction) (answer : Answer) → c.prepared ≡ None → (core_after c session event txn answer).prepared ≡ None
 idle_after c session Begin None answer idle = idle
 idle_after c session Begin (Some t) answer idle = idle
+idle_after c session BeginReadOnly None answer idle = idle
+idle_after c session BeginReadOnly (Some t) answer idle = idle
 idle_after c session (Run statement) txn answer idle = idle
 idle_after c session Commit None answer idle = idle
 idle_after c session Commit (Some t) answer idle = idle_decided c session t answer idle
@@ -128,6 +134,8 @@ IsFrom c txn t = (t.ticket ≡ c.live.begun) ⊎ ((old : OpenTransaction) × (tx
 is_from : (c : CoreState) (event : Event) (txn : Option OpenTransaction) (t : OpenTransaction) → txn_after c event txn ≡ Some t → IsFrom c txn t
 is_from c Begin None t e = inl (sym (ap (ticket_or 0) e))
 is_from c Begin (Some old) t e = inr (old, refl, ap (ticket_or 0) e)
+is_from c BeginReadOnly None t e = inl (sym (ap (ticket_or 0) e))
+is_from c BeginReadOnly (Some old) t e = inr (old, refl, ap (ticket_or 0) e)
 is_from c (Run statement) None t e = let no : ⊥ = cc in absurd no
 is_from c (Run statement) (Some old) t e = inr (old, refl, ap (ticket_or 0) e)
 is_from c Commit txn t e = let no : ⊥ = cc in absurd no
@@ -153,6 +161,16 @@ set_elsewhere (y ∷ ys) zero (suc place) x apart = refl
 set_elsewhere (y ∷ ys) (suc other) zero x apart = refl
 set_elsewhere (y ∷ ys) (suc other) (suc place) x apart = set_elsewhere ys other place x (λ e. apart (ap suc e))
 
+-- what holds of each open transaction, and of the one of a seat that is set, holds of each then
+pub each_set : (P : OpenTransaction → Type 0) (seats : List Seat) (place : ℕ) (left : Seat) → place < length seats
+    → ((i : ℕ) (t : OpenTransaction) → txn_of (slice_get seats i) ≡ Some t → P t) → HoldsOf P left.txn
+    → (i : ℕ) (t : OpenTransaction) → txn_of (slice_get (slice_set seats place left) i) ≡ Some t → P t
+each_set P seats place left within each own i t h = go (cases_eq i place)
+  where
+    go : (i ≡ place) ⊎ (i ≡ place → ⊥) → P t
+    go (inl same) = holds_at P left.txn t own (sym (ap txn_of (ap (slice_get (slice_set seats place left)) same ∙ set_there seats place left within)) ∙ h)
+    go (inr other) = each i t (sym (ap txn_of (set_elsewhere seats i place left other)) ∙ h)
+
 -- What an event leaves, whose session has this seat.
 module _ (now : EngineState) (step : Step) (place : ℕ) (seat : Seat) (core : CoreState) (left : Seat) where
   module _ (live : AreLive now.core now.seats) (within : place < length now.seats) (there : slice_get now.seats place ≡ Some seat) where
@@ -169,7 +187,7 @@ module _ (now : EngineState) (step : Step) (place : ℕ) (seat : Seat) (core : C
 
     none_of : (i j : ℕ) (t u : OpenTransaction) → (j ≡ place → ⊥) → txn_of (slice_get now.seats j) ≡ Some u → t.ticket ≡ u.ticket → IsFrom now.core seat.txn t → ⊥
     none_of i j t u apart g e (inl new) =
-        let low = ticket_below now.core.live (record { ticket = u.ticket; snapshot = u.snapshot }) live.begun (live.each j u g).held in
+        let low = ticket_below now.core.live (record { ticket = u.ticket; snapshot = u.snapshot; read_only = u.read_only }) live.begun (live.each j u g).held in
         omega (arith, low, new, e)
     none_of i j t u apart g e (inr old) = apart (sym (live.apart place j old.0 u (seat_txn old.0 old.1) g (old.2 ∙ e)))
 

@@ -1,5 +1,5 @@
 -- Who read what, as transactions begin, are committed, and end.
-use Rattle.std.proofs.Common.{◌≡◌, ℕ, ◌≤◌, List, [], ◌∷◌, ◌++◌, length, inl, inr, sym, ap, ◌∙◌, arith}
+use Rattle.std.proofs.Common.{◌≡◌, Bool, ℕ, ◌≤◌, List, [], ◌∷◌, ◌++◌, length, inl, inr, sym, ap, ◌∙◌, arith}
 use Rattle.std.proofs.lemmas.List.{length-append}
 use Rattle.std.specs.Prelude.{Contains}
 use Rattle.siread.specs.Locks.{Reads, above, with_reader}
@@ -25,15 +25,15 @@ least_up_to newest (first ∷ rest) one m = elim (in_cases first rest one m) [
 pub readers_above : (core : CoreState) (t : OpenTransaction) (locks : Reads) → IsLive core t → locks ≡ reads_kept core → HasReaders locks core.records t.snapshot
 readers_above core t locks live e = record {
   low = least_held (length core.records) core.live.snapshots;
-  within = least_up_to (length core.records) core.live.snapshots (record { ticket = t.ticket; snapshot = t.snapshot }) live.held;
+  within = least_up_to (length core.records) core.live.snapshots (record { ticket = t.ticket; snapshot = t.snapshot; read_only = t.read_only }) live.held;
   are = e;
 }
 
 module _ (live : LiveState) (commits : List Record) where
   -- as a transaction begins, none may go
-  pub kept_begun : above (least_held (length commits) (with_begin (length commits) live).snapshots) (reads_of commits)
+  pub kept_begun : (read_only : Bool) → above (least_held (length commits) (with_begin (length commits) read_only live).snapshots) (reads_of commits)
       ≡ above (least_held (length commits) live.snapshots) (reads_of commits)
-  kept_begun = ap (λ low. above low (reads_of commits)) (least_begun (length commits) live.begun live.snapshots)
+  kept_begun read_only = ap (λ low. above low (reads_of commits)) (least_begun (length commits) live.begun read_only live.snapshots)
 
   -- as one ends, some may
   pub kept_ended : (ticket : ℕ) → above (least_held (length commits) (without ticket live).snapshots) (above (least_held (length commits) live.snapshots) (reads_of commits))

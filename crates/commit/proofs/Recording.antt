@@ -1,5 +1,5 @@
 -- A transaction as the record that it would be, over the tables of its snapshot.
-use Rattle.std.proofs.Common.{◌≡◌, ℕ, suc, ◌+◌, ◌<◌, ◌≤◌, List, [], ◌∷◌, ◌++◌, None, length, reverse, sym, ap, ◌∙◌, subst, arith}
+use Rattle.std.proofs.Common.{◌≡◌, Bool, true, ℕ, suc, ◌+◌, ◌<◌, ◌≤◌, List, [], ◌∷◌, ◌++◌, None, length, reverse, sym, ap, ◌∙◌, subst, arith}
 use Rattle.std.specs.Prelude.{Contains}
 use Rattle.std.proofs.lemmas.List.{length-reverse, reverse-append}
 use Rattle.assertion.specs.Declarations.{layouts_in}
@@ -33,9 +33,9 @@ module _ (now : CoreState) (accepted : IsLog (log_of now)) where
   newest_at = ap (newest now.declared now.start) (held_all (length now.records) (log_of now) (each_weaker (λ w. w.number < length now.records + 1) (λ w. w.number ≤ length now.records) (λ w l. omega arith) (log_of now) below))
 
   -- a transaction that begins
-  pub begin_live : IsLive (with_begun now) (begun now.live.begun (length now.records) (newest_tables now))
-  begin_live = record {
-    held = held_last now.live (length now.records);
+  pub begin_live : (read_only : Bool) → IsLive (with_begun read_only now) (begun now.live.begun (length now.records) read_only (newest_tables now))
+  begin_live read_only = record {
+    held = held_last now.live (length now.records) read_only;
     declared_is = λ i. now.declared;
     within = omega arith;
     start_is = sym newest_at;
@@ -63,8 +63,8 @@ module _ (now : CoreState) (session : List ℕ) (t : OpenTransaction) (live : Is
   }
 
   pub epoch_next : IsEpoch now.declared now.start (log_of now) → IsAnswer (log_of now) (record_of now session t) (Number (length now.records + 1)) → (outcome_of t).refused ≡ None
-      → IsEpoch now.declared now.start (record_of now session t ∷ log_of now)
-  epoch_next epoch answer none = record {
+      → (t.read_only ≡ true → (outcome_of t).changes ≡ []) → IsEpoch now.declared now.start (record_of now session t ∷ log_of now)
+  epoch_next epoch answer none changes_nothing = record {
     admitted = epoch.admitted;
     accepted = (
       record {
@@ -72,6 +72,7 @@ module _ (now : CoreState) (session : List ℕ) (t : OpenTransaction) (live : Is
         after_snapshot = (let within = live.within in omega arith);
         no_write_conflict = answer.1;
         no_danger = answer.2;
+        changes_nothing = changes_nothing;
       },
       epoch.accepted,
     );

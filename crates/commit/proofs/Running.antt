@@ -1,6 +1,7 @@
 -- An event more: the commits were again each accepted over those before it, and the open transactions are live. Definitions alone.
 use Rattle.std.proofs.Common.{◌≡◌, ◌+◌, ◌<◌, ◌≤◌, ℕ, Bool, true, false, cond, List, [], ◌∷◌, length, get_or, Option, Some, None, Result, Ok, Err, inl, inr, refl, sym, ap, ◌∙◌, subst, arith}
 use Rattle.std.specs.Prelude.{◌==◌, slice_get}
+use Rattle.std.specs.List.{list_all}
 use Rattle.std.specs.Str.{bytes_eq}
 use Rattle.std.proofs.lemmas.Bool.{eqb-false}
 use Rattle.std.proofs.lemmas.List.{length-append}
@@ -12,20 +13,23 @@ use Rattle.value.specs.declared.refusals.Refusal.{Refusal}
 use Rattle.statement_syntax.specs.declared.statements.Statement.{Statement}
 use Rattle.statement_syntax.specs.declared.statements.Step.{Step}
 use Rattle.statement_syntax.specs.declared.statements.Event.{Event}
-use Rattle.statement_syntax.specs.declared.statements.Event.TheVariants.{Begin, Commit, Rollback, Run}
+use Rattle.statement_syntax.specs.declared.statements.Event.TheVariants.{Begin, BeginReadOnly, Commit, Rollback, Run}
 use Rattle.answer.specs.declared.answers.Answer.{Answer}
 use Rattle.answer.specs.declared.answers.Answer.TheVariants.{Begun, Committed, Refused, Replied, RolledBack}
 use Rattle.alone.specs.Alone.{IsSound}
+use Rattle.alone.specs.Resolve.{is_read_only, resolved}
+use Rattle.alone.proofs.ReadOnly.{changes_nothing, resolved_reads}
 use Rattle.delta.specs.Views.{Shown}
 use Rattle.live.specs.declared.snapshots.LiveSnapshot.{LiveSnapshot}
 use Rattle.serial.specs.Epoch.{IsEpoch}
-use Rattle.txn.specs.Transactions.{OpenTransaction, outcome_of}
+use Rattle.txn.specs.Transactions.{OpenTransaction, outcome_of, with_statement}
+use Rattle.txn.proofs.Holding.{no_changes_with}
 use Rattle.commit.specs.declared.seats.Seat.{Seat}
 use Rattle.commit.specs.Cores.{CoreState, IsCommitAnswer, IsLive, committed, log_of, record_of}
 use Rattle.commit.specs.Events.{AreLive, EngineState, IsAnswered, IsAnsweredAt, IsReply, IsCommitted, after, after_at, commit_answer, core_after, decided_core, found_no_memory, seat_of, seats_set, txn_after, txn_of, txn_with}
 use Rattle.commit.specs.Runs.{beginning, empty_core, free_seat, led_to}
 use Rattle.commit.proofs.Deciding.{Passed, passed}
-use Rattle.commit.proofs.Living.{all_answered, all_seated_live}
+use Rattle.commit.proofs.Living.{all_answered, all_free, all_seated_live, each_set}
 use Rattle.commit.proofs.Recording.{begin_live, epoch_next, log_with}
 
 -- what holds of the commits between two events
@@ -33,10 +37,18 @@ pub record AreEpoch (core : CoreState) : Type 0 where
   pub epoch : IsEpoch core.declared core.start (log_of core)
   pub within : length core.records ≤ core.limit
 
+-- a transaction that is read only has run no statement that changes rows
+abbrev ReadsOnly : OpenTransaction → Type 0
+ReadsOnly t = t.read_only ≡ true → list_all is_read_only t.trace ≡ true
+
+abbrev EachReadsOnly : List Seat → Type 0
+EachReadsOnly seats = (place : ℕ) (t : OpenTransaction) → txn_of (slice_get seats place) ≡ Some t → ReadsOnly t
+
 -- and of the open transactions
 pub record IsRunning (now : EngineState) : Type 0 where
   pub commits : AreEpoch now.core
   pub live : AreLive now.core now.seats
+  pub reads_only : EachReadsOnly now.seats
 
 -- an accepted COMMIT was decided so
 accepted_by : (core : CoreState) (session : List ℕ) (t : OpenTransaction) (number : ℕ) (result : Result ℕ Refusal) → IsCommitAnswer core session t result → Committed number ≡ commit_answer result
@@ -51,32 +63,34 @@ pub accepts : (core : CoreState) (session : List ℕ) (t : OpenTransaction) (num
     → Passed core (record_of core session t) (outcome_of t).refused (length core.records == core.limit) number
 accepts core session t number h = accepted_by core session t number h.result h.decided h.is
 
-epoch_committed : (core : CoreState) (session : List ℕ) (t : OpenTransaction) (number : ℕ) → AreEpoch core → IsLive core t → IsCommitted core session t (Committed number) → AreEpoch (committed core session t)
-epoch_committed core session t number h live answered =
+epoch_committed : (core : CoreState) (session : List ℕ) (t : OpenTransaction) (number : ℕ) → AreEpoch core → IsLive core t → ReadsOnly t → IsCommitted core session t (Committed number) → AreEpoch (committed core session t)
+epoch_committed core session t number h live reads answered =
     let p = accepts core session t number answered in
     let same : number ≡ length core.records + 1 = p.answer.0 in
     record {
       epoch = subst (IsEpoch core.declared core.start) (sym (log_with core.records (record_of core session t)))
-          (epoch_next core session t live h.epoch (refl, p.answer.1, p.answer.2) p.satisfied);
+          (epoch_next core session t live h.epoch (refl, p.answer.1, p.answer.2) p.satisfied (λ only. changes_nothing t.declared t.trace t.start (reads only)));
       within = (let within = h.within in let long = length-append core.records (record_of core session t ∷ []) in let other = eqb-false _ _ p.room in omega arith);
     }
 
-epoch_decided : (core : CoreState) (session : List ℕ) (t : OpenTransaction) (answer : Answer) → AreEpoch core → IsLive core t → IsCommitted core session t answer → AreEpoch (decided_core core session t answer)
-epoch_decided core session t (Begun number) h live answered = h
-epoch_decided core session t (Replied reply) h live answered = h
-epoch_decided core session t (Committed number) h live answered = epoch_committed core session t number h live answered
-epoch_decided core session t RolledBack h live answered = h
-epoch_decided core session t (Refused refusal) h live answered = record { epoch = h.epoch; within = h.within }
+epoch_decided : (core : CoreState) (session : List ℕ) (t : OpenTransaction) (answer : Answer) → AreEpoch core → IsLive core t → ReadsOnly t → IsCommitted core session t answer → AreEpoch (decided_core core session t answer)
+epoch_decided core session t (Begun number) h live reads answered = h
+epoch_decided core session t (Replied reply) h live reads answered = h
+epoch_decided core session t (Committed number) h live reads answered = epoch_committed core session t number h live reads answered
+epoch_decided core session t RolledBack h live reads answered = h
+epoch_decided core session t (Refused refusal) h live reads answered = record { epoch = h.epoch; within = h.within }
 
-epoch_after : (core : CoreState) (session : List ℕ) (event : Event) (txn : Option OpenTransaction) (answer : Answer) → AreEpoch core → HoldsOf (IsLive core) txn → IsReply core session event txn answer
+epoch_after : (core : CoreState) (session : List ℕ) (event : Event) (txn : Option OpenTransaction) (answer : Answer) → AreEpoch core → HoldsOf (IsLive core) txn → HoldsOf ReadsOnly txn → IsReply core session event txn answer
     → AreEpoch (core_after core session event txn answer)
-epoch_after core session Begin None answer h live reply = record { epoch = h.epoch; within = h.within }
-epoch_after core session Begin (Some t) answer h live reply = h
-epoch_after core session (Run statement) txn answer h live reply = h
-epoch_after core session Commit None answer h live reply = h
-epoch_after core session Commit (Some t) answer h live reply = epoch_decided core session t answer h live reply
-epoch_after core session Rollback None answer h live reply = h
-epoch_after core session Rollback (Some t) answer h live reply = record { epoch = h.epoch; within = h.within }
+epoch_after core session Begin None answer h live reads reply = record { epoch = h.epoch; within = h.within }
+epoch_after core session Begin (Some t) answer h live reads reply = h
+epoch_after core session BeginReadOnly None answer h live reads reply = record { epoch = h.epoch; within = h.within }
+epoch_after core session BeginReadOnly (Some t) answer h live reads reply = h
+epoch_after core session (Run statement) txn answer h live reads reply = h
+epoch_after core session Commit None answer h live reads reply = h
+epoch_after core session Commit (Some t) answer h live reads reply = epoch_decided core session t answer h live reads reply
+epoch_after core session Rollback None answer h live reads reply = h
+epoch_after core session Rollback (Some t) answer h live reads reply = record { epoch = h.epoch; within = h.within }
 
 -- a transaction with a statement more is live as it was
 live_with : (core : CoreState) (statement : Statement) (txn : Option OpenTransaction) → HoldsOf (IsLive core) txn → HoldsOf (IsLive core) (txn_with statement txn)
@@ -85,18 +99,40 @@ live_with core statement (Some t) live = record { held = live.held; declared_is 
 
 own_live : (core : CoreState) (session : List ℕ) (event : Event) (txn : Option OpenTransaction) (answer : Answer) → AreEpoch core → HoldsOf (IsLive core) txn
     → HoldsOf (IsLive (core_after core session event txn answer)) (txn_after core event txn)
-own_live core session Begin None answer h live = begin_live core h.epoch.accepted
+own_live core session Begin None answer h live = begin_live core h.epoch.accepted false
 own_live core session Begin (Some t) answer h live = live
+own_live core session BeginReadOnly None answer h live = begin_live core h.epoch.accepted true
+own_live core session BeginReadOnly (Some t) answer h live = live
 own_live core session (Run statement) txn answer h live = live_with core statement txn live
 own_live core session Commit None answer h live = tt
 own_live core session Commit (Some t) answer h live = tt
 own_live core session Rollback None answer h live = tt
 own_live core session Rollback (Some t) answer h live = tt
 
+-- nor does it run one
+reads_only_with : (t : OpenTransaction) (statement : Statement) → ReadsOnly t → ReadsOnly (with_statement t (resolved t.declared t.read_only statement))
+reads_only_with t statement reads only =
+    no_changes_with t.trace (resolved t.declared t.read_only statement) (reads only)
+    (subst (λ b. is_read_only (resolved t.declared b statement) ≡ true) (sym only) (resolved_reads t.declared statement))
+
+own_reads_only : (core : CoreState) (event : Event) (txn : Option OpenTransaction) → HoldsOf ReadsOnly txn → HoldsOf ReadsOnly (txn_after core event txn)
+own_reads_only core Begin None reads = λ no. refl
+own_reads_only core Begin (Some t) reads = reads
+own_reads_only core BeginReadOnly None reads = λ only. refl
+own_reads_only core BeginReadOnly (Some t) reads = reads
+own_reads_only core (Run statement) None reads = tt
+own_reads_only core (Run statement) (Some t) reads = reads_only_with t statement reads
+own_reads_only core Commit txn reads = tt
+own_reads_only core Rollback txn reads = tt
+
 -- what stands in a seat is live
 seat_live : (now : EngineState) (place : ℕ) (txn : Option OpenTransaction) → AreLive now.core now.seats → txn_of (slice_get now.seats place) ≡ txn → HoldsOf (IsLive now.core) txn
 seat_live now place None live e = tt
 seat_live now place (Some t) live e = live.each place t e
+
+seat_reads_only : (now : EngineState) (place : ℕ) (txn : Option OpenTransaction) → EachReadsOnly now.seats → txn_of (slice_get now.seats place) ≡ txn → HoldsOf ReadsOnly txn
+seat_reads_only now place None reads e = tt
+seat_reads_only now place (Some t) reads e = reads place t e
 
 -- a session's seat is there, and is its own
 pub record HasSeat (seats : List Seat) (session : List ℕ) (place : ℕ) : Type 0 where
@@ -123,10 +159,12 @@ module _ (now : EngineState) (step : Step) (answer : Answer) where
   running_seated : (place : ℕ) (seat : Seat) → place < length now.seats → slice_get now.seats place ≡ Some seat → IsRunning now → IsReply now.core step.session step.event seat.txn answer
       → IsRunning (left_by place (Some seat))
   running_seated place seat within there h reply =
-      let own = seat_live now place seat.txn h.live (ap txn_of there) in record {
-        commits = epoch_after now.core step.session step.event seat.txn answer h.commits own reply;
+      let own = seat_live now place seat.txn h.live (ap txn_of there) in
+      let reads = seat_reads_only now place seat.txn h.reads_only (ap txn_of there) in record {
+        commits = epoch_after now.core step.session step.event seat.txn answer h.commits own reads reply;
         live = all_answered now step place seat (core_after now.core step.session step.event seat.txn answer) (record seat { txn = txn_after now.core step.event seat.txn })
             h.live within there answer refl refl (own_live now.core step.session step.event seat.txn answer h.commits own);
+        reads_only = each_set ReadsOnly now.seats place (record seat { txn = txn_after now.core step.event seat.txn }) within h.reads_only (own_reads_only now.core step.event seat.txn reads);
       }
 
   running_at : (place : Option ℕ) → seat_of now.seats step.session ≡ place → IsRunning now → IsAnsweredAt now step.session step.event place answer → IsRunning (after_at now step.session step.event place answer)
@@ -149,6 +187,7 @@ pub running_first : (limit : ℕ) (loaded : Shown) (all : List Step) → IsSound
 running_first limit loaded all sound = record {
   commits = record { epoch = record { admitted = sound; accepted = tt; history = tt }; within = omega arith };
   live = all_seated_live (empty_core limit loaded) all (All-nil (λ (one : LiveSnapshot). one.ticket < 0)) refl;
+  reads_only = λ place t h. let e = all_free [] all (λ place. refl) place in let no : ⊥ = cc in absurd no;
 }
 
 -- ---- what was loaded stays
@@ -166,6 +205,8 @@ loaded_decided core session t (Refused refusal) = refl
 loaded_after : (core : CoreState) (session : List ℕ) (event : Event) (txn : Option OpenTransaction) (answer : Answer) → loaded_of (core_after core session event txn answer) ≡ loaded_of core
 loaded_after core session Begin None answer = refl
 loaded_after core session Begin (Some t) answer = refl
+loaded_after core session BeginReadOnly None answer = refl
+loaded_after core session BeginReadOnly (Some t) answer = refl
 loaded_after core session (Run statement) txn answer = refl
 loaded_after core session Commit None answer = refl
 loaded_after core session Commit (Some t) answer = loaded_decided core session t answer

@@ -11,7 +11,7 @@ use Rattle.std.proofs.lemmas.Slice.Eq.{bytes_eq-Decides}
 use Rattle.value.specs.declared.refusals.Refusal.{Refusal}
 use Rattle.statement_syntax.specs.declared.statements.Step.{Step}
 use Rattle.statement_syntax.specs.declared.statements.Event.{Event}
-use Rattle.statement_syntax.specs.declared.statements.Event.TheVariants.{Begin, Commit, Rollback, Run}
+use Rattle.statement_syntax.specs.declared.statements.Event.TheVariants.{Begin, BeginReadOnly, Commit, Rollback, Run}
 use Rattle.answer.specs.declared.answers.Answer.{Answer}
 use Rattle.answer.specs.declared.answers.Answer.TheVariants.{Begun, Committed, Refused, Replied, RolledBack}
 use Rattle.answer.specs.declared.answers.Reply.{Reply}
@@ -41,6 +41,11 @@ silent Begin (Replied reply) replies none = refl
 silent Begin (Committed number) replies none = refl
 silent Begin RolledBack replies none = refl
 silent Begin (Refused refusal) replies none = refl
+silent BeginReadOnly (Begun number) replies none = let no : ⊥ = cc in absurd no
+silent BeginReadOnly (Replied reply) replies none = refl
+silent BeginReadOnly (Committed number) replies none = refl
+silent BeginReadOnly RolledBack replies none = refl
+silent BeginReadOnly (Refused refusal) replies none = refl
 silent (Run statement) (Begun number) replies none = let no : ⊥ = cc in absurd no
 silent (Run statement) (Replied reply) replies none = let no : ⊥ = cc in absurd no
 silent (Run statement) (Committed number) replies none = let no : ⊥ = cc in absurd no
@@ -109,9 +114,13 @@ module _ (joined : Joined) (core : CoreState) (session : List ℕ) (answer : Ans
       ap (λ a. replies_at a replies) reply ∙ ap (λ u. (run_of u).replies) (same_Some _ t is_open)
   told_open Begin (Some u) t before known reply is_open =
       ap (λ a. replies_at a replies) reply ∙ before u refl ∙ ap (λ u. (run_of u).replies) (same_Some u t is_open)
+  told_open BeginReadOnly None t before known reply is_open =
+      ap (λ a. replies_at a replies) reply ∙ ap (λ u. (run_of u).replies) (same_Some _ t is_open)
+  told_open BeginReadOnly (Some u) t before known reply is_open =
+      ap (λ a. replies_at a replies) reply ∙ before u refl ∙ ap (λ u. (run_of u).replies) (same_Some u t is_open)
   told_open (Run statement) None t before known reply is_open = let no : ⊥ = cc in absurd no
   told_open (Run statement) (Some u) t before known reply is_open =
-      let next : Resolved = resolved u.declared statement in
+      let next : Resolved = resolved u.declared u.read_only statement in
       ap (λ a. replies ++ reply_in a) reply
       ∙ ap (λ r. replies ++ r) (told_as (step_of u next).reply (ap found_no_memory (sym reply) ∙ known))
       ∙ ap (λ r. r ++ (step_of u next).reply ∷ []) (before u refl)
@@ -197,6 +206,8 @@ module _ (joined : Joined) (now : EngineState) (steps : List Step) (answers : Li
         → WereToldAlone (core_after now.core step.session event txn answer) (steps ++ step ∷ []) (answers ++ answer ∷ [])
     alone_after Begin None is there reply = alone_still
     alone_after Begin (Some t) is there reply = alone_still
+    alone_after BeginReadOnly None is there reply = alone_still
+    alone_after BeginReadOnly (Some t) is there reply = alone_still
     alone_after (Run statement) txn is there reply = alone_still
     alone_after Commit None is there reply = alone_still
     alone_after Commit (Some t) is there reply = alone_decided t answer there is refl reply

@@ -1,5 +1,5 @@
 -- The snapshots of open transactions, by their tickets.
-use Rattle.std.proofs.Common.{◌≡◌, ℕ, ◌<◌, ◌+◌, not, [], ◌∷◌, ap, arith}
+use Rattle.std.proofs.Common.{◌≡◌, Bool, ℕ, ◌<◌, ◌+◌, not, [], ◌∷◌, ap, arith}
 use Rattle.std.specs.Prelude.{Contains}
 use Rattle.std.proofs.lemmas.Bool.{ne_eqb}
 use Rattle.std.proofs.lemmas.List.Elements.{All-contains, All-filter, All-push, All-weaker, Contains-append_left, Contains-append_right}
@@ -11,21 +11,23 @@ use Rattle.alone.proofs.Members.{in_filter}
 pub fewer : (live : LiveState) (ticket : ℕ) → AreBelow live.begun live.snapshots → AreBelow live.begun (without ticket live).snapshots
 fewer live ticket below = All-filter (is_other ticket) (λ (one : LiveSnapshot). one.ticket < live.begun) live.snapshots below
 
-pub one_more : (live : LiveState) (snapshot : ℕ) → AreBelow live.begun live.snapshots → AreBelow (with_begin snapshot live).begun (with_begin snapshot live).snapshots
-one_more live snapshot below =
-    All-push (λ (one : LiveSnapshot). one.ticket < live.begun + 1) live.snapshots (record { ticket = live.begun; snapshot = snapshot })
+pub one_more : (live : LiveState) (snapshot : ℕ) (read_only : Bool) → AreBelow live.begun live.snapshots
+    → AreBelow (with_begin snapshot read_only live).begun (with_begin snapshot read_only live).snapshots
+one_more live snapshot read_only below =
+    All-push (λ (one : LiveSnapshot). one.ticket < live.begun + 1) live.snapshots (record { ticket = live.begun; snapshot = snapshot; read_only = read_only })
     (All-weaker (λ (one : LiveSnapshot). one.ticket < live.begun) (λ (one : LiveSnapshot). one.ticket < live.begun + 1) (λ one h. omega arith) live.snapshots below)
     (omega arith)
 
 -- the last to begin is held
-pub held_last : (live : LiveState) (snapshot : ℕ) → Contains (with_begin snapshot live).snapshots (record { ticket = live.begun; snapshot = snapshot })
-held_last live snapshot =
-    Contains-append_right live.snapshots (record { ticket = live.begun; snapshot = snapshot } ∷ []) (record { ticket = live.begun; snapshot = snapshot })
-    (in_head (record { ticket = live.begun; snapshot = snapshot }) [])
+pub held_last : (live : LiveState) (snapshot : ℕ) (read_only : Bool)
+    → Contains (with_begin snapshot read_only live).snapshots (record { ticket = live.begun; snapshot = snapshot; read_only = read_only })
+held_last live snapshot read_only =
+    let last : LiveSnapshot = record { ticket = live.begun; snapshot = snapshot; read_only = read_only } in
+    Contains-append_right live.snapshots (last ∷ []) last (in_head last [])
 
 -- those that were are still
-pub held_more : (live : LiveState) (snapshot : ℕ) (one : LiveSnapshot) → Contains live.snapshots one → Contains (with_begin snapshot live).snapshots one
-held_more live snapshot one m = Contains-append_left live.snapshots (record { ticket = live.begun; snapshot = snapshot } ∷ []) one m
+pub held_more : (live : LiveState) (snapshot : ℕ) (read_only : Bool) (one : LiveSnapshot) → Contains live.snapshots one → Contains (with_begin snapshot read_only live).snapshots one
+held_more live snapshot read_only one m = Contains-append_left live.snapshots (record { ticket = live.begun; snapshot = snapshot; read_only = read_only } ∷ []) one m
 
 -- but for one that has ended
 pub held_other : (live : LiveState) (ticket : ℕ) (one : LiveSnapshot) → (one.ticket ≡ ticket → ⊥) → Contains live.snapshots one → Contains (without ticket live).snapshots one

@@ -51,7 +51,8 @@ order_of c = map (λ (r : Record). r.number) (serial_order (log_of c))
 
 -- a transaction that began on the tables after so many commits, and has not ended
 pub record IsLive (c : CoreState) (t : OpenTransaction) : Type 0 where
-  pub held : Contains c.live.snapshots (record { ticket = t.ticket; snapshot = t.snapshot })
+  pub held : Contains c.live.snapshots
+      (record { ticket = t.ticket; snapshot = t.snapshot; read_only = t.read_only })
   pub declared_is : t.declared ≡ c.declared
   pub within : t.snapshot ≤ length c.records
   pub start_is : t.start ≡ state_of c.declared c.start (log_of c) t.snapshot
@@ -61,6 +62,7 @@ abbrev pub record_of : CoreState → List ℕ → OpenTransaction → Record
 record_of c session t = record {
   number = length c.records + 1;
   snapshot = t.snapshot;
+  read_only = t.read_only;
   session = session;
   trace = t.trace;
   reads = keys_of t;
@@ -101,9 +103,9 @@ abbrev pub IsCommitAnswer : CoreState → List ℕ → OpenTransaction → Resul
 IsCommitAnswer c session t answer =
     IsDecided c (record_of c session t) (outcome_of t).refused (length c.records == c.limit) answer
 
--- a transaction more that has begun, or one less
-abbrev pub with_begun : CoreState → CoreState
-with_begun c = record c { live = with_begin (length c.records) c.live }
+-- a transaction more that has begun, read only or not, or one less
+abbrev pub with_begun : (read_only : Bool) → CoreState → CoreState
+with_begun read_only c = record c { live = with_begin (length c.records) read_only c.live }
 
 abbrev pub ended : CoreState → OpenTransaction → CoreState
 ended c t = record c { live = without t.ticket c.live }

@@ -7,7 +7,7 @@ use Rattle.value.specs.declared.refusals.Refusal.TheVariants.{NoMemory, NoTransa
 use Rattle.statement_syntax.specs.declared.statements.Statement.{Statement}
 use Rattle.statement_syntax.specs.declared.statements.Step.{Step}
 use Rattle.statement_syntax.specs.declared.statements.Event.{Event}
-use Rattle.statement_syntax.specs.declared.statements.Event.TheVariants.{Begin, Commit, Rollback, Run}
+use Rattle.statement_syntax.specs.declared.statements.Event.TheVariants.{Begin, BeginReadOnly, Commit, Rollback, Run}
 use Rattle.answer.specs.declared.answers.Answer.{Answer}
 use Rattle.answer.specs.declared.answers.Answer.TheVariants.{Begun, Committed, Refused, Replied, RolledBack}
 use Rattle.answer.specs.declared.answers.Reply.{Reply}
@@ -64,11 +64,11 @@ begin_answer core (Some t) = Refused TransactionOpen
 -- a statement is answered as alone in the transaction, whose trace then holds it
 abbrev pub run_answer : Statement → Option OpenTransaction → Answer
 run_answer statement None = Refused NoTransaction
-run_answer statement (Some t) = answer_of (step_of t (resolved t.declared statement)).reply
+run_answer statement (Some t) = answer_of (step_of t (resolved t.declared t.read_only statement)).reply
 
 abbrev pub txn_with : Statement → Option OpenTransaction → Option OpenTransaction
 txn_with statement None = None
-txn_with statement (Some t) = Some (with_statement t (resolved t.declared statement))
+txn_with statement (Some t) = Some (with_statement t (resolved t.declared t.read_only statement))
 
 abbrev pub rollback_answer : Option OpenTransaction → Answer
 rollback_answer None = Refused NoTransaction
@@ -77,15 +77,20 @@ rollback_answer (Some t) = RolledBack
 -- what an event is answered in a session with this transaction open, or none
 abbrev pub IsReply : CoreState → List ℕ → Event → Option OpenTransaction → Answer → Type 0
 IsReply core session Begin txn answer = answer ≡ begin_answer core txn
+IsReply core session BeginReadOnly txn answer = answer ≡ begin_answer core txn
 IsReply core session (Run statement) txn answer = answer ≡ run_answer statement txn
 IsReply core session Commit None answer = answer ≡ Refused NoTransaction
 IsReply core session Commit (Some t) answer = IsCommitted core session t answer
 IsReply core session Rollback txn answer = answer ≡ rollback_answer txn
 
 -- the transaction that is open then, if one is
+abbrev pub txn_begun : CoreState → (read_only : Bool) → Option OpenTransaction → Option OpenTransaction
+txn_begun core read_only None = Some (begun core.live.begun (length core.records) read_only (newest_tables core))
+txn_begun core read_only (Some t) = Some t
+
 abbrev pub txn_after : CoreState → Event → Option OpenTransaction → Option OpenTransaction
-txn_after core Begin None = Some (begun core.live.begun (length core.records) (newest_tables core))
-txn_after core Begin (Some t) = Some t
+txn_after core Begin txn = txn_begun core false txn
+txn_after core BeginReadOnly txn = txn_begun core true txn
 txn_after core (Run statement) txn = txn_with statement txn
 txn_after core Commit txn = None
 txn_after core Rollback txn = None
@@ -96,9 +101,13 @@ decided_core core session t (Committed number) = committed core session t
 decided_core core session t (Refused refusal) = refused_to core session t refusal
 decided_core core session t answer = core
 
+abbrev pub core_begun : CoreState → (read_only : Bool) → Option OpenTransaction → CoreState
+core_begun core read_only None = with_begun read_only core
+core_begun core read_only (Some t) = core
+
 abbrev pub core_after : CoreState → List ℕ → Event → Option OpenTransaction → Answer → CoreState
-core_after core session Begin None answer = with_begun core
-core_after core session Begin (Some t) answer = core
+core_after core session Begin txn answer = core_begun core false txn
+core_after core session BeginReadOnly txn answer = core_begun core true txn
 core_after core session (Run statement) txn answer = core
 core_after core session Commit None answer = core
 core_after core session Commit (Some t) answer = decided_core core session t answer
@@ -144,6 +153,7 @@ found_no_memory answer = false
 -- whether an event takes memory: BEGIN outside a transaction, a statement and COMMIT inside one
 abbrev pub takes_memory : Event → Option OpenTransaction → Bool
 takes_memory Begin txn = is_none txn
+takes_memory BeginReadOnly txn = is_none txn
 takes_memory (Run statement) txn = is_some txn
 takes_memory Commit txn = is_some txn
 takes_memory Rollback txn = false

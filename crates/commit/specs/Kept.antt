@@ -1,11 +1,12 @@
 -- What the committed transactions keep at hand is what they determine.
-use Rattle.std.specs.Prelude.{◌≡◌, ◌≤◌, ◌+◌, ◌==◌, ℕ, false, List, length, map, Option, Some, None, IfSome, ⊤}
+use Rattle.std.specs.Prelude.{◌≡◌, ◌≤◌, ◌+◌, ◌==◌, ℕ, true, false, List, [], length, map, Option, Some, None, IfSome, ⊤}
 use Rattle.answer.specs.declared.answers.RefusedCommit.{RefusedCommit}
 use Rattle.delta.specs.Views.{Shown}
 use Rattle.siread.specs.Locks.{Reads}
 use Rattle.live.specs.Live.{AreBelow, LiveState}
 use Rattle.serial.specs.declared.records.Record.{Record}
 use Rattle.serial.specs.Answer.{IsAnswer, Number}
+use Rattle.serial.specs.Commits.{reach}
 use Rattle.serial.specs.Epoch.{IsEpoch}
 use Rattle.serial.specs.Order.{least_out}
 use Rattle.txn.specs.Transactions.{outcome_of}
@@ -29,24 +30,26 @@ abbrev pub pending_of : Option Prepared → Option Pending
 pending_of None = None
 pending_of (Some p) = Some (record { session = p.session; txn = p.closed })
 
--- The tables after the last commit; for each commit the least one to which it conflicts, or its own number; and the
--- numbers in serial order. Each commit was accepted over those before it, and recorded as it runs alone on its
+-- The tables after the last commit; for each commit the least one to which it conflicts, or its own number, and how far
+-- it reaches; and the numbers in serial order. Each commit was accepted over those before it, and recorded as it runs alone on its
 -- snapshot.
-pub record IsCore (c : CoreState) (newest : Shown) (places order : List ℕ) : Type 0 where
+pub record IsCore (c : CoreState) (newest : Shown) (places reaches order : List ℕ) : Type 0 where
   pub epoch : IsEpoch c.declared c.start (log_of c)
   pub newest_is : newest ≡ newest_tables c
   pub places_are : places ≡ map (least_out (log_of c)) c.records
+  pub reaches_are : reaches ≡ map reach c.records
   pub order_is : order ≡ order_of c
   pub within : length c.records ≤ c.limit
   pub small : c.limit ≤ 4294967295
   pub tickets : AreBelow c.live.begun c.live.snapshots
 
 -- What is prepared may be the next commit: no assertion is false on its own view, the epoch has room, and the
--- commits before it let it join them. The tables are those after it, and the place is that of the least commit to
--- which it conflicts.
+-- commits before it let it join them; if it is read only, it has changed nothing. The tables are those after it, and
+-- the place is that of the least commit to which it conflicts.
 pub record IsReady (c : CoreState) (p : Prepared) : Type 0 where
   pub live : IsLive c p.closed
   pub satisfied : (outcome_of p.closed).refused ≡ None
+  pub changes_nothing : p.closed.read_only ≡ true → (outcome_of p.closed).changes ≡ []
   pub room : (length c.records == c.limit) ≡ false
   pub answer : IsAnswer (log_of c) (record_of c p.session p.closed) (Number (length c.records + 1))
   pub tables_are : p.tables ≡ newest_tables (with_commit c (record_of c p.session p.closed))
@@ -57,9 +60,9 @@ IsReadyIf c None = ⊤
 IsReadyIf c (Some p) = IsReady c p
 
 -- All that is kept beside the records. Where a commit is prepared there is room for it.
-abbrev pub IsKept : CoreState → (newest : Shown) → (places order : List ℕ) → (locks : Reads) → Option Prepared
+abbrev pub IsKept : CoreState → (newest : Shown) → (places reaches order : List ℕ) → (locks : Reads) → Option Prepared
     → (Room : Type 0) → Type 0
-IsKept c newest places order locks prepared Room =
-    IsCore c newest places order × IsReadyIf c prepared
+IsKept c newest places reaches order locks prepared Room =
+    IsCore c newest places reaches order × IsReadyIf c prepared
     × (locks ≡ locks_of (record c { prepared = pending_of prepared }))
     × IfSome prepared (λ _. Room)

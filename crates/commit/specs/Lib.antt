@@ -6,6 +6,7 @@ pub mod Events
 pub mod Runs
 pub mod Told
 pub mod Fitting
+pub mod Safe
 pub use Rattle.alone.specs.Alone
 pub use Rattle.delta.specs.Views
 pub use Rattle.definitions.specs.Written

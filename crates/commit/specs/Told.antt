@@ -4,7 +4,7 @@ use Rattle.std.specs.Str.{bytes_eq}
 use Rattle.value.specs.declared.refusals.Refusal.{Refusal}
 use Rattle.statement_syntax.specs.declared.statements.Step.{Step}
 use Rattle.statement_syntax.specs.declared.statements.Event.{Event}
-use Rattle.statement_syntax.specs.declared.statements.Event.TheVariants.{Begin, Commit, Rollback, Run}
+use Rattle.statement_syntax.specs.declared.statements.Event.TheVariants.{Begin, BeginReadOnly, Commit, Rollback, Run}
 use Rattle.answer.specs.declared.answers.Answer.{Answer}
 use Rattle.answer.specs.declared.answers.Answer.TheVariants.{Begun, Committed, Refused, Replied, RolledBack}
 use Rattle.answer.specs.declared.answers.Reply.{Reply}
@@ -36,6 +36,7 @@ replies_at RolledBack replies = replies
 -- the replies since the last BEGIN, with those to one more event
 abbrev pub replies_with : Event → Answer → Replies → Replies
 replies_with Begin answer replies = replies_at answer replies
+replies_with BeginReadOnly answer replies = replies_at answer replies
 replies_with (Run statement) answer replies = replies ++ reply_in answer
 replies_with Commit answer replies = replies
 replies_with Rollback answer replies = replies

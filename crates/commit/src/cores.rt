@@ -1,6 +1,6 @@
 //! The committed transactions.
 
-ghost use Rattle.std.specs.Prelude.{◌≡◌, ◌≢◌, ◌≤◌, ◌<◌, ◌+◌, ◌++◌, ◌∷◌, [], ℕ, List, length, true, vec_capacity, vec_len, Contains, IfOk, IfErr, IfSome, IfNone, IsOkUnless, OnErr, OnOk, Ok, Err, None, Some};
+ghost use Rattle.std.specs.Prelude.{◌≡◌, ◌↔◌, ◌≢◌, ◌≤◌, ◌<◌, ◌+◌, ◌++◌, ◌∷◌, [], ℕ, List, length, true, false, vec_capacity, vec_len, Contains, IfOk, IfErr, IfSome, IfNone, IsOkUnless, OnErr, OnOk, Ok, Err, None, Some};
 ghost use Rattle.value.specs.declared.refusals.Refusal.TheVariants.{NoMemory};
 ghost use Rattle.txn.specs.Modes.{assertion_of};
 ghost use Rattle.siread.specs.Locks.{IsCount, above, readers_at};
@@ -13,11 +13,12 @@ ghost use Rattle.txn.specs.Transactions.{begun, truth_of};
 ghost use Rattle.commit.specs.Cores.{IsCommitAnswer, IsLive, IsSerializable, IsUncommitted, committed, ended, finished, locks_of, log_of, newest_tables, order_of, pending_txn, record_of, unprepared, with_begun, with_commit, with_prepared};
 ghost use Rattle.commit.specs.Decisions.{IsDecision, IsJudgment};
 ghost use Rattle.commit.specs.Runs.{empty_core};
+ghost use Rattle.commit.specs.Safe.{IsSafeReader};
 
 use crate::decisions::{Decision, refuse_for_triple, refuse_for_writer};
 use crate::prepared::{Prepared, give_up};
 use answer::RefusedCommit;
-use conflict::{Candidate, Verdict, judge, put_in_order};
+use conflict::{Candidate, Verdict, is_safe, judge, put_in_order};
 use delta::View;
 use live::Live;
 use serial::{Record, commits_have_an_order, replay_answers_again};
@@ -40,6 +41,8 @@ pub struct Core {
     records: Vec<Record>,
     /// For each commit the least one to which it conflicts, or its own number.
     places: Vec<u64>,
+    /// For each commit the last number that may stand before it.
+    reaches: Vec<u64>,
     /// The numbers in serial order.
     order: Vec<u64>,
     refused: Vec<RefusedCommit>,
@@ -68,9 +71,9 @@ impl Model for Core {
 
     ghost invariant = { λ c.
         IsKept (idle_core c.limit c.loaded c.records.items c.refused.items c.live) c.newest c.places.items
-        c.order.items (readers_at c.locks) c.prepared
+        c.reaches.items c.order.items (readers_at c.locks) c.prepared
         ((vec_len c.records < vec_capacity c.records) × (vec_len c.places < vec_capacity c.places)
-        × (vec_len c.order < vec_capacity c.order)) };
+        × (vec_len c.reaches < vec_capacity c.reaches) × (vec_len c.order < vec_capacity c.order)) };
 }
 
 impl Drop for Core {
@@ -81,6 +84,7 @@ impl Drop for Core {
             newest: _,
             records: _,
             places: _,
+            reaches: _,
             order: _,
             refused: _,
             live: _,
@@ -114,6 +118,7 @@ impl Core {
             loaded,
             records: Vec::new(alloc),
             places: Vec::new(alloc),
+            reaches: Vec::new(alloc),
             order: Vec::new(alloc),
             refused: Vec::new(alloc),
             live: Live::new(alloc),
@@ -127,19 +132,27 @@ impl Core {
         requires idle { self.old.prepared ≡ None }
         ensures only_memory { IsOkUnless result NoMemory }
         ensures begun { IfOk result (λ txn.
-            txn ≡ begun self.old.live.begun (length self.old.records) (newest_tables self.old)) }
+            txn ≡ begun self.old.live.begun (length self.old.records) false (newest_tables self.old)) }
         ensures live { IfOk result (λ txn. IsLive self.new txn) }
-        ensures after { OnOk result (self.new ≡ with_begun self.old) }
+        ensures after { OnOk result (self.new ≡ with_begun false self.old) }
         ensures same { OnErr result (self.new ≡ self.old) }
     {
-        let alloc = *self.records.allocator();
-        let snapshot = self.records.len() as u64;
-        let txn = Txn::begin(alloc, self.live.next_ticket(), snapshot, &self.newest)?;
-        if let Err(refusal) = self.live.begin(snapshot) {
-            let_go(txn.abandon());
-            return Err(refusal);
-        }
-        Ok(txn)
+        self.begin_as(false)
+    }
+
+    /// A transaction that is read only begins on the newest tables: its INSERT, UPDATE and DELETE are refused, and it
+    /// may stand earlier in the serial order, so that fewer commits are refused for it. NoMemory is the only error, and
+    /// then nothing has changed.
+    pub fn begin_read_only(&mut self) -> Result<Txn, Refusal>
+        requires idle { self.old.prepared ≡ None }
+        ensures only_memory { IsOkUnless result NoMemory }
+        ensures begun { IfOk result (λ txn.
+            txn ≡ begun self.old.live.begun (length self.old.records) true (newest_tables self.old)) }
+        ensures live { IfOk result (λ txn. IsLive self.new txn) }
+        ensures after { OnOk result (self.new ≡ with_begun true self.old) }
+        ensures same { OnErr result (self.new ≡ self.old) }
+    {
+        self.begin_as(true)
     }
 
     /// COMMIT (ISO/IEC 9075:1992, commit statement). The transaction is the next commit, unless an assertion is
@@ -212,9 +225,17 @@ impl Core {
         let number = self.records.len() as u64 + 1;
         let ticket = closed.ticket();
         let snapshot = closed.snapshot();
-        let record = record_of(number, snapshot, session, closed.into_parts());
-        put_in_order(&mut self.order, place, number);
+        let read_only = closed.is_read_only();
+        let record = record_of(number, snapshot, read_only, session, closed.into_parts());
+        put_in_order(
+            &mut self.order,
+            self.records.as_slice(),
+            self.places.as_slice(),
+            &record,
+            place,
+        );
         self.places.push_reserved(place);
+        self.reaches.push_reserved(record.reach());
         self.records.push_reserved(record);
         self.newest = tables;
         forget(&mut self.live, &mut self.locks, ticket, number);
@@ -297,13 +318,31 @@ impl Core {
         self.order.as_slice()
     }
 
-    /// Whether a transaction with this ticket and this snapshot has begun and has not ended. It takes no memory.
-    pub fn holds(&self, ticket: u64, snapshot: u64) -> bool
-        ensures test { result ≡ is_held ticket snapshot self.now.live.snapshots }
-        ensures held { result ≡ true
-            → Contains self.now.live.snapshots (record { ticket = ticket; snapshot = snapshot }) }
+    /// Whether a transaction with this ticket and this snapshot, read only or not as is said, has begun and has not
+    /// ended. It takes no memory.
+    pub fn holds(&self, ticket: u64, snapshot: u64, read_only: bool) -> bool
+        ensures test { result ≡ is_held ticket snapshot read_only self.now.live.snapshots }
+        ensures held { result ≡ true → Contains self.now.live.snapshots
+            (record { ticket = ticket; snapshot = snapshot; read_only = read_only }) }
     {
-        self.live.holds(ticket, snapshot)
+        self.live.holds(ticket, snapshot, read_only)
+    }
+
+    /// Whether an open transaction is safe: it is read only, and is never refused any more for what others read and wrote
+    /// (`safe_readers_are_never_refused`). It takes no memory.
+    pub fn is_safe(&self, txn: &Txn) -> bool
+        requires live { IsLive self.now txn.now }
+        requires idle { self.now.prepared ≡ None }
+        ensures { (result ≡ true) ↔ IsSafeReader self.now txn.now }
+    {
+        let snapshot = txn.snapshot();
+        txn.is_read_only()
+            && (self.live.writers_hold(snapshot)
+                && is_safe(
+                    self.records.as_slice(),
+                    self.places.as_slice(),
+                    snapshot,
+                ))
     }
 
     /// The commit that is prepared, with the tables after it.
@@ -343,6 +382,32 @@ impl Core {
 }
 
 impl Core {
+    /// A transaction, read only or not, begins on the newest tables.
+    pub(crate) fn begin_as(&mut self, read_only: bool) -> Result<Txn, Refusal>
+        requires idle { self.old.prepared ≡ None }
+        ensures only_memory { IsOkUnless result NoMemory }
+        ensures begun { IfOk result (λ txn.
+            txn ≡ begun self.old.live.begun (length self.old.records) read_only (newest_tables self.old)) }
+        ensures live { IfOk result (λ txn. IsLive self.new txn) }
+        ensures after { OnOk result (self.new ≡ with_begun read_only self.old) }
+        ensures same { OnErr result (self.new ≡ self.old) }
+    {
+        let alloc = *self.records.allocator();
+        let snapshot = self.records.len() as u64;
+        let txn = Txn::begin(
+            alloc,
+            self.live.next_ticket(),
+            snapshot,
+            read_only,
+            &self.newest,
+        )?;
+        if let Err(refusal) = self.live.begin(snapshot, read_only) {
+            let_go(txn.abandon());
+            return Err(refusal);
+        }
+        Ok(txn)
+    }
+
     /// What the COMMIT of a transaction is answered.
     fn decide(&self, closed: &Closed) -> Result<Decision, Refusal>
         requires live { IsLive self.now closed.now }
@@ -375,10 +440,17 @@ impl Core {
         let candidate = Candidate {
             number: records.len() as u64 + 1,
             snapshot: closed.snapshot(),
+            read_only: closed.is_read_only(),
             reads: closed.reads(),
             changes,
         };
-        match judge(records, self.places.as_slice(), &self.locks, &candidate) {
+        match judge(
+            records,
+            self.places.as_slice(),
+            self.reaches.as_slice(),
+            &self.locks,
+            &candidate,
+        ) {
             Verdict::Fine { place } => Ok(Decision::Accepted(place)),
             Verdict::WriteConflict { row, by } => {
                 let refusal = refuse_for_writer(self.loaded.catalog(), changes, row, by)?;
@@ -443,7 +515,14 @@ impl Core {
             Ok(made) => made,
             Err(refusal) => return Err(give_back(refusal, closed)),
         };
-        if let Err(refusal) = make_room(&mut self.records, &mut self.places, &mut self.order) {
+        // (that a read-only transaction has changed nothing is a clause of this call)
+        closed.recall_read_only();
+        if let Err(refusal) = make_room(
+            &mut self.records,
+            &mut self.places,
+            &mut self.reaches,
+            &mut self.order,
+        ) {
             return Err(give_back(refusal, closed));
         }
         if let Err(refusal) = self.locks.put(number, closed.reads()) {
@@ -490,11 +569,18 @@ fn forget(live: &mut Live, locks: &mut LockTable, ticket: u64, newest: u64)
 }
 
 /// The record of a commit.
-fn record_of(number: u64, snapshot: u64, session: Text, parts: Parts) -> Record
+fn record_of(
+    number: u64,
+    snapshot: u64,
+    read_only: bool,
+    session: Text,
+    parts: Parts,
+) -> Record
     ensures { result
         ≡ record {
           number = number;
           snapshot = snapshot;
+          read_only = read_only;
           session = session;
           trace = parts.trace.items;
           reads = parts.reads.items;
@@ -509,6 +595,7 @@ fn record_of(number: u64, snapshot: u64, session: Text, parts: Parts) -> Record
     Record {
         number,
         snapshot,
+        read_only,
         session,
         trace: Items::from_vec(trace),
         reads: Items::from_vec(reads),
@@ -520,17 +607,21 @@ fn record_of(number: u64, snapshot: u64, session: Text, parts: Parts) -> Record
 fn make_room(
     records: &mut Vec<Record>,
     places: &mut Vec<u64>,
+    reaches: &mut Vec<u64>,
     order: &mut Vec<u64>,
 ) -> Result<(), Refusal>
     ensures only_memory { IsOkUnless result NoMemory }
     ensures records { records.new.items ≡ records.old.items }
     ensures places { places.new.items ≡ places.old.items }
+    ensures reaches { reaches.new.items ≡ reaches.old.items }
     ensures order { order.new.items ≡ order.old.items }
     ensures room { OnOk result ((vec_len records.new < vec_capacity records.new)
-        × (vec_len places.new < vec_capacity places.new) × (vec_len order.new < vec_capacity order.new)) }
+        × (vec_len places.new < vec_capacity places.new) × (vec_len reaches.new < vec_capacity reaches.new)
+        × (vec_len order.new < vec_capacity order.new)) }
 {
     records.reserve(1)?;
     places.reserve(1)?;
+    reaches.reserve(1)?;
     order.reserve(1)?;
     Ok(())
 }

@@ -1,12 +1,15 @@
 //! What the definitions of this crate entail.
 
-ghost use Rattle.std.specs.Prelude.{◌≡◌, ◌++◌, ◌∷◌, [], ℕ};
+ghost use Rattle.std.specs.Prelude.{◌≡◌, ◌++◌, ◌∷◌, [], ℕ, Bool, true, List, Result};
+ghost use Rattle.value.specs.declared.refusals.Refusal.{Refusal as AnyRefusal};
+ghost use Rattle.serial.specs.Commits.{IsLog};
 ghost use Rattle.alone.specs.declared.statements.Resolved.{Resolved};
 ghost use Rattle.delta.specs.Views.{Shown};
-ghost use Rattle.txn.specs.Transactions.{OpenTransaction, begun, run_of, step_of, with_statement};
-ghost use Rattle.commit.specs.Cores.{IsSerializable};
+ghost use Rattle.txn.specs.Transactions.{OpenTransaction, begun, outcome_of, run_of, step_of, with_statement};
+ghost use Rattle.commit.specs.Cores.{CoreState, IsCommitAnswer, IsLive, IsSerializable, committed, ended, log_of, refused_to, with_begun};
 ghost use Rattle.commit.specs.Fitting.{AllFit, ShownFit};
 ghost use Rattle.commit.specs.Runs.{InEachRun};
+ghost use Rattle.commit.specs.Safe.{IsNotForOthers, IsSafeReader};
 ghost use Rattle.commit.specs.Told.{WereToldAlone};
 
 use alone::runs_are_joined;
@@ -16,12 +19,33 @@ use serial::{commits_have_an_order, replay_answers_again};
 /// alone: none at its BEGIN, and one more with each statement. So what a record's trace answers on its snapshot is
 /// what its session was told.
 pub fn replies_are_those_alone()
-    ensures first { (ticket snapshot : ℕ) (shown : Shown) → (run_of (begun ticket snapshot shown)).replies ≡ [] }
+    ensures first { (ticket snapshot : ℕ) (read_only : Bool) (shown : Shown)
+        → (run_of (begun ticket snapshot read_only shown)).replies ≡ [] }
     ensures next { (t : OpenTransaction) (statement : Resolved)
         → (run_of (with_statement t statement)).replies ≡ (run_of t).replies ++ (step_of t statement).reply ∷ [] }
 {
     runs_are_joined();
 }
+
+/// A read-only transaction that is safe is never refused for what others read and wrote ([`value::Refusal::Dangerous`],
+/// [`value::Refusal::WriteConflict`]): neither now, nor later, since it stays safe whatever others do. It is safe once
+/// each transaction that may write, and that was open at its begin, has ended, and none of them has committed with a
+/// conflict to a commit that its snapshot holds (Ports and Grittner 2012, on safe snapshots).
+pub fn safe_readers_are_never_refused()
+    ensures answered { (c : CoreState) (session : List ℕ) (t : OpenTransaction) → IsLog (log_of c)
+        → (t.read_only ≡ true → (outcome_of t).changes ≡ []) → IsSafeReader c t
+        → (answer : Result ℕ AnyRefusal) → IsCommitAnswer c session t answer → IsNotForOthers answer }
+    ensures begun { (c : CoreState) (t : OpenTransaction) → IsLive c t → IsSafeReader c t
+        → (read_only : Bool) → IsSafeReader (with_begun read_only c) t }
+    ensures ended { (c : CoreState) (t : OpenTransaction) → IsLive c t → IsSafeReader c t
+        → (other : OpenTransaction) → IsSafeReader (ended c other) t }
+    ensures refused { (c : CoreState) (t : OpenTransaction) → IsLive c t → IsSafeReader c t
+        → (session : List ℕ) (other : OpenTransaction) (refusal : AnyRefusal)
+        → IsSafeReader (refused_to c session other refusal) t }
+    ensures committed { (c : CoreState) (t : OpenTransaction) → IsLive c t → IsSafeReader c t
+        → (session : List ℕ) (other : OpenTransaction) → IsLog (log_of (committed c session other)) → IsLive c other
+        → IsSafeReader (committed c session other) t }
+{}
 
 /// The headline, of the definitions alone. Whatever answers events may get, each after those before it, from tables on
 /// which no assertion is false: what they lead to is serializable; each committed transaction was told, from its BEGIN

@@ -48,6 +48,8 @@ mod seats;
 pub use admission::{admit, first_false, require_satisfied};
 pub use cores::{Core, Uncommitted};
 pub use engine::{Engine, Outcome, run};
-pub use laws::{answers_lead_to_a_serial_order, replies_are_those_alone};
+pub use laws::{
+    answers_lead_to_a_serial_order, replies_are_those_alone, safe_readers_are_never_refused,
+};
 pub use prepared::Prepared;
 pub use seats::{Seat, has_few_sessions};

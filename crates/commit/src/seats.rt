@@ -1,11 +1,11 @@
 //! The sessions' seats, and what an event does in one.
 
-ghost use Rattle.std.specs.Prelude.{◌≡◌, ◌<◌, [], false, true, length, nat_le, IfSome, IfOk, IsOkUnless, OnErr, OnOk, Some, None};
+ghost use Rattle.std.specs.Prelude.{◌≡◌, ◌<◌, [], false, true, length, nat_le, is_none, IfSome, IfOk, IsOkUnless, OnErr, OnOk, Some, None};
 ghost use Rattle.value.specs.Ordered.{HoldsOf};
 ghost use Rattle.value.specs.declared.refusals.Refusal.TheVariants.{NoMemory};
 ghost use Rattle.commit.specs.Cores.{IsLive};
-ghost use Rattle.statement_syntax.specs.declared.statements.Event.TheVariants.{Begin, Commit, Rollback, Run};
-ghost use Rattle.commit.specs.Events.{IsReply, begin_answer, core_after, found_no_memory, rollback_answer, run_answer, seat_of, takes_memory, txn_after, txn_with};
+ghost use Rattle.statement_syntax.specs.declared.statements.Event.TheVariants.{Commit, Rollback, Run};
+ghost use Rattle.commit.specs.Events.{IsReply, begin_answer, core_after, core_begun, found_no_memory, rollback_answer, run_answer, seat_of, takes_memory, txn_after, txn_begun, txn_with};
 ghost use Rattle.commit.specs.Runs.{all_seated, seated};
 
 use crate::cores::{Core, Uncommitted};
@@ -119,24 +119,24 @@ pub fn answer_event(core: &mut Core, seat: &mut Seat, step: &Step) -> Result<Ans
     ensures live { HoldsOf (IsLive core.new) seat.new.txn }
 {
     match &step.event {
-        Event::Begin => begin(core, seat),
+        Event::Begin => begin(core, seat, false),
+        Event::BeginReadOnly => begin(core, seat, true),
         Event::Run(statement) => run(seat, statement),
         Event::Commit => commit(core, seat, &step.session),
         Event::Rollback => Ok(roll_back(core, seat)),
     }
 }
 
-/// BEGIN: a transaction begins on the newest tables.
-fn begin(core: &mut Core, seat: &mut Seat) -> Result<Answer, Refusal>
+/// BEGIN, or BEGIN READ ONLY: a transaction begins on the newest tables.
+fn begin(core: &mut Core, seat: &mut Seat, read_only: bool) -> Result<Answer, Refusal>
     requires live { HoldsOf (IsLive core.old) seat.old.txn }
     requires idle { core.old.prepared ≡ None }
     ensures only_memory { IsOkUnless result NoMemory }
     ensures answered { IfOk result (λ answer. answer ≡ begin_answer core.old seat.old.txn) }
     ensures known { IfOk result (λ answer. found_no_memory answer ≡ false) }
-    ensures takes { OnErr result (takes_memory Begin seat.old.txn ≡ true) }
-    ensures commits { IfOk result (λ answer.
-        core.new ≡ core_after core.old seat.old.session Begin seat.old.txn answer) }
-    ensures seat { OnOk result (seat.new ≡ record seat.old { txn = txn_after core.old Begin seat.old.txn }) }
+    ensures takes { OnErr result (is_none seat.old.txn ≡ true) }
+    ensures commits { OnOk result (core.new ≡ core_begun core.old read_only seat.old.txn) }
+    ensures seat { OnOk result (seat.new ≡ record seat.old { txn = txn_begun core.old read_only seat.old.txn }) }
     ensures same { OnErr result ((core.new ≡ core.old) × (seat.new ≡ seat.old)) }
     ensures live { HoldsOf (IsLive core.new) seat.new.txn }
 {
@@ -144,7 +144,7 @@ fn begin(core: &mut Core, seat: &mut Seat) -> Result<Answer, Refusal>
         return Ok(Answer::Refused(Refusal::TransactionOpen));
     }
     let snapshot = core.records().len() as u64;
-    let txn = core.begin()?;
+    let txn = core.begin_as(read_only)?;
     set_txn(seat, Some(txn));
     Ok(Answer::Begun(snapshot))
 }

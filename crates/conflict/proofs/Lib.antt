@@ -6,3 +6,4 @@ pub mod Judging
 pub mod Joined
 pub mod Reading
 pub mod Readers
+pub mod Safety

@@ -8,6 +8,7 @@ abbrev pub record_of : Candidate → Record
 record_of candidate = record {
   number = candidate.number;
   snapshot = candidate.snapshot;
+  read_only = candidate.read_only;
   session = [];
   trace = [];
   reads = candidate.reads.now;
@@ -18,5 +19,6 @@ record_of candidate = record {
 pub record IsOf (candidate : Candidate) (commit : Record) : Type 0 where
   pub number : candidate.number ≡ commit.number
   pub snapshot : candidate.snapshot ≡ commit.snapshot
+  pub read_only : candidate.read_only ≡ commit.read_only
   pub reads : candidate.reads.now ≡ commit.reads
   pub changes : candidate.changes.now ≡ commit.changes

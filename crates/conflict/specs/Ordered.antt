@@ -1,8 +1,14 @@
--- The serial order, by the numbers of the commits.
-use Rattle.std.specs.Prelude.{ℕ, ◌==◌, if◌then◌else◌, List, [], ◌∷◌}
+-- The serial order, by the numbers of the commits, and the place in it of one of a rank.
+use Rattle.std.specs.Prelude.{◌<◌, ◌≤◌, ℕ, List, drop, length, map, take}
+use Rattle.std.specs.List.{AllByRecursion}
+use Rattle.serial.specs.declared.records.Record.{Record}
+use Rattle.serial.specs.Order.{rank, serial_order}
 
--- a number put in just before another, or at the end where that one is not there
-abbrev pub put_number_before : ℕ → ℕ → List ℕ → List ℕ
-put_number_before place number [] = number ∷ []
-put_number_before place number (other ∷ rest) =
-    if other == place then number ∷ other ∷ rest else other ∷ put_number_before place number rest
+abbrev pub numbers_of : List Record → List ℕ
+numbers_of order = map (λ (commit : Record). commit.number) order
+
+-- behind all of no greater rank
+pub record IsPlaceOf (rank_of : ℕ) (log : List Record) (at : ℕ) : Type 0 where
+  pub within : at ≤ length (serial_order log)
+  pub before : AllByRecursion (λ other. rank log other ≤ rank_of) (take at (serial_order log))
+  pub behind : AllByRecursion (λ other. rank_of < rank log other) (drop at (serial_order log))

@@ -1,5 +1,9 @@
 //! Transactions that ask to be committed.
 
+ghost use Rattle.std.specs.Prelude.{◌≡◌};
+ghost use Rattle.serial.specs.Commits.{reach};
+ghost use Rattle.conflict.specs.Candidates.{record_of};
+
 use siread::LockKey;
 use table::Change;
 
@@ -10,8 +14,23 @@ pub struct Candidate<'a> {
     pub number: u64,
     /// How many commits its snapshot holds.
     pub snapshot: u64,
+    /// Whether it began READ ONLY.
+    pub read_only: bool,
     /// What it read.
     pub reads: &'a [LockKey],
     /// Its net change, by table and key.
     pub changes: &'a [Change],
+}
+
+impl Candidate<'_> {
+    /// The last number that may stand before it: that of its snapshot where it is read only, else its own.
+    pub fn reach(&self) -> u64
+        ensures { result ≡ reach (record_of self.now) }
+    {
+        if self.read_only {
+            self.snapshot
+        } else {
+            self.number
+        }
+    }
 }

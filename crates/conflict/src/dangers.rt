@@ -1,7 +1,7 @@
 //! The dangerous triple that a candidate would complete.
 
 ghost use Rattle.std.specs.Prelude.{◌≡◌, ◌<◌, ◌+◌, ◌&&◌, false, length, map, nat_le, nat_lt, reverse, IfNone, IfSome};
-ghost use Rattle.serial.specs.Commits.{conflicts_to, IsLog};
+ghost use Rattle.serial.specs.Commits.{conflicts_to, reach, IsLog};
 ghost use Rattle.serial.specs.Numbers.{is_reader, IsLeastPivot};
 ghost use Rattle.serial.specs.Order.{least_out};
 ghost use Rattle.conflict.specs.Candidates.{record_of};
@@ -47,8 +47,8 @@ pub fn find_pivot<'a>(
 /// Whether the candidate would be the reader of a dangerous triple with this pivot, whose least writer is this.
 fn is_reader_of(candidate: &Candidate, pivot: &Record, writer: u64) -> bool
     ensures { result ≡ (conflicts_to (record_of candidate.now) pivot.now
-        && (nat_lt writer pivot.now.number && nat_le writer candidate.now.number)) }
+        && (nat_lt writer pivot.now.number && nat_le writer (reach (record_of candidate.now)))) }
 {
     // (two numbers are compared sooner than keys)
-    (writer < pivot.number && writer <= candidate.number) && conflicts_to(candidate, pivot)
+    (writer < pivot.number && writer <= candidate.reach()) && conflicts_to(candidate, pivot)
 }

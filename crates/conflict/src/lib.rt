@@ -25,10 +25,12 @@ mod numbers;
 mod orders;
 mod overwrites;
 mod pairs;
+mod snapshots;
 mod verdicts;
 
 pub use candidates::Candidate;
 pub use dangers::Danger;
 pub use orders::put_in_order;
 pub use pairs::{share_row, touch_any};
+pub use snapshots::is_safe;
 pub use verdicts::{Verdict, judge};

@@ -1,8 +1,9 @@
 //! The two numbers of a candidate.
 
-ghost use Rattle.std.specs.Prelude.{◌≡◌, ◌&&◌, List, if◌then◌else◌, min, nat_lt, reverse};
+ghost use Rattle.std.specs.Prelude.{◌≡◌, ◌<◌, ◌&&◌, List, if◌then◌else◌, map, min, nat_lt, reverse};
 ghost use Rattle.siread.specs.Locks.{readers_at};
-ghost use Rattle.serial.specs.Commits.{conflicts_to, IsNext};
+ghost use Rattle.siread.specs.Readers.{ReachNoFurther};
+ghost use Rattle.serial.specs.Commits.{conflicts_to, reach, IsNext};
 ghost use Rattle.serial.specs.Numbers.{greatest_in};
 ghost use Rattle.serial.specs.Order.{least_out};
 ghost use Rattle.conflict.specs.Candidates.{record_of};
@@ -37,17 +38,15 @@ fn least_with(other: &Record, candidate: &Candidate, least: u64) -> u64
     }
 }
 
-/// The greatest of those that conflict to the candidate, 0 where none does: of those after its snapshot that read what
-/// it changes.
-pub fn greatest_in(locks: &LockTable, candidate: &Candidate) -> u64
+/// The greatest of those that conflict to the candidate and reach the least to which it conflicts, 0 where there is
+/// none. Of those who read what it changes, all that reach so far are after its snapshot.
+pub fn greatest_in(locks: &LockTable, reaches: &[u64], least: u64, candidate: &Candidate) -> u64
+    requires no_further { ReachNoFurther reaches.now }
+    requires after_snapshot { candidate.now.snapshot < candidate.now.number }
     ensures { (commits : List Record) → IsNext (record_of candidate.now) (reverse commits)
         → HasReaders (readers_at locks.now) commits candidate.now.snapshot
+        → reaches.now ≡ map reach commits → least ≡ least_out (reverse commits) (record_of candidate.now)
         → result ≡ greatest_in (reverse commits) (record_of candidate.now) }
 {
-    let greatest = locks.greatest_reader(candidate.changes);
-    if candidate.snapshot < greatest {
-        greatest
-    } else {
-        0
-    }
+    locks.greatest_reader(candidate.changes, least, reaches)
 }

@@ -3,7 +3,7 @@
 ghost use Rattle.std.specs.Prelude.{◌≡◌, ◌<◌, ◌+◌, length, map, reverse};
 ghost use Rattle.siread.specs.Locks.{readers_at};
 ghost use Rattle.serial.specs.declared.records.Record.{Record as Commit};
-ghost use Rattle.serial.specs.Commits.{IsLog};
+ghost use Rattle.serial.specs.Commits.{reach, IsLog};
 ghost use Rattle.serial.specs.Order.{least_out};
 ghost use Rattle.conflict.specs.Candidates.{IsOf};
 ghost use Rattle.conflict.specs.Judged.{IsVerdict};
@@ -29,11 +29,13 @@ pub enum Verdict {
 }
 
 /// What the next candidate is answered by those committed: a write conflict, else a dangerous triple, else that it may
-/// join them. `places` are the least conflicts out of those committed, each kept since that one was judged; `locks`
-/// says who of them read what, of those above a number that is at most the candidate's snapshot. It takes no memory.
+/// join them. `places` are the least conflicts out of those committed, each kept since that one was judged, and
+/// `reaches` says how far each reaches; `locks` says who of them read what, of those above a number that is at most
+/// the candidate's snapshot. It takes no memory.
 pub fn judge(
     committed: &[Record],
     places: &[u64],
+    reaches: &[u64],
     locks: &LockTable,
     candidate: &Candidate,
 ) -> Verdict
@@ -41,6 +43,7 @@ pub fn judge(
     requires next { candidate.now.number ≡ length committed.now + 1 }
     requires after_snapshot { candidate.now.snapshot < candidate.now.number }
     requires places { places.now ≡ map (least_out (reverse committed.now)) committed.now }
+    requires reaches { reaches.now ≡ map reach committed.now }
     requires readers { HasReaders (readers_at locks.now) committed.now candidate.now.snapshot }
     ensures { (commit : Commit) → IsOf candidate.now commit → IsVerdict (reverse committed.now) commit result }
 {
@@ -50,7 +53,7 @@ pub fn judge(
         return Verdict::WriteConflict { row, by };
     }
     let place = least_out(recent, candidate);
-    let reader = greatest_in(locks, candidate);
+    let reader = greatest_in(locks, reaches, place, candidate);
     if place <= reader {
         return Verdict::Dangerous(Danger::AsPivot {
             reader,

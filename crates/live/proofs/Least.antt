@@ -21,9 +21,10 @@ least_next newest all index d within =
     ∙ ap (least_held newest) (sym (drop_more all index d within))
 
 -- it stays where a transaction begins on the newest tables
-pub least_begun : (newest ticket : ℕ) (all : List LiveSnapshot) → least_held newest (all ++ record { ticket = ticket; snapshot = newest } ∷ []) ≡ least_held newest all
-least_begun newest ticket [] = omega arith
-least_begun newest ticket (one ∷ rest) = ap (min one.snapshot) (least_begun newest ticket rest)
+pub least_begun : (newest ticket : ℕ) (read_only : Bool) (all : List LiveSnapshot)
+    → least_held newest (all ++ record { ticket = ticket; snapshot = newest; read_only = read_only } ∷ []) ≡ least_held newest all
+least_begun newest ticket read_only [] = omega arith
+least_begun newest ticket read_only (one ∷ rest) = ap (min one.snapshot) (least_begun newest ticket read_only rest)
 
 -- and does not fall where transactions end and commits are made
 pub least_grows : (newest after : ℕ) (stays : LiveSnapshot → Bool) (all : List LiveSnapshot) → newest ≤ after → least_held newest all ≤ least_held after (filter stays all)

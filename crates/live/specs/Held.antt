@@ -1,11 +1,13 @@
 -- Whether a transaction is open.
 use Rattle.std.specs.Prelude.{◌==◌, ◌&&◌, ℕ, Bool, List}
+use Rattle.std.specs.Bool.{beq}
 use Rattle.std.specs.List.{list_any}
 use Rattle.live.specs.declared.snapshots.LiveSnapshot.{LiveSnapshot}
 
-abbrev pub is_one : (ticket snapshot : ℕ) → LiveSnapshot → Bool
-is_one ticket snapshot one = (one.ticket == ticket) && (one.snapshot == snapshot)
+abbrev pub is_one : (ticket snapshot : ℕ) → (read_only : Bool) → LiveSnapshot → Bool
+is_one ticket snapshot read_only one =
+    (one.ticket == ticket) && ((one.snapshot == snapshot) && beq one.read_only read_only)
 
--- whether the transaction with this ticket is open and holds this snapshot
-abbrev pub is_held : (ticket snapshot : ℕ) → List LiveSnapshot → Bool
-is_held ticket snapshot snapshots = list_any (is_one ticket snapshot) snapshots
+-- whether the transaction with this ticket is open, holds this snapshot, and is read only or not as is said
+abbrev pub is_held : (ticket snapshot : ℕ) → (read_only : Bool) → List LiveSnapshot → Bool
+is_held ticket snapshot read_only snapshots = list_any (is_one ticket snapshot read_only) snapshots

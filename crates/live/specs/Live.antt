@@ -1,5 +1,6 @@
 -- Which snapshots are held by open transactions.
-use Rattle.std.specs.Prelude.{◌<◌, ◌+◌, ◌==◌, ℕ, Bool, not, List, [], ◌∷◌, ◌++◌, filter, min, All}
+use Rattle.std.specs.Prelude.{◌<◌, ◌+◌, ◌==◌, ◌||◌, ℕ, Bool, not, nat_le, List, [], ◌∷◌, ◌++◌, filter, min, All}
+use Rattle.std.specs.List.{list_all}
 use Rattle.live.specs.declared.snapshots.LiveSnapshot.{LiveSnapshot}
 
 -- how many transactions have begun, and the snapshots of those that have not ended, in the order of their begins
@@ -11,10 +12,10 @@ abbrev pub none_live : LiveState
 none_live = record { begun = 0; snapshots = [] }
 
 -- one transaction more, by the next ticket
-abbrev pub with_begin : (snapshot : ℕ) → LiveState → LiveState
-with_begin snapshot live = record {
+abbrev pub with_begin : (snapshot : ℕ) → (read_only : Bool) → LiveState → LiveState
+with_begin snapshot read_only live = record {
   begun = live.begun + 1;
-  snapshots = live.snapshots ++ record { ticket = live.begun; snapshot = snapshot } ∷ [];
+  snapshots = live.snapshots ++ record { ticket = live.begun; snapshot = snapshot; read_only = read_only } ∷ [];
 }
 
 abbrev pub is_other : (ticket : ℕ) → LiveSnapshot → Bool
@@ -28,6 +29,10 @@ without ticket live = record { begun = live.begun; snapshots = filter (is_other 
 abbrev pub least_held : (newest : ℕ) → List LiveSnapshot → ℕ
 least_held newest [] = newest
 least_held newest (one ∷ rest) = min one.snapshot (least_held newest rest)
+
+-- each of them that may write holds at least so many commits
+abbrev pub writers_hold : (snapshot : ℕ) → List LiveSnapshot → Bool
+writers_hold snapshot snapshots = list_all (λ (one : LiveSnapshot). one.read_only || nat_le snapshot one.snapshot) snapshots
 
 -- the tickets are of transactions that have begun
 abbrev pub AreBelow : (begun : ℕ) → List LiveSnapshot → Type 0

@@ -3,17 +3,18 @@
 ghost use Rattle.std.specs.Prelude.{◌≡◌, true, Contains, IfOk, IsOkUnless, OnErr, OnOk};
 ghost use Rattle.value.specs.declared.refusals.Refusal.TheVariants.{NoMemory};
 ghost use Rattle.live.specs.Held.{is_held};
-ghost use Rattle.live.specs.Live.{least_held, none_live, with_begin, without};
+ghost use Rattle.live.specs.Live.{least_held, none_live, with_begin, without, writers_hold};
 
 use std::alloc::Global;
 use std::marker::Model;
 use value::Refusal;
 
-/// An open transaction: its ticket, and how many commits its snapshot holds.
+/// An open transaction: its ticket, how many commits its snapshot holds, and whether it is read only.
 #[derive(Clone, Copy, Debug, PartialEq, Eq)]
 pub struct LiveSnapshot {
     pub ticket: u64,
     pub snapshot: u64,
+    pub read_only: bool,
 }
 
 /// The open transactions, in the order of their begins.
@@ -51,21 +52,25 @@ impl Live {
         self.begun
     }
 
-    /// The next transaction begins, with a snapshot that holds so many commits.
+    /// The next transaction begins, with a snapshot that holds so many commits, read only or not.
     ///
     /// # Errors
     ///
     /// [`Refusal::NoMemory`] alone, also where 2^64 - 1 transactions have begun. All is then as it was.
-    pub fn begin(&mut self, snapshot: u64) -> Result<(), Refusal>
+    pub fn begin(&mut self, snapshot: u64, read_only: bool) -> Result<(), Refusal>
         ensures only_memory { IsOkUnless result NoMemory }
-        ensures begun { OnOk result (self.new ≡ with_begin snapshot self.old) }
+        ensures begun { OnOk result (self.new ≡ with_begin snapshot read_only self.old) }
         ensures same { OnErr result (self.new ≡ self.old) }
     {
         let ticket = self.begun;
         let Some(begun) = ticket.checked_add(1) else {
             return Err(Refusal::NoMemory);
         };
-        self.snapshots.push(LiveSnapshot { ticket, snapshot })?;
+        self.snapshots.push(LiveSnapshot {
+            ticket,
+            snapshot,
+            read_only,
+        })?;
         self.begun = begun;
         Ok(())
     }
@@ -77,12 +82,14 @@ impl Live {
         self.snapshots.retain(|live| live.ticket != ticket);
     }
 
-    /// Whether the transaction with a ticket is open and holds this snapshot. It takes no memory.
-    pub fn holds(&self, ticket: u64, snapshot: u64) -> bool
-        ensures test { result ≡ is_held ticket snapshot self.now.snapshots }
-        ensures held { result ≡ true → Contains self.now.snapshots (record { ticket = ticket; snapshot = snapshot }) }
+    /// Whether the transaction with a ticket is open, holds this snapshot, and is read only or not as is said. It takes
+    /// no memory.
+    pub fn holds(&self, ticket: u64, snapshot: u64, read_only: bool) -> bool
+        ensures test { result ≡ is_held ticket snapshot read_only self.now.snapshots }
+        ensures held { result ≡ true → Contains self.now.snapshots
+            (record { ticket = ticket; snapshot = snapshot; read_only = read_only }) }
     {
-        is_held(self.snapshots.as_slice(), ticket, snapshot)
+        is_held(self.snapshots.as_slice(), ticket, snapshot, read_only)
     }
 
     /// The least number of commits that an open transaction's snapshot holds, or this one where that is less. It
@@ -96,14 +103,25 @@ impl Live {
         }
         least
     }
+
+    /// Whether each open transaction that may write has a snapshot that holds at least so many commits. It takes no
+    /// memory.
+    pub fn writers_hold(&self, snapshot: u64) -> bool
+        ensures { result ≡ writers_hold snapshot self.now.snapshots }
+    {
+        self.snapshots
+            .iter()
+            .all(|live| live.read_only || snapshot <= live.snapshot)
+    }
 }
 
 #[tactic(auto, using(crate::proofs::Holding::held_facts))]
-fn is_held(snapshots: &[LiveSnapshot], ticket: u64, snapshot: u64) -> bool
-    ensures test { result ≡ is_held ticket snapshot snapshots.now }
-    ensures held { result ≡ true → Contains snapshots.now (record { ticket = ticket; snapshot = snapshot }) }
+fn is_held(snapshots: &[LiveSnapshot], ticket: u64, snapshot: u64, read_only: bool) -> bool
+    ensures test { result ≡ is_held ticket snapshot read_only snapshots.now }
+    ensures held { result ≡ true → Contains snapshots.now
+        (record { ticket = ticket; snapshot = snapshot; read_only = read_only }) }
 {
-    snapshots
-        .iter()
-        .any(|live| live.ticket == ticket && live.snapshot == snapshot)
+    snapshots.iter().any(|live| {
+        live.ticket == ticket && (live.snapshot == snapshot && live.read_only == read_only)
+    })
 }

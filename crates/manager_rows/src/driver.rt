@@ -175,18 +175,29 @@ fn answer<N: Named, R: Wait>(
     receipts: &mut Vec<Receipt<N>>,
 ) -> Result<Answer, Fail> {
     match event {
-        Event::Begin => Ok(begin(rt, manager, seat)),
+        Event::Begin => Ok(begin(rt, manager, seat, false)),
+        Event::BeginReadOnly => Ok(begin(rt, manager, seat, true)),
         Event::Run(statement) => Ok(run(seat, statement)),
         Event::Commit => commit(rt, manager, seat, receipts),
         Event::Rollback => Ok(roll_back(rt, manager, seat)),
     }
 }
 
-fn begin<N: Named, R: Wait>(rt: &R, manager: &Manager<N>, seat: &mut Seat<N>) -> Answer {
+fn begin<N: Named, R: Wait>(
+    rt: &R,
+    manager: &Manager<N>,
+    seat: &mut Seat<N>,
+    read_only: bool,
+) -> Answer {
     if seat.txn.is_some() {
         return Answer::Refused(Refusal::TransactionOpen);
     }
-    match manager.begin(rt, &mut seat.session) {
+    let begun = if read_only {
+        manager.begin_read_only(rt, &mut seat.session)
+    } else {
+        manager.begin(rt, &mut seat.session)
+    };
+    match begun {
         Ok(txn) => {
             let snapshot = txn.snapshot();
             set_txn(seat, Some(txn));

@@ -112,9 +112,20 @@ fn prints_commits<R: Wait + Abort>(
     want: &str,
     receipts: &[u64],
 ) -> Result<(), Fail> {
+    prints_commits_of(rt, alloc, "X: BEGIN;", commits, want, receipts)
+}
+
+fn prints_commits_of<R: Wait + Abort>(
+    rt: &R,
+    alloc: Global,
+    begin: &str,
+    commits: &str,
+    want: &str,
+    receipts: &[u64],
+) -> Result<(), Fail> {
     let more = format!(in alloc; "{COVER}{SEVEN}{KIM}")?;
     let script = format!(in alloc;
-        "X: BEGIN; P: BEGIN; Y: BEGIN; X: SELECT ONCALL FROM DUTY WHERE ID = 1;
+        "{begin} P: BEGIN; Y: BEGIN; X: SELECT ONCALL FROM DUTY WHERE ID = 1;
         P: SELECT BAL FROM ACCT WHERE ID = 1; P: UPDATE DUTY SET ONCALL = 0 WHERE ID = 1;
         Y: UPDATE ACCT SET BAL = 0 WHERE ID = 1; {commits}"
     )?;
@@ -186,6 +197,50 @@ fn late_reader(rt: HostRuntime) -> Result<(), Fail> {
         locks: 0,
     };
     prints(&rt, rt.alloc(), more.as_str(), &case)
+}
+
+#[test]
+fn read_only_reader_passes(rt: HostRuntime) -> Result<(), Fail> {
+    prints_commits_of(
+        &rt,
+        rt.alloc(),
+        "X: BEGIN READ ONLY;",
+        "Y: COMMIT; X: COMMIT; P: COMMIT;",
+        "Y: COMMIT 1\nX: COMMIT 2\nP: COMMIT 3\n\
+            COMMITS 3\n1 Y SNAPSHOT 0 ROWS 1\n2 X SNAPSHOT 0 ROWS 0\n3 P SNAPSHOT 0 ROWS 1\n\
+            SERIAL 2 3 1\nREFUSED 0\n",
+        &[1, 2, 3],
+    )
+}
+
+#[test]
+fn read_only_reader_refused(rt: HostRuntime) -> Result<(), Fail> {
+    let more = format!(in rt.alloc(); "{COVER}{SEVEN}{KIM}")?;
+    let case = Case {
+        script: "P: BEGIN; Y: BEGIN; P: SELECT BAL FROM ACCT WHERE ID = 1;
+            P: UPDATE DUTY SET ONCALL = 0 WHERE ID = 1; Y: UPDATE ACCT SET BAL = 0 WHERE ID = 1;
+            Y: COMMIT; X: BEGIN READ ONLY; P: COMMIT; X: SELECT ONCALL FROM DUTY WHERE ID = 1; X: COMMIT;",
+        want: "P: BEGIN 0\nY: BEGIN 0\nP: SELECT 1\n  100\nP: UPDATE 1\nY: UPDATE 1\nY: COMMIT 1\n\
+            X: BEGIN 1\nP: COMMIT 2\nX: SELECT 1\n  1\n\
+            X: REFUSED 13 40001 READER THIS PIVOT 2 WRITER 1\n\
+            COMMITS 2\n1 Y SNAPSHOT 0 ROWS 1\n2 P SNAPSHOT 0 ROWS 1\nSERIAL 2 1\nREFUSED 1\n\
+            X 13 40001 READER THIS PIVOT 2 WRITER 1\nASSERTIONS 1\nCOVER TRUE\n",
+        receipts: &[1, 2, 2, 1],
+        locks: 0,
+    };
+    prints(&rt, rt.alloc(), more.as_str(), &case)
+}
+
+#[test]
+fn read_only_insert(rt: HostRuntime) -> Result<(), Fail> {
+    let case = Case {
+        script: "A: BEGIN READ ONLY; A: INSERT INTO SHIFTS VALUES (1); A: COMMIT;",
+        want: "A: BEGIN 0\nA: REFUSED 23 - READ ONLY\nA: COMMIT 1\n\
+            COMMITS 1\n1 A SNAPSHOT 0 ROWS 0\nSERIAL 1\nREFUSED 0\nASSERTIONS 0\n",
+        receipts: &[1],
+        locks: 0,
+    };
+    prints(&rt, rt.alloc(), "", &case)
 }
 
 #[test]

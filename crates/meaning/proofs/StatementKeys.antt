@@ -49,7 +49,7 @@ effect_reads declared now read (Ok effect) =
     (checks, checks_read_same (violation (layouts_in declared) ones view) effect now (record { view = view; modes = now.modes }) (read ∷ checks))
 
 pub SelectReads-law : SelectReads
-SelectReads-law declared start now columns name condition select e =
+SelectReads-law declared read_only start now columns name condition select e =
     let tables = declared.tables in
     let s = selects tables columns name condition select e in
     let read = where_key select.table (key_of select.table (layouts_of tables)) select.filter in (

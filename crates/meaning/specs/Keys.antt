@@ -1,5 +1,5 @@
 -- Under which keys a WHERE and a check of an assertion read, over the written tree.
-use Rattle.std.specs.Prelude.{◌≡◌, ◌⊎◌, ℕ, ◌==◌, IsNone, List, [], ◌∷◌, map, filter_map, find, Option, Some, None, Ok}
+use Rattle.std.specs.Prelude.{◌≡◌, ◌⊎◌, ℕ, Bool, false, ◌==◌, IsNone, List, [], ◌∷◌, map, filter_map, find, Option, Some, None, Ok}
 use Rattle.std.specs.Option.{option_or}
 use Rattle.value.specs.declared.values.Value.{Value}
 use Rattle.value.specs.declared.values.Value.TheVariants.{Int, Text}
@@ -177,31 +177,33 @@ abbrev pub WhereReads : Type 0
 WhereReads = (scope : Scope) (condition : Option Condition) (made : Cond) → row_filter scope condition ≡ Ok made
     → (table : ℕ) → where_key table scope.layout.key made ≡ written_key table scope condition
 
--- a SELECT that is taken reads under the key of its text, and a DELETE and an UPDATE too, before what their checks read
+-- a SELECT that is taken reads under the key of its text, in a read-only transaction too, and a DELETE and an UPDATE,
+-- in one that is not, before what their checks read
 abbrev pub StepReads : Tables → List ℕ → Option Condition → Step → Type 0
 StepReads tables name condition step =
     (read : LockKey) × (checks : List LockKey) × IsWrittenKey tables name condition read × (step.reads ≡ read ∷ checks)
 
 abbrev pub SelectReads : Type 0
-SelectReads = (declared : Declared) (start : State) (now : Standing)
+SelectReads = (declared : Declared) (read_only : Bool) (start : State) (now : Standing)
     → (columns : Which) (name : List ℕ) (condition : Option Condition) (select : Select)
     → select_of declared.tables columns name condition ≡ Ok select
     → (read : LockKey) × IsWrittenKey declared.tables name condition read
-    × ((stepped declared start now (resolved declared (statement.Select columns name condition))).reads ≡ read ∷ [])
+    × ((stepped declared start now (resolved declared read_only (statement.Select columns name condition))).reads
+    ≡ read ∷ [])
 
 abbrev pub DeleteReads : Type 0
 DeleteReads = (declared : Declared) (start : State) (now : Standing)
     → (name : List ℕ) (condition : Option Condition) (delete : Delete)
     → delete_of declared.tables name condition ≡ Ok delete
     → StepReads declared.tables name condition
-    (stepped declared start now (resolved declared (statement.Delete name condition)))
+    (stepped declared start now (resolved declared false (statement.Delete name condition)))
 
 abbrev pub UpdateReads : Type 0
 UpdateReads = (declared : Declared) (start : State) (now : Standing)
     → (name : List ℕ) (sets : List Assignment) (condition : Option Condition) (update : Update)
     → update_of declared.tables name sets condition ≡ Ok update
     → StepReads declared.tables name condition
-    (stepped declared start now (resolved declared (statement.Update name sets condition)))
+    (stepped declared start now (resolved declared false (statement.Update name sets condition)))
 
 -- a check at a root reads under the keys of the assertion's text, and VERDICT the tables of its text
 abbrev pub CheckReads : Type 0

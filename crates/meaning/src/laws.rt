@@ -56,7 +56,7 @@ pub fn keys_are_as_written()
 {}
 
 /// A DELETE, a SELECT and an UPDATE that are taken read under the key of their table and their WHERE as they are
-/// written, and else under the keys of their checks alone.
+/// written, and else under the keys of their checks alone. A read-only transaction takes the SELECT alone.
 pub fn statements_read_written_keys()
     ensures delete { DeleteReads }
     ensures select { SelectReads }

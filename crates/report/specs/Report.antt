@@ -91,6 +91,7 @@ fault_text at_commit refusal.TooManySessions = codes "24 - TOO MANY SESSIONS"
 
 abbrev pub is_commit : Event → Bool
 is_commit event.Begin = false
+is_commit event.BeginReadOnly = false
 is_commit event.Commit = true
 is_commit event.Rollback = false
 is_commit (event.Run statement) = false

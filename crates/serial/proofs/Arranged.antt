@@ -1,9 +1,13 @@
 -- The order law as a law of pairs, and lists that arrange a log.
-use Rattle.std.proofs.Common.{◌≡◌, ◌≢◌, ℕ, ◌<◌, ◌≤◌, Bool, true, cond, eqb, List, [], ◌∷◌, ◌++◌, ◌⊎◌, inl, inr, refl, sym, ap, ◌∙◌, subst, arith, ltb-true, lt-ltb, ne_eqb, eq-eqb}
+use Rattle.std.proofs.Common.{◌≡◌, ◌≢◌, ℕ, ◌<◌, ◌≤◌, Bool, true, false, cond, eqb, List, [], ◌∷◌, ◌++◌, ◌⊎◌, inl, inr, refl, sym, ap, ◌∙◌, subst, arith, ltb-true, lt-ltb, ne_eqb, eq-eqb}
 use Rattle.std.specs.Prelude.{Contains, IsPermutation, not}
 use Rattle.std.proofs.lemmas.List.Sorted.{IsPermutation-refl, IsPermutation-cons, IsPermutation-trans, IsPermutation-sym, IsPermutation-middle}
 use Rattle.std.proofs.lemmas.List.Elements.{filter-append}
-use Rattle.std.proofs.lemmas.Bool.{and_parts, and_from, not-true, eqb-false}
+use Rattle.std.proofs.lemmas.Bool.{and_parts, and_from, both_ways, not-true, eqb-false}
+use Rattle.std.specs.List.{list_any}
+use Rattle.table.specs.declared.rows.Change.{Change}
+use Rattle.siread.specs.declared.keys.LockKey.{LockKey}
+use Rattle.siread.specs.Keys.{touches}
 use Rattle.serial.specs.declared.records.Record.{Record}
 use Rattle.serial.specs.Commits.{conflicts_to, share_row, touch_any}
 use Rattle.serial.specs.Order.{Before, IsSerial, without}
@@ -27,6 +31,16 @@ conflict_overlaps a b h =
 pub conflict_from : (a b : Record) → a.number ≢ b.number → b.snapshot < a.number → a.snapshot < b.number → touch_any b.changes a.reads ≡ true → conflicts_to a b ≡ true
 unfolding conflicts_to
 conflict_from a b d l m t = and_from _ _ (and_from _ _ (ap not (ne_eqb _ _ d)) (and_from _ _ (lt-ltb _ _ l) (lt-ltb _ _ m))) t
+
+no_keys_of_none : (keys : List LockKey) → list_any (λ key. list_any (λ (change : Change). touches change key) []) keys ≡ false
+no_keys_of_none [] = refl
+no_keys_of_none (key ∷ keys) = no_keys_of_none keys
+
+-- what has changed nothing was conflicted to by none
+pub no_conflict_to : (a b : Record) → b.changes ≡ [] → conflicts_to a b ≡ true → ⊥
+unfolding conflicts_to touch_any
+no_conflict_to a b none h =
+    both_ways _ (no_keys_of_none a.reads) (subst (λ changes. list_any (λ key. list_any (λ (change : Change). touches change key) changes) a.reads ≡ true) none (and_parts _ _ h).1)
 
 -- the list lists the log's commits, each once
 abbrev pub Arranges : List Record → List Record → Type 0

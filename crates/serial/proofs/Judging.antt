@@ -4,47 +4,50 @@ use Rattle.std.specs.Prelude.{Contains, ◌&&◌}
 use Rattle.std.specs.List.{list_any}
 use Rattle.std.proofs.lemmas.Bool.{and_parts, and_from, or_cases, leb-true, leb-false, le-leb, false_from_ne_true, both_ways, cases_Bool, cases_lt}
 use Rattle.serial.specs.declared.records.Record.{Record}
-use Rattle.serial.specs.Commits.{IsLog, IsDangerous, HasNoDanger, conflicts_to}
+use Rattle.serial.specs.Commits.{IsLog, IsDangerous, HasNoDanger, conflicts_to, reach}
 use Rattle.serial.specs.Answer.{IsPivotNamed, IsNoPivot, IsReaderNamed}
 use Rattle.serial.specs.Order.{least_out}
-use Rattle.serial.specs.Numbers.{greatest_in, is_pivot, is_reader, is_reader_of, IsNeither, IsLeastPivot}
+use Rattle.serial.specs.Numbers.{greatest_in, greatest_reaching, is_pivot, is_reader, is_reader_of, IsNeither, IsLeastPivot}
 use Rattle.siread.proofs.Members.{in_head, in_tail, in_cases, not_in_nil}
 use Rattle.alone.proofs.Lists.{each_at}
 use Rattle.serial.proofs.Arranged.{conflict_overlaps}
 use Rattle.alone.proofs.Members.{any_from}
 use Rattle.serial.proofs.Ranks.{clean, least_out_up_to, least_out_met, numbers_below}
 
-pub greatest_in_up_to : (log : List Record) (c w : Record) → Contains log w → conflicts_to w c ≡ true → w.number ≤ greatest_in log c
-greatest_in_up_to [] c w m h = absurd (not_in_nil w m)
-greatest_in_up_to (v ∷ log) c w m h = elim (in_cases v log w m) [
-  | inl same ↦ here (conflicts_to v c) (subst (λ z. conflicts_to z c ≡ true) (sym same) h) (ap (λ z. z.number) same)
-  | inr there ↦ later (conflicts_to v c) (greatest_in_up_to log c w there h)
+pub greatest_in_up_to : (least : ℕ) (log : List Record) (c w : Record) → Contains log w → conflicts_to w c ≡ true → least ≤ reach w → w.number ≤ greatest_reaching least log c
+greatest_in_up_to least [] c w m h l = absurd (not_in_nil w m)
+greatest_in_up_to least (v ∷ log) c w m h l = elim (in_cases v log w m) [
+  | inl same ↦ here (conflicts_to v c && leb least (reach v)) (subst (λ z. (conflicts_to z c && leb least (reach z)) ≡ true) (sym same) (and_from _ _ h (le-leb _ _ l))) (ap (λ z. z.number) same)
+  | inr there ↦ later (conflicts_to v c && leb least (reach v)) (greatest_in_up_to least log c w there h l)
 ]
   where
-    here : (b : Bool) → b ≡ true → v.number ≡ w.number → w.number ≤ cond b (max (v.number) (greatest_in log c)) (greatest_in log c)
+    here : (b : Bool) → b ≡ true → v.number ≡ w.number → w.number ≤ cond b (max (v.number) (greatest_reaching least log c)) (greatest_reaching least log c)
     here true t e = omega arith
     here false t e = cc
 
-    later : (b : Bool) → w.number ≤ greatest_in log c → w.number ≤ cond b (max (v.number) (greatest_in log c)) (greatest_in log c)
+    later : (b : Bool) → w.number ≤ greatest_reaching least log c → w.number ≤ cond b (max (v.number) (greatest_reaching least log c)) (greatest_reaching least log c)
     later true l = omega arith
     later false l = l
 
-abbrev IsGreatestIn : Record → List Record → ℕ → Type 0
-IsGreatestIn c log m = (m ≡ 0) ⊎ ((x : Record) × Contains log x × (conflicts_to x c ≡ true) × (x.number ≡ m))
+abbrev IsGreatestIn : ℕ → Record → List Record → ℕ → Type 0
+IsGreatestIn least c log m = (m ≡ 0) ⊎ ((x : Record) × Contains log x × (conflicts_to x c ≡ true) × (least ≤ reach x) × (x.number ≡ m))
 
-greatest_in_later : (c v : Record) (log : List Record) (m n : ℕ) → m ≡ n → IsGreatestIn c log n → IsGreatestIn c (v ∷ log) m
-greatest_in_later c v log m n e h = elim h [ inl own ↦ inl (e ∙ own) | inr y ↦ inr (y.0, in_tail v log y.0 y.1, y.2, y.3 ∙ sym e) ]
+greatest_in_later : (least : ℕ) (c v : Record) (log : List Record) (m n : ℕ) → m ≡ n → IsGreatestIn least c log n → IsGreatestIn least c (v ∷ log) m
+greatest_in_later least c v log m n e h = elim h [ inl own ↦ inl (e ∙ own) | inr y ↦ inr (y.0, in_tail v log y.0 y.1, y.2, y.3, y.4 ∙ sym e) ]
 
-pub greatest_in_met : (log : List Record) (c : Record) → IsGreatestIn c log (greatest_in log c)
-greatest_in_met [] c = inl refl
-greatest_in_met (v ∷ log) c = go (conflicts_to v c) refl (greatest_in_met log c)
+pub greatest_in_met : (least : ℕ) (log : List Record) (c : Record) → IsGreatestIn least c log (greatest_reaching least log c)
+greatest_in_met least [] c = inl refl
+greatest_in_met least (v ∷ log) c = go (conflicts_to v c && leb least (reach v)) refl (greatest_in_met least log c)
   where
-    go : (b : Bool) → conflicts_to v c ≡ b → IsGreatestIn c log (greatest_in log c) → IsGreatestIn c (v ∷ log) (cond b (max (v.number) (greatest_in log c)) (greatest_in log c))
-    go false e h = greatest_in_later c v log _ _ refl h
-    go true e h = elim (cases_lt (v.number) (greatest_in log c)) [
-      | inl below ↦ greatest_in_later c v log _ (greatest_in log c) (omega arith) h
-      | inr above ↦ inr (v, in_head v log, e, omega arith)
-    ]
+    go : (b : Bool) → (conflicts_to v c && leb least (reach v)) ≡ b → IsGreatestIn least c log (greatest_reaching least log c)
+        → IsGreatestIn least c (v ∷ log) (cond b (max (v.number) (greatest_reaching least log c)) (greatest_reaching least log c))
+    go false e h = greatest_in_later least c v log _ _ refl h
+    go true e h =
+        let p = and_parts (conflicts_to v c) (leb least (reach v)) e in
+        elim (cases_lt (v.number) (greatest_reaching least log c)) [
+          | inl below ↦ greatest_in_later least c v log _ (greatest_reaching least log c) (omega arith) h
+          | inr above ↦ inr (v, in_head v log, p.0, leb-true _ _ p.1, omega arith)
+        ]
 
 pub any_met : {X : Type 0} (test : X → Bool) (xs : List X) → list_any test xs ≡ true → (x : X) × Contains xs x × (test x ≡ true)
 any_met test [] h = cc
@@ -57,6 +60,14 @@ any_met test (y ∷ xs) h = elim (or_cases (test y) (list_any test xs) h) [
 module _ (log : List Record) (h : IsLog log) (c : Record) (number : c.number ≡ suc (length log)) where
   below : (w : Record) → Contains log w → w.number < c.number
   below w m = omega (arith, each_at (λ w. w.number < suc (length log)) log (numbers_below log h) w m)
+
+  -- a commit reaches its own number at most
+  reach_high : (w : Record) → Contains log w → reach w ≤ w.number
+  reach_high w m = let s = (clean log h).snapshots w m in up_to w.read_only s
+    where
+      up_to : (b : Bool) → w.snapshot < w.number → cond b w.snapshot w.number ≤ w.number
+      up_to true s = omega arith
+      up_to false s = omega arith
 
   not_itself : conflicts_to c c ≡ true → ⊥
   not_itself e = (conflict_overlaps c c e).differ refl
@@ -73,8 +84,9 @@ module _ (log : List Record) (h : IsLog log) (c : Record) (number : c.number ≡
                 | inl cy' ↦ not_itself (subst (λ z. conflicts_to c z ≡ true) (sym cy') cy)
                 | inr ty ↦
                     let low = least_out_up_to log c y ty (below y ty) cy in
-                    let high = greatest_in_up_to log c x tx xc in
-                    let within = d.up_to_reader in
+                    let within : least_out log c ≤ reach x = let w = d.up_to_reader in omega arith in
+                    let high = greatest_in_up_to (least_out log c) log c x tx xc within in
+                    let reached = reach_high x tx in
                     let past = leb-false _ _ no_pivot in
                     omega arith
               ]
@@ -87,10 +99,10 @@ module _ (log : List Record) (h : IsLog log) (c : Record) (number : c.number ≡
                 | inl cx ↦
                     let cp : conflicts_to c p ≡ true = subst (λ z. conflicts_to z p ≡ true) (sym cx) d.first in
                     let low = least_out_up_to log p y ty d.before_pivot d.second in
-                    let within : y.number ≤ c.number = subst (λ z. y.number ≤ z.number) (sym cx) d.up_to_reader in
+                    let within : y.number ≤ reach c = subst (λ z. y.number ≤ reach z) (sym cx) d.up_to_reader in
                     let k = d.before_pivot in
                     let early : least_out log p < p.number = omega arith in
-                    let near : least_out log p ≤ c.number = omega arith in
+                    let near : least_out log p ≤ reach c = omega arith in
                     both_ways (is_reader log c) no_reader
                     (any_from (is_reader_of log c) log p tp
                     (and_from _ _ cp (and_from _ _ (lt-ltb _ _ early) (le-leb _ _ near))))
@@ -102,11 +114,11 @@ module _ (log : List Record) (h : IsLog log) (c : Record) (number : c.number ≡
   pivot_named e =
       let l = leb-true _ _ e in
       elim (least_out_met log c) [
-        | inl own ↦ elim (greatest_in_met log c) [
+        | inl own ↦ elim (greatest_in_met (least_out log c) log c) [
           | inl none ↦ absurd (omega arith)
-          | inr x ↦ absurd (let b = below x.0 x.1 in omega (arith, x.3))
+          | inr x ↦ absurd (let b = below x.0 x.1 in let r = reach_high x.0 x.1 in omega (arith, x.3))
         ]
-        | inr y ↦ elim (greatest_in_met log c) [
+        | inr y ↦ elim (greatest_in_met (least_out log c) log c) [
           | inl none ↦ absurd (positive y.0 y.1 (omega (arith, y.4)))
           | inr x ↦ record {
             first = x.0;
@@ -115,24 +127,27 @@ module _ (log : List Record) (h : IsLog log) (c : Record) (number : c.number ≡
               reader_in = x.1;
               writer_in = y.1;
               danger = record { first = x.2; second = y.2; before_pivot = y.3; up_to_reader = omega (arith, x.3, y.4) };
-              greatest = λ w m k. let f = greatest_in_up_to log c w m k in omega (arith, x.3);
+              greatest = λ w v mw mv d. let f = greatest_in_up_to (least_out log c) log c w mw d.first (reached w v mv d) in omega (arith, x.4);
               least = λ w m k. let f = least_out_up_to log c w m (below w m) k in omega (arith, y.4);
             };
-            reader_named = x.3;
+            reader_named = x.4;
             writer_named = y.4;
           }
         ]
       ]
     where
+      reached : (w v : Record) → Contains log v → IsDangerous w c v → least_out log c ≤ reach w
+      reached w v m d = let low = least_out_up_to log c v m (below v m) d.second in let within = d.up_to_reader in omega arith
+
       positive : (y : Record) → Contains log y → y.number ≡ 0 → ⊥
       positive y m z = omega (arith, (clean log h).snapshots y m)
 
   reader_with : (p : Record) → Contains log p → is_reader_of log c p ≡ true → (y : Record) × Contains log y × IsDangerous c p y × (y.number ≡ least_out log p)
   reader_with p m e =
-      let a = and_parts (conflicts_to c p) (ltb (least_out log p) p.number && leb (least_out log p) (c.number)) e in
-      let b = and_parts (ltb (least_out log p) p.number) (leb (least_out log p) (c.number)) a.1 in
+      let a = and_parts (conflicts_to c p) (ltb (least_out log p) p.number && leb (least_out log p) (reach c)) e in
+      let b = and_parts (ltb (least_out log p) p.number) (leb (least_out log p) (reach c)) a.1 in
       let l : least_out log p < p.number = ltb-true _ _ b.0 in
-      let r : least_out log p ≤ c.number = leb-true _ _ b.1 in
+      let r : least_out log p ≤ reach c = leb-true _ _ b.1 in
       elim (least_out_met log p) [
         | inl own ↦ absurd (omega arith)
         | inr y ↦ (y.0, y.1, record { first = a.0; second = y.2; before_pivot = y.3; up_to_reader = omega (arith, y.4) }, y.4)
@@ -157,8 +172,9 @@ module _ (log : List Record) (h : IsLog log) (c : Record) (number : c.number ≡
   pub no_pivot_named : is_pivot log c ≡ false → IsNoPivot log c
   no_pivot_named fails x y mx my d =
       let low = least_out_up_to log c y my (below y my) d.second in
-      let high = greatest_in_up_to log c x mx d.first in
-      let within = d.up_to_reader in
+      let within : least_out log c ≤ reach x = let w = d.up_to_reader in omega arith in
+      let high = greatest_in_up_to (least_out log c) log c x mx d.first within in
+      let reached = reach_high x mx in
       let past = leb-false _ _ fails in
       omega arith
 
@@ -227,7 +243,7 @@ module _ (log : List Record) (h : IsLog log) (c : Record) (number : c.number ≡
       let k = d.before_pivot in
       let within = d.up_to_reader in
       let early : least_out log p < p.number = omega arith in
-      let near : least_out log p ≤ c.number = omega arith in
+      let near : least_out log p ≤ reach c = omega arith in
       and_from _ _ d.first (and_from _ _ (lt-ltb _ _ early) (le-leb _ _ near))
 
   pub reader_least : is_reader log c ≡ true → (pivot : Record) × IsLeastPivot log c pivot

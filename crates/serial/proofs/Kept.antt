@@ -1,14 +1,13 @@
 -- What is kept of a log beside its commits: the least conflict out of each, and the numbers in the serial order.
-use Rattle.std.proofs.Common.{◌≡◌, ◌≢◌, ℕ, ◌<◌, false, cond, min, List, [], ◌∷◌, ◌++◌, map, nat_eq, refl, sym, ap, ◌∙◌, arith, ne_eqb, le-ltb}
-use Rattle.std.specs.Prelude.{◌&&◌}
+use Rattle.std.proofs.Common.{◌≡◌, ◌≢◌, ℕ, ◌<◌, false, List, [], ◌∷◌, ◌++◌, map, nat_eq, refl, sym, ap, ◌∙◌, arith, ne_eqb}
 use mathlib.Core.List.{reverse}
 use Rattle.std.specs.List.{IsDistinct, AllByRecursion}
 use Rattle.std.proofs.lemmas.List.{map_push, reverse-append}
 use Rattle.alone.proofs.Lists.{Each, Pairs, each_from, pairs_weaker}
 use Rattle.serial.specs.declared.records.Record.{Record}
-use Rattle.serial.specs.Commits.{IsLog, conflicts_to}
+use Rattle.serial.specs.Commits.{IsLog}
 use Rattle.serial.specs.Order.{least_out, rank, serial_order}
-use Rattle.serial.proofs.Ranks.{earlier_numbers, least_out_stays, log_falls, sorted_arranges}
+use Rattle.serial.proofs.Ranks.{earlier_numbers, least_out_stays, own_least, log_falls, sorted_arranges}
 use Rattle.serial.proofs.Replays.{arranges_pairs}
 use Rattle.serial.proofs.Turned.{in_turned}
 
@@ -16,9 +15,6 @@ use Rattle.serial.proofs.Turned.{in_turned}
 map_same : {X Y : Type 0} (f g : X → Y) (xs : List X) → Each (λ x. f x ≡ g x) xs → map f xs ≡ map g xs
 map_same f g [] e = refl
 map_same f g (x ∷ xs) e = (λ i. e.0 i ∷ map f xs) ∙ ap (λ o. g x ∷ o) (map_same f g xs e.1)
-
-own_least : (c : Record) (log : List Record) → least_out (c ∷ log) c ≡ least_out log c
-own_least c log = ap (λ b. cond (b && conflicts_to c c) (min c.number (least_out log c)) (least_out log c)) (le-ltb _ _ (omega arith))
 
 -- the least conflicts out of the commits, with that of one commit more
 pub places_more : (commits : List Record) (c : Record) → IsLog (c ∷ reverse commits)

@@ -3,11 +3,15 @@ pub mod Judging
 pub mod Arranged
 pub mod Ranks
 pub mod Replays
-pub mod Steps
 pub mod Semantics
 pub mod Newest
 pub mod Witness
+pub mod Worked
+pub mod Placed
+pub mod Reaching
+pub mod Steps
 pub mod Turned
 pub mod Snapshots
 pub mod Kept
 pub mod Alike
+pub mod Safe

@@ -3,17 +3,18 @@ use Rattle.std.proofs.Common.{◌≡◌, ◌≢◌, ℕ, suc, ◌+◌, ◌*◌, 
 use Rattle.std.specs.Prelude.{Contains, IsPermutation, ◌&&◌}
 use Rattle.std.proofs.lemmas.Bool.{and_parts, and_from, cases_Bool, cases_lt}
 use Rattle.serial.specs.declared.records.Record.{Record}
-use Rattle.serial.specs.Commits.{IsLog, IsAccepted, IsDangerous, conflicts_to, share_row}
+use Rattle.serial.specs.Commits.{IsLog, IsAccepted, IsDangerous, conflicts_to, reach, share_row}
 use Rattle.serial.specs.Order.{least_out, rank, put_by, sort_by, serial_order, IsSerial, without}
 use Rattle.siread.proofs.Members.{in_head, in_tail, in_cases, not_in_nil}
 use Rattle.alone.proofs.Lists.{Each, Pairs, each_weaker, each_both, each_at, each_from, pairs_put}
-use Rattle.serial.proofs.Arranged.{conflict_overlaps, Arranges, arranges_each, MayPrecede, serial_from, arranges_permutation, taken_out}
+use Rattle.serial.proofs.Arranged.{conflict_overlaps, no_conflict_to, Arranges, arranges_each, MayPrecede, serial_from, arranges_permutation, taken_out}
 
 -- what a log says of all its commits
 pub record Clean (log : List Record) : Type 0 where
   pub snapshots : (a : Record) → Contains log a → a.snapshot < a.number
   pub no_overwrite : (a b : Record) → Contains log a → Contains log b → b.number < a.number → a.snapshot < b.number → share_row a.changes b.changes ≡ true → ⊥
   pub no_danger : (x p y : Record) → Contains log x → Contains log p → Contains log y → IsDangerous x p y → ⊥
+  pub changes_nothing : (a : Record) → Contains log a → a.read_only ≡ true → a.changes ≡ []
 
 pub numbers_below : (log : List Record) → IsLog log → Each (λ w. w.number < suc (length log)) log
 numbers_below [] h = tt
@@ -27,6 +28,7 @@ clean [] h = record {
   snapshots = λ a m. absurd (not_in_nil a m);
   no_overwrite = λ a b m. absurd (not_in_nil a m);
   no_danger = λ x p y m. absurd (not_in_nil x m);
+  changes_nothing = λ a m. absurd (not_in_nil a m);
 }
 clean (c ∷ log) h =
     let prev = clean log h.1 in
@@ -45,6 +47,7 @@ clean (c ∷ log) h =
             ]
           ];
       no_danger = h.0.no_danger;
+      changes_nothing = λ a m. elim (in_cases c log a m) [ inl same ↦ subst (λ z. z.read_only ≡ true → z.changes ≡ []) same h.0.changes_nothing | inr there ↦ prev.changes_nothing a there ];
     }
 
 -- where a commit stands
@@ -82,60 +85,97 @@ least_out_met (v ∷ log) c = go (ltb v.number c.number && conflicts_to c v) ref
           | inr above ↦ inr (v, in_head v log, p.1, ltb-true _ _ p.0, omega arith)
         ]
 
--- the two ways in which a commit stands
+-- the three ways in which a commit stands
+pub record Follows (log : List Record) (c : Record) : Type 0 where
+  pub read_only : c.read_only ≡ true
+  pub at_rank : rank log c ≡ 3 * c.snapshot + 2
+  pub reaches : reach c ≡ c.snapshot
+
 pub record Stays (log : List Record) (c : Record) : Type 0 where
-  pub at_rank : rank log c ≡ 2 * c.number + 1
+  pub at_rank : rank log c ≡ 3 * c.number + 1
+  pub reaches : reach c ≡ c.number
   pub none : (w : Record) → Contains log w → w.number < c.number → conflicts_to c w ≡ true → ⊥
 
 pub record Moves (log : List Record) (c y : Record) : Type 0 where
   pub listed : Contains log y
   pub conflict : conflicts_to c y ≡ true
   pub below : y.number < c.number
-  pub at_rank : rank log c ≡ 2 * y.number
+  pub at_rank : rank log c ≡ 3 * y.number
+  pub reaches : reach c ≡ c.number
   pub least : (w : Record) → Contains log w → w.number < c.number → conflicts_to c w ≡ true → y.number ≤ w.number
 
 abbrev pub Stands : List Record → Record → Type 0
-Stands log c = Stays log c ⊎ ((y : Record) × Moves log c y)
+Stands log c = Follows log c ⊎ Stays log c ⊎ ((y : Record) × Moves log c y)
+
+abbrev at_place : List Record → Record → ℕ
+at_place log c = cond (eqb (least_out log c) c.number) (3 * c.number + 1) (3 * least_out log c)
 
 pub stands : (log : List Record) (c : Record) → Stands log c
-stands log c = elim (least_out_met log c) [
-  | inl own ↦ inl (record {
-    at_rank = ap (λ b. cond b (2 * c.number + 1) (2 * least_out log c)) (eq-eqb _ _ own);
-    none = λ w m l h. let k = least_out_up_to log c w m l h in omega arith;
-  })
-  | inr y ↦ inr (
-    y.0,
-    record {
-      listed = y.1;
-      conflict = y.2;
-      below = y.3;
-      at_rank = ap (λ b. cond b (2 * c.number + 1) (2 * least_out log c)) (ne_eqb _ _ (let l = y.3 in let e = y.4 in λ q. omega arith)) ∙ ap (λ n. 2 * n) (sym y.4);
-      least = λ w m l h. let k = least_out_up_to log c w m l h in omega (arith, y.4);
-    },
-  )
+stands log c = elim (cases_Bool c.read_only) [
+  | inl only ↦ inl (record { read_only = only; at_rank = ap (λ b. cond b (3 * c.snapshot + 2) (at_place log c)) only; reaches = ap (λ b. cond b c.snapshot c.number) only })
+  | inr writes ↦ inr (
+      let placed : rank log c ≡ at_place log c = ap (λ b. cond b (3 * c.snapshot + 2) (at_place log c)) writes in
+      let reaches : reach c ≡ c.number = ap (λ b. cond b c.snapshot c.number) writes in
+      elim (least_out_met log c) [
+        | inl own ↦ inl (record {
+          at_rank = placed ∙ ap (λ b. cond b (3 * c.number + 1) (3 * least_out log c)) (eq-eqb _ _ own);
+          reaches = reaches;
+          none = λ w m l h. let k = least_out_up_to log c w m l h in omega arith;
+        })
+        | inr y ↦ inr (
+          y.0,
+          record {
+            listed = y.1;
+            conflict = y.2;
+            below = y.3;
+            at_rank = placed ∙ ap (λ b. cond b (3 * c.number + 1) (3 * least_out log c)) (ne_eqb _ _ (let l = y.3 in let e = y.4 in λ q. omega arith)) ∙ ap (λ n. 3 * n) (sym y.4);
+            reaches = reaches;
+            least = λ w m l h. let k = least_out_up_to log c w m l h in omega (arith, y.4);
+          },
+        )
+      ]
+      )
 ]
 
 -- a commit stands after all numbers that its snapshot holds, and no later than its own
-pub rank_low : (log : List Record) → Clean log → (a : Record) → Contains log a → 2 * a.snapshot + 2 ≤ rank log a
+pub rank_low : (log : List Record) → Clean log → (a : Record) → Contains log a → 3 * a.snapshot + 2 ≤ rank log a
 rank_low log clean a m =
     let s = clean.snapshots a m in
     elim (stands log a) [
-      | inl stays ↦ omega (arith, stays.at_rank)
-      | inr y ↦ (let o = conflict_overlaps a y.0 y.1.conflict in omega (arith, o.second, y.1.at_rank))
+      | inl follows ↦ omega (arith, follows.at_rank)
+      | inr placed ↦ elim placed [
+        | inl stays ↦ omega (arith, stays.at_rank)
+        | inr y ↦ (let o = conflict_overlaps a y.0 y.1.conflict in omega (arith, o.second, y.1.at_rank))
+      ]
     ]
 
-pub rank_high : (log : List Record) → (a : Record) → rank log a ≤ 2 * a.number + 1
-rank_high log a =
+pub rank_high : (log : List Record) → Clean log → (a : Record) → Contains log a → rank log a ≤ 3 * a.number + 1
+rank_high log clean a m =
+    let s = clean.snapshots a m in
     elim (stands log a) [
-      | inl stays ↦ omega (arith, stays.at_rank)
-      | inr y ↦ omega (arith, y.1.below, y.1.at_rank)
+      | inl follows ↦ omega (arith, follows.at_rank)
+      | inr placed ↦ elim placed [
+        | inl stays ↦ omega (arith, stays.at_rank)
+        | inr y ↦ omega (arith, y.1.below, y.1.at_rank)
+      ]
+    ]
+
+-- and no later than just before the first number that it doesn't reach
+pub rank_reach : (log : List Record) (a : Record) → rank log a < 3 * reach a + 3
+rank_reach log a =
+    elim (stands log a) [
+      | inl follows ↦ omega (arith, follows.at_rank, follows.reaches)
+      | inr placed ↦ elim placed [
+        | inl stays ↦ omega (arith, stays.at_rank, stays.reaches)
+        | inr y ↦ omega (arith, y.1.below, y.1.at_rank, y.1.reaches)
+      ]
     ]
 
 -- of two commits, one that the other conflicts to stands later
 module _ (log : List Record) (clean : Clean log) (a b : Record) (ma : Contains log a) (mb : Contains log b) (c : conflicts_to b a ≡ true) where
-  -- the pivot conflicts to none up to the reader
-  past_reader : (m : Record) → Contains log m → conflicts_to a m ≡ true → m.number < a.number → b.number < m.number
-  past_reader m mm am l = elim (cases_lt (b.number) m.number) [
+  -- the pivot conflicts to none that the reader reaches
+  past_reader : (m : Record) → Contains log m → conflicts_to a m ≡ true → m.number < a.number → reach b < m.number
+  past_reader m mm am l = elim (cases_lt (reach b) m.number) [
     | inl past ↦ past
     | inr within ↦ absurd (clean.no_danger b a m mb ma mm (record { first = c; second = am; before_pivot = l; up_to_reader = within }))
   ]
@@ -143,25 +183,31 @@ module _ (log : List Record) (clean : Clean log) (a b : Record) (ma : Contains l
   rank_rises : rank log b < rank log a
   rank_rises =
       let o = conflict_overlaps b a c in
-      let high = rank_high log b in
+      let high = rank_reach log b in
       elim (stands log a) [
-        | inl stays ↦ elim (stands log b) [
-          | inl still ↦ elim (cases_lt a.number b.number) [
-            | inl earlier ↦ absurd (still.none a ma earlier c)
-            | inr later ↦ (let d = o.differ in omega (arith, still.at_rank, stays.at_rank))
+        | inl follows ↦ absurd (no_conflict_to b a (clean.changes_nothing a ma follows.read_only) c)
+        | inr placed ↦ elim placed [
+          | inl stays ↦ elim (stands log b) [
+            | inl follows ↦ omega (arith, o.first, follows.at_rank, stays.at_rank)
+            | inr placed' ↦ elim placed' [
+              | inl still ↦ elim (cases_lt a.number b.number) [
+                | inl earlier ↦ absurd (still.none a ma earlier c)
+                | inr later ↦ (let d = o.differ in omega (arith, still.at_rank, stays.at_rank))
+              ]
+              | inr y ↦ elim (cases_lt a.number b.number) [
+                | inl earlier ↦ (let l = y.1.least a ma earlier c in omega (arith, y.1.at_rank, stays.at_rank))
+                | inr later ↦ omega (arith, y.1.at_rank, y.1.below, stays.at_rank)
+              ]
+            ]
           ]
-          | inr y ↦ elim (cases_lt a.number b.number) [
-            | inl earlier ↦ (let l = y.1.least a ma earlier c in omega (arith, y.1.at_rank, stays.at_rank))
-            | inr later ↦ omega (arith, y.1.at_rank, y.1.below, stays.at_rank)
-          ]
+          | inr m ↦ (let past = past_reader m.0 m.1.listed m.1.conflict m.1.below in omega (arith, past, high, m.1.at_rank))
         ]
-        | inr m ↦ (let past = past_reader m.0 m.1.listed m.1.conflict m.1.below in omega (arith, past, high, m.1.at_rank))
       ]
 
 pub may_precede : (log : List Record) → Clean log → (a b : Record) → Contains log a → Contains log b → rank log a ≤ rank log b → MayPrecede a b
 may_precede log clean a b ma mb l =
     let low = rank_low log clean a ma in
-    let high = rank_high log b in
+    let high = rank_high log clean b mb in
     record {
       not_held = λ h. omega arith;
       not_overwritten = λ e s. elim (cases_lt a.snapshot b.number) [ inl after ↦ clean.no_overwrite a b ma mb e after s | inr held ↦ omega arith ];
@@ -178,7 +224,7 @@ pub record Insertion (key : Record → ℕ) (c : Record) (order : List Record) :
   pub whole : order ≡ before ++ after
   pub put : put_by key c order ≡ before ++ c ∷ after
   pub small : Each (λ w. key w ≤ key c) before
-  pub large : Each (λ w. key c ≤ key w) after
+  pub large : Each (λ w. key c < key w) after
 
 pub insertion : (key : Record → ℕ) (c : Record) (order : List Record) → Ascends key order → Insertion key c order
 insertion key c [] p = record { before = []; after = []; whole = refl; put = refl; small = tt; large = tt }
@@ -191,7 +237,7 @@ insertion key c (w ∷ rest) p = elim (cases_Bool (ltb (key c) (key w))) [
         whole = refl;
         put = ap (λ b. cond b (c ∷ w ∷ rest) (w ∷ put_by key c rest)) less;
         small = tt;
-        large = (omega arith, each_weaker (λ v. key w ≤ key v) (λ v. key c ≤ key v) (λ v k. omega arith) rest p.0);
+        large = (l, each_weaker (λ v. key w ≤ key v) (λ v. key c < key v) (λ v k. omega arith) rest p.0);
       }
   | inr not_less ↦
       let k = insertion key c rest p.1 in
@@ -209,7 +255,7 @@ pub ascends : (key : Record → ℕ) (log : List Record) → Ascends key (sort_b
 ascends key [] = tt
 ascends key (c ∷ log) =
     let k = insertion key c (sort_by key log) (ascends key log) in
-    subst (Ascends key) (sym k.put) (pairs_put (λ a b. key a ≤ key b) k.before c k.after k.small k.large (subst (Ascends key) k.whole (ascends key log)))
+    subst (Ascends key) (sym k.put) (pairs_put (λ a b. key a ≤ key b) k.before c k.after k.small (each_weaker (λ w. key c < key w) (λ w. key c ≤ key w) (λ w l. omega arith) k.after k.large) (subst (Ascends key) k.whole (ascends key log)))
 
 pub sorted_arranges : (key : Record → ℕ) (log : List Record) → Arranges (sort_by key log) log
 sorted_arranges key [] = refl
@@ -242,7 +288,14 @@ least_out_stays c log w l = ap (λ b. cond (b && conflicts_to w c) (min c.number
 
 pub rank_stays : (c : Record) (log : List Record) (w : Record) → w.number < c.number → rank (c ∷ log) w ≡ rank log w
 rank_stays c log w l =
-    ap (λ p. cond (eqb p w.number) (2 * w.number + 1) (2 * p)) (least_out_stays c log w l)
+    ap (λ p. cond w.read_only (3 * w.snapshot + 2) (cond (eqb p w.number) (3 * w.number + 1) (3 * p))) (least_out_stays c log w l)
+
+-- the candidate has no conflict to itself
+pub own_least : (c : Record) (log : List Record) → least_out (c ∷ log) c ≡ least_out log c
+own_least c log = ap (λ b. cond (b && conflicts_to c c) (min c.number (least_out log c)) (least_out log c)) (le-ltb _ _ (omega arith))
+
+pub own_rank : (c : Record) (log : List Record) → rank (c ∷ log) c ≡ rank log c
+own_rank c log = ap (λ p. cond c.read_only (3 * c.snapshot + 2) (cond (eqb p c.number) (3 * c.number + 1) (3 * p))) (own_least c log)
 
 put_by_same : (key other : Record → ℕ) (c : Record) (order : List Record) → key c ≡ other c → Each (λ w. key w ≡ other w) order → put_by key c order ≡ put_by other c order
 put_by_same key other c [] e h = refl
@@ -254,6 +307,12 @@ sort_by_same key other [] h = refl
 sort_by_same key other (c ∷ log) h =
     put_by_same key other c (sort_by key log) h.0 (arranges_each (λ w. key w ≡ other w) (sort_by key log) log (sorted_arranges key log) h.1)
     ∙ ap (put_by other c) (sort_by_same key other log h.1)
+
+-- The order with one commit more: it is put in by its rank.
+pub order_step : (c : Record) (earlier : List Record) → IsLog (c ∷ earlier) → serial_order (c ∷ earlier) ≡ put_by (rank earlier) c (serial_order earlier)
+order_step c earlier h =
+    sort_by_same (rank (c ∷ earlier)) (rank earlier) (c ∷ earlier)
+    (own_rank c earlier, each_from (λ w. rank (c ∷ earlier) w ≡ rank earlier w) earlier (λ w m. rank_stays c earlier w (earlier_numbers c earlier h.0 h.1 w m)))
 
 pub order_is_kept : (c : Record) (earlier : List Record) → IsLog (c ∷ earlier) → without c.number (serial_order (c ∷ earlier)) ≡ serial_order earlier
 order_is_kept c earlier h =

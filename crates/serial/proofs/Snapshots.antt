@@ -8,7 +8,7 @@ use Rattle.std.proofs.lemmas.List.{take-append-drop, reverse-append, length-reve
 use Rattle.alone.proofs.Lists.{Each, Pairs, each_weaker, each_at}
 use Rattle.alone.proofs.Members.{in_left, in_either}
 use Rattle.serial.specs.declared.records.Record.{Record}
-use Rattle.serial.specs.Commits.{IsLog, conflicts_to}
+use Rattle.serial.specs.Commits.{IsLog, conflicts_to, reach}
 use Rattle.serial.specs.Numbers.{is_reader_of}
 use Rattle.serial.specs.Order.{least_out}
 use Rattle.serial.proofs.Arranged.{conflict_overlaps}
@@ -82,5 +82,5 @@ pub no_pivot_held : (log : List Record) (c : Record) (older : List Record) → E
 no_pivot_held log c [] e = refl
 no_pivot_held log c (w ∷ older) e =
     or_from (is_reader_of log c w) (list_any (is_reader_of log c) older)
-    (ap (λ b. b && (ltb (least_out log w) w.number && leb (least_out log w) c.number)) (no_conflict_out c w e.0))
+    (ap (λ b. b && (ltb (least_out log w) w.number && leb (least_out log w) (reach c))) (no_conflict_out c w e.0))
     (no_pivot_held log c older e.1)

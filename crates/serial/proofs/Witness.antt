@@ -1,6 +1,6 @@
 -- The premises of the replay theorem can be met: every transaction whose COMMIT is accepted alone on a sound start makes a log of
 -- one commit, and empty tables without assertions are a sound start.
-use Rattle.std.proofs.Common.{◌≡◌, ℕ, zero, suc, List, [], ◌∷◌, None, map, length, refl, sym, ap, ◌∙◌, subst, arith, inl, inr}
+use Rattle.std.proofs.Common.{◌≡◌, ℕ, zero, suc, false, List, [], ◌∷◌, None, map, length, refl, sym, ap, ◌∙◌, subst, arith, inl, inr}
 use Rattle.std.specs.Prelude.{Contains}
 use Rattle.value.specs.ValueOrder.{value_cmp}
 use Rattle.value.specs.Ordered.{IsAscending}
@@ -22,6 +22,7 @@ abbrev first_commit : Declared → List ℕ → List Resolved → State → Reco
 first_commit declared session trace start = record {
   number = 1;
   snapshot = 0;
+  read_only = false;
   session = session;
   trace = trace;
   reads = transaction_keys declared trace start;
@@ -37,6 +38,7 @@ one_commit declared start sound session trace accepted = record {
       numbered = refl;
       after_snapshot = omega arith;
       no_write_conflict = λ other m w. not_in_nil other m;
+      changes_nothing = λ e. cc;
       no_danger = λ x p y mx mp my d. (conflict_overlaps x p d.first).differ (ap (λ (r : Record). r.number) (sym (only (first_commit declared session trace start) x mx) ∙ only (first_commit declared session trace start) p mp));
     },
     tt,

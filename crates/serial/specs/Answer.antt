@@ -65,10 +65,11 @@ IsAnswer log commit (Dangerous reader pivot writer) =
 IsAnswer log commit (Number number) =
     (number ≡ commit.number) × HasNoWriteConflict log commit × HasNoDanger (commit ∷ log)
 
--- a commit with the next number, which is its answer
+-- a commit with the next number, which is its answer; what is read only has changed nothing
 pub record IsNumbered (log : List Record) (commit : Record) : Type 0 where
   pub next : IsNext commit log
   pub after_snapshot : commit.snapshot < commit.number
+  pub changes_nothing : commit.read_only ≡ true → commit.changes ≡ []
   pub answer : IsAnswer log commit (Number commit.number)
 
 -- What the two tests say of the next commit: neither passes exactly where no triple has it in it; where the first does,

@@ -1,7 +1,7 @@
 -- Conflicts between committed transactions, and what refuses a commit
 -- (Cahill, Röhm and Fekete 2008; Ports and Grittner 2012).
 -- A log lists the committed transactions, the newest first.
-use Rattle.std.specs.Prelude.{◌≡◌, ◌<◌, ◌≤◌, suc, Bool, true, not, ◌&&◌, ◌==◌, List, [], ◌∷◌, length, nat_lt, Contains, ⊤}
+use Rattle.std.specs.Prelude.{◌≡◌, ◌<◌, ◌≤◌, ℕ, suc, Bool, if◌then◌else◌, true, not, ◌&&◌, ◌==◌, List, [], ◌∷◌, length, nat_lt, Contains, ⊤}
 use Rattle.std.specs.List.{list_any}
 use Rattle.table.specs.declared.rows.Change.{Change}
 use Rattle.siread.specs.declared.keys.LockKey.{LockKey}
@@ -25,13 +25,18 @@ overlap a b = not (a.number == b.number) && (nat_lt b.snapshot a.number && nat_l
 unfoldable pub conflicts_to : Record → Record → Bool
 conflicts_to reader writer = overlap reader writer && touch_any writer.changes reader.reads
 
+-- The last number that may stand before a commit: its snapshot where it is read only, since it stands right behind
+-- that, else its own.
+abbrev pub reach : Record → ℕ
+reach commit = if commit.read_only then commit.snapshot else commit.number
+
 -- the reader conflicts to the pivot, the pivot to the writer, and the writer committed first
 pub record IsDangerous (reader pivot writer : Record) : Type 0 where
   pub first : conflicts_to reader pivot ≡ true
   pub second : conflicts_to pivot writer ≡ true
   pub before_pivot : writer.number < pivot.number
-  -- the writer is the reader, or committed before it
-  pub up_to_reader : writer.number ≤ reader.number
+  -- the writer is the reader, or committed before it; where the reader is read only, its snapshot holds the writer
+  pub up_to_reader : writer.number ≤ reach reader
 
 -- a row of the net change is in the net change of a commit after the snapshot
 pub record HasWriteConflict (commit other : Record) : Type 0 where
@@ -54,6 +59,8 @@ pub record IsAccepted (commit : Record) (earlier : List Record) : Type 0 where
   pub after_snapshot : commit.snapshot < commit.number
   pub no_write_conflict : HasNoWriteConflict earlier commit
   pub no_danger : HasNoDanger (commit ∷ earlier)
+  -- what is read only has changed nothing
+  pub changes_nothing : commit.read_only ≡ true → commit.changes ≡ []
 
 -- a log in which each was accepted over those before it
 abbrev pub IsLog : List Record → Type 0

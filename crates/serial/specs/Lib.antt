@@ -4,3 +4,4 @@ pub mod Numbers
 pub mod Replay
 pub mod Epoch
 pub mod Answer
+pub mod Safe

@@ -1,5 +1,5 @@
 -- The serial order.
-use Rattle.std.specs.Prelude.{◌≡◌, ◌<◌, ◌≤◌, ◌+◌, ◌*◌, ◌⊎◌, ℕ, true, ◌&&◌, ◌==◌, if◌then◌else◌, nat_lt, min, not, filter, List, [], ◌∷◌, Contains}
+use Rattle.std.specs.Prelude.{◌≡◌, false, ◌<◌, ◌≤◌, ◌+◌, ◌*◌, ◌⊎◌, ℕ, true, ◌&&◌, ◌==◌, if◌then◌else◌, nat_lt, min, not, filter, List, [], ◌∷◌, Contains}
 use Rattle.serial.specs.declared.records.Record.{Record}
 use Rattle.serial.specs.Commits.{conflicts_to, share_row}
 
@@ -11,9 +11,16 @@ least_out (other ∷ log) commit =
     then min other.number (least_out log commit)
     else least_out log commit
 
--- where a commit stands, as a number: 2 n just before the number n, and 2 n + 1 at it
+-- where a commit stands whose least conflict out is this, as a number: 3 n just before the number n, 3 n + 1 at it, and
+-- 3 n + 2 behind it, where those stand that are read only and have the snapshot n
+abbrev pub rank_at : ℕ → Record → ℕ
+rank_at place commit =
+    if commit.read_only
+    then 3 * commit.snapshot + 2
+    else (if place == commit.number then 3 * commit.number + 1 else 3 * place)
+
 abbrev pub rank : List Record → Record → ℕ
-rank log commit = if least_out log commit == commit.number then 2 * commit.number + 1 else 2 * least_out log commit
+rank log commit = rank_at (least_out log commit) commit
 
 -- by rank, and those of one rank as they come, the oldest first
 abbrev pub put_by : (Record → ℕ) → Record → List Record → List Record
@@ -26,7 +33,8 @@ sort_by key [] = []
 sort_by key (commit ∷ earlier) = put_by key commit (sort_by key earlier)
 
 -- the serial order: each at its number or, where it conflicts to earlier commits, just before the least of these;
--- several before one number by their own numbers
+-- several before one number by their own numbers. One that is read only stands behind the number of its snapshot and
+-- before the next, several there by their own numbers
 abbrev pub serial_order : List Record → List Record
 serial_order log = sort_by (rank log) log
 
@@ -43,6 +51,18 @@ pub record IsSerial (log order : List Record) : Type 0 where
       → a.number < b.number → share_row b.changes a.changes ≡ true → Before order a b
   pub before_conflicts : (a b : Record) → Contains log a → Contains log b → conflicts_to a b ≡ true → Before order a b
 
+-- A commit that is read only stands behind all others whose place is up to its snapshot, and before all others whose
+-- place is past it; those that are read only stand by their snapshots, and by their numbers.
+pub record HasReadersPlaced (log order : List Record) : Type 0 where
+  pub behind : (a r : Record) → Contains log a → Contains log r
+      → a.read_only ≡ false → r.read_only ≡ true → least_out log a ≤ r.snapshot → Before order a r
+  pub before : (r a : Record) → Contains log r → Contains log a
+      → r.read_only ≡ true → a.read_only ≡ false → r.snapshot < least_out log a → Before order r a
+  pub by_snapshot : (r q : Record) → Contains log r → Contains log q
+      → r.read_only ≡ true → q.read_only ≡ true → r.snapshot < q.snapshot → Before order r q
+  pub by_number : (r q : Record) → Contains log r → Contains log q
+      → r.read_only ≡ true → q.read_only ≡ true → r.snapshot ≡ q.snapshot → r.number < q.number → Before order r q
+
 -- a list with the commit of this number taken out
 abbrev pub without : ℕ → List Record → List Record
 without number order = filter (λ other. not (other.number == number)) order
@@ -56,13 +76,6 @@ abbrev pub IsFixed : Record → List Record → Type 0
 IsFixed commit earlier =
     (other : Record) → Contains earlier other → least_out (commit ∷ earlier) other ≡ least_out earlier other
 
--- a list with the commit put in just before this number, or at its end where the number is not there
-abbrev pub put_before : ℕ → Record → List Record → List Record
-put_before number commit [] = commit ∷ []
-put_before number commit (other ∷ rest) =
-    if other.number == number then commit ∷ other ∷ rest else other ∷ put_before number commit rest
-
--- and this one is put in where it belongs
+-- and this one is put in by its rank among those before it, behind all of no greater rank
 abbrev pub IsPutIn : Record → List Record → Type 0
-IsPutIn commit earlier =
-    serial_order (commit ∷ earlier) ≡ put_before (least_out earlier commit) commit (serial_order earlier)
+IsPutIn commit earlier = serial_order (commit ∷ earlier) ≡ put_by (rank earlier) commit (serial_order earlier)

@@ -1,18 +1,20 @@
 //! What the definitions of this crate entail. Each law is the contract of a function that does nothing.
 
-ghost use Rattle.std.specs.Prelude.{List, ◌∷◌, IsPermutation};
+ghost use Rattle.std.specs.Prelude.{◌≡◌, ◌<◌, ◌≤◌, ℕ, true, false, List, [], ◌∷◌, IsPermutation};
 ghost use Rattle.serial.specs.declared.records.Record.{Record};
 ghost use Rattle.serial.specs.Commits.{IsLog, IsNext, IsAccepted};
-ghost use Rattle.serial.specs.Order.{serial_order, IsSerial, IsKept, IsFixed, IsPutIn};
-ghost use Rattle.serial.specs.Answer.{AreJudged, IsNumbered};
+ghost use Rattle.serial.specs.Order.{serial_order, IsSerial, HasReadersPlaced, IsKept, IsFixed, IsPutIn};
+ghost use Rattle.serial.specs.Answer.{AreJudged, IsAnswer, IsNumbered, Number};
+ghost use Rattle.serial.specs.Safe.{IsSafe};
 ghost use Rattle.serial.specs.Epoch.{InEachEpoch, AreRecorded, AnswersAgain, EndsNewest, AreSound, InTurn};
 
 /// The order law: in the serial order of a log each commit stands once, after all that its snapshot holds, after the
-/// earlier writers of its rows, and before all to which it conflicts. One commit more leaves the others as they
-/// stood, and is put in just before the least to which it conflicts, or at the end.
+/// earlier writers of its rows, and before all to which it conflicts. One that is read only stands right behind the
+/// number of its snapshot. One commit more leaves the others as they stood, and is put in by its rank.
 pub fn commits_have_an_order()
     ensures once { (log : List Record) → IsLog log → IsPermutation log (serial_order log) }
     ensures serial { (log : List Record) → IsLog log → IsSerial log (serial_order log) }
+    ensures readers { (log : List Record) → IsLog log → HasReadersPlaced log (serial_order log) }
     ensures kept { (commit : Record) (earlier : List Record) → IsLog (commit ∷ earlier) → IsKept commit earlier }
     ensures fixed { (commit : Record) (earlier : List Record) → IsLog (commit ∷ earlier) → IsFixed commit earlier }
     ensures put_in { (commit : Record) (earlier : List Record) → IsLog (commit ∷ earlier) → IsPutIn commit earlier }
@@ -28,6 +30,16 @@ pub fn two_numbers_decide()
 /// A commit that is answered with its number is accepted.
 pub fn numbered_commits_are_accepted()
     ensures { (log : List Record) (commit : Record) → IsNumbered log commit → IsAccepted commit log }
+{}
+
+/// Who reads a safe snapshot, read only, is accepted as the next commit, and a snapshot that is safe stays so with each
+/// commit whose own snapshot is no older, or that is read only.
+pub fn safe_snapshots_have_no_danger()
+    ensures accepted { (log : List Record) (commit : Record) → IsLog log → commit.read_only ≡ true → commit.changes ≡ []
+        → IsSafe log commit.snapshot → IsAnswer log commit (Number commit.number) }
+    ensures stays { (log : List Record) (commit : Record) (snapshot : ℕ) → IsLog (commit ∷ log)
+        → snapshot < commit.number → (commit.read_only ≡ false → snapshot ≤ commit.snapshot)
+        → IsSafe log snapshot → IsSafe (commit ∷ log) snapshot }
 {}
 
 /// The replay theorem: the committed transactions, run alone in the serial order, answer what each was answered on

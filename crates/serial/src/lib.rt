@@ -24,6 +24,7 @@ mod laws;
 mod records;
 
 pub use laws::{
-    commits_have_an_order, numbered_commits_are_accepted, replay_answers_again, two_numbers_decide,
+    commits_have_an_order, numbered_commits_are_accepted, replay_answers_again,
+    safe_snapshots_have_no_danger, two_numbers_decide,
 };
 pub use records::Record;

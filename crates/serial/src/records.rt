@@ -1,5 +1,8 @@
 //! Committed transactions.
 
+ghost use Rattle.std.specs.Prelude.{◌≡◌};
+ghost use Rattle.serial.specs.Commits.{reach};
+
 use alone::Resolved;
 use siread::LockKey;
 use sqlite_items::Items;
@@ -14,6 +17,8 @@ pub struct Record {
     pub number: u64,
     /// How many commits its snapshot holds.
     pub snapshot: u64,
+    /// Whether it began READ ONLY.
+    pub read_only: bool,
     /// The session that ran it.
     pub session: Text,
     /// Its statements, refused ones too, with their names found.
@@ -22,4 +27,18 @@ pub struct Record {
     pub reads: Items<LockKey>,
     /// Its net change, by table and key.
     pub changes: Items<Change>,
+}
+
+impl Record {
+    /// The last number that may stand before it in the serial order: that of its snapshot where it is read only, else
+    /// its own.
+    pub fn reach(&self) -> u64
+        ensures { result ≡ reach self.now }
+    {
+        if self.read_only {
+            self.snapshot
+        } else {
+            self.number
+        }
+    }
 }

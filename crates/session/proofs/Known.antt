@@ -2,6 +2,7 @@
 use Rattle.std.proofs.Common.{◌≡◌, ℕ, List, true, refl, sym, subst, Option, Some, None}
 use Rattle.std.specs.Prelude.{slice_get}
 use Rattle.std.proofs.lemmas.Bool.{and_parts, eqb-true, leb-true, ltb-true}
+use Rattle.live.specs.declared.snapshots.LiveSnapshot.{LiveSnapshot}
 use Rattle.live.proofs.Holding.{held_facts}
 use Rattle.value.specs.declared.refusals.Party.{Party}
 use Rattle.value.specs.declared.refusals.Party.TheVariants.{This, Number as Numbered}
@@ -34,14 +35,13 @@ at_facts b number index h = go (slice_get b.tokens number) refl h
     go None at h = let no : ⊥ = cc in absurd no
     go (Some token) at h = record { token = token; at = at; same = eqb-true _ _ h }
 
-pub owned_facts : (b : BookState) (t : TicketState) (number snapshot id epoch : ℕ) → owns b t number snapshot id epoch ≡ true
-    → IsOwned b t number snapshot id epoch
-owned_facts b t number snapshot id epoch h =
+pub owned_facts : (b : BookState) (t : TicketState) (one : LiveSnapshot) (id epoch : ℕ) → owns b t one id epoch ≡ true → IsOwned b t one id epoch
+owned_facts b t one id epoch h =
     let p = and_parts _ _ h in
     let q = and_parts _ _ p.1 in record {
       of = of_facts b t.id t.epoch id epoch p.0;
-      held = held_facts number snapshot b.core.live.snapshots q.0;
-      token = at_facts b snapshot t.token.index q.1;
+      held = held_facts one.ticket one.snapshot one.read_only b.core.live.snapshots q.0;
+      token = at_facts b one.snapshot t.token.index q.1;
     }
 
 pub kept_facts : (b : BookState) (r : ReceiptState) (id epoch : ℕ) → is_kept b r id epoch ≡ true → IsKept b r id epoch

@@ -1,5 +1,5 @@
 -- The tokens of a Book whose core has answered an event.
-use Rattle.std.proofs.Common.{◌≡◌, ℕ, zero, suc, ◌+◌, ◌<◌, ◌≤◌, ◌⊎◌, List, [], ◌∷◌, ◌++◌, Option, Some, length, reverse, inl, inr, refl, sym, ap, ◌∙◌, subst, arith, add-one}
+use Rattle.std.proofs.Common.{◌≡◌, Bool, ℕ, zero, suc, ◌+◌, ◌<◌, ◌≤◌, ◌⊎◌, List, [], ◌∷◌, ◌++◌, Option, Some, length, reverse, inl, inr, refl, sym, ap, ◌∙◌, subst, arith, add-one}
 use Rattle.std.specs.Prelude.{slice_get}
 use Rattle.std.proofs.lemmas.List.{length-append, length-reverse, reverse-append}
 use Rattle.boxcar.specs.Table.{Shelves, Shows}
@@ -141,10 +141,10 @@ begun_over shelf limits b mine loaded book log within is same =
     }
 
 -- a transaction that begins on some tables, with their token
-pub begun_fresh : (shelf : Shelves) (id epoch number snapshot : ℕ) (tables : Shown) (token : Token) (t : Ticketed)
-    → t ≡ record { inner = begun number snapshot tables; ticket = record { id = id; epoch = epoch; token = token } }
-    → Shows shelf token → token.value.epoch ≡ epoch → token.value.number ≡ snapshot → token.value.view ≡ tables → IsFresh shelf id epoch t
-begun_fresh shelf id epoch number snapshot tables token t is shown item_epoch item_number view =
-    let made : IsFresh shelf id epoch (record { inner = begun number snapshot tables; ticket = record { id = id; epoch = epoch; token = token } }) =
-    record { empty = refl; id_is = refl; epoch_is = refl; shown = shown; epoch_of_item = item_epoch; number_of_item = item_number; view_of_item = view } in
-    subst (IsFresh shelf id epoch) (sym is) made
+pub begun_fresh : (shelf : Shelves) (id epoch number snapshot : ℕ) (read_only : Bool) (tables : Shown) (token : Token) (t : Ticketed)
+    → t ≡ record { inner = begun number snapshot read_only tables; ticket = record { id = id; epoch = epoch; token = token } }
+    → Shows shelf token → token.value.epoch ≡ epoch → token.value.number ≡ snapshot → token.value.view ≡ tables → IsFresh shelf id epoch read_only t
+begun_fresh shelf id epoch number snapshot read_only tables token t is shown item_epoch item_number view =
+    let made : IsFresh shelf id epoch read_only (record { inner = begun number snapshot read_only tables; ticket = record { id = id; epoch = epoch; token = token } }) =
+    record { read_only_is = refl; empty = refl; id_is = refl; epoch_is = refl; shown = shown; epoch_of_item = item_epoch; number_of_item = item_number; view_of_item = view } in
+    subst (IsFresh shelf id epoch read_only) (sym is) made

@@ -120,6 +120,7 @@ abbrev pub record_of : (number : ℕ) → (session : List ℕ) → OpenTransacti
 record_of number session t = record {
   number = number;
   snapshot = t.snapshot;
+  read_only = t.read_only;
   session = session;
   trace = t.trace;
   reads = keys_of t;

@@ -5,6 +5,7 @@ use Rattle.boxcar.specs.Table.{Where, Shelves, Shows}
 use Rattle.assertion.specs.Declarations.{Declared}
 use Rattle.assertion.specs.Meaning.{State}
 use Rattle.delta.specs.Views.{Shown}
+use Rattle.live.specs.declared.snapshots.LiveSnapshot.{LiveSnapshot}
 use Rattle.live.specs.Held.{is_held}
 use Rattle.serial.specs.declared.records.Record.{Record}
 use Rattle.serial.specs.Epoch.{state_of}
@@ -83,9 +84,10 @@ pub record Ticketed : Type 0 where
 abbrev pub IsTicketed : Ticketed → Type 0
 IsTicketed t = t.ticket.token.value.view ≡ record { declared = t.inner.declared; state = t.inner.start }
 
--- A transaction that has just begun: it has run no statement, its ticket is of this id and epoch, and its own view is
--- what stands on this shelf under the number of its snapshot.
-pub record IsFresh (shelf : Shelves) (id epoch : ℕ) (t : Ticketed) : Type 0 where
+-- A transaction that has just begun, read only or not: it has run no statement, its ticket is of this id and epoch, and
+-- its own view is what stands on this shelf under the number of its snapshot.
+pub record IsFresh (shelf : Shelves) (id epoch : ℕ) (read_only : Bool) (t : Ticketed) : Type 0 where
+  pub read_only_is : t.inner.read_only ≡ read_only
   pub empty : t.inner.trace ≡ []
   pub id_is : t.ticket.id ≡ id
   pub epoch_is : t.ticket.epoch ≡ epoch
@@ -135,12 +137,12 @@ abbrev pub is_index : (index : ℕ) → Option Token → Bool
 is_index index None = false
 is_index index (Some token) = token.index == index
 
--- The ticket is of the manager that asks, the transaction that began with this number and snapshot has not ended,
--- and its token is the Book's own.
-abbrev pub owns : BookState → TicketState → (number snapshot id epoch : ℕ) → Bool
-owns b t number snapshot id epoch =
+-- The ticket is of the manager that asks, the transaction that began so has not ended, and its token is the Book's own.
+abbrev pub owns : BookState → TicketState → LiveSnapshot → (id epoch : ℕ) → Bool
+owns b t one id epoch =
     is_of b t.id t.epoch id epoch
-    && (is_held number snapshot b.core.live.snapshots && is_index t.token.index (slice_get b.tokens snapshot))
+    && (is_held one.ticket one.snapshot one.read_only b.core.live.snapshots
+    && is_index t.token.index (slice_get b.tokens one.snapshot))
 
 -- the Book has a token for this number, with this index
 pub record IsAt (b : BookState) (number index : ℕ) : Type 0 where
@@ -148,13 +150,17 @@ pub record IsAt (b : BookState) (number index : ℕ) : Type 0 where
   pub at : slice_get b.tokens number ≡ Some token
   pub same : token.index ≡ index
 
-pub record IsOwned (b : BookState) (t : TicketState) (number snapshot id epoch : ℕ) : Type 0 where
+pub record IsOwned (b : BookState) (t : TicketState) (one : LiveSnapshot) (id epoch : ℕ) : Type 0 where
   pub of : IsOf b t.id t.epoch id epoch
-  pub held : Contains b.core.live.snapshots (record { ticket = number; snapshot = snapshot })
-  pub token : IsAt b snapshot t.token.index
+  pub held : Contains b.core.live.snapshots one
+  pub token : IsAt b one.snapshot t.token.index
+
+-- a transaction among the open ones
+abbrev pub live_of : OpenTransaction → LiveSnapshot
+live_of t = record { ticket = t.ticket; snapshot = t.snapshot; read_only = t.read_only }
 
 abbrev pub owns_txn : BookState → Ticketed → (id epoch : ℕ) → Bool
-owns_txn b t id epoch = owns b t.ticket t.inner.ticket t.inner.snapshot id epoch
+owns_txn b t id epoch = owns b t.ticket (live_of t.inner) id epoch
 
 -- the Book knows the session, and the transaction is its own
 abbrev pub is_own : BookState → SessionState → Ticketed → (id epoch : ℕ) → Bool

@@ -30,6 +30,7 @@ use crate::shelf::{Shelf, Token};
 use crate::tickets::{Closed, CommitFault, Ticket, Txn};
 use commit::{Core, Uncommitted};
 use delta::View;
+use live::LiveSnapshot;
 use serial::Record;
 use std::alloc::Global;
 use std::marker::{Model, PhantomData};
@@ -145,7 +146,6 @@ impl<N: Named> Book<N> {
     ///
     /// [`Refusal::Stranger`] exactly where the Book or the session is not of the manager that asks, or the session
     /// has seen a number above the Book's; or [`Refusal::NoMemory`]. All is then as it was.
-    #[tactic(auto, using(crate::proofs::Tokens::begun_fresh))]
     pub fn begin(
         &mut self,
         id: u64,
@@ -154,24 +154,47 @@ impl<N: Named> Book<N> {
     ) -> Result<Txn<N>, Refusal>
         ensures known { IfOk result (λ _. knows self.old session.old id epoch ≡ true) }
         ensures begun { IfOk result (λ txn.
-            txn.inner ≡ begun self.old.core.live.begun (length self.old.core.records) (newest_tables self.old.core)) }
+            txn.inner
+            ≡ begun self.old.core.live.begun (length self.old.core.records) false (newest_tables self.old.core)) }
         ensures whose { IfOk result (λ txn. (txn.ticket.id ≡ id) × (txn.ticket.epoch ≡ epoch)) }
         ensures token { IfOk result (λ txn. slice_get self.old.tokens txn.inner.snapshot ≡ Some txn.ticket.token) }
         ensures item { IfOk result (λ txn. txn.ticket.token.value.number ≡ txn.inner.snapshot) }
-        ensures empty { IfOk result (IsFresh (N.shelf id) id epoch) }
+        ensures empty { IfOk result (IsFresh (N.shelf id) id epoch false) }
         ensures fresh { IfOk result (λ txn. session.old.seen ≤ txn.inner.snapshot) }
         ensures after { IfOk result (λ _. self.new ≡ after_begin self.old) }
         ensures seen { IfOk result (λ txn. session.new ≡ record session.old { seen = txn.inner.snapshot }) }
         ensures unbegun { IfErr result (IsUnbegun (knows self.old session.old id epoch)) }
         ensures same { IfErr result (λ _. (self.new ≡ self.old) × (session.new ≡ session.old)) }
     {
-        if !self.knows(session, id, epoch) {
-            return Err(Refusal::Stranger);
-        }
-        let token = self.newest_token();
-        let inner = self.core.begin()?;
-        session.note_seen(inner.snapshot());
-        Ok(Txn::new(inner, Ticket::new(id, epoch, token)))
+        self.begin_as(id, epoch, session, false)
+    }
+
+    /// A transaction that is read only begins on the newest tables.
+    ///
+    /// # Errors
+    ///
+    /// Those of [`Book::begin`].
+    pub fn begin_read_only(
+        &mut self,
+        id: u64,
+        epoch: u64,
+        session: &mut Session<N>,
+    ) -> Result<Txn<N>, Refusal>
+        ensures known { IfOk result (λ _. knows self.old session.old id epoch ≡ true) }
+        ensures begun { IfOk result (λ txn.
+            txn.inner
+            ≡ begun self.old.core.live.begun (length self.old.core.records) true (newest_tables self.old.core)) }
+        ensures whose { IfOk result (λ txn. (txn.ticket.id ≡ id) × (txn.ticket.epoch ≡ epoch)) }
+        ensures token { IfOk result (λ txn. slice_get self.old.tokens txn.inner.snapshot ≡ Some txn.ticket.token) }
+        ensures item { IfOk result (λ txn. txn.ticket.token.value.number ≡ txn.inner.snapshot) }
+        ensures empty { IfOk result (IsFresh (N.shelf id) id epoch true) }
+        ensures fresh { IfOk result (λ txn. session.old.seen ≤ txn.inner.snapshot) }
+        ensures after { IfOk result (λ _. self.new ≡ after_begin self.old) }
+        ensures seen { IfOk result (λ txn. session.new ≡ record session.old { seen = txn.inner.snapshot }) }
+        ensures unbegun { IfErr result (IsUnbegun (knows self.old session.old id epoch)) }
+        ensures same { IfErr result (λ _. (self.new ≡ self.old) × (session.new ≡ session.old)) }
+    {
+        self.begin_as(id, epoch, session, true)
     }
 
     /// COMMIT of a transaction of the session. It is the next commit, with a record on the shelf, or is answered as
@@ -211,14 +234,15 @@ impl<N: Named> Book<N> {
         ensures shown { IfErr result (λ fault. AreShownBy id epoch fault.shown) }
         ensures same { IfErr result (λ _. session.new ≡ session.old) }
     {
-        let number = closed.inner.ticket();
-        let snapshot = closed.inner.snapshot();
-        if !self.knows(session, id, epoch)
-            || !self.owns(&closed.ticket, number, snapshot, id, epoch)
-        {
+        let one = LiveSnapshot {
+            ticket: closed.inner.ticket(),
+            snapshot: closed.inner.snapshot(),
+            read_only: closed.inner.is_read_only(),
+        };
+        if !self.knows(session, id, epoch) || !self.owns(&closed.ticket, one, id, epoch) {
             return Err(give_back(Refusal::Stranger, closed.reopen()));
         }
-        self.settle(shelf, &closed.ticket, number, snapshot, id, epoch);
+        self.settle(shelf, &closed.ticket, one, id, epoch);
         self.commit_own(rt, shelf, id, epoch, session, closed)
     }
 
@@ -242,12 +266,15 @@ impl<N: Named> Book<N> {
         ensures back { IfErr result (λ fault. fault.1 ≡ txn) }
         ensures same { IfErr result (λ _. self.new ≡ self.old) }
     {
-        let number = txn.inner.ticket();
-        let snapshot = txn.inner.snapshot();
-        if !self.owns(&txn.ticket, number, snapshot, id, epoch) {
+        let one = LiveSnapshot {
+            ticket: txn.inner.ticket(),
+            snapshot: txn.inner.snapshot(),
+            read_only: txn.inner.is_read_only(),
+        };
+        if !self.owns(&txn.ticket, one, id, epoch) {
             return Err((Refusal::Stranger, txn));
         }
-        self.settle(shelf, &txn.ticket, number, snapshot, id, epoch);
+        self.settle(shelf, &txn.ticket, one, id, epoch);
         let Txn { inner, ticket: _ } = txn;
         self.core.end(inner);
         Ok(())
@@ -303,6 +330,42 @@ impl<N: Named> Book<N> {
 }
 
 impl<N: Named> Book<N> {
+    /// A transaction, read only or not, begins on the newest tables.
+    #[tactic(auto, using(crate::proofs::Tokens::begun_fresh))]
+    fn begin_as(
+        &mut self,
+        id: u64,
+        epoch: u64,
+        session: &mut Session<N>,
+        read_only: bool,
+    ) -> Result<Txn<N>, Refusal>
+        ensures known { IfOk result (λ _. knows self.old session.old id epoch ≡ true) }
+        ensures begun { IfOk result (λ txn.
+            txn.inner
+            ≡ begun self.old.core.live.begun (length self.old.core.records) read_only (newest_tables self.old.core)) }
+        ensures whose { IfOk result (λ txn. (txn.ticket.id ≡ id) × (txn.ticket.epoch ≡ epoch)) }
+        ensures token { IfOk result (λ txn. slice_get self.old.tokens txn.inner.snapshot ≡ Some txn.ticket.token) }
+        ensures item { IfOk result (λ txn. txn.ticket.token.value.number ≡ txn.inner.snapshot) }
+        ensures empty { IfOk result (IsFresh (N.shelf id) id epoch read_only) }
+        ensures fresh { IfOk result (λ txn. session.old.seen ≤ txn.inner.snapshot) }
+        ensures after { IfOk result (λ _. self.new ≡ after_begin self.old) }
+        ensures seen { IfOk result (λ txn. session.new ≡ record session.old { seen = txn.inner.snapshot }) }
+        ensures unbegun { IfErr result (IsUnbegun (knows self.old session.old id epoch)) }
+        ensures same { IfErr result (λ _. (self.new ≡ self.old) × (session.new ≡ session.old)) }
+    {
+        if !self.knows(session, id, epoch) {
+            return Err(Refusal::Stranger);
+        }
+        let token = self.newest_token();
+        let inner = if read_only {
+            self.core.begin_read_only()?
+        } else {
+            self.core.begin()?
+        };
+        session.note_seen(inner.snapshot());
+        Ok(Txn::new(inner, Ticket::new(id, epoch, token)))
+    }
+
     /// The Book, and what was handed out by this id and epoch, are of the manager that asks.
     #[tactic(auto, using(crate::proofs::Known::of_facts))]
     fn is_of(&self, own_id: u64, own_epoch: u64, id: u64, epoch: u64) -> bool
@@ -326,15 +389,15 @@ impl<N: Named> Book<N> {
     /// The ticket is of the manager that asks, the transaction has not ended, and its token is the one that the Book
     /// has for its snapshot.
     #[tactic(auto, using(crate::proofs::Known::owned_facts))]
-    fn owns(&self, ticket: &Ticket<N>, number: u64, snapshot: u64, id: u64, epoch: u64) -> bool
-        ensures test { result ≡ owns self.now ticket.now number snapshot id epoch }
-        ensures facts { result ≡ true → IsOwned self.now ticket.now number snapshot id epoch }
+    fn owns(&self, ticket: &Ticket<N>, one: LiveSnapshot, id: u64, epoch: u64) -> bool
+        ensures test { result ≡ owns self.now ticket.now one id epoch }
+        ensures facts { result ≡ true → IsOwned self.now ticket.now one id epoch }
     {
         self.is_of(ticket.id, ticket.epoch, id, epoch)
-            && (self.core.holds(number, snapshot)
+            && (self.core.holds(one.ticket, one.snapshot, one.read_only)
                 && is_at(
                     self.tokens.as_slice(),
-                    snapshot as usize,
+                    one.snapshot as usize,
                     ticket.token.index(),
                 ))
     }
@@ -462,27 +525,26 @@ impl<N: Named> Book<N> {
         &self,
         shelf: &Shelf,
         ticket: &Ticket<N>,
-        number: u64,
-        snapshot: u64,
+        one: LiveSnapshot,
         id: u64,
         epoch: u64,
     )
         requires shelf { shelf.now ≡ N.shelf id }
-        requires owned { IsOwned self.now ticket.now number snapshot id epoch }
+        requires owned { IsOwned self.now ticket.now one id epoch }
         ensures id { self.now.id ≡ id }
         ensures epoch { self.now.epoch ≡ epoch }
         ensures idle { self.now.core.prepared ≡ None }
-        ensures held { Contains self.now.core.live.snapshots (record { ticket = number; snapshot = snapshot }) }
-        ensures within { snapshot ≤ length self.now.core.records }
+        ensures held { Contains self.now.core.live.snapshots one }
+        ensures within { one.snapshot ≤ length self.now.core.records }
         ensures view { ticket.now.token.value.view
             ≡ record {
               declared = self.now.core.declared;
-              state = state_of self.now.core.declared self.now.core.start (log_of self.now.core) snapshot;
+              state = state_of self.now.core.declared self.now.core.start (log_of self.now.core) one.snapshot;
             } }
     {
         // (what holds of every book is known where a field of it is read)
         let _ = &self.core;
-        let mine = self.token_of(snapshot);
+        let mine = self.token_of(one.snapshot);
         shelf.recall_agreement(&mine, &ticket.token);
     }
 

@@ -184,6 +184,7 @@ fn record_of(alloc: Global, prepared: &Prepared, number: u64) -> Result<Record, 
     Ok(Record {
         number,
         snapshot: closed.snapshot(),
+        read_only: closed.is_read_only(),
         session,
         trace,
         reads,

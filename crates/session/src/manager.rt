@@ -102,11 +102,28 @@ impl<N: Named> Manager<N> {
         ensures fresh { IfOk result (λ txn. session.old.seen ≤ txn.inner.snapshot) }
         ensures seen { IfOk result (λ txn. session.new ≡ record session.old { seen = txn.inner.snapshot }) }
         ensures view { IfOk result (λ txn. (txn.ticket.token.value.number ≡ txn.inner.snapshot) × IsTicketed txn) }
-        ensures empty { IfOk result (IsFresh (N.shelf self.now.id) self.now.id self.now.epoch) }
+        ensures empty { IfOk result (IsFresh (N.shelf self.now.id) self.now.id self.now.epoch false) }
         ensures refused { IfErr result (λ refusal. refusal ≢ NoMemory → refusal ≡ Stranger) }
         ensures same { OnErr result (session.new ≡ session.old) }
     {
         self.book.lock(rt).begin(self.id, self.epoch, session)
+    }
+
+    /// A transaction that is read only begins, as by [`Manager::begin`]: its INSERT, UPDATE and DELETE are refused
+    /// [`Refusal::ReadOnly`], and fewer commits are refused for it, itself among them.
+    ///
+    /// # Errors
+    ///
+    /// Those of [`Manager::begin`].
+    pub fn begin_read_only<R: Wait>(&self, rt: &R, session: &mut Session<N>) -> Result<Txn<N>, Refusal>
+        ensures fresh { IfOk result (λ txn. session.old.seen ≤ txn.inner.snapshot) }
+        ensures seen { IfOk result (λ txn. session.new ≡ record session.old { seen = txn.inner.snapshot }) }
+        ensures view { IfOk result (λ txn. (txn.ticket.token.value.number ≡ txn.inner.snapshot) × IsTicketed txn) }
+        ensures empty { IfOk result (IsFresh (N.shelf self.now.id) self.now.id self.now.epoch true) }
+        ensures refused { IfErr result (λ refusal. refusal ≢ NoMemory → refusal ≡ Stranger) }
+        ensures same { OnErr result (session.new ≡ session.old) }
+    {
+        self.book.lock(rt).begin_read_only(self.id, self.epoch, session)
     }
 
     /// COMMIT. The check of the transaction's own tables takes no lock.

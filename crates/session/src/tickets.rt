@@ -149,6 +149,13 @@ impl<N: Named> Txn<N> {
         self.inner.snapshot()
     }
 
+    /// Whether it began READ ONLY. It takes no memory.
+    pub fn is_read_only(&self) -> bool
+        ensures { result ≡ self.now.inner.read_only }
+    {
+        self.inner.is_read_only()
+    }
+
     /// The tables as it sees them: those that it began on, with its own changes. It takes no memory.
     pub fn own(&self) -> &View
         ensures { result.now ≡ own_view self.now.inner }
@@ -178,18 +185,22 @@ impl<N: Named> Txn<N> {
     /// after [`Refusal::NoMemory`] nothing has changed.
     pub fn execute(&mut self, statement: &Statement) -> Result<Reply, Refusal>
         ensures replied { IfOk result (λ reply.
-            (step_of self.old.inner (resolved self.old.inner.declared statement.now)).reply ≡ Ok reply) }
+            (step_of self.old.inner
+              (resolved self.old.inner.declared self.old.inner.read_only statement.now)).reply ≡ Ok reply) }
         ensures run { IfOk result (λ _.
             self.new ≡ record self.old {
-              inner = with_statement self.old.inner (resolved self.old.inner.declared statement.now);
+              inner = with_statement self.old.inner
+                (resolved self.old.inner.declared self.old.inner.read_only statement.now);
             }) }
         ensures refused { IfErr result (λ refusal.
             refusal ≢ NoMemory
-            → (step_of self.old.inner (resolved self.old.inner.declared statement.now)).reply ≡ Err refusal) }
+            → (step_of self.old.inner
+              (resolved self.old.inner.declared self.old.inner.read_only statement.now)).reply ≡ Err refusal) }
         ensures noted { IfErr result (λ refusal.
             refusal ≢ NoMemory
             → self.new ≡ record self.old {
-              inner = with_statement self.old.inner (resolved self.old.inner.declared statement.now);
+              inner = with_statement self.old.inner
+                (resolved self.old.inner.declared self.old.inner.read_only statement.now);
             }) }
         ensures same { IfErr result (λ refusal. refusal ≡ NoMemory → self.new ≡ self.old) }
     {
@@ -251,6 +262,13 @@ impl<N: Named> Closed<N> {
         ensures { result ≡ self.now.inner.snapshot }
     {
         self.inner.snapshot()
+    }
+
+    /// Whether it began READ ONLY. It takes no memory.
+    pub fn is_read_only(&self) -> bool
+        ensures { result ≡ self.now.inner.read_only }
+    {
+        self.inner.is_read_only()
     }
 
     /// The net change. It takes no memory.

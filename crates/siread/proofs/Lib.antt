@@ -3,6 +3,7 @@ pub mod Members
 pub mod Entries
 pub mod Lookups
 pub mod Steps
+pub mod Lasts
 pub mod Greatest
 pub mod Counts
 pub mod Ascending

@@ -13,7 +13,6 @@ use Rattle.siread.specs.declared.keys.Family.TheVariants.{Rows, Column, Table}
 use Rattle.siread.specs.declared.keys.LockKey.{LockKey}
 use Rattle.siread.specs.declared.keys.LockKey.TheVariants.{Row as OneRow, Column as InColumn, Table as WholeTable}
 use Rattle.siread.specs.Keys.{place_of, same_value}
-use Rattle.siread.specs.Readers.{last_of}
 
 -- the family of a key, and its value there
 abbrev pub family_of : LockKey → Family
@@ -60,23 +59,25 @@ abbrev pub is_no_entry : ValueReaders → Bool
 is_no_entry [] = true
 is_no_entry (e ∷ family) = false
 
--- the last reader of the key of a family that a row at a place is under, 0 where the family is of another table
-abbrev pub last_under : Family → ValueReaders → Place → RowValues → ℕ
-last_under (Rows table) readers place row =
-    if table == place.table then last_of (readers_of readers place.key) else 0
-last_under (Column table column) readers place row =
-    if table == place.table then last_of (readers_of readers (value_in column row)) else 0
-last_under (Table table) readers place row = if table == place.table then last_of (readers_of readers Null) else 0
+-- The last reader of the key of a family that a row at a place is under, 0 where the family is of another table. `last`
+-- says which of a key's readers that is.
+abbrev pub last_under : (List ℕ → ℕ) → Family → ValueReaders → Place → RowValues → ℕ
+last_under last (Rows table) readers place row =
+    if table == place.table then last (readers_of readers place.key) else 0
+last_under last (Column table column) readers place row =
+    if table == place.table then last (readers_of readers (value_in column row)) else 0
+last_under last (Table table) readers place row = if table == place.table then last (readers_of readers Null) else 0
 
 -- the same of what stands at a place, which may be no row
-abbrev pub last_over : Family → ValueReaders → Place → Option RowValues → ℕ
-last_over family readers place None = 0
-last_over family readers place (Some row) = last_under family readers place row
+abbrev pub last_over : (List ℕ → ℕ) → Family → ValueReaders → Place → Option RowValues → ℕ
+last_over last family readers place None = 0
+last_over last family readers place (Some row) = last_under last family readers place row
 
 -- the greater of the last readers of those that the old row of a change is under, and the new
-abbrev pub last_in : Change → Family → ValueReaders → ℕ
-last_in change family readers =
-    max (last_over family readers (place_of change) change.old) (last_over family readers (place_of change) change.new)
+abbrev pub last_in : (List ℕ → ℕ) → Change → Family → ValueReaders → ℕ
+last_in last change family readers =
+    max (last_over last family readers (place_of change) change.old)
+    (last_over last family readers (place_of change) change.new)
 
 abbrev pub total : List ℕ → ℕ
 total [] = 0

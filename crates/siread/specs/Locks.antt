@@ -7,7 +7,7 @@ use Rattle.siread.specs.declared.keys.Family.{Family}
 use Rattle.siread.specs.declared.keys.LockKey.{LockKey}
 use Rattle.siread.specs.Keys.{same_key, touches}
 use Rattle.siread.specs.Families.{ValueReaders, family_of, last_in, readers_of, same_family, total, value_of}
-use Rattle.siread.specs.Readers.{IsAscending, left_out}
+use Rattle.siread.specs.Readers.{IsAscending, left_out, reach_of}
 
 -- the families, each once, with the readers of their keys
 abbrev pub Locks : Type 0
@@ -76,13 +76,15 @@ AreAscending reads = (key : LockKey) → IsAscending (reads key)
 abbrev pub touch : List Change → LockKey → Bool
 touch changes key = list_any (λ change. touches change key) changes
 
--- the greatest reader of the keys that some changes touch, or 0 where none has a reader
-pub record IsGreatestReader (reads : Reads) (changes : List Change) (greatest : ℕ) : Type 0 where
-  pub all : (key : LockKey) (reader : ℕ)
-      → touch changes key ≡ true → Contains (reads key) reader → reader ≤ greatest
-  pub found : (greatest ≡ 0) ⊎ ((key : LockKey) × (touch changes key ≡ true) × Contains (reads key) greatest)
+-- the greatest reader of the keys that some changes touch, of those that reach at least so far, or 0
+pub record IsGreatestReader (reads : Reads) (changes : List Change) (least : ℕ) (reaches : List ℕ) (greatest : ℕ)
+    : Type 0 where
+  pub all : (key : LockKey) (reader : ℕ) → touch changes key ≡ true → Contains (reads key) reader
+      → least ≤ reach_of reaches reader → reader ≤ greatest
+  pub found : (greatest ≡ 0) ⊎ ((key : LockKey) × (touch changes key ≡ true) × Contains (reads key) greatest
+      × (least ≤ reach_of reaches greatest))
 
 -- the greatest of the last readers of the keys that a change touches, as the families come
-abbrev pub last_touched : Change → Locks → ℕ
-last_touched change [] = 0
-last_touched change (e ∷ locks) = max (last_in change e.0 e.1) (last_touched change locks)
+abbrev pub last_touched : (List ℕ → ℕ) → Change → Locks → ℕ
+last_touched last change [] = 0
+last_touched last change (e ∷ locks) = max (last_in last change e.0 e.1) (last_touched last change locks)

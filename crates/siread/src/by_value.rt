@@ -2,10 +2,10 @@
 
 ghost use Rattle.std.specs.Prelude.{◌≡◌, [], true, nat_lt, filter, not, IsOkUnless, OnOk, OnErr};
 ghost use Rattle.siread.specs.Families.{above_each, changed_value, is_no_entry, no_readers, readers_of, IsValueCount};
-ghost use Rattle.siread.specs.Readers.{is_none, last_of, left_out, with_last};
+ghost use Rattle.siread.specs.Readers.{is_none, last_reaching, left_out, with_last};
 ghost use Rattle.value.specs.declared.refusals.Refusal.TheVariants.{NoMemory};
 
-use crate::readers::Readers;
+use crate::readers::{Reach, Readers, last_reaching};
 use std::alloc::Global;
 use std::collections::BTreeMap;
 use std::marker::Model;
@@ -45,14 +45,11 @@ impl ByValue {
         }
     }
 
-    /// The last reader of a value, 0 where it has none.
-    pub fn last(&self, value: &Value) -> u64
-        ensures { result ≡ last_of (readers_of self.now value.now) }
+    /// The last reader of a value that reaches so far, 0 where there is none.
+    pub fn last(&self, value: &Value, reach: &Reach) -> u64
+        ensures { result ≡ last_reaching reach.now.least reach.now.reaches.now (readers_of self.now value.now) }
     {
-        match self.readers(value).last() {
-            None => 0,
-            Some(reader) => *reader,
-        }
+        last_reaching(self.readers(value), reach)
     }
 
     /// One reader more of a value, if it isn't the last of them already. NoMemory is the only error, and leaves all as

@@ -11,8 +11,12 @@
 //! BY puts them into one group (ISO/IEC 9075:1992, group by clause).
 //!
 //! A [`LockTable`] keeps for each key the numbers of the commits that read it. It is changed in place, and a look-up
-//! costs no more than the depth of a map. The greatest reader of the keys that changes touch is found by what stands in
-//! the rows, without memory. Readers that no running transaction overlaps are trimmed.
+//! costs no more than the depth of a map. Readers that no running transaction overlaps are trimmed.
+//!
+//! The greatest reader of the keys that changes touch is found by what stands in the rows, without memory. Not every
+//! reader counts: one that is read only may stand earlier than its number, so the caller says how far each *reaches*,
+//! and how far it is to reach at least. Who reads later may reach less far, so the last reader of a key need not be
+//! the one; but none reaches further than its number, and so none below what is asked for counts.
 //!
 //! The definitions are in `specs/Keys`, `specs/Families` and `specs/Locks`.
 #![tactic(auto)]

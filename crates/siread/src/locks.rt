@@ -4,11 +4,12 @@ ghost use Rattle.std.specs.Prelude.{◌≡◌, ◌+◌, ◌∷◌, [], ℕ, not,
 ghost use Rattle.table.specs.Rows.{value_in};
 ghost use Rattle.siread.specs.Families.{above_each, is_no_entry, last_in, last_over, last_under, readers_of, IsFamilyCount};
 ghost use Rattle.siread.specs.Locks.{above, changed_at, no_reads, readers_at, with_reader, without_reader, AreBelow, IsCount, IsGreatestReader, IsPartlyPut, IsUndone};
-ghost use Rattle.siread.specs.Readers.{last_of, left_out, with_last};
+ghost use Rattle.siread.specs.Readers.{last_reaching, left_out, with_last, ReachNoFurther};
 ghost use Rattle.value.specs.declared.refusals.Refusal.TheVariants.{NoMemory};
 
 use crate::by_value::ByValue;
 use crate::keys::{Family, LockKey};
+use crate::readers::Reach;
 use std::alloc::Global;
 use std::collections::BTreeMap;
 use std::marker::Model;
@@ -68,13 +69,17 @@ impl LockTable {
         count
     }
 
-    /// The greatest reader of the keys that some changes touch, or 0 where none has a reader. It takes no memory.
-    pub fn greatest_reader(&self, changes: &[Change]) -> u64
-        ensures { IsGreatestReader (readers_at self.now) changes.now result }
+    /// The greatest reader of the keys that some changes touch, of those that reach at least so far, or 0 where there
+    /// is none. How far a reader reaches stands in `reaches`, from the number 1 on; past its end that is 0. It takes no
+    /// memory.
+    pub fn greatest_reader(&self, changes: &[Change], least: u64, reaches: &[u64]) -> u64
+        requires no_further { ReachNoFurther reaches.now }
+        ensures { IsGreatestReader (readers_at self.now) changes.now least reaches.now result }
     {
+        let reach = Reach { least, reaches };
         let mut greatest = 0;
         for change in changes {
-            greatest = self.greatest_touched(change).max(greatest);
+            greatest = self.greatest_touched(change, &reach).max(greatest);
         }
         greatest
     }
@@ -164,14 +169,16 @@ impl LockTable {
         }
     }
 
-    /// The greatest reader of the keys that a change touches, or 0 where none has a reader. The last reader of a key is
-    /// its greatest.
-    fn greatest_touched(&self, change: &Change) -> u64
-        ensures { IsGreatestReader (readers_at self.now) (change.now ∷ []) result }
+    /// The greatest reader of the keys that a change touches, of those that reach so far, or 0 where there is none. Of
+    /// a key's readers it is the last that does.
+    fn greatest_touched(&self, change: &Change, reach: &Reach) -> u64
+        requires no_further { ReachNoFurther reach.now.reaches.now }
+        ensures { IsGreatestReader (readers_at self.now) (change.now ∷ [])
+            reach.now.least reach.now.reaches.now result }
     {
         let mut greatest = 0;
         for (family, readers) in self.families.iter() {
-            greatest = last_in(family, readers, change).max(greatest);
+            greatest = last_in(family, readers, change, reach).max(greatest);
         }
         greatest
     }
@@ -199,47 +206,59 @@ fn count_of(family: &Family, readers: &ByValue) -> usize
     }
 }
 
-/// The greatest of the last readers of those keys of a family that a change touches, or 0 where none has a reader.
-fn last_in(family: &Family, readers: &ByValue, change: &Change) -> u64
-    ensures { result ≡ last_in change.now family.now readers.now }
+/// The greatest of the last readers that reach so far of those keys of a family that a change touches, or 0 where
+/// there is none.
+fn last_in(family: &Family, readers: &ByValue, change: &Change, reach: &Reach) -> u64
+    ensures { result
+        ≡ last_in (last_reaching reach.now.least reach.now.reaches.now) change.now family.now readers.now }
 {
-    let old = last_over(family, readers, change, &change.old);
-    let new = last_over(family, readers, change, &change.new);
+    let old = last_over(family, readers, change, &change.old, reach);
+    let new = last_over(family, readers, change, &change.new, reach);
     old.max(new)
 }
 
-/// The last reader of the key of a family that a row, if there is one, is under where the change stands.
-fn last_over(family: &Family, readers: &ByValue, change: &Change, row: &Option<Row>) -> u64
+/// The last reader that reaches so far of the key of a family that a row, if there is one, is under where the change
+/// stands.
+fn last_over(
+    family: &Family,
+    readers: &ByValue,
+    change: &Change,
+    row: &Option<Row>,
+    reach: &Reach,
+) -> u64
     ensures { result
-        ≡ last_over family.now readers.now (record { table = change.now.table; key = change.now.key }) row.now }
+        ≡ last_over (last_reaching reach.now.least reach.now.reaches.now) family.now readers.now
+        (record { table = change.now.table; key = change.now.key }) row.now }
 {
     match row {
         None => 0,
-        Some(row) => last_under(family, readers, change, row),
+        Some(row) => last_under(family, readers, change, row, reach),
     }
 }
 
-/// The last reader of the key of a family that a row is under where the change stands.
-fn last_under(family: &Family, readers: &ByValue, change: &Change, row: &Row) -> u64
+/// The last reader that reaches so far of the key of a family that a row is under where the change stands.
+fn last_under(family: &Family, readers: &ByValue, change: &Change, row: &Row, reach: &Reach) -> u64
     ensures { result
-        ≡ last_under family.now readers.now (record { table = change.now.table; key = change.now.key }) row.now }
+        ≡ last_under (last_reaching reach.now.least reach.now.reaches.now) family.now readers.now
+        (record { table = change.now.table; key = change.now.key }) row.now }
 {
     match family {
-        Family::Rows(table) if *table == change.table => readers.last(&change.key),
+        Family::Rows(table) if *table == change.table => readers.last(&change.key, reach),
         Family::Column { table, column } if *table == change.table => {
-            last_with(readers, row, *column)
+            last_with(readers, row, *column, reach)
         }
-        Family::Table(table) if *table == change.table => readers.last(&Value::Null),
+        Family::Table(table) if *table == change.table => readers.last(&Value::Null, reach),
         _ => 0,
     }
 }
 
-/// The last reader of what a row has in a column. Past its last column a row has NULL.
-fn last_with(readers: &ByValue, row: &Row, column: usize) -> u64
-    ensures { result ≡ last_of (readers_of readers.now (value_in column row.now)) }
+/// The last reader that reaches so far of what a row has in a column. Past its last column a row has NULL.
+fn last_with(readers: &ByValue, row: &Row, column: usize, reach: &Reach) -> u64
+    ensures { result
+        ≡ last_reaching reach.now.least reach.now.reaches.now (readers_of readers.now (value_in column row.now)) }
 {
     match row.values().get(column) {
-        Some(value) => readers.last(value),
-        None => readers.last(&Value::Null),
+        Some(value) => readers.last(value, reach),
+        None => readers.last(&Value::Null, reach),
     }
 }

@@ -1,7 +1,7 @@
 //! The readers of one key.
 
-ghost use Rattle.std.specs.Prelude.{◌≡◌, [], ◌∷◌, length, filter, nat_lt, not, IfOk, IsOkUnless, OnOk, OnErr};
-ghost use Rattle.siread.specs.Readers.{ends_in, is_none, left_out, with_last};
+ghost use Rattle.std.specs.Prelude.{◌≡◌, [], ◌∷◌, length, filter, nat_lt, not, slice_index_or, IfOk, IsOkUnless, OnOk, OnErr};
+ghost use Rattle.siread.specs.Readers.{ends_in, is_none, last_reaching, left_out, reach_of, with_last};
 ghost use Rattle.value.specs.declared.refusals.Refusal.TheVariants.{NoMemory};
 
 use std::alloc::Global;
@@ -94,5 +94,50 @@ impl Readers {
         ensures { result.now ≡ self.now }
     {
         self.numbers.as_slice()
+    }
+}
+
+/// Which readers are asked for: those that reach so far.
+#[derive(Clone, Copy)]
+pub struct Reach<'a> {
+    /// How far at least.
+    pub least: u64,
+    /// How far the reader of each number reaches, from the number 1 on.
+    pub reaches: &'a [u64],
+}
+
+/// The last of some readers that reaches so far, 0 where none does. They are gone through from the end, up to the first
+/// that is below the least: those before it reach less far.
+pub fn last_reaching(readers: &[u64], reach: &Reach) -> u64
+    ensures { result ≡ last_reaching reach.now.least reach.now.reaches.now readers.now }
+{
+    for at in (0..readers.len()).rev() {
+        let reader = readers[at];
+        if reader < reach.least {
+            return 0;
+        }
+        if reach.least <= reach_of(reach.reaches, reader) {
+            return reader;
+        }
+    }
+    0
+}
+
+/// How far the reader of a number reaches, 0 where that is not said.
+fn reach_of(reaches: &[u64], number: u64) -> u64
+    ensures { result ≡ reach_of reaches.now number }
+{
+    match number.checked_sub(1) {
+        None => 0,
+        Some(before) => reach_at(reaches, before as usize),
+    }
+}
+
+fn reach_at(reaches: &[u64], at: usize) -> u64
+    ensures { result ≡ slice_index_or reaches.now at 0 }
+{
+    match reaches.get(at) {
+        None => 0,
+        Some(reach) => *reach,
     }
 }

@@ -11,6 +11,19 @@ use statement_syntax::Event;
 use std::alloc::Global;
 use token::Kind;
 
+/// `[READ ONLY]`, behind BEGIN.
+#[tactic(auto, unfolding(statement_syntax::specs::Readers::access))]
+fn parse_access(cursor: &mut Cursor<'_>) -> Result<Event, Stop>
+    ensures { Reads (reader.access cursor.old) result cursor.new }
+{
+    if !cursor.is(Kind::Read) {
+        return Ok(Event::Begin);
+    }
+    cursor.expect(Kind::Read)?;
+    cursor.expect(Kind::Only)?;
+    Ok(Event::BeginReadOnly)
+}
+
 /// `[WORK]`, behind COMMIT.
 fn parse_commit(cursor: &mut Cursor<'_>) -> Result<Event, Stop>
     ensures { Reads (rd.◌<$>◌ (λ _. Event.Commit) (rd.optional k.Work (rd.expect k.Work)) cursor.old) result
@@ -33,7 +46,7 @@ fn parse_rollback(cursor: &mut Cursor<'_>) -> Result<Event, Stop>
     Ok(Event::Rollback)
 }
 
-/// `BEGIN | COMMIT [WORK] | ROLLBACK [WORK] | stmt`
+/// `BEGIN [READ ONLY] | COMMIT [WORK] | ROLLBACK [WORK] | stmt`
 #[tactic(auto, unfolding(statement_syntax::specs::Readers::one_event))]
 pub fn parse_event(alloc: Global, cursor: &mut Cursor<'_>, depth: usize) -> Result<Event, Stop>
     ensures { Reads (reader.one_event depth cursor.old) result cursor.new }
@@ -41,7 +54,7 @@ pub fn parse_event(alloc: Global, cursor: &mut Cursor<'_>, depth: usize) -> Resu
     match cursor.peek() {
         Kind::Begin => {
             cursor.take(Kind::Begin);
-            Ok(Event::Begin)
+            parse_access(cursor)
         }
         Kind::Commit => {
             cursor.take(Kind::Commit);

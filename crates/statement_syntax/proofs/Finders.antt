@@ -169,15 +169,19 @@ module _ (n l : ℕ) where
   work_f : Finds rank 0 (lang.optional (lang.token k.Work)) (rd.optional k.Work (rd.expect k.Work))
   work_f = optional_f 0 k.Work (omega arith) (opens_kind (λ next. next ≡ k.Work) k.Work refl) (finds_expect rank 0 k.Work)
 
+  access_f : Finds rank 0 st.access r.access
+  unfolding st.access r.access
+  access_f = map_f 0 st.begin_of (optional_f 0 k.Read (omega arith) (opens_token (λ next. next ≡ k.Read) k.Read refl) (seq_f 0 k.Read (finds_expect rank 0 k.Only)))
+
   pub event_f : Finds rank 0 (st.one_event (g.nested l)) (r.one_event n)
   unfolding st.one_event r.one_event
   event_f = record { finds = go }
     where
       go : (w rest : Lexemes) (x : Event)
-          → lang.◌∪◌ (lang.◌∪◌ (lang.◌∪◌ (lang.◌>>◌ (lang.token k.Begin) (lang.pure event.Begin)) (lang.◌>>◌ (lang.token k.Commit) (lang.◌<$>◌ (λ _. event.Commit) (lang.optional (lang.token k.Work)))))
+          → lang.◌∪◌ (lang.◌∪◌ (lang.◌∪◌ (lang.◌>>◌ (lang.token k.Begin) st.access) (lang.◌>>◌ (lang.token k.Commit) (lang.◌<$>◌ (λ _. event.Commit) (lang.optional (lang.token k.Work)))))
           (lang.◌>>◌ (lang.token k.Rollback) (lang.◌<$>◌ (λ _. event.Rollback) (lang.optional (lang.token k.Work))))) (lang.◌<$>◌ event.Run (st.statement (g.nested l))) w x
           → rank (kind_at rest) ≤ 0 → Accepts (by_kind (r.event_by n) (w ++ rest)) x rest
-      go w rest x (inl (inl (inl h))) small = pick (r.event_by n) k.Begin 0 refl (seq_f 0 k.Begin (finds_pure rank 0 event.Begin)) w rest x h small
+      go w rest x (inl (inl (inl h))) small = pick (r.event_by n) k.Begin 0 refl (seq_f 0 k.Begin access_f) w rest x h small
       go w rest x (inl (inl (inr h))) small = pick (r.event_by n) k.Commit 0 refl (seq_f 0 k.Commit (map_f 0 (λ _. event.Commit) work_f)) w rest x h small
       go w rest x (inl (inr h)) small = pick (r.event_by n) k.Rollback 0 refl (seq_f 0 k.Rollback (map_f 0 (λ _. event.Rollback) work_f)) w rest x h small
       go w rest x (inr h) small =

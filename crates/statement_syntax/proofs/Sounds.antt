@@ -96,6 +96,10 @@ verdict_s : (n : ℕ) → Sound n n st.verdict r.verdict
 unfolding st.verdict r.verdict
 verdict_s n = seq_s k.Verdict refl (map_s s.Verdict (name_s n))
 
+access_s : (n : ℕ) → Sound n n st.access r.access
+unfolding st.access r.access
+access_s n = map_s st.begin_of (optional_s k.Read (seq_s k.Read refl (tok_s k.Only refl)))
+
 module _ (n l : ℕ) (below : n + 1 < l) where
   where_s : Sound n n (st.where_clause (g.nested l)) (r.where_clause n)
   unfolding st.where_clause r.where_clause
@@ -150,7 +154,7 @@ module _ (n l : ℕ) (below : n + 1 < l) where
 
   event_by_s : (kind : Kind) → Sound n n (st.one_event (g.nested l)) (r.event_by n kind)
   unfolding st.one_event
-  event_by_s k.Begin = weak (λ w a h. inl (inl (inl h))) (seq_s k.Begin refl (sound_pure n event.Begin))
+  event_by_s k.Begin = weak (λ w a h. inl (inl (inl h))) (seq_s k.Begin refl (access_s n))
   event_by_s k.Commit = weak (λ w a h. inl (inl (inr h))) (seq_s k.Commit refl (map_s (λ _. event.Commit) (optional_s k.Work (tok_s k.Work refl))))
   event_by_s k.Rollback = weak (λ w a h. inl (inr h)) (seq_s k.Rollback refl (map_s (λ _. event.Rollback) (optional_s k.Work (tok_s k.Work refl))))
   event_by_s _ = run_s

@@ -1,5 +1,5 @@
 -- The grammar of statements and events: which texts of tokens have which trees.
-use Rattle.std.specs.Prelude.{ℕ, Bool, true, false, List, Option}
+use Rattle.std.specs.Prelude.{ℕ, Bool, true, false, List, Option, Some, None}
 use Rattle.token.specs.declared.kinds.Kind.TheVariants as k
 use Rattle.syntax.specs.declared.trees.Condition.{Condition}
 use Rattle.value.specs.declared.values.Value.{Value}
@@ -69,6 +69,14 @@ verdict = token k.Verdict >> (s.Verdict <$> name)
 abbrev pub assignment_of : List ℕ → Assigned → Assignment
 assignment_of column value = record { column = column; value = value }
 
+-- [READ ONLY], behind BEGIN
+abbrev pub begin_of : Option Lexeme → Event
+begin_of None = event.Begin
+begin_of (Some only) = event.BeginReadOnly
+
+unfoldable pub access : Language Event
+access = begin_of <$> optional (token k.Read >> token k.Only)
+
 module _ (inner : Language Found) where
   -- [WHERE cond]
   unfoldable pub where_clause : Language (Option Condition)
@@ -101,10 +109,10 @@ module _ (inner : Language Found) where
   unfoldable pub statement : Language Statement
   statement = (s.Insert <$> insert) ∪ update ∪ delete ∪ select ∪ set_constraints ∪ verdict
 
-  -- BEGIN | COMMIT [WORK] | ROLLBACK [WORK] | stmt
+  -- BEGIN [READ ONLY] | COMMIT [WORK] | ROLLBACK [WORK] | stmt
   unfoldable pub one_event : Language Event
   one_event =
-      (token k.Begin >> pure event.Begin)
+      (token k.Begin >> access)
       ∪ (token k.Commit >> ((λ _. event.Commit) <$> optional (token k.Work)))
       ∪ (token k.Rollback >> ((λ _. event.Rollback) <$> optional (token k.Work)))
       ∪ (event.Run <$> statement)

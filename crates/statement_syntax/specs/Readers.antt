@@ -18,7 +18,7 @@ use Rattle.statement_syntax.specs.declared.statements.Statement.TheVariants as s
 use Rattle.statement_syntax.specs.declared.statements.Event.{Event}
 use Rattle.statement_syntax.specs.declared.statements.Event.TheVariants as event
 use Rattle.syntax.specs.Readers.{name, cond_at, expr_at}
-use Rattle.statement_syntax.specs.Grammar.{number_of, text_of, insert_of, assignment_of}
+use Rattle.statement_syntax.specs.Grammar.{number_of, text_of, insert_of, assignment_of, begin_of}
 use Rattle.reading.specs.Reading.{Reader, ◌>>=◌, ◌>>◌, ◌<$>◌, pure, refuse, by_kind, expect, optional, list, parens}
 
 abbrev pub constant_by : Kind → Reader Value
@@ -60,6 +60,10 @@ set_constraints =
 
 unfoldable pub verdict : Reader Statement
 verdict = expect k.Verdict >> (s.Verdict <$> name)
+
+-- [READ ONLY], behind BEGIN
+unfoldable pub access : Reader Event
+access = begin_of <$> optional k.Read (expect k.Read >> expect k.Only)
 
 -- how many parentheses may be opened
 module _ (n : ℕ) where
@@ -110,7 +114,7 @@ module _ (n : ℕ) where
   statement = by_kind statement_by
 
   abbrev pub event_by : Kind → Reader Event
-  event_by k.Begin = expect k.Begin >> pure event.Begin
+  event_by k.Begin = expect k.Begin >> access
   event_by k.Commit = expect k.Commit >> ((λ _. event.Commit) <$> optional k.Work (expect k.Work))
   event_by k.Rollback = expect k.Rollback >> ((λ _. event.Rollback) <$> optional k.Work (expect k.Work))
   event_by _ = event.Run <$> statement

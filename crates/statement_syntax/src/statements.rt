@@ -70,6 +70,8 @@ pub enum Statement {
 #[derive(Drop)]
 pub enum Event {
     Begin,
+    /// BEGIN READ ONLY: of a transaction in which INSERT, UPDATE and DELETE are refused.
+    BeginReadOnly,
     Commit,
     Rollback,
     Run(Statement),

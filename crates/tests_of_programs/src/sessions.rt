@@ -93,8 +93,26 @@ fn prints_commits(
     commits: &str,
     want: &str,
 ) -> Result<(), Fail> {
+    prints_commits_of(rt, "X: BEGIN;", commits, want)
+}
+
+/// The same with a reader that is read only.
+fn prints_with_reader(
+    rt: &(impl Abort + Alloc<A = Global>),
+    commits: &str,
+    want: &str,
+) -> Result<(), Fail> {
+    prints_commits_of(rt, "X: BEGIN READ ONLY;", commits, want)
+}
+
+fn prints_commits_of(
+    rt: &(impl Abort + Alloc<A = Global>),
+    begin: &str,
+    commits: &str,
+    want: &str,
+) -> Result<(), Fail> {
     let more = format!(in rt.alloc(); "{COVER}{SEVEN}{KIM}")?;
-    let script = format!(in rt.alloc(); "{READ_AND_WRITE}{commits}")?;
+    let script = format!(in rt.alloc(); "{begin}{READ_AND_WRITE}{commits}")?;
     let replies = format!(in rt.alloc();
         "X: BEGIN 0\nP: BEGIN 0\nY: BEGIN 0\nX: SELECT 1\n  1\nP: SELECT 1\n  100\nP: UPDATE 1\nY: UPDATE 1\n{want}"
     )?;
@@ -147,6 +165,77 @@ fn late_reader(rt: HostRuntime) -> Result<(), Fail> {
          X: SELECT 1\n  1\nX: COMMIT 2\nP: REFUSED 13 40001 READER 2 PIVOT THIS WRITER 1\n\
          COMMITS 2\n1 Y SNAPSHOT 0 ROWS 1\n2 X SNAPSHOT 1 ROWS 0\nSERIAL 1 2\nREFUSED 1\n\
          P 13 40001 READER 2 PIVOT THIS WRITER 1\nASSERTIONS 1\nCOVER TRUE\n",
+    )
+}
+
+/// It may stand before the pivot, since its snapshot does not hold the writer.
+#[test]
+fn read_only_reader_passes(rt: HostRuntime) -> Result<(), Fail> {
+    prints_with_reader(
+        &rt,
+        "Y: COMMIT; X: COMMIT; P: COMMIT;",
+        "Y: COMMIT 1\nX: COMMIT 2\nP: COMMIT 3\n\
+         COMMITS 3\n1 Y SNAPSHOT 0 ROWS 1\n2 X SNAPSHOT 0 ROWS 0\n3 P SNAPSHOT 0 ROWS 1\nSERIAL 2 3 1\n\
+         REFUSED 0\nASSERTIONS 1\nCOVER TRUE\n",
+    )
+}
+
+#[test]
+fn read_only_before_pivot(rt: HostRuntime) -> Result<(), Fail> {
+    prints_with_reader(
+        &rt,
+        "Y: COMMIT; P: COMMIT; X: COMMIT;",
+        "Y: COMMIT 1\nP: COMMIT 2\nX: COMMIT 3\n\
+         COMMITS 3\n1 Y SNAPSHOT 0 ROWS 1\n2 P SNAPSHOT 0 ROWS 1\n3 X SNAPSHOT 0 ROWS 0\nSERIAL 3 2 1\n\
+         REFUSED 0\nASSERTIONS 1\nCOVER TRUE\n",
+    )
+}
+
+/// Its snapshot holds the writer, and not the pivot.
+#[test]
+fn read_only_reader_refused(rt: HostRuntime) -> Result<(), Fail> {
+    let more = format!(in rt.alloc(); "{COVER}{SEVEN}{KIM}")?;
+    prints_over_tables(
+        &rt,
+        more.as_str(),
+        "P: BEGIN; Y: BEGIN; P: SELECT BAL FROM ACCT WHERE ID = 1; P: UPDATE DUTY SET ONCALL = 0 WHERE ID = 1;
+         Y: UPDATE ACCT SET BAL = 0 WHERE ID = 1; Y: COMMIT; X: BEGIN READ ONLY; P: COMMIT;
+         X: SELECT ONCALL FROM DUTY WHERE ID = 1; X: COMMIT;",
+        "P: BEGIN 0\nY: BEGIN 0\nP: SELECT 1\n  100\nP: UPDATE 1\nY: UPDATE 1\nY: COMMIT 1\nX: BEGIN 1\n\
+         P: COMMIT 2\nX: SELECT 1\n  1\nX: REFUSED 13 40001 READER THIS PIVOT 2 WRITER 1\n\
+         COMMITS 2\n1 Y SNAPSHOT 0 ROWS 1\n2 P SNAPSHOT 0 ROWS 1\nSERIAL 2 1\nREFUSED 1\n\
+         X 13 40001 READER THIS PIVOT 2 WRITER 1\nASSERTIONS 1\nCOVER TRUE\n",
+    )
+}
+
+#[test]
+fn read_only_insert(rt: HostRuntime) -> Result<(), Fail> {
+    prints_over_tables(
+        &rt,
+        "",
+        "A: BEGIN READ ONLY; A: INSERT INTO SHIFTS VALUES (1); A: COMMIT;",
+        "A: BEGIN 0\nA: REFUSED 23 - READ ONLY\nA: COMMIT 1\n\
+         COMMITS 1\n1 A SNAPSHOT 0 ROWS 0\nSERIAL 1\nREFUSED 0\nASSERTIONS 0\n",
+    )
+}
+
+/// What would write is refused before its names are looked up; all else goes on as ever, and a transaction that is
+/// open refuses both ways to begin.
+#[test]
+fn read_only_statements(rt: HostRuntime) -> Result<(), Fail> {
+    let more = format!(in rt.alloc(); "{COVER}{SEVEN}{KIM}")?;
+    prints_over_tables(
+        &rt,
+        more.as_str(),
+        "A: BEGIN READ ONLY; A: BEGIN READ ONLY; A: BEGIN; A: INSERT INTO NOWHERE VALUES (1);
+         A: UPDATE ACCT SET ID = 'KIM'; A: DELETE FROM ACCT WHERE MISSING = 1; A: SELECT MISSING FROM ACCT;
+         A: SELECT BAL FROM ACCT WHERE ID = 2; A: SET CONSTRAINTS ALL DEFERRED; A: VERDICT COVER; A: ROLLBACK;
+         A: BEGIN; A: BEGIN READ ONLY; A: DELETE FROM ACCT WHERE ID = 2; A: COMMIT;",
+        "A: BEGIN 0\nA: REFUSED 15 - TRANSACTION OPEN\nA: REFUSED 15 - TRANSACTION OPEN\n\
+         A: REFUSED 23 - READ ONLY\nA: REFUSED 23 - READ ONLY\nA: REFUSED 23 - READ ONLY\n\
+         A: REFUSED 3 - MISSING\nA: SELECT 1\n  50\nA: SET CONSTRAINTS\nA: VERDICT COVER TRUE\nA: ROLLBACK\n\
+         A: BEGIN 0\nA: REFUSED 15 - TRANSACTION OPEN\nA: DELETE 1\nA: COMMIT 1\n\
+         COMMITS 1\n1 A SNAPSHOT 0 ROWS 1\nSERIAL 1\nREFUSED 0\nASSERTIONS 1\nCOVER TRUE\n",
     )
 }
 

@@ -41,9 +41,8 @@ pub const LEDGER: &str = "A: BEGIN; B: BEGIN;
 /// The sessions of its steps.
 pub const LEDGER_ORDER: [u8; 10] = [0, 1, 0, 0, 1, 1, 0, 0, 1, 1];
 
-/// X reads what P writes, and P reads what Y writes. Their numbers are 0, 1 and 2.
-pub const READ_AND_WRITE: &str =
-    "X: BEGIN; P: BEGIN; Y: BEGIN; X: SELECT ONCALL FROM DUTY WHERE ID = 1;
+/// X, which has begun, reads what P writes, and P reads what Y writes. Their numbers are 0, 1 and 2.
+pub const READ_AND_WRITE: &str = "P: BEGIN; Y: BEGIN; X: SELECT ONCALL FROM DUTY WHERE ID = 1;
     P: SELECT BAL FROM ACCT WHERE ID = 1; P: UPDATE DUTY SET ONCALL = 0 WHERE ID = 1;
     Y: UPDATE ACCT SET BAL = 0 WHERE ID = 1;";
 

@@ -132,7 +132,7 @@ fn prints_commits(
     want: &str,
 ) -> Result<(), Fail> {
     let more = format!(in rt.alloc(); "{COVER}{SEVEN}{KIM}")?;
-    let script = format!(in rt.alloc(); "{READ_AND_WRITE}{commits}")?;
+    let script = format!(in rt.alloc(); "X: BEGIN;{READ_AND_WRITE}{commits}")?;
     prints_in_turn(rt, more.as_str(), script.as_str(), order, want)
 }
 

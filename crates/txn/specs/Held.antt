@@ -1,16 +1,19 @@
 -- What an open transaction holds is what its trace leaves.
-use Rattle.std.specs.Prelude.{◌≡◌, List, Option, length}
+use Rattle.std.specs.Prelude.{◌≡◌, true, List, Option, length}
+use Rattle.std.specs.List.{list_all}
 use Rattle.value.specs.declared.refusals.Refusal.{Refusal}
 use Rattle.table.specs.declared.rows.Change.{Change}
 use Rattle.assertion.specs.Declarations.{layouts_in}
 use Rattle.modes.specs.Modes.{Immediates}
 use Rattle.siread.specs.declared.keys.LockKey.{LockKey}
 use Rattle.siread.specs.declared.keys.Place.{Place}
+use Rattle.alone.specs.Resolve.{is_read_only}
 use Rattle.delta.specs.Views.{Shown}
 use Rattle.net.specs.Nets.{DifferAt}
 use Rattle.txn.specs.Transactions.{OpenTransaction, keys_of, outcome_of, own_view, run_of, standing_of}
 
--- its own view, its modes, the places of the rows that it has changed, and what it has read
+-- its own view, its modes, the places of the rows that it has changed, and what it has read; and a read-only one has
+-- run no statement that changes rows
 pub record IsHeld (t : OpenTransaction) (own : Shown) (modes : Immediates) (touched : List Place)
     (reads : List LockKey) : Type 0 where
   pub own_is : own ≡ own_view t
@@ -18,6 +21,7 @@ pub record IsHeld (t : OpenTransaction) (own : Shown) (modes : Immediates) (touc
   pub long : length modes ≡ length t.declared.assertions
   pub differ : DifferAt (layouts_in t.declared) t.start own.state touched
   pub reads_are : reads ≡ (run_of t).reads
+  pub no_changes : t.read_only ≡ true → list_all is_read_only t.trace ≡ true
 
 -- what a transaction that goes to COMMIT has beside: its net change, the refusal by a false assertion, and what it
 -- has read

@@ -16,6 +16,8 @@ pub record OpenTransaction : Type 0 where
   pub declared : Declared
   pub ticket : ℕ
   pub snapshot : ℕ
+  -- whether it began READ ONLY
+  pub read_only : Bool
   pub start : State
   pub trace : List Resolved
 
@@ -47,13 +49,19 @@ abbrev pub with_statement : OpenTransaction → Resolved → OpenTransaction
 with_statement t statement = record t { trace = t.trace ++ statement ∷ [] }
 
 -- a transaction that began on these tables, and has run these statements
-abbrev pub opened : (ticket snapshot : ℕ) → Shown → List Resolved → OpenTransaction
-opened ticket snapshot shown trace =
-    record { declared = shown.declared; ticket = ticket; snapshot = snapshot; start = shown.state; trace = trace }
+abbrev pub opened : (ticket snapshot : ℕ) → Bool → Shown → List Resolved → OpenTransaction
+opened ticket snapshot read_only shown trace = record {
+  declared = shown.declared;
+  ticket = ticket;
+  snapshot = snapshot;
+  read_only = read_only;
+  start = shown.state;
+  trace = trace;
+}
 
 -- before its first statement
-abbrev pub begun : (ticket snapshot : ℕ) → Shown → OpenTransaction
-begun ticket snapshot shown = opened ticket snapshot shown []
+abbrev pub begun : (ticket snapshot : ℕ) → Bool → Shown → OpenTransaction
+begun ticket snapshot read_only shown = opened ticket snapshot read_only shown []
 
 -- whether an assertion is false on what a view shows
 abbrev pub is_false_on : Shown → Assertion → Bool

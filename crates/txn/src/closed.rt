@@ -1,13 +1,13 @@
 //! Transactions that go to COMMIT.
 
-ghost use Rattle.std.specs.Prelude.{◌≡◌, All};
+ghost use Rattle.std.specs.Prelude.{◌≡◌, true, [], All};
 ghost use Rattle.std.specs.Option.{option_copied};
 ghost use Rattle.assertion.specs.Declarations.{layouts_in};
 ghost use Rattle.delta.specs.Views.{IsFitting};
 ghost use Rattle.txn.specs.Transactions.{keys_of, outcome_of, own_view};
 
 use crate::txns::Txn;
-use alone::Resolved;
+use alone::{Resolved, read_only_statements_change_nothing};
 use delta::View;
 use modes::Modes;
 use net::Touched;
@@ -22,6 +22,7 @@ use value::Refusal;
 pub struct Closed {
     pub(crate) ticket: u64,
     pub(crate) snapshot: u64,
+    pub(crate) read_only: bool,
     pub(crate) start: View,
     pub(crate) own: View,
     pub(crate) modes: Modes,
@@ -55,11 +56,13 @@ impl Model for Closed {
 
     ghost coded = { Prim.hlevel (codes, cond_type.the_row.coded, expr_type.the_row.coded) };
 
-    ghost view = { λ c. opened c.ticket c.snapshot c.start c.trace.items };
+    ghost view = { λ c. opened c.ticket c.snapshot c.read_only c.start c.trace.items };
 
     ghost invariant = { λ c.
-        IsHeld (opened c.ticket c.snapshot c.start c.trace.items) c.own c.modes c.touched (take c.run c.reads.items)
-        × IsClosed (opened c.ticket c.snapshot c.start c.trace.items) c.changes.items c.refused c.reads.items };
+        IsHeld (opened c.ticket c.snapshot c.read_only c.start c.trace.items) c.own c.modes c.touched
+        (take c.run c.reads.items)
+        × IsClosed (opened c.ticket c.snapshot c.read_only c.start c.trace.items) c.changes.items c.refused
+        c.reads.items };
 }
 
 /// Why a transaction could not be closed, and the transaction.
@@ -81,6 +84,22 @@ impl Closed {
         ensures { result ≡ self.now.snapshot }
     {
         self.snapshot
+    }
+
+    /// Whether it is read only. It takes no memory.
+    pub fn is_read_only(&self) -> bool
+        ensures { result ≡ self.now.read_only }
+    {
+        self.read_only
+    }
+
+    /// A read-only transaction has no net change: its invariant, brought to where it is needed.
+    pub fn recall_read_only(&self)
+        ensures { self.now.read_only ≡ true → (outcome_of self.now).changes ≡ [] }
+    {
+        // (what holds of every value of a type is known where a field of it is read)
+        let _ = &self.trace;
+        read_only_statements_change_nothing();
     }
 
     /// The net change: each row in which its own view and the tables of its begin differ, by table and key, with
@@ -129,6 +148,7 @@ impl Closed {
         let Closed {
             ticket,
             snapshot,
+            read_only,
             start,
             own,
             modes,
@@ -143,6 +163,7 @@ impl Closed {
         Txn {
             ticket,
             snapshot,
+            read_only,
             start,
             own,
             modes,
@@ -161,6 +182,7 @@ impl Closed {
         let Closed {
             ticket: _,
             snapshot: _,
+            read_only: _,
             start: _,
             own: _,
             modes: _,

@@ -15,15 +15,24 @@ use std::alloc::Global;
 use value::Refusal;
 
 /// A statement with its names found among the tables and assertions of a view; one that has a fault of names,
-/// shape, types or width, or that sets a mode that may not be set, is that refusal. NoMemory is the only error.
-pub fn resolve(alloc: Global, view: &View, statement: &Statement) -> Result<Resolved, Refusal>
+/// shape, types or width, or that sets a mode that may not be set, is that refusal, and so is one that its read-only
+/// transaction may not run, of which no name is looked up. NoMemory is the only error.
+pub fn resolve(
+    alloc: Global,
+    view: &View,
+    read_only: bool,
+    statement: &Statement,
+) -> Result<Resolved, Refusal>
     ensures only_memory { IsOkUnless result NoMemory }
-    ensures resolved { IfOk result (λ made. made ≡ resolved view.now.declared statement.now) }
+    ensures resolved { IfOk result (λ made. made ≡ resolved view.now.declared read_only statement.now) }
     ensures runnable { IfOk result (λ made. IsRunnable view.now.declared made) }
 {
     updates_leave_the_key();
     let catalog = view.catalog();
     match statement {
+        Statement::Insert(_) | Statement::Update { .. } | Statement::Delete { .. } if read_only => {
+            Ok(Resolved::Refused(Refusal::ReadOnlyTransaction))
+        }
         Statement::Insert(insert) => match check_insert(alloc, catalog, insert) {
             Ok(new) => Ok(Resolved::Insert(new)),
             Err(refusal) => resolve_refused(refusal),

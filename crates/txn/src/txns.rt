@@ -1,20 +1,20 @@
 //! Open transactions.
 
-ghost use Rattle.std.specs.Prelude.{◌≡◌, ◌≢◌, ◌<◌, ◌++◌, map, unwrap_or, vec_capacity, vec_len, Contains, IfOk, IfErr, IsOkUnless, OnErr, OnOk, Ok, Err};
+ghost use Rattle.std.specs.Prelude.{◌≡◌, ◌≢◌, ◌<◌, ◌++◌, true, [], map, unwrap_or, vec_capacity, vec_len, Contains, IfOk, IfErr, IsOkUnless, OnErr, OnOk, Ok, Err};
 ghost use Rattle.value.specs.declared.refusals.Refusal.TheVariants.{NoMemory};
 ghost use Rattle.siread.specs.declared.keys.Place.{Place as AnyPlace};
 ghost use Rattle.siread.specs.Keys.{place_of};
 ghost use Rattle.modes.specs.Modes.{assertion_of};
-ghost use Rattle.alone.specs.Resolve.{resolved};
+ghost use Rattle.alone.specs.Resolve.{is_read_only, resolved};
 ghost use Rattle.txn.specs.Held.{IsClosed};
 ghost use Rattle.txn.specs.Runnable.{IsRunnable};
-ghost use Rattle.txn.specs.Transactions.{begun, false_names, own_view, run_of, step_of, truth_of, with_statement};
+ghost use Rattle.txn.specs.Transactions.{begun, false_names, outcome_of, own_view, run_of, step_of, truth_of, with_statement};
 
 use crate::checks::{find_violation, list_false, verdict_on};
 use crate::closed::{Closed, Unclosed};
 use crate::resolutions::resolve;
 use crate::steps::{Done, append, step};
-use alone::{Resolved, runs_are_joined};
+use alone::{Resolved, read_only_statements_change_nothing, runs_are_joined};
 use answer::Reply;
 use delta::View;
 use modes::Modes;
@@ -33,6 +33,7 @@ use value::{Refusal, Text};
 pub struct Txn {
     pub(crate) ticket: u64,
     pub(crate) snapshot: u64,
+    pub(crate) read_only: bool,
     pub(crate) start: View,
     pub(crate) own: View,
     pub(crate) modes: Modes,
@@ -60,22 +61,29 @@ impl Model for Txn {
 
     ghost coded = { Prim.hlevel (codes, cond_type.the_row.coded, expr_type.the_row.coded) };
 
-    ghost view = { λ t. opened t.ticket t.snapshot t.start t.trace.items };
+    ghost view = { λ t. opened t.ticket t.snapshot t.read_only t.start t.trace.items };
 
-    ghost invariant = { λ t. IsHeld (opened t.ticket t.snapshot t.start t.trace.items) t.own t.modes t.touched
-        t.reads.items };
+    ghost invariant = { λ t. IsHeld (opened t.ticket t.snapshot t.read_only t.start t.trace.items) t.own t.modes
+        t.touched t.reads.items };
 }
 
 impl Txn {
     /// A transaction that begins on these tables, which so many commits left. The ticket is its name with the
-    /// caller. NoMemory is the only error.
-    pub fn begin(alloc: Global, ticket: u64, snapshot: u64, tables: &View) -> Result<Txn, Refusal>
+    /// caller; one that is read only runs no INSERT, UPDATE or DELETE. NoMemory is the only error.
+    pub fn begin(
+        alloc: Global,
+        ticket: u64,
+        snapshot: u64,
+        read_only: bool,
+        tables: &View,
+    ) -> Result<Txn, Refusal>
         ensures only_memory { IsOkUnless result NoMemory }
-        ensures begun { IfOk result (λ txn. txn ≡ begun ticket snapshot tables.now) }
+        ensures begun { IfOk result (λ txn. txn ≡ begun ticket snapshot read_only tables.now) }
     {
         Ok(Txn {
             ticket,
             snapshot,
+            read_only,
             start: tables.copy()?,
             own: tables.copy()?,
             modes: Modes::initial(alloc, tables.assertions())?,
@@ -97,6 +105,22 @@ impl Txn {
         ensures { result ≡ self.now.snapshot }
     {
         self.snapshot
+    }
+
+    /// Whether it is read only. It takes no memory.
+    pub fn is_read_only(&self) -> bool
+        ensures { result ≡ self.now.read_only }
+    {
+        self.read_only
+    }
+
+    /// A read-only transaction has no net change: its invariant, brought to where it is needed.
+    pub fn recall_read_only(&self)
+        ensures { self.now.read_only ≡ true → (outcome_of self.now).changes ≡ [] }
+    {
+        // (what holds of every value of a type is known where a field of it is read)
+        let _ = &self.trace;
+        read_only_statements_change_nothing();
     }
 
     /// The tables as it sees them: those that it began on, with its own changes. It takes no memory.
@@ -126,30 +150,34 @@ impl Txn {
     ///
     /// # Errors
     ///
-    /// The statement's first fault, in the order of names, shape, types and width; then INSERT and UPDATE
-    /// [`Refusal::NullNotAllowed`] and [`Refusal::OutOfRange`], INSERT last [`Refusal::DuplicateKey`]; then
-    /// [`Refusal::Violated`] by the first immediate assertion that would be false, and for SET CONSTRAINTS ..
-    /// IMMEDIATE by the first of those named; [`Refusal::NotDeferrable`] for a mode that may not be set. Such a
-    /// statement stands in the trace. Or
+    /// In a read-only transaction [`Refusal::ReadOnlyTransaction`] for INSERT, UPDATE and DELETE. Then the statement's
+    /// first fault, in the order of names, shape, types and width; then INSERT and UPDATE [`Refusal::NullNotAllowed`]
+    /// and [`Refusal::OutOfRange`], INSERT last [`Refusal::DuplicateKey`]; then [`Refusal::Violated`] by the first
+    /// immediate assertion that would be false, and for SET CONSTRAINTS .. IMMEDIATE by the first of those named;
+    /// [`Refusal::NotDeferrable`] for a mode that may not be set. Such a statement stands in the trace. Or
     /// [`Refusal::NoMemory`]: then nothing has changed, and the statement is in no trace.
     pub fn execute(&mut self, statement: &Statement) -> Result<Reply, Refusal>
         ensures replied { IfOk result (λ reply.
-            (step_of self.old (resolved self.old.declared statement.now)).reply ≡ Ok reply) }
-        ensures run { IfOk result (λ _. self.new ≡ with_statement self.old (resolved self.old.declared statement.now)) }
+            (step_of self.old (resolved self.old.declared self.old.read_only statement.now)).reply ≡ Ok reply) }
+        ensures run { IfOk result (λ _.
+            self.new ≡ with_statement self.old (resolved self.old.declared self.old.read_only statement.now)) }
         ensures refused { IfErr result (λ refusal.
-            refusal ≢ NoMemory → (step_of self.old (resolved self.old.declared statement.now)).reply ≡ Err refusal) }
+            refusal ≢ NoMemory
+            → (step_of self.old (resolved self.old.declared self.old.read_only statement.now)).reply ≡ Err refusal) }
         ensures noted { IfErr result (λ refusal.
-            refusal ≢ NoMemory → self.new ≡ with_statement self.old (resolved self.old.declared statement.now)) }
+            refusal ≢ NoMemory
+            → self.new ≡ with_statement self.old (resolved self.old.declared self.old.read_only statement.now)) }
         ensures same { IfErr result (λ refusal. refusal ≡ NoMemory → self.new ≡ self.old) }
     {
         let alloc = *self.trace.allocator();
-        let statement = resolve(alloc, &self.start, statement)?;
+        let statement = resolve(alloc, &self.start, self.read_only, statement)?;
         self.run(alloc, statement)
     }
 
     /// Runs a statement with its names found.
     fn run(&mut self, alloc: Global, statement: Resolved) -> Result<Reply, Refusal>
         requires runnable { IsRunnable self.old.declared statement }
+        requires may_run { self.old.read_only ≡ true → is_read_only statement ≡ true }
         ensures replied { IfOk result (λ reply. (step_of self.old statement).reply ≡ Ok reply) }
         ensures run { IfOk result (λ _. self.new ≡ with_statement self.old statement) }
         ensures refused { IfErr result (λ refusal.
@@ -233,6 +261,7 @@ impl Txn {
         let Txn {
             ticket,
             snapshot,
+            read_only,
             start,
             own,
             modes,
@@ -250,6 +279,7 @@ impl Txn {
             Ok(()) => Ok(Closed {
                 ticket,
                 snapshot,
+                read_only,
                 start,
                 own,
                 modes,
@@ -265,6 +295,7 @@ impl Txn {
                 txn: Txn {
                     ticket,
                     snapshot,
+                    read_only,
                     start,
                     own,
                     modes,
@@ -302,6 +333,7 @@ impl Txn {
         let Txn {
             ticket: _,
             snapshot: _,
+            read_only: _,
             start: _,
             own,
             modes: _,

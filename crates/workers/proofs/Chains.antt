@@ -1,5 +1,5 @@
 -- The answers of a session's steps, one after the other.
-use Rattle.std.proofs.Common.{◌≡◌, ◌<◌, ◌≤◌, ◌+◌, ℕ, List, [], ◌∷◌, ◌++◌, Option, None, drop, get_or, length, refl, sym, subst}
+use Rattle.std.proofs.Common.{◌≡◌, ◌<◌, ◌≤◌, ◌+◌, ℕ, Bool, List, [], ◌∷◌, ◌++◌, Option, None, drop, get_or, length, refl, sym, subst}
 use Rattle.std.proofs.lemmas.List.{append_assoc, append-nil, drop_all}
 use Rattle.value.proofs.Lists.{drop_item}
 use Rattle.statement_syntax.specs.declared.statements.Step.{Step}
@@ -8,24 +8,24 @@ use Rattle.session.specs.Books.{Ticketed}
 use Rattle.workers.specs.Steps.{AreTold, IsTold, seen_after}
 
 -- what the steps that are left are answered goes on behind these answers
-abbrev pub GoesOn : (IsNew : Ticketed → Type 0) → List Step → List Answer → List Step → (seen : ℕ) → Option Ticketed → Type 0
+abbrev pub GoesOn : (IsNew : Bool → Ticketed → Type 0) → List Step → List Answer → List Step → (seen : ℕ) → Option Ticketed → Type 0
 GoesOn IsNew steps answers rest seen txn =
     (more : List Answer) (left : Option Ticketed) → AreTold IsNew rest seen txn more left → AreTold IsNew steps 0 None (answers ++ more) left
 
 -- before the first
-pub begins : (IsNew : Ticketed → Type 0) (steps : List Step) (answers : List Answer) (seen : ℕ) → answers ≡ [] → seen ≡ 0
+pub begins : (IsNew : Bool → Ticketed → Type 0) (steps : List Step) (answers : List Answer) (seen : ℕ) → answers ≡ [] → seen ≡ 0
     → GoesOn IsNew steps answers steps seen None
 begins IsNew steps answers seen none nothing more left told =
     subst (λ all. AreTold IsNew steps 0 None (all ++ more) left) (sym none) (subst (λ n. AreTold IsNew steps n None more left) nothing told)
 
 -- with one answer more
-goes_on : (IsNew : Ticketed → Type 0) (steps rest : List Step) (step : Step) (seen : ℕ) (txn next : Option Ticketed) (answers : List Answer) (answer : Answer)
+goes_on : (IsNew : Bool → Ticketed → Type 0) (steps rest : List Step) (step : Step) (seen : ℕ) (txn next : Option Ticketed) (answers : List Answer) (answer : Answer)
     → GoesOn IsNew steps answers (step ∷ rest) seen txn → IsTold IsNew step.event seen txn answer next
     → GoesOn IsNew steps (answers ++ answer ∷ []) rest (seen_after answer seen) next
 goes_on IsNew steps rest step seen txn next answers answer so_far told more left others =
     subst (λ all. AreTold IsNew steps 0 None all left) (sym (append_assoc answers (answer ∷ []) more)) (so_far (answer ∷ more) left (next, told, others))
 
-pub goes_on_at : (IsNew : Ticketed → Type 0) (steps : List Step) (index : ℕ) (step : Step) (seen later : ℕ) (txn next : Option Ticketed) (answers new : List Answer) (answer : Answer)
+pub goes_on_at : (IsNew : Bool → Ticketed → Type 0) (steps : List Step) (index : ℕ) (step : Step) (seen later : ℕ) (txn next : Option Ticketed) (answers new : List Answer) (answer : Answer)
     → index < length steps → step ≡ get_or steps index step → GoesOn IsNew steps answers (drop index steps) seen txn → IsTold IsNew step.event seen txn answer next
     → later ≡ seen_after answer seen → new ≡ answers ++ answer ∷ [] → GoesOn IsNew steps new (drop (index + 1) steps) later next
 goes_on_at IsNew steps index step seen later txn next answers new answer within there so_far told later_is new_is =
@@ -36,7 +36,7 @@ goes_on_at IsNew steps index step seen later txn next answers new answer within 
     (goes_on IsNew steps (drop (index + 1) steps) step seen txn next answers answer before told))
 
 -- and behind the last
-pub ends : (IsNew : Ticketed → Type 0) (steps : List Step) (index seen : ℕ) (txn : Option Ticketed) (answers : List Answer) → length steps ≤ index
+pub ends : (IsNew : Bool → Ticketed → Type 0) (steps : List Step) (index seen : ℕ) (txn : Option Ticketed) (answers : List Answer) → length steps ≤ index
     → GoesOn IsNew steps answers (drop index steps) seen txn → AreTold IsNew steps 0 None answers txn
 ends IsNew steps index seen txn answers past so_far =
     subst (λ all. AreTold IsNew steps 0 None all txn) (append-nil answers)

@@ -1,10 +1,10 @@
 -- What a step of a session is answered, as far as it is known without the commits, and which transaction is open then.
-use Rattle.std.specs.Prelude.{◌≡◌, ◌≤◌, ◌<◌, ◌⊎◌, ℕ, Bool, List, [], ◌∷◌, Option, Some, None, is_some}
+use Rattle.std.specs.Prelude.{◌≡◌, ◌≤◌, ◌<◌, ◌⊎◌, ℕ, Bool, true, false, List, [], ◌∷◌, Option, Some, None, is_some}
 use Rattle.value.specs.declared.refusals.Refusal.TheVariants.{NoMemory, NoTransaction, Stranger, TransactionOpen}
 use Rattle.statement_syntax.specs.declared.statements.Statement.{Statement}
 use Rattle.statement_syntax.specs.declared.statements.Event.{Event}
 use Rattle.statement_syntax.specs.declared.statements.Step.{Step}
-use Rattle.statement_syntax.specs.declared.statements.Event.TheVariants.{Begin, Commit, Rollback, Run}
+use Rattle.statement_syntax.specs.declared.statements.Event.TheVariants.{Begin, BeginReadOnly, Commit, Rollback, Run}
 use Rattle.answer.specs.declared.answers.Answer.{Answer}
 use Rattle.answer.specs.declared.answers.Answer.TheVariants.{Begun, Committed, Refused, RolledBack}
 use Rattle.session.specs.Resolve.{resolved}
@@ -18,7 +18,7 @@ abbrev pub IsOutside : Answer → Option Ticketed → Type 0
 IsOutside answer txn = (answer ≡ Refused NoTransaction) × (txn ≡ None)
 
 -- BEGIN: a transaction of the manager that has just begun, on tables that are no older than all that the session has
--- seen. Which transactions are so is said by the manager.
+-- seen. Which transactions are so is said by the manager, of those that are read only and of the others.
 abbrev pub IsBegun : (IsNew : Ticketed → Type 0) → (seen : ℕ) → Answer → Option Ticketed → Type 0
 IsBegun IsNew seen (Begun number) (Some t) = (number ≡ t.inner.snapshot) × (seen ≤ number) × IsNew t
 IsBegun IsNew seen (Refused refusal) None = IsGivenBack refusal
@@ -28,8 +28,10 @@ IsBegun IsNew seen answer txn = ⊥
 -- nothing has changed
 abbrev pub IsRun : Statement → Ticketed → Answer → Option Ticketed → Type 0
 IsRun statement t answer txn =
-    ((answer ≡ answer_of (step_of t.inner (resolved t.inner.declared statement)).reply)
-    × (txn ≡ Some (record t { inner = with_statement t.inner (resolved t.inner.declared statement) })))
+    ((answer ≡ answer_of (step_of t.inner (resolved t.inner.declared t.inner.read_only statement)).reply)
+    × (txn ≡ Some (record t {
+      inner = with_statement t.inner (resolved t.inner.declared t.inner.read_only statement);
+    })))
     ⊎ ((answer ≡ Refused NoMemory) × (txn ≡ Some t))
 
 abbrev pub IsRunIn : Statement → Option Ticketed → Answer → Option Ticketed → Type 0
@@ -48,11 +50,16 @@ IsRolledBack t RolledBack txn = txn ≡ None
 IsRolledBack t (Refused refusal) txn = (refusal ≡ Stranger) × (txn ≡ Some t)
 IsRolledBack t answer txn = ⊥
 
+-- inside a transaction it is refused
+abbrev pub IsBegunIn : (IsNew : Ticketed → Type 0) → (seen : ℕ) → Option Ticketed → Answer → Option Ticketed → Type 0
+IsBegunIn IsNew seen None answer txn = IsBegun IsNew seen answer txn
+IsBegunIn IsNew seen (Some t) answer txn = (answer ≡ Refused TransactionOpen) × (txn ≡ Some t)
+
 -- an event of a session that has seen this number, with this transaction open, or none
-abbrev pub IsTold : (IsNew : Ticketed → Type 0) → Event → (seen : ℕ) → Option Ticketed → Answer → Option Ticketed
-    → Type 0
-IsTold IsNew Begin seen None answer txn = IsBegun IsNew seen answer txn
-IsTold IsNew Begin seen (Some t) answer txn = (answer ≡ Refused TransactionOpen) × (txn ≡ Some t)
+abbrev pub IsTold : (IsNew : (read_only : Bool) → Ticketed → Type 0) → Event → (seen : ℕ) → Option Ticketed → Answer
+    → Option Ticketed → Type 0
+IsTold IsNew Begin seen t answer txn = IsBegunIn (IsNew false) seen t answer txn
+IsTold IsNew BeginReadOnly seen t answer txn = IsBegunIn (IsNew true) seen t answer txn
 IsTold IsNew (Run statement) seen t answer txn = IsRunIn statement t answer txn
 IsTold IsNew Commit seen None answer txn = IsOutside answer txn
 IsTold IsNew Commit seen (Some t) answer txn = IsCommitted seen t answer txn
@@ -68,7 +75,7 @@ seen_after answer seen = seen
 -- The steps of a session are answered in their order, each in the transaction that the one before it left open, or in
 -- none. The session has seen this number before the first, and this transaction is open then, or none; and that one is
 -- open behind the last.
-abbrev pub AreTold : (IsNew : Ticketed → Type 0) → List Step → (seen : ℕ) → Option Ticketed → List Answer
+abbrev pub AreTold : (IsNew : (read_only : Bool) → Ticketed → Type 0) → List Step → (seen : ℕ) → Option Ticketed → List Answer
     → (left : Option Ticketed) → Type 0
 AreTold IsNew [] seen txn [] left = left ≡ txn
 AreTold IsNew [] seen txn (answer ∷ more) left = ⊥
@@ -79,7 +86,7 @@ AreTold IsNew (step ∷ rest) seen txn (answer ∷ more) left =
 
 -- A session that has seen nothing yet runs a script, from outside a transaction. What is open behind the last step is
 -- rolled back, and whether something was, is said.
-pub record IsScriptRun (IsNew : Ticketed → Type 0) (steps : List Step) (answers : List Answer) (rolled_back : Bool)
+pub record IsScriptRun (IsNew : (read_only : Bool) → Ticketed → Type 0) (steps : List Step) (answers : List Answer) (rolled_back : Bool)
     : Type 0 where
   pub left : Option Ticketed
   pub told : AreTold IsNew steps 0 None answers left

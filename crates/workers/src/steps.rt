@@ -2,9 +2,9 @@
 
 ghost use Rattle.std.specs.Prelude.{◌≡◌, ℕ, is_some};
 ghost use Rattle.answer.specs.declared.answers.Answer.TheVariants.{Refused};
-ghost use Rattle.statement_syntax.specs.declared.statements.Event.TheVariants.{Begin, Commit, Rollback};
+ghost use Rattle.statement_syntax.specs.declared.statements.Event.TheVariants.{Commit, Rollback};
 ghost use Rattle.session.specs.Books.{IsFresh};
-ghost use Rattle.workers.specs.Steps.{IsBegun, IsRunIn, IsTold, seen_after};
+ghost use Rattle.workers.specs.Steps.{IsBegun, IsBegunIn, IsRunIn, IsTold, seen_after};
 
 use answer::Answer;
 use session::{CommitFault, Manager, Named, Session, Txn, release};
@@ -40,27 +40,29 @@ pub fn run_event<N: Named, R: Wait>(
     ensures seen { session.new ≡ record session.old { seen = seen_after result.answer session.old.seen } }
 {
     match event {
-        Event::Begin => begin(rt, manager, session, txn),
+        Event::Begin => begin(rt, manager, session, txn, false),
+        Event::BeginReadOnly => begin(rt, manager, session, txn, true),
         Event::Run(statement) => run(txn, statement),
         Event::Commit => commit(rt, manager, session, txn),
         Event::Rollback => roll_back(rt, manager, txn),
     }
 }
 
-/// BEGIN.
+/// BEGIN, or BEGIN READ ONLY.
 fn begin<N: Named, R: Wait>(
     rt: &R,
     manager: &Manager<N>,
     session: &mut Session<N>,
     txn: Option<Txn<N>>,
+    read_only: bool,
 ) -> StepOutcome<N>
-    ensures told { IsTold (IsFresh (N.shelf manager.now.id) manager.now.id manager.now.epoch)
-        Begin session.old.seen txn result.answer result.txn }
+    ensures told { IsBegunIn (IsFresh (N.shelf manager.now.id) manager.now.id manager.now.epoch read_only)
+        session.old.seen txn result.answer result.txn }
     ensures seen { session.new ≡ record session.old { seen = seen_after result.answer session.old.seen } }
 {
     match txn {
         Some(txn) => answer_refused(Refusal::TransactionOpen, Some(txn)),
-        None => begin_new(rt, manager, session),
+        None => begin_new(rt, manager, session, read_only),
     }
 }
 
@@ -68,12 +70,18 @@ fn begin_new<N: Named, R: Wait>(
     rt: &R,
     manager: &Manager<N>,
     session: &mut Session<N>,
+    read_only: bool,
 ) -> StepOutcome<N>
-    ensures told { IsBegun (IsFresh (N.shelf manager.now.id) manager.now.id manager.now.epoch)
+    ensures told { IsBegun (IsFresh (N.shelf manager.now.id) manager.now.id manager.now.epoch read_only)
         session.old.seen result.answer result.txn }
     ensures seen { session.new ≡ record session.old { seen = seen_after result.answer session.old.seen } }
 {
-    match manager.begin(rt, session) {
+    let begun = if read_only {
+        manager.begin_read_only(rt, session)
+    } else {
+        manager.begin(rt, session)
+    };
+    match begun {
         Ok(txn) => StepOutcome {
             answer: Answer::Begun(txn.snapshot()),
             txn: Some(txn),

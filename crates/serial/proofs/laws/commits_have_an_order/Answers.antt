@@ -1,6 +1,6 @@
 -- The order law by ranks.
-use Rattle.serial.proofs.Ranks.{order_has_each_once, order_is_serial, order_is_kept, earlier_numbers, least_out_stays}
-use Rattle.serial.proofs.Steps.{order_step}
+use Rattle.serial.proofs.Ranks.{order_has_each_once, order_is_serial, order_is_kept, order_step, earlier_numbers, least_out_stays}
+use Rattle.serial.proofs.Placed.{readers_placed}
 use Rattle.serial.proofs.laws.commits_have_an_order.Goals as goal
 
 pub returns-clause-once : goal.returns-clause-once
@@ -8,6 +8,9 @@ returns-clause-once c = λ log h. order_has_each_once log
 
 pub returns-clause-serial : goal.returns-clause-serial
 returns-clause-serial c = order_is_serial
+
+pub returns-clause-readers : goal.returns-clause-readers
+returns-clause-readers c = readers_placed
 
 pub returns-clause-kept : goal.returns-clause-kept
 returns-clause-kept c = order_is_kept

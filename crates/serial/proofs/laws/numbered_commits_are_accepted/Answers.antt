@@ -6,4 +6,5 @@ returns c = λ log commit h. record {
   after_snapshot = h.after_snapshot;
   no_write_conflict = h.answer.1;
   no_danger = h.answer.2;
+  changes_nothing = h.changes_nothing;
 }

@@ -13,16 +13,16 @@ use Rattle.commit.proofs.cores.Core.cancel.Goals as goal
 pub invariant_of-self-2 : goal.invariant_of-self-2
 invariant_of-self-2 c =
     let now = idle_core c.self.inside.limit c.self.inside.loaded c.self.inside.records.items c.self.inside.refused.items c.self.inside.live in
-    let Room : Type 0 = (vec_len c.self.inside.records < vec_capacity c.self.inside.records) × (vec_len c.self.inside.places < vec_capacity c.self.inside.places) × (vec_len c.self.inside.order < vec_capacity c.self.inside.order) in
+    let Room : Type 0 = (vec_len c.self.inside.records < vec_capacity c.self.inside.records) × (vec_len c.self.inside.places < vec_capacity c.self.inside.places) × (vec_len c.self.inside.reaches < vec_capacity c.self.inside.reaches) × (vec_len c.self.inside.order < vec_capacity c.self.inside.order) in
     let p = c.in-Some.prepared in
     let there : c.self.inside.prepared ≡ Some p = sym c.take.ensures.value ∙ c.in-Some.is in
-    let ready = kept_ready now c.self.inside.newest c.self.inside.places.items c.self.inside.order.items (readers_at c.self.inside.locks) Room p c.self.inside.prepared there c.self.invariant in
+    let ready = kept_ready now c.self.inside.newest c.self.inside.places.items c.self.inside.reaches.items c.self.inside.order.items (readers_at c.self.inside.locks) Room p c.self.inside.prepared there c.self.invariant in
     let number : c.len.result + 1 ≡ length c.self.inside.records.items + 1 = ap (λ n. n + 1) (c.len.ensures ∙ c.self.inside.records.ok.0) in
     let keys : c.reads.result.now ≡ keys_of p.closed = c.reads.ensures ∙ ap keys_of c.give_up-closed.ensures in
     let low : AreBelow (c.len.result + 1) (reads_kept now) =
     subst (λ n. AreBelow n (reads_kept now)) (sym number)
     (reads_below c.self.inside.records.items (length c.self.inside.records.items + 1) (least_held (length c.self.inside.records.items) c.self.inside.live.snapshots)
     (below now c.self.invariant.0.epoch.accepted)) in
-    kept_idle now c.self.inside.newest c.self.inside.places.items c.self.inside.order.items (readers_at c.take_back.new.self) Room c.take.new.self c.take.ensures.after
+    kept_idle now c.self.inside.newest c.self.inside.places.items c.self.inside.reaches.items c.self.inside.order.items (readers_at c.take_back.new.self) Room c.take.new.self c.take.ensures.after
     c.self.invariant.0
     (c.take_back.ensures.undone (reads_kept now) low (ready.2 ∙ (λ i. with_reader (sym number i) (sym keys i) (reads_kept now))))

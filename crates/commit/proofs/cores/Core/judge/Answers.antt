@@ -21,10 +21,10 @@ use Rattle.commit.proofs.cores.Core.judge.Goals as goal
 pub judge-requires-clause-readers : goal.judge-requires-clause-readers
 judge-requires-clause-readers c =
     let now = idle_core c.self.inside.limit c.self.inside.loaded c.self.inside.records.items c.self.inside.refused.items c.self.inside.live in
-    let Room : Type 0 = (vec_len c.self.inside.records < vec_capacity c.self.inside.records) × (vec_len c.self.inside.places < vec_capacity c.self.inside.places) × (vec_len c.self.inside.order < vec_capacity c.self.inside.order) in
+    let Room : Type 0 = (vec_len c.self.inside.records < vec_capacity c.self.inside.records) × (vec_len c.self.inside.places < vec_capacity c.self.inside.places) × (vec_len c.self.inside.reaches < vec_capacity c.self.inside.reaches) × (vec_len c.self.inside.order < vec_capacity c.self.inside.order) in
     let idle = is_idle now c.args.self.now c.self.inside.prepared c.self.view_is c.requires.idle in
     let is : now ≡ c.args.self.now = idle_view now c.args.self.now c.self.inside.prepared c.self.view_is c.requires.idle in
-    let locks = locks_idle now c.self.inside.newest c.self.inside.places.items c.self.inside.order.items (readers_at c.self.inside.locks) Room c.self.inside.prepared idle c.self.invariant in
+    let locks = locks_idle now c.self.inside.newest c.self.inside.places.items c.self.inside.reaches.items c.self.inside.order.items (readers_at c.self.inside.locks) Room c.self.inside.prepared idle c.self.invariant in
     let live = subst (λ (s : CoreState). IsLive s c.args.closed.now) (sym is) c.requires.live in
     subst (HasReaders (readers_at c.self.inside.locks) c.as_slice-records.result.now) (sym c.snapshot.ensures)
     (subst (λ records. HasReaders (readers_at c.self.inside.locks) records c.args.closed.now.snapshot) (sym c.as_slice-records.ensures.value)
@@ -40,6 +40,7 @@ returns-in-Fine-clause-judged c = λ session.
     (c.in-Fine.ensures (record_of now session c.args.closed.now) (record {
       number = ap (λ (records : List Record). length records + 1) c.as_slice-records.ensures.value;
       snapshot = c.snapshot.ensures;
+      read_only = c.is_read_only.ensures;
       reads = c.reads.ensures;
       changes = c.changes-changes.ensures.net;
     }))))
@@ -51,6 +52,7 @@ refuse_for_writer-requires-clause-within c =
     let at = c.in-WriteConflict.ensures (record_of now [] c.args.closed.now) (record {
       number = ap (λ (records : List Record). length records + 1) c.as_slice-records.ensures.value;
       snapshot = c.snapshot.ensures;
+      read_only = c.is_read_only.ensures;
       reads = c.reads.ensures;
       changes = c.changes-changes.ensures.net;
     }) in
@@ -63,7 +65,7 @@ refuse_for_writer-requires-clause-tables c =
     let live = subst (λ (s : CoreState). IsLive s c.args.closed.now) (sym is) c.requires.live in
     subst (λ (tables : Tables). All (λ (change : Change). change.table < length (names_of tables)) c.changes-changes.result.now) (sym c.catalog.ensures.value)
     (subst (All (λ (change : Change). change.table < length (names_of c.self.inside.loaded.declared.tables))) (sym c.changes-changes.ensures.net)
-    (tables_in now c.self.inside.newest c.self.inside.places.items c.self.inside.order.items c.self.invariant.0 [] c.args.closed.now live))
+    (tables_in now c.self.inside.newest c.self.inside.places.items c.self.inside.reaches.items c.self.inside.order.items c.self.invariant.0 [] c.args.closed.now live))
 
 pub returns-in_ok-refusal-in-WriteConflict-clause-judged : goal.returns-in_ok-refusal-in-WriteConflict-clause-judged
 returns-in_ok-refusal-in-WriteConflict-clause-judged c = λ session.
@@ -75,6 +77,7 @@ returns-in_ok-refusal-in-WriteConflict-clause-judged c = λ session.
     (c.in-WriteConflict.ensures (record_of now session c.args.closed.now) (record {
       number = ap (λ (records : List Record). length records + 1) c.as_slice-records.ensures.value;
       snapshot = c.snapshot.ensures;
+      read_only = c.is_read_only.ensures;
       reads = c.reads.ensures;
       changes = c.changes-changes.ensures.net;
     })))
@@ -92,6 +95,7 @@ returns-in-Dangerous-clause-judged c = λ session.
     (c.in-Dangerous.ensures (record_of now session c.args.closed.now) (record {
       number = ap (λ (records : List Record). length records + 1) c.as_slice-records.ensures.value;
       snapshot = c.snapshot.ensures;
+      read_only = c.is_read_only.ensures;
       reads = c.reads.ensures;
       changes = c.changes-changes.ensures.net;
     }))))

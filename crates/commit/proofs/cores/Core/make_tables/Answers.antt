@@ -18,7 +18,7 @@ after-requires-clause-are c =
     let live = subst (λ (s : CoreState). IsLive s c.args.closed.now) (sym is) c.requires.live in
     let free = subst (λ (s : CoreState). HasNoWriteConflict (log_of s) (record_of s [] c.args.closed.now)) (sym is) (c.requires.free []) in
     subst (λ changes. AreChangesOf (layouts_in c.self.inside.newest.declared) changes c.self.inside.newest.state) (sym c.changes.ensures.net)
-    (puts now c.self.inside.newest c.self.inside.places.items c.self.inside.order.items c.self.invariant.0 [] c.args.closed.now live
+    (puts now c.self.inside.newest c.self.inside.places.items c.self.inside.reaches.items c.self.inside.order.items c.self.invariant.0 [] c.args.closed.now live
     free)
 
 pub returns-in_ok-view-clause-tables : goal.returns-in_ok-view-clause-tables
@@ -28,6 +28,6 @@ returns-in_ok-view-clause-tables c = λ session.
     let live = subst (λ (s : CoreState). IsLive s c.args.closed.now) (sym is) c.requires.live in
     c.in_ok-view.ensures.equal ∙ c.own-own.ensures
     ∙ subst (λ (s : CoreState). own_view c.args.closed.now ≡ newest_tables (with_commit s (record_of s session c.args.closed.now))) is
-    (own_is now c.self.inside.newest c.self.inside.places.items c.self.inside.order.items c.self.invariant.0 session c.args.closed.now live
+    (own_is now c.self.inside.newest c.self.inside.places.items c.self.inside.reaches.items c.self.inside.order.items c.self.invariant.0 session c.args.closed.now live
     (sym c.snapshot.ensures ∙ c.if-snapshot-len.true ∙ c.len.ensures ∙ c.self.inside.records.ok.0)
     (tables_state _ _ (subst (λ (s : Shown). AreTables (layouts_in s.declared) s.state) c.own-own.ensures c.catalog.ensures.tables)))

@@ -1,4 +1,4 @@
-use Rattle.std.proofs.Common.{◌+◌, ◌∙◌, ap, sym, drop}
+use Rattle.std.proofs.Common.{◌+◌, false, ◌∙◌, ap, sym, drop}
 use Rattle.std.proofs.Math.ListN.{drop_of_length-le}
 use Rattle.live.specs.Live.{LiveState, least_held}
 use Rattle.live.proofs.Least.{least_next}
@@ -10,7 +10,7 @@ loop-live-init c = ap (least_held c.args.newest) c.deref-live-items.ensures.valu
 pub loop-live-preserved : goal.loop-live-preserved
 loop-live-preserved c =
     ap (λ n. least_held n (drop (c.loop-live.live-index + 1) c.deref-live-items.result.now)) c.min-least.ensures
-    ∙ least_next c.loop-live.least c.deref-live-items.result.now c.loop-live.live-index (record { ticket = 0; snapshot = 0 }) c.loop-live-test.true
+    ∙ least_next c.loop-live.least c.deref-live-items.result.now c.loop-live.live-index (record { ticket = 0; snapshot = 0; read_only = false }) c.loop-live-test.true
     ∙ c.loop-live.invariant
 
 pub returns : goal.returns
