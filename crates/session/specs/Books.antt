@@ -195,8 +195,8 @@ pub record IsOver (c : CoreState) (loaded : Shown) (limit : ℕ) : Type 0 where
   pub within : length c.records ≤ limit
 
 -- the Book after a begin, a commit, a refused commit and a rollback
-abbrev pub after_begin : BookState → BookState
-after_begin b = record b { core = with_begun b.core }
+abbrev pub after_begin : (read_only : Bool) → BookState → BookState
+after_begin read_only b = record b { core = with_begun read_only b.core }
 
 abbrev pub after_commit : BookState → (session : List ℕ) → OpenTransaction → Token → BookState
 after_commit b session t token = record b { core = committed b.core session t; tokens = b.tokens ++ token ∷ [] }

@@ -161,7 +161,7 @@ impl<N: Named> Book<N> {
         ensures item { IfOk result (λ txn. txn.ticket.token.value.number ≡ txn.inner.snapshot) }
         ensures empty { IfOk result (IsFresh (N.shelf id) id epoch false) }
         ensures fresh { IfOk result (λ txn. session.old.seen ≤ txn.inner.snapshot) }
-        ensures after { IfOk result (λ _. self.new ≡ after_begin self.old) }
+        ensures after { IfOk result (λ _. self.new ≡ after_begin false self.old) }
         ensures seen { IfOk result (λ txn. session.new ≡ record session.old { seen = txn.inner.snapshot }) }
         ensures unbegun { IfErr result (IsUnbegun (knows self.old session.old id epoch)) }
         ensures same { IfErr result (λ _. (self.new ≡ self.old) × (session.new ≡ session.old)) }
@@ -189,7 +189,7 @@ impl<N: Named> Book<N> {
         ensures item { IfOk result (λ txn. txn.ticket.token.value.number ≡ txn.inner.snapshot) }
         ensures empty { IfOk result (IsFresh (N.shelf id) id epoch true) }
         ensures fresh { IfOk result (λ txn. session.old.seen ≤ txn.inner.snapshot) }
-        ensures after { IfOk result (λ _. self.new ≡ after_begin self.old) }
+        ensures after { IfOk result (λ _. self.new ≡ after_begin true self.old) }
         ensures seen { IfOk result (λ txn. session.new ≡ record session.old { seen = txn.inner.snapshot }) }
         ensures unbegun { IfErr result (IsUnbegun (knows self.old session.old id epoch)) }
         ensures same { IfErr result (λ _. (self.new ≡ self.old) × (session.new ≡ session.old)) }
@@ -348,7 +348,7 @@ impl<N: Named> Book<N> {
         ensures item { IfOk result (λ txn. txn.ticket.token.value.number ≡ txn.inner.snapshot) }
         ensures empty { IfOk result (IsFresh (N.shelf id) id epoch read_only) }
         ensures fresh { IfOk result (λ txn. session.old.seen ≤ txn.inner.snapshot) }
-        ensures after { IfOk result (λ _. self.new ≡ after_begin self.old) }
+        ensures after { IfOk result (λ _. self.new ≡ after_begin read_only self.old) }
         ensures seen { IfOk result (λ txn. session.new ≡ record session.old { seen = txn.inner.snapshot }) }
         ensures unbegun { IfErr result (IsUnbegun (knows self.old session.old id epoch)) }
         ensures same { IfErr result (λ _. (self.new ≡ self.old) × (session.new ≡ session.old)) }
