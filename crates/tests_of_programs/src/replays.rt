@@ -246,6 +246,23 @@ fn epoch_full(rt: HostRuntime) -> Result<(), Fail> {
     Ok(())
 }
 
+/// A read-only COMMIT takes a number like any other.
+#[test]
+fn epoch_full_of_readers(rt: HostRuntime) -> Result<(), Fail> {
+    let got = written(
+        rt.alloc(),
+        TABLES,
+        "A: BEGIN READ ONLY; A: SELECT * FROM SHIFTS; A: COMMIT; A: BEGIN READ ONLY; A: COMMIT; A: BEGIN; A: COMMIT;",
+        1,
+    )?;
+    let want =
+        "A: BEGIN 0\nA: SELECT 0\nA: COMMIT 1\nA: BEGIN 1\nA: REFUSED 17 - EPOCH FULL\nA: BEGIN 1\n\
+         A: REFUSED 17 - EPOCH FULL\nCOMMITS 1\n1 A SNAPSHOT 0 ROWS 0\nSERIAL 1\nREFUSED 2\n\
+         A 17 - EPOCH FULL\nA 17 - EPOCH FULL\nASSERTIONS 0\n";
+    assert_eq!(rt; got.as_slice(), want.as_bytes());
+    Ok(())
+}
+
 #[test]
 fn groups_of_null_and_of_nothing(rt: HostRuntime) -> Result<(), Fail> {
     // NULLs are one group, and NULL = 7 is not true.
