@@ -130,17 +130,24 @@ fn put_values(locks: &mut LockTable) -> Result<(), Refusal>
     locks.put(3, &[second_column(Value::Int(2))])
 }
 
+/// The greatest reader of what changes touch that reaches so far, where the second reaches nothing.
+fn greatest(locks: &LockTable, changes: &[Change], least: u64) -> u64 {
+    locks.greatest_reader(changes, least, &[1, 0, 3])
+}
+
+/// The first two have read what the change touches, and the third has not.
 #[test]
 fn the_greatest_reader_is_of_a_touched_key(rt: HostRuntime) -> Result<(), Fail> {
     let changes = [null_to_one(rt.alloc())?];
     let mut locks = no_reads(rt.alloc());
     let put = put_values(&mut locks);
-    let greatest = locks.greatest_reader(&changes);
-    let of_none = locks.greatest_reader(&[]);
+    let of_all = greatest(&locks, &changes, 0);
+    let of_those_that_reach = greatest(&locks, &changes, 1);
+    let of_no_such = greatest(&locks, &changes, 2);
+    let of_none = greatest(&locks, &[], 0);
     let_go(locks);
     let_go(changes);
     put?;
-    assert_eq!(rt; greatest, 2);
-    assert_eq!(rt; of_none, 0);
+    assert_eq!(rt; [of_all, of_those_that_reach, of_no_such, of_none], [2, 1, 0, 0]);
     Ok(())
 }
