@@ -91,34 +91,41 @@ fn safety(alloc: Global, script: &str) -> Result<bool, Refusal> {
     Ok(safe)
 }
 
+/// A writer matters where its snapshot doesn't hold what the reader's holds.
 #[test]
 fn readers_become_safe(rt: HostRuntime) -> Result<(), Fail> {
     safe_readers_are_never_refused();
     for (script, want) in [
         ("R: BEGIN READ ONLY;", true),
         ("R: BEGIN;", false),
-        ("W: BEGIN READ ONLY; R: BEGIN READ ONLY;", true),
-        ("W: BEGIN; R: BEGIN READ ONLY;", false),
-        ("W: BEGIN; R: BEGIN READ ONLY; W: ROLLBACK;", true),
-        ("W: BEGIN; R: BEGIN READ ONLY; W: COMMIT;", true),
         ("R: BEGIN READ ONLY; R: COMMIT;", false),
+        ("W: BEGIN; R: BEGIN READ ONLY;", true),
+        ("W: BEGIN; X: BEGIN; X: COMMIT; R: BEGIN READ ONLY;", false),
+        ("W: BEGIN; X: BEGIN; X: COMMIT; R: BEGIN READ ONLY; W: COMMIT;", true),
+        ("W: BEGIN; X: BEGIN; X: COMMIT; R: BEGIN READ ONLY; W: ROLLBACK;", true),
     ] {
         assert_eq!(rt; safety(rt.alloc(), script)?, want, "{script}");
     }
     Ok(())
 }
 
-/// W has read a row as it was before X changed it, and R begins after that.
-const PASSED: &str = "W: BEGIN; W: SELECT ONCALL FROM DUTY WHERE ID = 1;
+/// W, which has begun, reads a row as it was before X changed it. R begins after that.
+const OVERTAKEN: &str = "W: SELECT ONCALL FROM DUTY WHERE ID = 1;
     X: BEGIN; X: UPDATE DUTY SET ONCALL = 1 WHERE ID = 1; X: COMMIT; R: BEGIN READ ONLY;";
 
-/// Where W has changed nothing it does no harm.
+/// W has changed another row.
+const CHANGES: &str = "W: BEGIN; W: UPDATE DUTY SET ONCALL = 1 WHERE ID = 2;";
+
 #[test]
 fn readers_stay_unsafe(rt: HostRuntime) -> Result<(), Fail> {
     let alloc = rt.alloc();
-    let changes = "W: UPDATE DUTY SET ONCALL = 1 WHERE ID = 2;";
-    for (more, want) in [("", false), ("W: COMMIT;", false), ("W: ROLLBACK;", true)] {
-        let script = format!(in alloc; "{PASSED} {changes} {more}")?;
+    for (begin, end, want) in [
+        (CHANGES, "", false),
+        (CHANGES, "W: COMMIT;", false),
+        (CHANGES, "W: ROLLBACK;", true),
+        ("W: BEGIN READ ONLY;", "W: COMMIT;", true),
+    ] {
+        let script = format!(in alloc; "{begin} {OVERTAKEN} {end}")?;
         assert_eq!(rt; safety(alloc, script.as_str())?, want, "{script}");
     }
     Ok(())
