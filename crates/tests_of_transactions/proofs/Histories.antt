@@ -2,7 +2,7 @@
 use Rattle.std.proofs.Common.{◌≡◌, ◌+◌, ◌<◌, ℕ, suc, true, List, [], ◌∷◌, ◌++◌, length, refl, sym, ap, ◌∙◌, subst, arith}
 use mathlib.Core.List.{reverse}
 use Rattle.std.proofs.lemmas.List.{length-reverse, reverse-append}
-use Rattle.siread.specs.Locks.{AreBelow, Reads, above, with_reader}
+use Rattle.siread.specs.Locks.{AreBelow, Reads, above, no_reads, with_reader}
 use Rattle.alone.proofs.Lists.{Each}
 use Rattle.serial.specs.declared.records.Record.{Record}
 use Rattle.serial.specs.Commits.{IsLog, IsNext, reach}
@@ -16,6 +16,23 @@ use Rattle.conflict.proofs.Puts.{numbers_after}
 use Rattle.conflict.specs.Readers.{reads_of}
 use Rattle.conflict.proofs.Readers.{above_put, reads_below, reads_more}
 use Rattle.tests_of_transactions.specs.Histories.{AreKept}
+
+-- the same of what is equal
+pub kept_same : (committed committed' : List Record) (places places' reaches reaches' order order' : List ℕ) (reads reads' : Reads)
+    → committed ≡ committed' → places ≡ places' → reaches ≡ reaches' → order ≡ order' → reads ≡ reads'
+    → AreKept committed places reaches order reads → AreKept committed' places' reaches' order' reads'
+kept_same committed committed' places places' reaches reaches' order order' reads reads' a b c d e kept =
+    subst (λ (X : Type 0). X) (λ i. AreKept (a i) (b i) (c i) (d i) (e i)) kept
+
+-- before the first
+pub kept_first : AreKept [] [] [] [] no_reads
+kept_first = record {
+  log = tt;
+  places_are = refl;
+  reaches_are = refl;
+  order_is = refl;
+  readers = record { low = 0; within = omega arith; are = refl };
+}
 
 module _ (committed : List Record) (places reaches order : List ℕ) (reads : Reads) (kept : AreKept committed places reaches order reads) where
   -- all that read have numbers below the next
