@@ -10,14 +10,13 @@ use Rattle.table.specs.Rows.{Layout}
 use Rattle.assertion.specs.declared.assertions.Assertion.{Assertion}
 use Rattle.assertion.specs.Declarations.{Declared, layouts_in}
 use Rattle.assertion.specs.Meaning.{State}
-use Rattle.modes.specs.Modes.{is_immediate, named_ones, modes_with, assertion_of}
+use Rattle.modes.specs.Modes.{is_immediate, named_ones, modes_with, assertion_of, set_names}
 use Rattle.siread.specs.declared.keys.LockKey.{LockKey}
 use Rattle.answer.specs.declared.answers.Reply.{Reply}
 use Rattle.answer.specs.declared.answers.Reply.TheVariants.{ModesSet}
 use Rattle.statement_syntax.specs.declared.statements.Statement.{Statement as Written}
 use Rattle.statement_syntax.specs.declared.statements.Statement.TheVariants as written
 use Rattle.assertcheck.specs.Statements.{select_of}
-use Rattle.modes.specs.Modes.{set_names}
 use Rattle.alone.specs.States.{is_real, change_between, keys_of_both, table_changes, net_change, row_in}
 use Rattle.alone.specs.Checks.{violation, checks_read}
 use Rattle.alone.specs.Alone.{Standing, unless_violated, modes_step, verdict_step, stepped, ran, transaction}

@@ -1,14 +1,16 @@
 -- The commits past a snapshot, walked from the oldest on: none of them conflicts to one that it holds.
-use Rattle.std.proofs.Common.{◌≡◌, ℕ, ◌+◌, ◌<◌, ◌≤◌, Bool, true, false, List, [], ◌∷◌, length, take, get_or, reverse, sym, ap, subst, arith}
+use Rattle.std.proofs.Common.{◌≡◌, ℕ, ◌+◌, ◌<◌, ◌≤◌, Bool, true, false, List, ◌∷◌, length, take, drop, get_or, reverse, sym, ◌∙◌, subst, arith}
 use Rattle.std.specs.Prelude.{Contains}
-use Rattle.std.proofs.lemmas.List.{take_all}
+use Rattle.std.proofs.lemmas.List.{get_or-drop, length-drop, take_all}
 use Rattle.alone.proofs.Lists.{Each, each_at, each_weaker}
 use Rattle.serial.specs.declared.records.Record.{Record}
 use Rattle.serial.specs.Commits.{IsLog}
 use Rattle.serial.specs.Order.{least_out}
 use Rattle.serial.specs.Safe.{IsSafe}
-use Rattle.serial.proofs.Snapshots.{Parts, parts}
+use Rattle.serial.proofs.Snapshots.{parts}
+use Rattle.serial.proofs.Turned.{in_turned}
 use Rattle.conflict.proofs.Steps.{log_more}
+use Rattle.conflict.proofs.Walks.{IsTurn}
 
 module _ (commits : List Record) (snapshot : ℕ) where
   -- what is asked of a commit
@@ -31,6 +33,18 @@ module _ (commits : List Record) (snapshot : ℕ) where
   one_harmless n m commit e within there before harmless =
       let more : snapshot + n + 1 ≡ snapshot + m = omega arith in
       subst AreHarmless more (subst (Each IsHarmless) (sym (log_more commits (snapshot + n) commit within there)) (harmless, before))
+
+  -- one that is past the snapshot and conflicts to one that it holds makes it unsafe
+  pub not_safe : (n : ℕ) (commit : Record) (place : ℕ) → IsLog (reverse commits) → snapshot ≤ length commits → IsTurn commits (snapshot + n) commit place
+      → commit.read_only ≡ false → place ≤ snapshot → IsSafe (reverse commits) snapshot → ⊥
+  not_safe n commit place log within here writes low safe =
+      let long = length-drop snapshot commits in
+      let at = here.within in
+      let later : Contains (drop snapshot commits) commit = (n, omega arith, get_or-drop snapshot commits n commit ∙ sym here.there) in
+      let past : snapshot < commit.number =
+      each_at (λ w. snapshot < w.number) (reverse (drop snapshot commits)) (parts commits snapshot log within).past commit (in_turned (drop snapshot commits) commit later) in
+      let far = safe commit (in_turned commits commit (snapshot + n, here.within, sym here.there)) writes past in
+      omega (arith, far, here.least)
 
   -- all of them
   pub all_harmless : (n : ℕ) → length commits ≤ snapshot + n → AreHarmless (snapshot + n) → IsSafe (reverse commits) snapshot

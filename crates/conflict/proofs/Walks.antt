@@ -15,7 +15,7 @@ use Rattle.std.proofs.lemmas.List.{drop_more, get_or-drop, get_or-map, length-dr
 use Rattle.alone.proofs.Lists.{Each, Pairs, each_append, each_put, each_at, each_from, each_weaker, pairs_before, in_middle}
 use Rattle.alone.proofs.Members.{any_from}
 use Rattle.serial.specs.declared.records.Record.{Record}
-use Rattle.serial.specs.Commits.{IsLog, conflicts_to}
+use Rattle.serial.specs.Commits.{IsLog, conflicts_to, reach}
 use Rattle.serial.specs.Numbers.{is_reader_of, IsLeastPivot}
 use Rattle.serial.specs.Order.{least_out}
 use Rattle.serial.proofs.Ranks.{log_falls}
@@ -84,9 +84,9 @@ zipped commits places held kept xs s t u r first second y p is steps =
 
 -- the test by the least conflict out that was kept
 pub tested : (log : List Record) (commit pivot : Record) (writer : ℕ) (result answer : Bool) → writer ≡ least_out log pivot
-    → result ≡ (conflicts_to commit pivot && (ltb writer pivot.number && leb writer commit.number)) → result ≡ answer → is_reader_of log commit pivot ≡ answer
+    → result ≡ (conflicts_to commit pivot && (ltb writer pivot.number && leb writer (reach commit))) → result ≡ answer → is_reader_of log commit pivot ≡ answer
 tested log commit pivot writer result answer kept is e =
-    sym (ap (λ w. conflicts_to commit pivot && (ltb w pivot.number && leb w commit.number)) kept) ∙ sym is ∙ e
+    sym (ap (λ w. conflicts_to commit pivot && (ltb w pivot.number && leb w (reach commit))) kept) ∙ sym is ∙ e
 
 -- before the first turn, and after one more
 pub at_start : (commits : List Record) (commit : Record) → Parts commits commit.snapshot → list_any (is_reader_of (reverse commits) commit) (reverse (take (commit.snapshot + 0) commits)) ≡ false

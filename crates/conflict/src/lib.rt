@@ -6,12 +6,18 @@
 //! - *A write conflict*: one of them has a row of its net change, and the first committer wins. The first such row of
 //!   the net change is named, and the least such commit.
 //! - *A dangerous triple* would have the candidate in it. Two numbers decide: the least commit to which it conflicts,
-//!   and the greatest that conflicts to it (Cahill, Röhm and Fekete 2008; Ports and Grittner 2012). As a pivot it is
-//!   named with these two; else as a reader with the least pivot, and that one's least writer.
+//!   and the greatest that conflicts to it and reaches that one (Cahill, Röhm and Fekete 2008; Ports and Grittner 2012).
+//!   As a pivot it is named with these two; else as a reader with the least pivot whose least writer it reaches, and
+//!   that writer.
 //! - Else it may join them.
 //!
-//! [`put_in_order`] then puts its number into the serial order. What conflicts, dangerous triples and the serial order
-//! are is defined in the crate `serial`, and so is the answer (`specs/Answer`): what `judge` finds is that answer.
+//! Who is read only reaches no further than its snapshot, since it may stand right behind that; each other reaches its
+//! own number. So the greatest reader of what a candidate changed is not always the one that counts, and how far each
+//! commit reaches is kept beside it ([`serial::Record::reach`]).
+//!
+//! [`put_in_order`] then puts its number into the serial order: behind all of no greater rank. What conflicts,
+//! dangerous triples and the serial order are is defined in the crate `serial`, and so is the answer (`specs/Answer`):
+//! what `judge` finds is that answer.
 //!
 //! Commits are passed in the order of their numbers. A number is then a place, and a commit on a snapshot overlaps with
 //! none that the snapshot holds, so only what stands after it is looked at. The least conflict out of each commit stays

@@ -12,7 +12,7 @@ use Rattle.siread.proofs.Members.{in_head, in_tail, in_cases, not_in_nil}
 use Rattle.alone.proofs.Lists.{each_at}
 use Rattle.serial.proofs.Arranged.{conflict_overlaps}
 use Rattle.alone.proofs.Members.{any_from}
-use Rattle.serial.proofs.Ranks.{clean, least_out_up_to, least_out_met, numbers_below}
+use Rattle.serial.proofs.Ranks.{clean, least_out_up_to, least_out_met, numbers_below, reach_high}
 
 pub greatest_in_up_to : (least : ℕ) (log : List Record) (c w : Record) → Contains log w → conflicts_to w c ≡ true → least ≤ reach w → w.number ≤ greatest_reaching least log c
 greatest_in_up_to least [] c w m h l = absurd (not_in_nil w m)
@@ -61,14 +61,6 @@ module _ (log : List Record) (h : IsLog log) (c : Record) (number : c.number ≡
   below : (w : Record) → Contains log w → w.number < c.number
   below w m = omega (arith, each_at (λ w. w.number < suc (length log)) log (numbers_below log h) w m)
 
-  -- a commit reaches its own number at most
-  reach_high : (w : Record) → Contains log w → reach w ≤ w.number
-  reach_high w m = let s = (clean log h).snapshots w m in up_to w.read_only s
-    where
-      up_to : (b : Bool) → w.snapshot < w.number → cond b w.snapshot w.number ≤ w.number
-      up_to true s = omega arith
-      up_to false s = omega arith
-
   not_itself : conflicts_to c c ≡ true → ⊥
   not_itself e = (conflict_overlaps c c e).differ refl
 
@@ -86,7 +78,7 @@ module _ (log : List Record) (h : IsLog log) (c : Record) (number : c.number ≡
                     let low = least_out_up_to log c y ty (below y ty) cy in
                     let within : least_out log c ≤ reach x = let w = d.up_to_reader in omega arith in
                     let high = greatest_in_up_to (least_out log c) log c x tx xc within in
-                    let reached = reach_high x tx in
+                    let reached = reach_high log (clean log h) x tx in
                     let past = leb-false _ _ no_pivot in
                     omega arith
               ]
@@ -116,7 +108,7 @@ module _ (log : List Record) (h : IsLog log) (c : Record) (number : c.number ≡
       elim (least_out_met log c) [
         | inl own ↦ elim (greatest_in_met (least_out log c) log c) [
           | inl none ↦ absurd (omega arith)
-          | inr x ↦ absurd (let b = below x.0 x.1 in let r = reach_high x.0 x.1 in omega (arith, x.3))
+          | inr x ↦ absurd (let b = below x.0 x.1 in let r = reach_high log (clean log h) x.0 x.1 in omega (arith, x.3))
         ]
         | inr y ↦ elim (greatest_in_met (least_out log c) log c) [
           | inl none ↦ absurd (positive y.0 y.1 (omega (arith, y.4)))
@@ -174,7 +166,7 @@ module _ (log : List Record) (h : IsLog log) (c : Record) (number : c.number ≡
       let low = least_out_up_to log c y my (below y my) d.second in
       let within : least_out log c ≤ reach x = let w = d.up_to_reader in omega arith in
       let high = greatest_in_up_to (least_out log c) log c x mx d.first within in
-      let reached = reach_high x mx in
+      let reached = reach_high log (clean log h) x mx in
       let past = leb-false _ _ fails in
       omega arith
 

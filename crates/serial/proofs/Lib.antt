@@ -8,8 +8,6 @@ pub mod Newest
 pub mod Witness
 pub mod Worked
 pub mod Placed
-pub mod Reaching
-pub mod Steps
 pub mod Turned
 pub mod Snapshots
 pub mod Kept

@@ -171,6 +171,15 @@ rank_reach log a =
       ]
     ]
 
+-- nor does it reach further than its own
+pub reach_high : (log : List Record) → Clean log → (a : Record) → Contains log a → reach a ≤ a.number
+reach_high log clean a m =
+    let s = clean.snapshots a m in
+    elim (cases_Bool a.read_only) [
+      | inl only ↦ (let is = ap (λ b. cond b a.snapshot a.number) only in omega (arith, is, s))
+      | inr writes ↦ (let is = ap (λ b. cond b a.snapshot a.number) writes in omega (arith, is))
+    ]
+
 -- of two commits, one that the other conflicts to stands later
 module _ (log : List Record) (clean : Clean log) (a b : Record) (ma : Contains log a) (mb : Contains log b) (c : conflicts_to b a ≡ true) where
   -- the pivot conflicts to none that the reader reaches

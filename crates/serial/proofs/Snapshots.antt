@@ -1,10 +1,12 @@
 -- The commits after a snapshot. A number is a place in the log, and a commit conflicts with none that its snapshot holds.
-use Rattle.std.proofs.Common.{◌≡◌, ℕ, suc, ◌<◌, ◌≤◌, false, cond, ltb, leb, min, List, [], ◌∷◌, ◌++◌, length, take, drop, refl, sym, ap, ◌∙◌, subst, arith, length-append}
+use Rattle.std.proofs.Common.{◌≡◌, ℕ, suc, ◌-◌, ◌<◌, ◌≤◌, false, cond, ltb, leb, min, List, [], ◌∷◌, ◌++◌, length, map, get_or, take, drop, inl, inr, refl, sym, ap, ◌∙◌, subst, arith, length-append}
 use Rattle.std.specs.Prelude.{Contains, ◌&&◌}
 use Rattle.std.specs.List.{list_any}
-use mathlib.Core.List.{reverse}
+use mathlib.Core.List.{reverse, reverse-cons}
 use Rattle.std.proofs.lemmas.Bool.{false_from_ne_true, or_from, and_right}
-use Rattle.std.proofs.lemmas.List.{take-append-drop, reverse-append, length-reverse, length-take-le}
+use Rattle.std.proofs.lemmas.List.{get_or_append_left, map_push, length-map, take-append-drop, reverse-append, length-reverse, length-take-le}
+use Rattle.std.proofs.Math.Seq.{get_or-append_seam}
+use Rattle.siread.proofs.Members.{in_cases, not_in_nil}
 use Rattle.alone.proofs.Lists.{Each, Pairs, each_weaker, each_at}
 use Rattle.alone.proofs.Members.{in_left, in_either}
 use Rattle.serial.specs.declared.records.Record.{Record}
@@ -12,8 +14,8 @@ use Rattle.serial.specs.Commits.{IsLog, conflicts_to, reach}
 use Rattle.serial.specs.Numbers.{is_reader_of}
 use Rattle.serial.specs.Order.{least_out}
 use Rattle.serial.proofs.Arranged.{conflict_overlaps}
-use Rattle.serial.proofs.Ranks.{numbers_below, log_falls}
-use Rattle.serial.proofs.Turned.{in_turned, from_turned, pairs_right, pairs_turned}
+use Rattle.serial.proofs.Ranks.{clean, earlier_numbers, numbers_below, log_falls}
+use Rattle.serial.proofs.Turned.{in_turned, from_turned, pairs_right, pairs_turned, turned_twice}
 
 log_right : (newer older : List Record) → IsLog (newer ++ older) → IsLog older
 log_right [] older h = h
@@ -22,6 +24,35 @@ log_right (c ∷ newer) older h = log_right newer older h.1
 numbers_above : (newer older : List Record) → IsLog (newer ++ older) → Each (λ w. length older < w.number) newer
 numbers_above [] older h = tt
 numbers_above (c ∷ newer) older h = (omega (arith, h.0.numbered, length-append newer older), numbers_above newer older h.1)
+
+-- what is kept of each commit stands at the place of its number
+pub at_number : {X : Type 0} (f : Record → X) (log : List Record) → IsLog log → (w : Record) → Contains log w → (d : X)
+    → get_or (map f (reverse log)) (w.number - 1) d ≡ f w
+at_number f [] h w m d = absurd (not_in_nil w m)
+at_number f (c ∷ log) h w m d =
+    let whole : map f (reverse (c ∷ log)) ≡ map f (reverse log) ++ f c ∷ []
+    = ap (map f) (reverse-cons c log) ∙ map_push f (reverse log) c in
+    let long : length (map f (reverse log)) ≡ length log = length-map (reverse log) f ∙ length-reverse log in
+    ap (λ xs. get_or xs (w.number - 1) d) whole
+    ∙ elim (in_cases c log w m) [
+      | inl same ↦
+          let here : w.number - 1 ≡ length (map f (reverse log))
+          = omega (arith, ap (λ z. z.number) same, h.0.numbered, long) in
+          ap (λ i. get_or (map f (reverse log) ++ f c ∷ []) i d) here
+          ∙ get_or-append_seam (map f (reverse log)) (f c) [] d
+          ∙ ap f same
+      | inr there ↦
+          let small = earlier_numbers c log h.0 h.1 w there in
+          let positive = (clean log h.1).snapshots w there in
+          get_or_append_left (map f (reverse log)) (f c ∷ []) d (w.number - 1)
+          (omega (arith, small, positive, h.0.numbered, long))
+          ∙ at_number f log h.1 w there d
+    ]
+
+pub kept_at : {X : Type 0} (f : Record → X) (commits : List Record) → IsLog (reverse commits)
+    → (w : Record) → Contains (reverse commits) w → (d : X) → get_or (map f commits) (w.number - 1) d ≡ f w
+kept_at f commits h w m d =
+    ap (λ xs. get_or (map f xs) (w.number - 1) d) (sym (turned_twice commits)) ∙ at_number f (reverse commits) h w m d
 
 -- commits in the order of their numbers: those that a snapshot holds, and those after it
 pub record Parts (commits : List Record) (snapshot : ℕ) : Type 0 where

@@ -1,7 +1,8 @@
 -- Lists turned round.
-use Rattle.std.proofs.Common.{List, [], ◌∷◌, ◌++◌, sym, subst}
+use Rattle.std.proofs.Common.{◌≡◌, List, [], ◌∷◌, ◌++◌, refl, sym, ap, ◌∙◌, subst}
 use Rattle.std.specs.Prelude.{Contains}
 use mathlib.Core.List.{reverse, reverse-cons}
+use Rattle.std.proofs.lemmas.List.{reverse-append}
 use Rattle.alone.proofs.Lists.{Each, Pairs, each_left, each_right, each_append, each_at, each_from, pairs_before}
 
 pub each_turned : {X : Type 0} (P : X → Type 0) (xs : List X) → Each P (reverse xs) → Each P xs
@@ -13,6 +14,10 @@ each_turned P (x ∷ xs) e =
 pub turned_each : {X : Type 0} (P : X → Type 0) (xs : List X) → Each P xs → Each P (reverse xs)
 turned_each P [] e = tt
 turned_each P (x ∷ xs) e = subst (Each P) (sym (reverse-cons x xs)) (each_append P (reverse xs) (x ∷ []) (turned_each P xs e.1) (e.0, tt))
+
+pub turned_twice : {X : Type 0} (xs : List X) → reverse (reverse xs) ≡ xs
+turned_twice [] = refl
+turned_twice (x ∷ xs) = ap reverse (reverse-cons x xs) ∙ reverse-append (reverse xs) (x ∷ []) ∙ ap (λ o. x ∷ o) (turned_twice xs)
 
 pub in_turned : {X : Type 0} (xs : List X) (y : X) → Contains xs y → Contains (reverse xs) y
 in_turned xs = each_at (Contains (reverse xs)) xs (each_turned (Contains (reverse xs)) xs (each_from (Contains (reverse xs)) (reverse xs) (λ y m. m)))

@@ -1,4 +1,4 @@
--- Three short logs with a commit that is read only: X conflicts to P, and P to Y, which committed first.
+-- Short logs with a commit that is read only: X conflicts to P, and P to Y, which committed first.
 use Rattle.std.proofs.Common.{◌≡◌, ℕ, Bool, true, false, List, [], ◌∷◌, Some, None, map, refl}
 use Rattle.value.specs.declared.values.Value.TheVariants.{Null}
 use Rattle.table.specs.declared.rows.Change.{Change}
@@ -9,8 +9,8 @@ use Rattle.serial.specs.Numbers.{is_pivot, is_reader, greatest_in}
 use Rattle.serial.specs.Order.{serial_order}
 
 -- a row put into a table
-abbrev written : ℕ → Change
-written table = record { table = table; key = Null; old = None; new = Some [] }
+abbrev one_row : ℕ → Change
+one_row table = record { table = table; key = Null; old = None; new = Some [] }
 
 -- a commit that reads some tables and writes others
 abbrev commit : (number snapshot : ℕ) → Bool → (reads writes : List ℕ) → Record
@@ -21,7 +21,7 @@ commit number snapshot read_only reads writes = record {
   session = [];
   trace = [];
   reads = map WholeTable reads;
-  changes = map written writes;
+  changes = map one_row writes;
 }
 
 abbrev numbers : List Record → List ℕ
@@ -61,14 +61,18 @@ unfolding conflicts_to touch_any
 reader_after = refl
 
 -- P as the pivot: of X with the snapshot 0 it makes no triple, of X with the snapshot 1 it does
-no_pivot_between : is_pivot (commit 2 0 true (1 ∷ 2 ∷ []) [] ∷ commit 1 0 false [] (1 ∷ []) ∷ []) (commit 3 0 false (1 ∷ []) (2 ∷ [])) ≡ false
+abbrev before_pivot : ℕ → List Record
+before_pivot snapshot = commit 2 snapshot true (1 ∷ 2 ∷ []) [] ∷ commit 1 0 false [] (1 ∷ []) ∷ []
+
+no_pivot_between : is_pivot (before_pivot 0) (commit 3 0 false (1 ∷ []) (2 ∷ [])) ≡ false
 unfolding conflicts_to touch_any
 no_pivot_between = refl
 
-pivot_after : is_pivot (commit 2 1 true (1 ∷ 2 ∷ []) [] ∷ commit 1 0 false [] (1 ∷ []) ∷ []) (commit 3 0 false (1 ∷ []) (2 ∷ [])) ≡ true
+pivot_after : is_pivot (before_pivot 1) (commit 3 0 false (1 ∷ []) (2 ∷ [])) ≡ true
 unfolding conflicts_to touch_any
 pivot_after = refl
 
-greatest_after : greatest_in (commit 3 0 true (2 ∷ []) [] ∷ commit 2 1 true (2 ∷ []) [] ∷ commit 1 0 false [] (1 ∷ []) ∷ []) (commit 4 0 false (1 ∷ []) (2 ∷ [])) ≡ 2
+-- of two that read what P writes, the later reaches less far
+greatest_after : greatest_in (commit 3 0 true (2 ∷ []) [] ∷ before_pivot 1) (commit 4 0 false (1 ∷ []) (2 ∷ [])) ≡ 2
 unfolding conflicts_to touch_any
 greatest_after = refl

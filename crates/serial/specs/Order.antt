@@ -53,7 +53,7 @@ pub record IsSerial (log order : List Record) : Type 0 where
 
 -- A commit that is read only stands behind all others whose place is up to its snapshot, and before all others whose
 -- place is past it; those that are read only stand by their snapshots, and by their numbers.
-pub record HasReadersPlaced (log order : List Record) : Type 0 where
+pub record StandBySnapshot (log order : List Record) : Type 0 where
   pub behind : (a r : Record) → Contains log a → Contains log r
       → a.read_only ≡ false → r.read_only ≡ true → least_out log a ≤ r.snapshot → Before order a r
   pub before : (r a : Record) → Contains log r → Contains log a

@@ -3,7 +3,7 @@
 ghost use Rattle.std.specs.Prelude.{◌≡◌, ◌<◌, ◌≤◌, ℕ, true, false, List, [], ◌∷◌, IsPermutation};
 ghost use Rattle.serial.specs.declared.records.Record.{Record};
 ghost use Rattle.serial.specs.Commits.{IsLog, IsNext, IsAccepted};
-ghost use Rattle.serial.specs.Order.{serial_order, IsSerial, HasReadersPlaced, IsKept, IsFixed, IsPutIn};
+ghost use Rattle.serial.specs.Order.{serial_order, IsSerial, StandBySnapshot, IsKept, IsFixed, IsPutIn};
 ghost use Rattle.serial.specs.Answer.{AreJudged, IsAnswer, IsNumbered, Number};
 ghost use Rattle.serial.specs.Safe.{IsSafe};
 ghost use Rattle.serial.specs.Epoch.{InEachEpoch, AreRecorded, AnswersAgain, EndsNewest, AreSound, InTurn};
@@ -14,7 +14,7 @@ ghost use Rattle.serial.specs.Epoch.{InEachEpoch, AreRecorded, AnswersAgain, End
 pub fn commits_have_an_order()
     ensures once { (log : List Record) → IsLog log → IsPermutation log (serial_order log) }
     ensures serial { (log : List Record) → IsLog log → IsSerial log (serial_order log) }
-    ensures readers { (log : List Record) → IsLog log → HasReadersPlaced log (serial_order log) }
+    ensures readers { (log : List Record) → IsLog log → StandBySnapshot log (serial_order log) }
     ensures kept { (commit : Record) (earlier : List Record) → IsLog (commit ∷ earlier) → IsKept commit earlier }
     ensures fixed { (commit : Record) (earlier : List Record) → IsLog (commit ∷ earlier) → IsFixed commit earlier }
     ensures put_in { (commit : Record) (earlier : List Record) → IsLog (commit ∷ earlier) → IsPutIn commit earlier }

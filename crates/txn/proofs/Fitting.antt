@@ -1,13 +1,12 @@
 -- Where the rows fit their columns, they do after each statement. Definitions alone.
-use Rattle.std.proofs.Common.{◌≡◌, ℕ, zero, suc, Bool, true, false, cond, List, [], ◌∷◌, length, map, get_or, ◌⊎◌, inl, inr, Option, Some, None, Result, Ok, Err, refl, sym, ap, subst}
+use Rattle.std.proofs.Common.{◌≡◌, ℕ, zero, suc, Bool, true, false, List, [], ◌∷◌, map, get_or, ◌⊎◌, inl, inr, Option, Some, None, Result, Ok, Err, refl, sym, ap, subst}
 use Rattle.std.specs.Prelude.{All, slice_get, slice_set, if◌then◌else◌}
 use Rattle.std.specs.Option.{option_or}
-use Rattle.std.proofs.lemmas.List.Elements.{All-filter, All-from_recursion, All-head, All-tail}
+use Rattle.std.proofs.lemmas.List.Elements.{All-filter, All-head, All-tail}
 use Rattle.value.specs.declared.refusals.Refusal.{Refusal}
 use Rattle.value.specs.declared.refusals.Refusal.TheVariants.{TypeMismatch}
 use Rattle.value.specs.declared.values.Value.{Value}
 use Rattle.value.specs.ValueOrder.{value_cmp}
-use Rattle.value.specs.Ordered.{HoldsOf}
 use Rattle.value.proofs.OrderedLists.{All-put}
 use Rattle.value.proofs.Results.{ok_same, unless_is}
 use Rattle.table.specs.declared.rows.Change.{Change}
@@ -16,9 +15,8 @@ use Rattle.table.specs.Faults.{are_typed, row_fault, row_refusal}
 use Rattle.table.specs.Rows.{FitsColumns, Layout, RowValues, Tables, layouts_of, put_row, value_in}
 use Rattle.table.proofs.RowLemmas.{FitsColumns-of}
 use Rattle.cond.specs.Eval.{keeps}
-use Rattle.cond.specs.declared.conds.Cond.{Cond}
 use Rattle.assertion.specs.Declarations.{Declared, layouts_in}
-use Rattle.assertion.specs.Meaning.{State, filtered_rows, key_of, rows_of}
+use Rattle.assertion.specs.Meaning.{State, key_of, rows_of}
 use Rattle.assertion.specs.Roots.{state_after, state_after_all}
 use Rattle.assertion.specs.declared.assertions.Assertion.{Assertion}
 use Rattle.assertcheck.specs.declared.inserts.NewRow.{NewRow}

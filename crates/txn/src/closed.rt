@@ -97,6 +97,8 @@ impl Closed {
     pub fn recall_read_only(&self)
         ensures { self.now.read_only ≡ true → (outcome_of self.now).changes ≡ [] }
     {
+        // (what holds of every value of a type is known where a field of it is read)
+        let _ = &self.trace;
         read_only_statements_change_nothing();
     }
 

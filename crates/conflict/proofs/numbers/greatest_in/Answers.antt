@@ -1,12 +1,14 @@
-use Rattle.siread.specs.Locks.{readers_at}
+use Rattle.std.proofs.Common.{map, subst}
+use Rattle.siread.specs.Locks.{readers_at, IsGreatestReader}
+use Rattle.serial.specs.Commits.{reach}
 use Rattle.conflict.specs.Candidates.{record_of}
-use Rattle.conflict.proofs.Reading.{greatest_after, none_after}
+use Rattle.conflict.proofs.Reading.{greatest_found}
 use Rattle.conflict.proofs.numbers.greatest_in.Goals as goal
 
-pub returns-then-candidate-greatest : goal.returns-then-candidate-greatest
-returns-then-candidate-greatest c = λ commits next has.
-    greatest_after commits (readers_at c.args.locks.now) (record_of c.args.candidate.now) next has c.greatest_reader-greatest.result c.greatest_reader-greatest.ensures c.if-candidate-greatest.true
-
-pub returns-else-candidate-greatest : goal.returns-else-candidate-greatest
-returns-else-candidate-greatest c = λ commits next has.
-    none_after commits (readers_at c.args.locks.now) (record_of c.args.candidate.now) next has c.greatest_reader-greatest.result c.greatest_reader-greatest.ensures c.if-candidate-greatest.false
+pub returns : goal.returns
+returns c = λ commits next has reaches least.
+    let reads = readers_at c.args.locks.now in
+    let changes = c.args.candidate.now.changes.now in
+    greatest_found commits reads (record_of c.args.candidate.now) next has c.requires.after_snapshot c.greatest_reader.result
+    (subst (λ n. IsGreatestReader reads changes n (map reach commits) c.greatest_reader.result) least
+    (subst (λ far. IsGreatestReader reads changes c.args.least far c.greatest_reader.result) reaches c.greatest_reader.ensures))

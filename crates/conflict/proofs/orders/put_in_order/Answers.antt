@@ -1,22 +1,22 @@
-use Rattle.std.proofs.Common.{◌≡◌, ◌≢◌, ◌<◌, length, get_or, All, sym, ◌∙◌, subst}
-use Rattle.conflict.proofs.Puts.{put_at, put_last}
+use Rattle.std.proofs.Common.{◌≡◌, suc, ◌∷◌, [], ◌++◌, insert, length, reverse, sym, ap, ◌∙◌, arith}
+use Rattle.std.proofs.lemmas.List.{length-reverse}
+use Rattle.serial.specs.Order.{rank_at}
+use Rattle.conflict.proofs.Puts.{put_at_place, put_last}
 use Rattle.conflict.proofs.orders.put_in_order.Goals as goal
 
-pub returns-then-place-number : goal.returns-then-place-number
-returns-then-place-number c =
+pub returns-then-place-commit : goal.returns-then-place-commit
+returns-then-place-commit c =
+    let log = reverse c.args.committed.now in
+    let commit = c.args.commit.now in
+    let next : commit.number ≡ suc (length log) = omega (arith, c.requires.next, length-reverse c.args.committed.now) in
     c.push_reserved.ensures.items
-    ∙ put_last c.args.place c.args.number c.args.order.now.items
-    (subst (λ n. All (λ other. other ≢ n) c.args.order.now.items) (sym c.if-place-number.true) c.requires.fresh)
+    ∙ ap (λ o. o ++ commit.number ∷ []) c.requires.order
+    ∙ put_last log commit c.requires.log next c.if-not-commit.true (sym c.requires.place ∙ c.if-place-commit.true)
 
-pub returns-in-None : goal.returns-in-None
-returns-in-None c =
-    c.push_reserved-in-None.ensures.items
-    ∙ put_last c.args.place c.args.number c.args.order.now.items
-    (subst (λ o. All (λ other. other ≢ c.args.place) o) c.as_slice.ensures.value c.in-None.ensures.none)
-
-pub returns-in-Ok : goal.returns-in-Ok
-returns-in-Ok c =
+pub returns : goal.returns
+returns c =
+    let log = reverse c.args.committed.now in
+    let commit = c.args.commit.now in
     c.in-Ok.ensures.items
-    ∙ put_at c.args.place c.args.number c.args.order.now.items c.in-Some.at c.requires.distinct
-    (subst (λ o. c.in-Some.at < length o) c.as_slice.ensures.value c.in-Some.ensures.within)
-    (subst (λ o. get_or o c.in-Some.at 0 ≡ c.args.place) c.as_slice.ensures.value c.in-Some.ensures.found)
+    ∙ ap (λ o. insert o c.place_of-at.result commit.number) c.requires.order
+    ∙ put_at_place log commit c.rank_of.result c.place_of-at.result (c.rank_of.ensures ∙ ap (λ p. rank_at p commit) c.requires.place) c.place_of-at.ensures

@@ -1,8 +1,9 @@
-use Rattle.std.proofs.Common.{ap, sym, ◌≡◌, ◌∙◌, subst, Ok, Err}
+use Rattle.std.proofs.Common.{ap, sym, ◌≡◌, ◌∙◌, true, subst, Ok, Err}
 use Rattle.std.specs.Prelude.{IfOk, IfErr, ◌≢◌}
 use Rattle.value.specs.declared.refusals.Refusal.TheVariants.{NoMemory}
 use Rattle.alone.specs.Alone.{Step}
-use Rattle.txn.specs.Transactions.{step_of}
+use Rattle.alone.specs.Resolve.{is_read_only}
+use Rattle.txn.specs.Transactions.{OpenTransaction, step_of}
 use Rattle.txn.specs.contracts.txns.Txn as txn
 use Rattle.txn.proofs.Holding.{held_after, never, reply_err, reply_ok, step_is}
 use Rattle.txn.proofs.txns.Txn.run.Goals as goal
@@ -12,7 +13,8 @@ invariant_of-self-2 c =
     rw (c.settle.ensures, c.settle_modes.ensures, c.push_reserved.ensures.items, c.make_room.ensures.trace)
     (held_after (txn.the_view c.self.inside)
     c.self.inside.own c.self.inside.modes c.self.inside.touched c.make_room.new.touched c.self.inside.reads.items c.make_room.new.reads.items c.args.statement c.in-Ok.done c.runs_are_joined.ensures c.self.invariant
-    c.in-Ok.ensures.done c.in-Ok.ensures.of c.in-Ok.ensures.changes c.make_room.ensures.kept (rw (c.as_slice.ensures.value) at c.in_default.ensures.added) c.in_default.ensures.read c.requires.may_run)
+    c.in-Ok.ensures.done c.in-Ok.ensures.of c.in-Ok.ensures.changes c.make_room.ensures.kept (rw (c.as_slice.ensures.value) at c.in_default.ensures.added) c.in_default.ensures.read
+    (subst (λ (t : OpenTransaction). t.read_only ≡ true → is_read_only c.args.statement ≡ true) (sym c.self.view_is) c.requires.may_run))
 
 pub returns-clause-replied : goal.returns-clause-replied
 returns-clause-replied c =

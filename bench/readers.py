@@ -1,0 +1,198 @@
+#!/usr/bin/python3
+"""How many commits are refused for readers, with a plain BEGIN and with BEGIN READ ONLY, beside PostgreSQL.
+
+    apt-get install -y postgresql python3-psycopg2
+    python3 bench/readers.py [--program PATH] [--transactions 2000] [--open 4,8,16] [--owners 100] [--seed 1]
+
+Without --program the program is built first by `rt run` in crates/skewguard, which proves it. The table that
+docs/PERFORMANCE.md holds is printed as it stands there.
+
+The load is the ledger: no owner's accounts sum below zero, and each owner has two. Of four transactions one reads 20
+accounts, each by its key, as a report does; the others read the two accounts of an owner, and take from one of them. So
+many sessions are open at once, and take their turns at random, a statement a turn. The same turns are played four times:
+through `skewguard replay`, the readers beginning with BEGIN and with BEGIN READ ONLY, and on PostgreSQL, SERIALIZABLE, over
+the SQL that `skewguard postgresql` prints, the readers beginning READ WRITE and READ ONLY. A refused transaction is not
+tried again. On PostgreSQL a session may wait for another one's row; its turns then wait with it.
+"""
+
+import argparse
+import os
+import queue
+import random
+import subprocess
+import sys
+import tempfile
+import threading
+import time
+
+sys.path[:0] = [os.path.dirname(os.path.abspath(__file__)),
+                os.path.join(os.path.dirname(os.path.abspath(__file__)), '..', 'tools')]
+
+import psycopg2
+from against_postgresql import Server
+from replays import built
+
+ACCOUNTS = 2  # of an owner
+READ = 20  # accounts that a report reads
+REFUSED_FOR_OTHERS = ('40001', '40P01')
+
+
+def definitions(owners):
+    rows = ''.join(f"INSERT INTO ACCT VALUES ({owner * 10 + i}, 'O{owner}', 1000);\n"
+                   for owner in range(1, owners + 1) for i in range(ACCOUNTS))
+    return ('CREATE TABLE ACCT (ID INTEGER PRIMARY KEY, OWNER VARCHAR(10), BAL INTEGER);\n'
+            'CREATE ASSERTION FUNDS CHECK (NOT EXISTS (SELECT OWNER FROM ACCT GROUP BY OWNER HAVING SUM(BAL) < 0));\n' + rows)
+
+
+def report(rng, owners):
+    keys = rng.sample([owner * 10 + i for owner in range(1, owners + 1) for i in range(ACCOUNTS)], READ)
+    return [f'SELECT BAL FROM ACCT WHERE ID = {key}' for key in keys]
+
+
+def withdrawal(rng, owners):
+    first = rng.randint(1, owners) * 10
+    looks = [f'SELECT BAL FROM ACCT WHERE ID = {first + i}' for i in range(ACCOUNTS)]
+    return [*looks, f'UPDATE ACCT SET BAL = BAL - {rng.randint(1, 3)} WHERE ID = {first + rng.randrange(ACCOUNTS)}']
+
+
+def turns(transactions, sessions, owners, seed):
+    """The turns as pairs of a session and an event. A report begins with 'BEGIN READER'."""
+    rng = random.Random(f'{transactions} {sessions} {owners} {seed}')
+    left, script, running = transactions, [], [[] for _ in range(sessions)]
+    while left or any(running):
+        session = rng.randrange(sessions)
+        if not running[session]:
+            if not left:
+                continue
+            left -= 1
+            is_report = left % 4 == 0
+            running[session] = [
+                'BEGIN READER' if is_report else 'BEGIN',
+                *(report if is_report else withdrawal)(rng, owners),
+                'COMMIT',
+            ]
+        script.append((session, running[session].pop(0)))
+    return script
+
+
+class Counts:
+    """What COMMITs were answered, of reports and of withdrawals; a transaction that is refused before is counted once."""
+
+    def __init__(self):
+        self.ended, self.refused = {True: 0, False: 0}, {True: 0, False: 0}
+
+    def note(self, is_report, is_refused):
+        self.ended[is_report] += 1
+        self.refused[is_report] += is_refused
+
+    def share(self, *kinds):
+        return 100 * sum(self.refused[kind] for kind in kinds) / sum(self.ended[kind] for kind in kinds)
+
+
+def play_program(program, defs, script, begin):
+    text = ''.join(f"S{session}: {begin if event == 'BEGIN READER' else event};\n" for session, event in script)
+    with tempfile.TemporaryDirectory() as folder:
+        names = [os.path.join(folder, name) for name in ('defs', 'script')]
+        for name, content in zip(names, (defs, text)):
+            with open(name, 'w') as file:
+                file.write(content)
+        ran = subprocess.run([program, 'replay', *names], capture_output=True, text=True, check=True)
+    replies = [line for line in ran.stdout.splitlines() if not line.startswith('  ')]
+    counts, is_report = Counts(), {}
+    for (session, event), reply in zip(script, replies):
+        if event.startswith('BEGIN'):
+            is_report[session] = event == 'BEGIN READER'
+        elif event == 'COMMIT':
+            answer = reply.split(': ', 1)[1]
+            assert answer.startswith('COMMIT ') or answer.startswith(('REFUSED 12 ', 'REFUSED 13 ')), reply
+            counts.note(is_report[session], answer.startswith('REFUSED'))
+    return counts
+
+
+class Player(threading.Thread):
+    """Plays the turns of a session on a connection of its own."""
+
+    def __init__(self, server, schema, begin, counts):
+        super().__init__(daemon=True)
+        self.cursor = server.connect(f'-c search_path={schema} -c enable_seqscan=off -c jit=off').cursor()
+        self.begin, self.counts = begin, counts
+        self.work, self.idle, self.is_report, self.is_lost = queue.Queue(), True, False, False
+        self.start()
+
+    def give(self, event):
+        self.idle = False
+        self.work.put(event)
+
+    def run(self):
+        while (event := self.work.get()) is not None:
+            self.play(event)
+            self.idle = self.work.empty()
+
+    def play(self, event):
+        if event.startswith('BEGIN'):
+            self.is_report, self.is_lost = event == 'BEGIN READER', False
+            mode = self.begin if self.is_report else 'READ WRITE'
+            # (the snapshot of a transaction here is taken by its BEGIN, and there by its first statement)
+            self.cursor.execute(f'BEGIN ISOLATION LEVEL SERIALIZABLE {mode}; SELECT 1')
+            return
+        if not self.is_lost:
+            try:
+                self.cursor.execute(event)
+            except psycopg2.Error as error:
+                assert error.pgcode in REFUSED_FOR_OTHERS, error
+                self.is_lost = True
+                self.cursor.execute('ROLLBACK')
+        if event == 'COMMIT':
+            self.counts.note(self.is_report, self.is_lost)
+
+
+def play_postgresql(program, server, defs, script, begin, sessions):
+    with tempfile.NamedTemporaryFile('w') as file:
+        file.write(defs)
+        file.flush()
+        sql = subprocess.run([program, 'postgresql', file.name], capture_output=True, text=True, check=True).stdout
+    schema = f"readers_{begin.replace(' ', '_').lower()}_{sessions}"
+    with server.connect() as connection, connection.cursor() as cursor:
+        cursor.execute(f'CREATE SCHEMA {schema}; SET search_path = {schema}')
+        cursor.execute(sql)
+        cursor.execute('ANALYZE')
+    counts = Counts()
+    players = [Player(server, schema, begin, counts) for _ in range(sessions)]
+    for session, event in script:
+        players[session].give(event)
+        until = time.monotonic() + 0.05
+        while not players[session].idle and time.monotonic() < until:
+            time.sleep(0.00005)
+    for player in players:
+        player.give(None)
+        player.join()
+    return counts
+
+
+def main():
+    parser = argparse.ArgumentParser(description=__doc__, formatter_class=argparse.RawDescriptionHelpFormatter)
+    parser.add_argument('--program')
+    parser.add_argument('--transactions', type=int, default=2000)
+    parser.add_argument('--open', default='4,8,16')
+    parser.add_argument('--owners', type=int, default=100)
+    parser.add_argument('--seed', type=int, default=1)
+    given = parser.parse_args()
+    program = os.path.abspath(given.program or built())
+    defs = definitions(given.owners)
+    server = Server()
+    try:
+        print('| open at once | readers begin | refused here | of the reports | refused by PostgreSQL 15 | of the reports |')
+        print('|---:|---|---:|---:|---:|---:|')
+        for sessions in map(int, given.open.split(',')):
+            script = turns(given.transactions, sessions, given.owners, given.seed)
+            for here, there in (('BEGIN', 'READ WRITE'), ('BEGIN READ ONLY', 'READ ONLY')):
+                ours = play_program(program, defs, script, here)
+                theirs = play_postgresql(program, server, defs, script, there, sessions)
+                shares = [f'{counts.share(*kinds):.1f} %' for counts in (ours, theirs) for kinds in ((True, False), (True,))]
+                print(f'| {sessions} | {here} | {" | ".join(shares)} |', flush=True)
+    finally:
+        server.stop()
+
+
+if __name__ == '__main__':
+    main()
