@@ -256,7 +256,10 @@ fn show_seat(core: &Core, seat: &commit::Seat, text: &mut String) -> Result<(), 
         text.push_str("NONE\n")?;
         return Ok(());
     };
-    show(&core.holds(txn.ticket(), txn.snapshot(), txn.is_read_only()), text)?;
+    show(
+        &core.holds(txn.ticket(), txn.snapshot(), txn.is_read_only()),
+        text,
+    )?;
     show_run(txn.snapshot(), txn.trace(), txn.reads(), txn.own(), text)
 }
 

@@ -34,7 +34,8 @@ fn outcome_over(alloc: Global, tables: View, steps: &[Step]) -> Result<Outcome, 
     requires { IsSound tables.declared tables.state }
     ensures { IfOk result (λ outcome. AreLive outcome.engine.core outcome.engine.seats) }
 {
-    run(alloc, 4, tables, steps)
+    let outcome = run(alloc, 4, tables, steps)?;
+    Ok(outcome)
 }
 
 /// The outcome of a script over the tables that a text defines.
@@ -101,8 +102,14 @@ fn readers_become_safe(rt: HostRuntime) -> Result<(), Fail> {
         ("R: BEGIN READ ONLY; R: COMMIT;", false),
         ("W: BEGIN; R: BEGIN READ ONLY;", true),
         ("W: BEGIN; X: BEGIN; X: COMMIT; R: BEGIN READ ONLY;", false),
-        ("W: BEGIN; X: BEGIN; X: COMMIT; R: BEGIN READ ONLY; W: COMMIT;", true),
-        ("W: BEGIN; X: BEGIN; X: COMMIT; R: BEGIN READ ONLY; W: ROLLBACK;", true),
+        (
+            "W: BEGIN; X: BEGIN; X: COMMIT; R: BEGIN READ ONLY; W: COMMIT;",
+            true,
+        ),
+        (
+            "W: BEGIN; X: BEGIN; X: COMMIT; R: BEGIN READ ONLY; W: ROLLBACK;",
+            true,
+        ),
     ] {
         assert_eq!(rt; safety(rt.alloc(), script)?, want, "{script}");
     }

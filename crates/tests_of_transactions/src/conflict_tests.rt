@@ -190,11 +190,7 @@ impl History {
     /// Whether the snapshot that holds so many commits is safe, if there are as many.
     fn is_safe(&self, snapshot: u64) -> Option<bool> {
         if snapshot <= self.committed.len() as u64 {
-            Some(is_safe(
-                self.committed.as_slice(),
-                self.places.as_slice(),
-                snapshot,
-            ))
+            Some(is_safe(self.committed.as_slice(), self.places.as_slice(), snapshot))
         } else {
             None
         }
@@ -283,11 +279,7 @@ fn the_pivot_comes_last(rt: HostRuntime) -> Result<(), Fail> {
 }
 
 /// Who reads what the first wrote stands before it, and who is read only right behind its snapshot.
-fn are_in_order<R: Abort>(
-    rt: &R,
-    alloc: Global,
-    history: &mut History,
-) -> Result<(), Refusal> {
+fn are_in_order<R: Abort>(rt: &R, alloc: Global, history: &mut History) -> Result<(), Refusal> {
     history.submit_all(alloc, &[writer(9, 1), writer(1, 2)])?;
     assert_eq!(rt; history.order.as_slice(), [2u64, 1].as_slice());
     history.submit(alloc, &writer(7, 7))?;

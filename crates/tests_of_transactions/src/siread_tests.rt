@@ -148,6 +148,9 @@ fn the_greatest_reader_is_of_a_touched_key(rt: HostRuntime) -> Result<(), Fail> 
     let_go(locks);
     let_go(changes);
     put?;
-    assert_eq!(rt; [of_all, of_those_that_reach, of_no_such, of_none], [2, 1, 0, 0]);
+    assert_eq!(rt;
+        [of_all, of_those_that_reach, of_no_such, of_none],
+        [2, 1, 0, 0]
+    );
     Ok(())
 }
