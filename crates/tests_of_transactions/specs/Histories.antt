@@ -7,7 +7,7 @@ use Rattle.serial.specs.Order.{least_out, serial_order}
 use Rattle.conflict.specs.Ordered.{numbers_of}
 use Rattle.conflict.specs.Readers.{HasReaders}
 
--- Each commit was accepted over those before it. Beside each stands the least conflict out, and how far it reaches; and
+-- Each commit was accepted over those before it. Beside each stand its least conflict out, and how far it reaches;
 -- beside all their numbers in serial order, and who read what.
 pub record AreKept (committed : List Record) (places reaches order : List ℕ) (reads : Reads) : Type 0 where
   pub log : IsLog (reverse committed)

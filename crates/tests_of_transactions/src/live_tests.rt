@@ -6,7 +6,7 @@ use std::process::Abort;
 use std::test::Fail;
 use value::Refusal;
 
-/// Two transactions begin, one that is read only on the tables after the first commit, and one on those after the third.
+/// Two transactions begin, a read-only one on the tables after the first commit, and one on those after the third.
 fn begin_two(live: &mut Live) -> Result<(), Refusal> {
     live.begin(1, true)?;
     live.begin(3, false)
