@@ -84,7 +84,7 @@ class Story:
             answer = engine.run(self.core, [(session, event)])[0]
             if isinstance(event, P.Begin) and not isinstance(answer, Refused):
                 live[session] = {'session': session, 'begun': i, 'snapshot': answer[1], 'end': 'open', 'number': 0,
-                                 'txn': self.core.live[session][1], 'changes': []}
+                                 'read_only': event.read_only, 'txn': self.core.live[session][1], 'changes': []}
                 self.transactions.append(live[session])
             it = live.get(session)
             if it is not None:
@@ -126,7 +126,7 @@ class Story:
 
     def who(self, it):
         name = f"commit {it['number']}" if it['end'] == 'committed' else 'this transaction'
-        return f"{name} (session {it['session']}, events {it['begun'] + 1} to {it['ended'] + 1}, snapshot {it['snapshot']})"
+        return f"{name} (session {it['session']}, events {it['begun'] + 1} to {it['ended'] + 1}, {sees(it)})"
 
     # explanations --------------------------------------------------------------------------------
     def explained(self, i):
@@ -145,7 +145,7 @@ class Story:
         return lines + ['..']
 
     def done(self, i, told, it):
-        lines = [f"  in the transaction of event {it['begun'] + 1}, snapshot {it['snapshot']}"]
+        lines = [f"  in the transaction of event {it['begun'] + 1}, {sees(it)}"]
         is_commit = it['end'] == 'committed' and it['ended'] == i
         if is_commit:
             lines.append(f"  place in the serial order: {self.order.index(it['number']) + 1}")
@@ -220,6 +220,8 @@ class Story:
         parties = [this if n == 'THIS' else self.commit(n) for n in names]
         lines = ['  a dangerous triple: reader, pivot and writer may have no serial order']
         lines += [f'  {name}: {self.who(it)}' for name, it in zip(('reader', 'pivot', 'writer'), parties)]
+        if parties[0]['read_only']:
+            lines.append(f"  the reader is read only, and its snapshot {parties[0]['snapshot']} holds the writer, commit {names[2]}")
         for (a, x), (b, y) in ((('the reader', parties[0]), ('the pivot', parties[1])),
                                (('the pivot', parties[1]), ('the writer', parties[2]))):
             found = {}
@@ -267,7 +269,7 @@ class Story:
             said = f"refused, {self.events[it['ended']]['answer'].number}"
         else:
             said = it['end']
-        return f"{said}; events {it['begun'] + 1} to {it['ended'] + 1}, snapshot {it['snapshot']}, session {it['session']}"
+        return f"{said}; events {it['begun'] + 1} to {it['ended'] + 1}, {sees(it)}, session {it['session']}"
 
     def called(self, it):
         name = f"commit {it['number']}" if it['end'] == 'committed' else 'the refused transaction'
@@ -291,6 +293,10 @@ def some(lines, front):
 
 def row_text(row):
     return '(' + ', '.join(value_text(v) for v in row) + ')'
+
+
+def sees(it):
+    return f"snapshot {it['snapshot']}" + (', read only' if it['read_only'] else '')
 
 
 def reader(by):

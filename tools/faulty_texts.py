@@ -83,6 +83,9 @@ TEXTS = {
     "script-word": TABLES + "---\nALICE: BEGIN;\nALICE: COMIT;\n",
     "script-no-session": TABLES + "---\nALICE: BEGIN;\nINSERT INTO SHIFTS VALUES (7, 8);\n",
     "script-definition": TABLES + "---\nALICE: CREATE TABLE T (ID INTEGER PRIMARY KEY);\n",
+    "script-transaction": TABLES + "---\nALICE: BEGIN TRANSACTION;\n",
+    "script-read-write": TABLES + "---\nALICE: BEGIN READ WRITE;\n",
+    "script-read-olny": TABLES + "---\nALICE: BEGIN READ OLNY;\n",
     "script-statements": TABLES + "---\nALICE: BEGIN;\nALICE: UPDATE DUTY SET ONCAL = 1 WHERE ID = 7;\nALICE: DELETE FROM DUTY WHERE DOCTOR = 7;\nALICE: UPDATE SHIFTS SET ID = 8 WHERE ID = 7;\nALICE: VERDICT COVERED;\n",
 }
 

@@ -2,7 +2,8 @@
 use Rattle.std.proofs.Common.{◌≡◌, ℕ, Bool, true, false, not, cond, List, [], ◌∷◌, ◌++◌, Option, Some, None, Result, Ok, Err, map, length, refl, ap, ◌∙◌}
 use Rattle.std.specs.Prelude.{filter, flat_map}
 use Rattle.std.specs.List.{list_all, range_with_len}
-use Rattle.std.proofs.lemmas.Bool.{and_parts}
+use Rattle.std.proofs.lemmas.Bool.{and_from, and_parts}
+use Rattle.std.proofs.lemmas.List.Folds.{list_all-append}
 use Rattle.value.specs.declared.values.Value.{Value}
 use Rattle.value.specs.declared.refusals.Refusal.{Refusal}
 use Rattle.table.specs.declared.rows.Change.{Change}
@@ -91,3 +92,8 @@ resolved_reads declared (written.Delete table condition) = refl
 resolved_reads declared (written.Select columns table condition) = made_reads Select (select_of declared.tables columns table condition) (λ s. refl)
 resolved_reads declared (written.SetConstraints assertions mode) = made_reads (λ names. SetModes names mode) (set_names declared.assertions assertions) (λ names. refl)
 resolved_reads declared (written.Verdict name) = refl
+
+-- such a statement behind others
+pub one_more : (trace : List Resolved) (s : Resolved) → list_all is_read_only trace ≡ true → is_read_only s ≡ true
+    → list_all is_read_only (trace ++ s ∷ []) ≡ true
+one_more trace s before now = list_all-append is_read_only trace (s ∷ []) ∙ and_from _ _ before (and_from _ _ now refl)

@@ -1,5 +1,5 @@
 -- One commit more: what is kept at hand is again what the commits determine.
-use Rattle.std.proofs.Common.{◌≡◌, ℕ, ◌+◌, ◌<◌, Bool, true, false, List, [], ◌∷◌, ◌++◌, None, length, sym, ap, ◌∙◌, subst, arith}
+use Rattle.std.proofs.Common.{◌≡◌, ℕ, ◌+◌, ◌<◌, Bool, true, false, List, [], ◌∷◌, ◌++◌, None, length, refl, sym, ap, ◌∙◌, subst, arith}
 use Rattle.std.specs.Prelude.{◌==◌, All, Contains}
 use Rattle.std.proofs.lemmas.List.{length-append, length-map, map_push}
 use Rattle.std.proofs.lemmas.List.Elements.{All-from_recursion}
@@ -124,7 +124,7 @@ module _ (now : CoreState) (tables : Shown) (places reaches order : List ℕ) (c
           ap (λ p. places ++ p ∷ []) there
           ∙ ap (λ ps. ps ++ least_out log commit ∷ []) core.places_are
           ∙ places_more records commit next.accepted;
-      reaches_are = ap (λ (rs : List ℕ). rs ++ reach commit ∷ []) core.reaches_are ∙ sym (map_push reach commit records);
+      reaches_are = ap (λ (rs : List ℕ). rs ++ reach commit ∷ []) core.reaches_are ∙ sym (map_push reach records commit);
       order_is =
           put
           ∙ ap numbers_of (sym (order_step commit log next.accepted))

@@ -2,12 +2,12 @@
 use Rattle.std.proofs.Common.{◌≡◌, ◌∙◌, ◌<◌, ℕ, List, [], length, Option, Some, None, sym, ap, subst, refl, arith}
 use Rattle.std.specs.Prelude.{◌≤◌}
 use Rattle.std.proofs.lemmas.List.Elements.{All-nil}
-use Rattle.siread.specs.Locks.{Reads, above}
+use Rattle.siread.specs.Locks.{Reads, reaching}
 use Rattle.answer.specs.declared.answers.RefusedCommit.{RefusedCommit}
 use Rattle.alone.specs.Alone.{IsSound}
 use Rattle.delta.specs.Views.{Shown}
 use Rattle.live.specs.declared.snapshots.LiveSnapshot.{LiveSnapshot}
-use Rattle.live.specs.Live.{AreBelow, LiveState, least_held, none_live, without}
+use Rattle.live.specs.Live.{AreBelow, LiveState, least_writing, none_live, without}
 use Rattle.commit.specs.declared.prepared.Prepared.{Prepared}
 use Rattle.commit.specs.Cores.{CoreState, reads_kept}
 use Rattle.commit.specs.Kept.{IsCore, IsKept, idle_core, pending_of}
@@ -64,11 +64,11 @@ same_core core core' newest newest' places places' reaches reaches' order order'
 pub kept_left : (core : CoreState) (newest : Shown) (places reaches order : List ℕ) (locks : Reads) (Room Room' : Type 0) (prepared : Option Prepared)
     (ticket : ℕ) (live : LiveState) (refused : List RefusedCommit) (count : ℕ) (after : Reads)
     → prepared ≡ None → live ≡ without ticket core.live → count ≡ length core.records
-    → after ≡ above (least_held count live.snapshots) locks → IsKept core newest places reaches order locks prepared Room
+    → after ≡ reaching (least_writing count live.snapshots) reaches locks → IsKept core newest places reaches order locks prepared Room
     → IsKept (record core { live = live; refused = refused }) newest places reaches order after prepared Room'
 kept_left core newest places reaches order locks Room Room' prepared ticket live refused count after idle e same f kept =
     let left : after ≡ reads_kept (record core { live = live; refused = refused }) =
-    f ∙ (λ i. above (least_held (same i) (e i).snapshots) (locks_idle core newest places reaches order locks Room prepared idle kept i))
+    f ∙ (λ i. reaching (least_writing (same i) (e i).snapshots) (kept.0.reaches_are i) (locks_idle core newest places reaches order locks Room prepared idle kept i))
     ∙ kept_ended core.live core.records ticket ∙ (λ i. reads_kept (record core { live = sym e i; refused = refused })) in
     kept_idle (record core { live = live; refused = refused }) newest places reaches order after Room' prepared idle
     (same_commits core newest places reaches order locks Room live refused

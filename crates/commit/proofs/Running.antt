@@ -18,12 +18,11 @@ use Rattle.answer.specs.declared.answers.Answer.{Answer}
 use Rattle.answer.specs.declared.answers.Answer.TheVariants.{Begun, Committed, Refused, Replied, RolledBack}
 use Rattle.alone.specs.Alone.{IsSound}
 use Rattle.alone.specs.Resolve.{is_read_only, resolved}
-use Rattle.alone.proofs.ReadOnly.{changes_nothing, resolved_reads}
+use Rattle.alone.proofs.ReadOnly.{changes_nothing, one_more, resolved_reads}
 use Rattle.delta.specs.Views.{Shown}
 use Rattle.live.specs.declared.snapshots.LiveSnapshot.{LiveSnapshot}
 use Rattle.serial.specs.Epoch.{IsEpoch}
 use Rattle.txn.specs.Transactions.{OpenTransaction, outcome_of, with_statement}
-use Rattle.txn.proofs.Holding.{no_changes_with}
 use Rattle.commit.specs.declared.seats.Seat.{Seat}
 use Rattle.commit.specs.Cores.{CoreState, IsCommitAnswer, IsLive, committed, log_of, record_of}
 use Rattle.commit.specs.Events.{AreLive, EngineState, IsAnswered, IsAnsweredAt, IsReply, IsCommitted, after, after_at, commit_answer, core_after, decided_core, found_no_memory, seat_of, seats_set, txn_after, txn_of, txn_with}
@@ -112,7 +111,7 @@ own_live core session Rollback (Some t) answer h live = tt
 -- nor does it run one
 reads_only_with : (t : OpenTransaction) (statement : Statement) → ReadsOnly t → ReadsOnly (with_statement t (resolved t.declared t.read_only statement))
 reads_only_with t statement reads only =
-    no_changes_with t.trace (resolved t.declared t.read_only statement) (reads only)
+    one_more t.trace (resolved t.declared t.read_only statement) (reads only)
     (subst (λ b. is_read_only (resolved t.declared b statement) ≡ true) (sym only) (resolved_reads t.declared statement))
 
 own_reads_only : (core : CoreState) (event : Event) (txn : Option OpenTransaction) → HoldsOf ReadsOnly txn → HoldsOf ReadsOnly (txn_after core event txn)

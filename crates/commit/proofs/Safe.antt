@@ -1,6 +1,6 @@
 -- A safe reader is not refused for others, and stays safe whatever they do.
 use Rattle.std.proofs.Common.{◌≡◌, ◌+◌, ◌<◌, ◌≤◌, ℕ, Bool, true, false, cond, List, [], ◌∷◌, ◌++◌, filter, length, Option, Some, None, Result, Ok, Err, inl, inr, refl, sym, ap, ◌∙◌, subst, arith}
-use Rattle.std.specs.Prelude.{◌==◌, ◌||◌, Contains, nat_le}
+use Rattle.std.specs.Prelude.{◌==◌, ◌||◌, Contains, nat_le, ⊤}
 use Rattle.std.specs.List.{list_all}
 use Rattle.std.proofs.lemmas.Bool.{and_from, and_parts, leb-true, le-leb, or_right}
 use Rattle.std.proofs.lemmas.List.Folds.{list_all-append}
@@ -36,13 +36,14 @@ abbrev IsOwnReason : Option Refusal → Type 0
 IsOwnReason None = ⊤
 IsOwnReason (Some refusal) = IsNotForOthers (Err refusal)
 
+own_reason_at : (name : List ℕ) (bad : Option Root) (rest : Option Refusal) → IsOwnReason rest → IsOwnReason (refusal_at name bad rest)
+own_reason_at name None rest own = own
+own_reason_at name (Some root) rest own = tt
+
 own_reason : (layouts : List Layout) (assertions : List Assertion) (state : State) → IsOwnReason (violation layouts assertions state)
 own_reason layouts [] state = tt
-own_reason layouts (a ∷ rest) state = go (least_bad_of layouts a.form state)
-  where
-    go : (bad : Option Root) → IsOwnReason (refusal_at a.name bad (violation layouts rest state))
-    go None = own_reason layouts rest state
-    go (Some root) = tt
+own_reason layouts (a ∷ rest) state =
+    own_reason_at a.name (least_bad_of layouts a.form state) (violation layouts rest state) (own_reason layouts rest state)
 
 module _ (c : CoreState) (session : List ℕ) (t : OpenTransaction) (log : IsLog (log_of c)) (none : t.read_only ≡ true → (outcome_of t).changes ≡ []) (safe : IsSafeReader c t) where
   abbrev commit : Record

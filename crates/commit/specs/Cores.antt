@@ -12,9 +12,10 @@ use Rattle.assertion.specs.Declarations.{Declared}
 use Rattle.assertion.specs.Meaning.{State}
 use Rattle.answer.specs.declared.answers.RefusedCommit.{RefusedCommit}
 use Rattle.delta.specs.Views.{Shown}
-use Rattle.siread.specs.Locks.{Reads, above, with_reader}
-use Rattle.live.specs.Live.{LiveState, least_held, with_begin, without}
+use Rattle.siread.specs.Locks.{Reads, reaching, with_reader}
+use Rattle.live.specs.Live.{LiveState, least_writing, with_begin, without}
 use Rattle.serial.specs.declared.records.Record.{Record}
+use Rattle.serial.specs.Commits.{reach}
 use Rattle.serial.specs.Answer.{IsAnswer, Number, WriteConflict as Overwrites, Dangerous as Triple}
 use Rattle.serial.specs.Epoch.{AnswersAgain, AreRecorded, AreSound, EndsNewest, newest, state_of}
 use Rattle.serial.specs.Order.{serial_order}
@@ -145,9 +146,10 @@ abbrev pub pending_txn : Option Pending → Option OpenTransaction
 pending_txn None = None
 pending_txn (Some p) = Some p.txn
 
--- for each key the commits that read it, as far as an open transaction's snapshot does not hold them
+-- for each key the commits that read it, as far as they reach past the snapshot of an open transaction that may write
 abbrev pub reads_kept : CoreState → Reads
-reads_kept c = above (least_held (length c.records) c.live.snapshots) (reads_of c.records)
+reads_kept c =
+    reaching (least_writing (length c.records) c.live.snapshots) (map reach c.records) (reads_of c.records)
 
 -- and the one that is prepared
 abbrev pub reads_with : Option Pending → (number : ℕ) → Reads → Reads

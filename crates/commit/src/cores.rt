@@ -3,9 +3,9 @@
 ghost use Rattle.std.specs.Prelude.{◌≡◌, ◌↔◌, ◌≢◌, ◌≤◌, ◌<◌, ◌+◌, ◌++◌, ◌∷◌, [], ℕ, List, length, true, false, vec_capacity, vec_len, Contains, IfOk, IfErr, IfSome, IfNone, IsOkUnless, OnErr, OnOk, Ok, Err, None, Some};
 ghost use Rattle.value.specs.declared.refusals.Refusal.TheVariants.{NoMemory};
 ghost use Rattle.txn.specs.Modes.{assertion_of};
-ghost use Rattle.siread.specs.Locks.{IsCount, above, readers_at};
+ghost use Rattle.siread.specs.Locks.{IsCount, reaching, readers_at};
 ghost use Rattle.live.specs.Held.{is_held};
-ghost use Rattle.live.specs.Live.{least_held, without};
+ghost use Rattle.live.specs.Live.{least_writing, without};
 ghost use Rattle.alone.specs.Alone.{IsSound};
 ghost use Rattle.serial.specs.Commits.{HasNoWriteConflict, IsLog};
 ghost use Rattle.serial.specs.Order.{least_out};
@@ -47,8 +47,8 @@ pub struct Core {
     order: Vec<u64>,
     refused: Vec<RefusedCommit>,
     live: Live,
-    /// Who read what, of the commits that some open transaction's snapshot does not hold, and of the one that is
-    /// prepared.
+    /// Who read what, of the commits that reach past the snapshot of some open transaction that may write, and of the one
+    /// that is prepared.
     locks: LockTable,
     prepared: Option<Prepared>,
 }
@@ -227,18 +227,20 @@ impl Core {
         let snapshot = closed.snapshot();
         let read_only = closed.is_read_only();
         let record = record_of(number, snapshot, read_only, session, closed.into_parts());
-        put_in_order(
-            &mut self.order,
-            self.records.as_slice(),
-            self.places.as_slice(),
-            &record,
-            place,
-        );
+        let committed = self.records.as_slice();
+        let places = self.places.as_slice();
+        put_in_order(&mut self.order, committed, places, &record, place);
         self.places.push_reserved(place);
         self.reaches.push_reserved(record.reach());
         self.records.push_reserved(record);
         self.newest = tables;
-        forget(&mut self.live, &mut self.locks, ticket, number);
+        forget(
+            &mut self.live,
+            &mut self.locks,
+            self.reaches.as_slice(),
+            ticket,
+            number,
+        );
     }
 
     /// Gives the prepared commit up, if one is prepared, and its transaction back. All is then as it was before it
@@ -264,7 +266,13 @@ impl Core {
         ensures { self.new ≡ ended self.old txn }
     {
         let newest = self.records.len() as u64;
-        forget(&mut self.live, &mut self.locks, txn.ticket(), newest);
+        forget(
+            &mut self.live,
+            &mut self.locks,
+            self.reaches.as_slice(),
+            txn.ticket(),
+            newest,
+        );
         let_go(txn.abandon());
     }
 
@@ -275,8 +283,8 @@ impl Core {
         verdict_on(&self.newest, name)
     }
 
-    /// How many pairs there are of a key and a commit that read it, of the commits that some open transaction's
-    /// snapshot does not hold, and of the one that is prepared. It takes no memory.
+    /// How many pairs there are of a key and a commit that read it, of the commits that reach past the snapshot of some
+    /// open transaction that may write, and of the one that is prepared. It takes no memory.
     pub fn locks(&self) -> usize
         ensures { IsCount (locks_of self.now) result }
     {
@@ -437,6 +445,8 @@ impl Core {
     {
         let records = self.records.as_slice();
         let changes = closed.changes();
+        // (that a read-only transaction has changed nothing is a clause of this call)
+        closed.recall_read_only();
         let candidate = Candidate {
             number: records.len() as u64 + 1,
             snapshot: closed.snapshot(),
@@ -553,19 +563,27 @@ impl Core {
             return give_back(fault, closed);
         }
         let newest = self.records.len() as u64;
-        forget(&mut self.live, &mut self.locks, closed.ticket(), newest);
+        forget(
+            &mut self.live,
+            &mut self.locks,
+            self.reaches.as_slice(),
+            closed.ticket(),
+            newest,
+        );
         let_go(closed.into_parts());
         Uncommitted { refusal, txn: None }
     }
 }
 
-/// A transaction has ended: its snapshot is held no more, and readers that no snapshot asks for any more go.
-fn forget(live: &mut Live, locks: &mut LockTable, ticket: u64, newest: u64)
+/// A transaction has ended: its snapshot is held no more, and readers go that reach no further than the snapshots of all
+/// that may write.
+fn forget(live: &mut Live, locks: &mut LockTable, reaches: &[u64], ticket: u64, newest: u64)
     ensures live { live.new ≡ without ticket live.old }
-    ensures locks { readers_at locks.new ≡ above (least_held newest live.new.snapshots) (readers_at locks.old) }
+    ensures locks { readers_at locks.new
+        ≡ reaching (least_writing newest live.new.snapshots) reaches.now (readers_at locks.old) }
 {
     live.end(ticket);
-    locks.trim_below(live.least(newest));
+    locks.trim(live.least_writing(newest), reaches);
 }
 
 /// The record of a commit.

@@ -9,7 +9,8 @@ use Rattle.serial.proofs.Kept.{places_more}
 use Rattle.conflict.specs.Judged.{IsVerdict}
 use Rattle.conflict.specs.declared.verdicts.Verdict.TheVariants.{Fine}
 
-pub accepted : (log : List Record) (commit : Record) (place : ℕ) → IsNext commit log → commit.snapshot < commit.number → (commit.read_only ≡ true → commit.changes ≡ [])
+pub accepted : (log : List Record) (commit : Record) (place : ℕ) → IsNext commit log
+    → commit.snapshot < commit.number → (commit.read_only ≡ true → commit.changes ≡ [])
     → IsVerdict log commit (Fine place) → IsAccepted commit log
 accepted log commit place next after nothing verdict = record {
   numbered = next.numbered;
@@ -20,13 +21,17 @@ accepted log commit place next after nothing verdict = record {
 }
 
 -- the commits with one more, and the least conflicts out with that of the verdict
-pub log_after : (commits : List Record) (commit : Record) (place : ℕ) → IsNext commit (reverse commits) → commit.snapshot < commit.number
-    → (commit.read_only ≡ true → commit.changes ≡ []) → IsVerdict (reverse commits) commit (Fine place) → IsLog (reverse (commits ++ commit ∷ []))
+pub log_after : (commits : List Record) (commit : Record) (place : ℕ) → IsNext commit (reverse commits)
+    → commit.snapshot < commit.number → (commit.read_only ≡ true → commit.changes ≡ [])
+    → IsVerdict (reverse commits) commit (Fine place) → IsLog (reverse (commits ++ commit ∷ []))
 log_after commits commit place next after nothing verdict =
-    subst IsLog (sym (reverse-append commits (commit ∷ []))) (accepted (reverse commits) commit place next after nothing verdict, next.accepted)
+    subst IsLog (sym (reverse-append commits (commit ∷ [])))
+    (accepted (reverse commits) commit place next after nothing verdict, next.accepted)
 
-pub places_after : (commits : List Record) (places : List ℕ) (commit : Record) (place : ℕ) → IsNext commit (reverse commits) → commit.snapshot < commit.number
-    → (commit.read_only ≡ true → commit.changes ≡ []) → IsVerdict (reverse commits) commit (Fine place) → places ≡ map (least_out (reverse commits)) commits
+pub places_after : (commits : List Record) (places : List ℕ) (commit : Record) (place : ℕ)
+    → IsNext commit (reverse commits) → commit.snapshot < commit.number
+    → (commit.read_only ≡ true → commit.changes ≡ []) → IsVerdict (reverse commits) commit (Fine place)
+    → places ≡ map (least_out (reverse commits)) commits
     → places ++ place ∷ [] ≡ map (least_out (reverse (commits ++ commit ∷ []))) (commits ++ commit ∷ [])
 places_after commits places commit place next after nothing verdict kept =
     ap (λ o. o ++ place ∷ []) kept
@@ -34,6 +39,7 @@ places_after commits places commit place next after nothing verdict kept =
     ∙ places_more commits commit (accepted (reverse commits) commit place next after nothing verdict, next.accepted)
 
 -- how far they reach, with that of one commit more
-pub reaches_after : (commits : List Record) (reaches : List ℕ) (commit : Record) (far : ℕ) → far ≡ reach commit → reaches ≡ map reach commits
+pub reaches_after : (commits : List Record) (reaches : List ℕ) (commit : Record) (far : ℕ) → far ≡ reach commit
+    → reaches ≡ map reach commits
     → reaches ++ far ∷ [] ≡ map reach (commits ++ commit ∷ [])
 reaches_after commits reaches commit far is kept = (λ i. kept i ++ is i ∷ []) ∙ sym (map_push reach commits commit)

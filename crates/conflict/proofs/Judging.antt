@@ -38,8 +38,10 @@ abbrev pub recent_of : List Record → Candidate → List Record
 recent_of commits candidate = take (length commits - candidate.snapshot) (drop candidate.snapshot commits)
 
 -- the least conflict out found among those is that over all
-pub least_found : (commits : List Record) (candidate : Candidate) → IsLog (reverse commits) → candidate.number ≡ length commits + 1 → candidate.snapshot < candidate.number
-    → (place : ℕ) → place ≡ least_out (reverse (recent_of commits candidate)) (record_of candidate) → place ≡ least_out (reverse commits) (record_of candidate)
+pub least_found : (commits : List Record) (candidate : Candidate) → IsLog (reverse commits)
+    → candidate.number ≡ length commits + 1 → candidate.snapshot < candidate.number → (place : ℕ)
+    → place ≡ least_out (reverse (recent_of commits candidate)) (record_of candidate)
+    → place ≡ least_out (reverse commits) (record_of candidate)
 least_found commits candidate log next after place e =
     e ∙ ap (λ o. least_out (reverse o) (record_of candidate)) (take_rest commits candidate.snapshot)
     ∙ sym (least_out_recent commits (record_of candidate) (held_parts commits candidate log next after))
@@ -51,7 +53,13 @@ module _ (commits : List Record) (candidate : Candidate) (commit : Record) (aske
       record { accepted = asked.log; numbered = omega (arith, asked.next, asked.is.number) }
 
   same : Alike (record_of candidate) commit
-  same = record { number = asked.is.number; snapshot = asked.is.snapshot; read_only = asked.is.read_only; reads = asked.is.reads; changes = asked.is.changes }
+  same = record {
+    number = asked.is.number;
+    snapshot = asked.is.snapshot;
+    read_only = asked.is.read_only;
+    reads = asked.is.reads;
+    changes = asked.is.changes;
+  }
 
   held : Parts commits candidate.snapshot
   held = held_parts commits candidate asked.log asked.next asked.after_snapshot
@@ -67,7 +75,8 @@ module _ (commits : List Record) (candidate : Candidate) (commit : Record) (aske
 
   least_is : (place : ℕ) → place ≡ least_out (reverse recent) (record_of candidate) → place ≡ least_out (reverse commits) commit
   least_is place e =
-      least_found commits candidate asked.log asked.next asked.after_snapshot place e ∙ least_out_alike (reverse commits) (record_of candidate) commit same
+      least_found commits candidate asked.log asked.next asked.after_snapshot place e
+      ∙ least_out_alike (reverse commits) (record_of candidate) commit same
 
   greatest_is : (reader : ℕ) → reader ≡ greatest_in (reverse commits) (record_of candidate) → reader ≡ greatest_in (reverse commits) commit
   greatest_is reader e = e ∙ greatest_in_alike (reverse commits) (record_of candidate) commit same

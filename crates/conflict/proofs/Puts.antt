@@ -28,7 +28,9 @@ pub each_in_order : (P : Record → Type 0) (log : List Record) → Each P log �
 each_in_order P log = arranges_each P (serial_order log) log (sorted_arranges (rank log) log)
 
 in_order : (log : List Record) (w : Record) → Contains (serial_order log) w → Contains log w
-in_order log = each_at (Contains log) (serial_order log) (each_in_order (Contains log) log (each_from (Contains log) log (λ w m. m)))
+in_order log =
+    each_at (Contains log) (serial_order log)
+    (each_in_order (Contains log) log (each_from (Contains log) log (λ w m. m)))
 
 all_of : (P : Record → Type 0) (order : List Record) → Each P order → AllByRecursion P order
 all_of P [] e = tt
@@ -38,7 +40,8 @@ all_of P (w ∷ order) e = (e.0, all_of P order e.1)
 put_between : (key : Record → ℕ) (c : Record) (before after : List Record) → AllByRecursion (λ w. key w ≤ key c) before
     → AllByRecursion (λ w. key c < key w) after → put_by key c (before ++ after) ≡ before ++ c ∷ after
 put_between key c [] [] low high = refl
-put_between key c [] (w ∷ after) low high = ap (λ b. cond b (c ∷ w ∷ after) (w ∷ put_by key c after)) (lt-ltb _ _ high.0)
+put_between key c [] (w ∷ after) low high =
+    ap (λ b. cond b (c ∷ w ∷ after) (w ∷ put_by key c after)) (lt-ltb _ _ high.0)
 put_between key c (w ∷ before) after low high =
     ap (λ b. cond b (c ∷ w ∷ before ++ after) (w ∷ put_by key c (before ++ after))) (le-ltb _ _ low.0)
     ∙ ap (λ o. w ∷ o) (put_between key c before after low.1 high)
@@ -76,15 +79,16 @@ put_last log c h last writes own =
     let low : Each (λ w. rank log w ≤ rank log c) order
     = each_in_order (λ w. rank log w ≤ rank log c) log (each_from (λ w. rank log w ≤ rank log c) log (λ w m.
     let high = rank_high log (clean log h) w m in
-    let below : w.number < suc (length log) = each_at (λ w. w.number < suc (length log)) log (numbers_below log h) w m in
+    let below : w.number < suc (length log)
+    = each_at (λ w. w.number < suc (length log)) log (numbers_below log h) w m in
     omega (arith, placed, high, below, last))) in
     sym (map-append (λ (r : Record). r.number) order (c ∷ []))
     ∙ ap numbers_of (sym (put_between (rank log) c order [] (all_of (λ w. rank log w ≤ rank log c) order low) tt))
     ∙ ap (λ o. numbers_of (put_by (rank log) c o)) (append-nil order)
 
 -- where keys ascend, none before one of no greater key has a greater one
-low_up_to : (key : Record → ℕ) (of : ℕ) (order : List Record) (at : ℕ) (d : Record) → Ascends key order → at < length order
-    → key (get_or order at d) ≤ of → AllByRecursion (λ w. key w ≤ of) (take (suc at) order)
+low_up_to : (key : Record → ℕ) (of : ℕ) (order : List Record) (at : ℕ) (d : Record) → Ascends key order
+    → at < length order → key (get_or order at d) ≤ of → AllByRecursion (λ w. key w ≤ of) (take (suc at) order)
 low_up_to key of [] at d up l low = absurd (omega arith)
 low_up_to key of (w ∷ order) zero d up l low = (low, tt)
 low_up_to key of (w ∷ order) (suc at) d up l low =
@@ -136,7 +140,8 @@ module _ (commits : List Record) (places : List ℕ) (h : IsLog (reverse commits
       → IsAt (left - 1) (get_or order (left - 1) 0)
   last_left order left e some within =
       let long = length-map (serial_order log) (λ (r : Record). r.number) in
-      is_at (left - 1) (get_or order (left - 1) 0) (omega (arith, some, within, ap length e, long)) (ap (λ o. get_or o (left - 1) 0) e)
+      is_at (left - 1) (get_or order (left - 1) 0) (omega (arith, some, within, ap length e, long))
+      (ap (λ o. get_or o (left - 1) 0) e)
 
   -- all from so far on have a greater rank
   abbrev AreGreater : ℕ → ℕ → Type 0

@@ -84,7 +84,8 @@ zipped commits places held kept xs s t u r first second y p is steps =
 
 -- the test by the least conflict out that was kept
 pub tested : (log : List Record) (commit pivot : Record) (writer : ℕ) (result answer : Bool) → writer ≡ least_out log pivot
-    → result ≡ (conflicts_to commit pivot && (ltb writer pivot.number && leb writer (reach commit))) → result ≡ answer → is_reader_of log commit pivot ≡ answer
+    → result ≡ (conflicts_to commit pivot && (ltb writer pivot.number && leb writer (reach commit))) → result ≡ answer
+    → is_reader_of log commit pivot ≡ answer
 tested log commit pivot writer result answer kept is e =
     sym (ap (λ w. conflicts_to commit pivot && (ltb w pivot.number && leb w (reach commit))) kept) ∙ sym is ∙ e
 

@@ -3,7 +3,7 @@ use Rattle.std.specs.Prelude.{◌≡◌, ◌≤◌, ℕ, Bool, List, map, filter
 use Rattle.std.specs.List.{list_any}
 use Rattle.siread.specs.declared.keys.LockKey.{LockKey}
 use Rattle.siread.specs.Keys.{same_key}
-use Rattle.siread.specs.Locks.{Reads, above}
+use Rattle.siread.specs.Locks.{Reads, reaching}
 use Rattle.serial.specs.declared.records.Record.{Record}
 
 abbrev pub has_read : LockKey → Record → Bool
@@ -13,8 +13,9 @@ has_read key commit = list_any (same_key key) commit.reads
 abbrev pub reads_of : List Record → Reads
 reads_of commits key = map (λ (commit : Record). commit.number) (filter (has_read key) commits)
 
--- these are the readers of these commits, but for those up to a number that is at most the snapshot
-pub record HasReaders (reads : Reads) (commits : List Record) (snapshot : ℕ) : Type 0 where
+-- These are the readers of these commits, but for those that reach no further than a number that is at most the
+-- snapshot. `reaches` says how far each commit reaches.
+pub record HasReaders (reads : Reads) (reaches : List ℕ) (commits : List Record) (snapshot : ℕ) : Type 0 where
   pub low : ℕ
   pub within : low ≤ snapshot
-  pub are : reads ≡ above low (reads_of commits)
+  pub are : reads ≡ reaching low reaches (reads_of commits)

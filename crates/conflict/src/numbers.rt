@@ -1,6 +1,6 @@
 //! The two numbers of a candidate.
 
-ghost use Rattle.std.specs.Prelude.{◌≡◌, ◌<◌, ◌&&◌, List, if◌then◌else◌, map, min, nat_lt, reverse};
+ghost use Rattle.std.specs.Prelude.{◌≡◌, ◌<◌, ◌&&◌, true, false, List, [], if◌then◌else◌, map, min, nat_lt, reverse};
 ghost use Rattle.siread.specs.Locks.{readers_at};
 ghost use Rattle.siread.specs.Readers.{ReachNoFurther};
 ghost use Rattle.serial.specs.Commits.{conflicts_to, reach, IsNext};
@@ -39,14 +39,20 @@ fn least_with(other: &Record, candidate: &Candidate, least: u64) -> u64
 }
 
 /// The greatest of those that conflict to the candidate and reach the least to which it conflicts, 0 where there is
-/// none. Of those who read what it changes, all that reach so far are after its snapshot.
+/// none. Of those who read what it changes, all that reach so far reach past its snapshot. To one that is read only
+/// none conflicts, so who read what is not asked for.
 pub fn greatest_in(locks: &LockTable, reaches: &[u64], least: u64, candidate: &Candidate) -> u64
     requires no_further { ReachNoFurther reaches.now }
     requires after_snapshot { candidate.now.snapshot < candidate.now.number }
+    requires changes_nothing { candidate.now.read_only ≡ true → candidate.now.changes.now ≡ [] }
     ensures { (commits : List Record) → IsNext (record_of candidate.now) (reverse commits)
-        → HasReaders (readers_at locks.now) commits candidate.now.snapshot
+        → (candidate.now.read_only ≡ false
+        → HasReaders (readers_at locks.now) reaches.now commits candidate.now.snapshot)
         → reaches.now ≡ map reach commits → least ≡ least_out (reverse commits) (record_of candidate.now)
         → result ≡ greatest_in (reverse commits) (record_of candidate.now) }
 {
+    if candidate.read_only {
+        return 0;
+    }
     locks.greatest_reader(candidate.changes, least, reaches)
 }

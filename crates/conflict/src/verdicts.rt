@@ -1,6 +1,6 @@
 //! What a candidate is answered by the commits before it.
 
-ghost use Rattle.std.specs.Prelude.{◌≡◌, ◌<◌, ◌+◌, length, map, reverse};
+ghost use Rattle.std.specs.Prelude.{◌≡◌, ◌<◌, ◌+◌, true, false, [], length, map, reverse};
 ghost use Rattle.siread.specs.Locks.{readers_at};
 ghost use Rattle.serial.specs.declared.records.Record.{Record as Commit};
 ghost use Rattle.serial.specs.Commits.{reach, IsLog};
@@ -30,8 +30,9 @@ pub enum Verdict {
 
 /// What the next candidate is answered by those committed: a write conflict, else a dangerous triple, else that it may
 /// join them. `places` are the least conflicts out of those committed, each kept since that one was judged, and
-/// `reaches` says how far each reaches; `locks` says who of them read what, of those above a number that is at most
-/// the candidate's snapshot. It takes no memory.
+/// `reaches` says how far each reaches; `locks` says who of them read what, of those that reach above a number that is
+/// at most the candidate's snapshot. One that is read only changes nothing, so who read what need not be known for it.
+/// It takes no memory.
 pub fn judge(
     committed: &[Record],
     places: &[u64],
@@ -44,7 +45,9 @@ pub fn judge(
     requires after_snapshot { candidate.now.snapshot < candidate.now.number }
     requires places { places.now ≡ map (least_out (reverse committed.now)) committed.now }
     requires reaches { reaches.now ≡ map reach committed.now }
-    requires readers { HasReaders (readers_at locks.now) committed.now candidate.now.snapshot }
+    requires readers { candidate.now.read_only ≡ false
+        → HasReaders (readers_at locks.now) reaches.now committed.now candidate.now.snapshot }
+    requires changes_nothing { candidate.now.read_only ≡ true → candidate.now.changes.now ≡ [] }
     ensures { (commit : Commit) → IsOf candidate.now commit → IsVerdict (reverse committed.now) commit result }
 {
     two_numbers_decide();

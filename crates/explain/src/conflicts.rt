@@ -1,6 +1,6 @@
 //! Commits in the way of one that was refused.
 
-use crate::stories::{MOST_LINES, Story, add_left_out, number_of};
+use crate::stories::{MOST_LINES, Story, add_left_out, add_snapshot, number_of};
 use history::{
     Conflict, End, Happening, Reader, Transaction, add_change, add_key, conflicts_between,
 };
@@ -22,8 +22,8 @@ fn add_who(story: Story<'_>, it: &Transaction, out: &mut String) -> Result<(), A
     if let Some(name) = story.session(it.session) {
         write!(out, " (session {name}, events {first} to {last}, ")?;
     }
-    let snapshot = it.snapshot;
-    write!(out, "snapshot {snapshot})")
+    add_snapshot(it, out)?;
+    out.push_str(")")
 }
 
 /// Adds the row that both a refused transaction and a commit after its snapshot changed.
@@ -153,8 +153,22 @@ pub fn add_triple(
         add_who(story, role.transaction, out)?;
         out.push_str("\n")?;
     }
+    add_reach(reader, writer, out)?;
     add_edge(alloc, story, reader, pivot, out)?;
     add_edge(alloc, story, pivot, writer, out)
+}
+
+/// Adds why a reader that is read only is in danger: its snapshot holds the writer.
+fn add_reach(reader: Role<'_>, writer: Role<'_>, out: &mut String) -> Result<(), AllocError> {
+    let (reader, writer) = (reader.transaction, writer.transaction);
+    if !reader.read_only {
+        return Ok(());
+    }
+    let (snapshot, number) = (reader.snapshot, writer.number);
+    write!(
+        out,
+        "  the reader is read only, and its snapshot {snapshot} holds the writer, commit {number}\n"
+    )
 }
 
 /// The transaction that a refusal names, with this part.

@@ -5,7 +5,7 @@ use crate::figures::add_violation;
 use crate::parts::row_under;
 use crate::stories::{Story, number_of};
 use delta::View;
-use history::{Happening, add_row};
+use history::{Happening, Transaction, add_row};
 use std::alloc::{AllocError, Global};
 use value::{Excess, Refusal, Text, Value};
 
@@ -40,6 +40,7 @@ pub fn add_refusal(
             add_row_under(view, table, key, out)?;
         }
         (Refusal::TransactionOpen, _, _) => add_open(story, event, happening.session, out)?,
+        (Refusal::ReadOnlyTransaction, _, Some(this)) => add_read_only(this, out)?,
         _ => add_sentence(refusal, out)?,
     }
     Ok(())
@@ -59,6 +60,15 @@ fn add_open(
     write!(
         out,
         "  A transaction is open in this session since event {number}; COMMIT or ROLLBACK ends it.\n"
+    )
+}
+
+/// Adds where a transaction began READ ONLY, and how one begins that may write.
+fn add_read_only(this: &Transaction, out: &mut String) -> Result<(), AllocError> {
+    let begun = number_of(this.begun);
+    write!(
+        out,
+        "  The transaction began READ ONLY, at event {begun}. To write, end it, and begin one by BEGIN alone.\n"
     )
 }
 

@@ -2,7 +2,7 @@
 
 use crate::conflicts::add_reader;
 use crate::faults::add_refusal;
-use crate::stories::{MOST_LINES, Story, add_left_out, number_of};
+use crate::stories::{MOST_LINES, Story, add_left_out, add_snapshot, number_of};
 use answer::Answer;
 use history::{End, Happening, Read, Transaction, add_bytes, add_change, add_key};
 use report::Report;
@@ -80,11 +80,9 @@ fn add_standing(
     out: &mut String,
 ) -> Result<(), AllocError> {
     let begun = number_of(it.begun);
-    let snapshot = it.snapshot;
-    write!(
-        out,
-        "  in the transaction of event {begun}, snapshot {snapshot}\n"
-    )?;
+    write!(out, "  in the transaction of event {begun}, ")?;
+    add_snapshot(it, out)?;
+    out.push_str("\n")?;
     if event != it.ended || it.end != End::Committed {
         return Ok(());
     }

@@ -41,6 +41,16 @@ impl<'a> Story<'a> {
     }
 }
 
+/// Adds what a transaction sees, and whether it is read only.
+pub fn add_snapshot(it: &Transaction, out: &mut String) -> Result<(), AllocError> {
+    let snapshot = it.snapshot;
+    write!(out, "snapshot {snapshot}")?;
+    if it.read_only {
+        out.push_str(", read only")?;
+    }
+    Ok(())
+}
+
 /// The number of an event, counted from 1.
 pub fn number_of(event: usize) -> usize {
     event.saturating_add(1)

@@ -54,7 +54,7 @@ impl<'a> Stop<'a> {
 }
 
 /// What SQL has and the language has not, with what to write.
-const ELSEWHERE: [(&str, &str); 44] = [
+const ELSEWHERE: [(&str, &str); 45] = [
     (
         "ALTER",
         "Tables are not altered: write the columns into CREATE TABLE.",
@@ -168,7 +168,10 @@ const ELSEWHERE: [(&str, &str); 44] = [
         "SOME",
         "There is no SOME: write EXISTS (SELECT * FROM .. WHERE ..).",
     ),
-    ("START", "A transaction begins with BEGIN."),
+    (
+        "START",
+        "A transaction begins with BEGIN, or with BEGIN READ ONLY where it is to write nothing.",
+    ),
     (
         "TEXT",
         "The types are INTEGER and VARCHAR(n), with n from 1 to 255.",
@@ -181,7 +184,10 @@ const ELSEWHERE: [(&str, &str); 44] = [
         "TIME",
         "The types are INTEGER and VARCHAR(n). A time as a number, of minutes say, has the right order.",
     ),
-    ("TRANSACTION", "BEGIN, COMMIT and ROLLBACK stand alone."),
+    (
+        "TRANSACTION",
+        "There is no word TRANSACTION: write BEGIN, BEGIN READ ONLY, COMMIT or ROLLBACK.",
+    ),
     (
         "TRIGGER",
         "There are no triggers: an assertion is checked by itself.",
@@ -203,6 +209,7 @@ const ELSEWHERE: [(&str, &str); 44] = [
         "WITH",
         "There is no WITH: write the query where it is used.",
     ),
+    ("WRITE", "BEGIN alone begins a transaction that may write."),
 ];
 
 /// What was most likely meant, if that can be told.

@@ -52,6 +52,8 @@ pub struct Transaction {
     /// Its last event.
     pub ended: usize,
     pub end: End,
+    /// Whether it began READ ONLY.
+    pub read_only: bool,
     /// How many commits its snapshot holds.
     pub snapshot: u64,
     /// Its number, if it was committed; if its COMMIT was refused, the number that it would have had. Else 0.

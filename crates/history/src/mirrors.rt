@@ -48,15 +48,9 @@ pub fn follow(
         Answer::Refused(Refusal::NoMemory) => Err(Refusal::NoMemory),
         Answer::Begun(snapshot) => {
             let snapshot = *snapshot;
-            follow_begin(
-                alloc,
-                core.newest(),
-                snapshot,
-                mirror,
-                event,
-                happening,
-                notes,
-            )
+            let read_only = matches!(step.event, Event::BeginReadOnly);
+            let txn = Txn::begin(alloc, 0, snapshot, read_only, core.newest())?;
+            follow_begin(alloc, txn, mirror, event, happening, notes)
         }
         _ => {
             let commits = core.records().len() as u64;
@@ -84,7 +78,7 @@ fn follow_inside(
     happening.transaction = Some(mirror.transaction);
     transaction.ended = event;
     match &step.event {
-        Event::Begin => Ok(()),
+        Event::Begin | Event::BeginReadOnly => Ok(()),
         Event::Run(statement) => follow_statement(
             alloc,
             mirror,
@@ -102,19 +96,19 @@ fn follow_inside(
     }
 }
 
-/// Begins on the tables that the engine's transaction begins on.
+/// Seats a transaction on the tables that the engine's transaction begins on.
 fn follow_begin(
     alloc: Global,
-    newest: &View,
-    snapshot: u64,
+    txn: Txn,
     mirror: &mut Mirror,
     event: usize,
     happening: &mut Happening,
     notes: &mut Notes,
 ) -> Result<(), Refusal> {
-    let txn = Txn::begin(alloc, 0, snapshot, newest)?;
+    let (read_only, snapshot) = (txn.is_read_only(), txn.snapshot());
+    let modes = Modes::initial(alloc, txn.own().assertions());
     set_txn(&mut mirror.seat, Some(txn));
-    mirror.modes = Modes::initial(alloc, newest.assertions())?;
+    mirror.modes = modes?;
     mirror.transaction = notes.transactions.len();
     happening.transaction = Some(mirror.transaction);
     notes.transactions.push(Transaction {
@@ -122,6 +116,7 @@ fn follow_begin(
         begun: event,
         ended: event,
         end: End::Open,
+        read_only,
         snapshot,
         number: 0,
         reads: Vec::new(alloc),
@@ -142,7 +137,7 @@ fn follow_statement(
     let Some(txn) = &mut mirror.seat.txn else {
         return Ok(());
     };
-    let trial = try_statement(alloc, txn.own(), statement)?;
+    let trial = try_statement(alloc, txn.own(), txn.is_read_only(), statement)?;
     let own = txn.own().copy()?;
     execute(txn, event, statement, transaction)?;
     match trial {

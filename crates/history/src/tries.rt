@@ -23,15 +23,16 @@ pub struct Trial {
 }
 
 /// What a statement changes of the rows of a view, and the view after it. Nothing where it changes no row by its kind,
-/// or is refused for another reason than an assertion. NoMemory is the only error.
+/// or is refused for another reason than an assertion, as in a read-only transaction. NoMemory is the only error.
 pub fn try_statement(
     alloc: Global,
     own: &View,
+    read_only: bool,
     statement: &Statement,
 ) -> Result<Option<Trial>, Refusal>
     ensures only_memory { IsOkUnless result NoMemory }
 {
-    let resolved = resolve(alloc, own, statement)?;
+    let resolved = resolve(alloc, own, read_only, statement)?;
     try_resolved(alloc, own, &resolved)
 }
 

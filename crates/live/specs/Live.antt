@@ -1,5 +1,5 @@
 -- Which snapshots are held by open transactions.
-use Rattle.std.specs.Prelude.{◌<◌, ◌+◌, ◌==◌, ◌||◌, ℕ, Bool, not, nat_le, List, [], ◌∷◌, ◌++◌, filter, min, All}
+use Rattle.std.specs.Prelude.{◌<◌, ◌+◌, ◌==◌, ◌||◌, ℕ, Bool, not, nat_le, List, [], ◌∷◌, ◌++◌, filter, min, All, if◌then◌else◌}
 use Rattle.std.specs.List.{list_all}
 use Rattle.live.specs.declared.snapshots.LiveSnapshot.{LiveSnapshot}
 
@@ -25,10 +25,15 @@ is_other ticket one = not (one.ticket == ticket)
 abbrev pub without : (ticket : ℕ) → LiveState → LiveState
 without ticket live = record { begun = live.begun; snapshots = filter (is_other ticket) live.snapshots }
 
--- the least number of commits that one of these snapshots holds, or this one where that is less
-abbrev pub least_held : (newest : ℕ) → List LiveSnapshot → ℕ
-least_held newest [] = newest
-least_held newest (one ∷ rest) = min one.snapshot (least_held newest rest)
+-- the lesser of a number and what the snapshot holds, if that is of one that may write
+abbrev pub least_with : LiveSnapshot → ℕ → ℕ
+least_with one least = if one.read_only then least else min one.snapshot least
+
+-- The least number of commits that the snapshot of one of them that may write holds, or this one where that is less.
+-- What was read is asked for by those that may write alone.
+abbrev pub least_writing : (newest : ℕ) → List LiveSnapshot → ℕ
+least_writing newest [] = newest
+least_writing newest (one ∷ rest) = least_with one (least_writing newest rest)
 
 -- each of them that may write holds at least so many commits
 abbrev pub writers_hold : (snapshot : ℕ) → List LiveSnapshot → Bool

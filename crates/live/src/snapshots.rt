@@ -3,7 +3,7 @@
 ghost use Rattle.std.specs.Prelude.{◌≡◌, true, Contains, IfOk, IsOkUnless, OnErr, OnOk};
 ghost use Rattle.value.specs.declared.refusals.Refusal.TheVariants.{NoMemory};
 ghost use Rattle.live.specs.Held.{is_held};
-ghost use Rattle.live.specs.Live.{least_held, none_live, with_begin, without, writers_hold};
+ghost use Rattle.live.specs.Live.{least_with, least_writing, none_live, with_begin, without, writers_hold};
 
 use std::alloc::Global;
 use std::marker::Model;
@@ -92,14 +92,14 @@ impl Live {
         is_held(self.snapshots.as_slice(), ticket, snapshot, read_only)
     }
 
-    /// The least number of commits that an open transaction's snapshot holds, or this one where that is less. It
-    /// takes no memory.
-    pub fn least(&self, newest: u64) -> u64
-        ensures { result ≡ least_held newest self.now.snapshots }
+    /// The least number of commits that the snapshot of an open transaction that may write holds, or this one where
+    /// that is less. It takes no memory.
+    pub fn least_writing(&self, newest: u64) -> u64
+        ensures { result ≡ least_writing newest self.now.snapshots }
     {
         let mut least = newest;
         for live in &self.snapshots {
-            least = least.min(live.snapshot);
+            least = least_with(live, least);
         }
         least
     }
@@ -112,6 +112,17 @@ impl Live {
         self.snapshots
             .iter()
             .all(|live| live.read_only || snapshot <= live.snapshot)
+    }
+}
+
+/// The lesser of a number and what the transaction's snapshot holds, if that one may write.
+fn least_with(live: &LiveSnapshot, least: u64) -> u64
+    ensures { result ≡ least_with live.now least }
+{
+    if live.read_only {
+        least
+    } else {
+        live.snapshot.min(least)
     }
 }
 

@@ -1,6 +1,6 @@
 //! The boxes of transactions.
 
-use crate::colours::{CODE, COMMITTED, INK, PALE, RED_INK, REFUSED, SMALL, UNDONE};
+use crate::colours::{CODE, COMMITTED, INK, PALE, RED_INK, REFUSED, ROUND, SMALL, SQUARE, UNDONE};
 use crate::scenes::Scene;
 use crate::svg::{Anchor, Area, Point, add_area, add_cut, add_text, add_title};
 use crate::words::{add_ending, add_event, add_last_event, add_place, add_summary};
@@ -19,7 +19,8 @@ pub fn add_box(
     let mut title = String::new(alloc);
     add_summary(scene.history, it, &mut title)?;
     add_title(title.as_str(), out)?;
-    add_area(area_of(scene, it), &["rx=\"4\"", colours_of(it.end)], out)?;
+    let corners = if it.read_only { ROUND } else { SQUARE };
+    add_area(area_of(scene, it), &[corners, colours_of(it.end)], out)?;
     out.push_str("</g>\n")
 }
 

@@ -11,6 +11,11 @@ pub const BOLD: &str = "font-weight=\"bold\"";
 /// The letters of a statement.
 pub const CODE: &str = "font-family=\"monospace\"";
 
+/// The corners of a box.
+pub const SQUARE: &str = "rx=\"4\"";
+/// The corners of the box of a transaction that began READ ONLY.
+pub const ROUND: &str = "rx=\"13\"";
+
 /// The ground.
 pub const GROUND: &str = "class=\"ground\" fill=\"#ffffff\"";
 /// Texts.

@@ -104,5 +104,18 @@ fn add_body(alloc: Global, scene: Scene<'_>, out: &mut String) -> Result<u32, Al
     }
     out.push_str("</g>\n")?;
     let y = add_arrow_list(alloc, scene, arrows.as_slice(), left, out)?;
-    add_legend(y, out)
+    let has_reader = scene
+        .layout
+        .boxes
+        .iter()
+        .any(|place| is_read_only(scene, *place));
+    add_legend(y, has_reader, out)
+}
+
+/// Whether a transaction began READ ONLY.
+fn is_read_only(scene: Scene<'_>, place: usize) -> bool {
+    match scene.transaction(place) {
+        Some(it) => it.read_only,
+        None => false,
+    }
 }

@@ -18,6 +18,9 @@ const BOXES: [(&str, &str); 3] = [
     (UNDONE, "rolled back, or open when the script ends"),
 ];
 
+/// A box of a transaction that began READ ONLY.
+const READER: &str = "read only: it writes nothing, and may stand as early as its snapshot lets it";
+
 /// Arrows, by their colours and their heads.
 const ARROWS: [(&str, &str, &str); 3] = [
     (
@@ -37,19 +40,15 @@ const ARROWS: [(&str, &str, &str); 3] = [
     ),
 ];
 
-/// Adds what the signs mean, from a height on, and gives where the picture ends.
-pub fn add_legend(y: u32, out: &mut String) -> Result<u32, AllocError> {
+/// Adds what the signs mean, from a height on, and gives where the picture ends. That of a box that is read only is
+/// among them where there is one.
+pub fn add_legend(y: u32, has_reader: bool, out: &mut String) -> Result<u32, AllocError> {
     let mut y = y.saturating_add(10);
     for (colours, text) in &BOXES {
-        let area = Area {
-            x: 8,
-            y: y.saturating_sub(11),
-            width: 34,
-            height: 14,
-        };
-        add_area(area, &["rx=\"3\"", colours], out)?;
-        add_meaning(y, text, out)?;
-        y = y.saturating_add(ROW - 2);
+        y = add_box(y, &["rx=\"3\"", colours], text, out)?;
+    }
+    if has_reader {
+        y = add_box(y, &["rx=\"7\"", COMMITTED], READER, out)?;
     }
     for (colours, head, text) in &ARROWS {
         let middle = y.saturating_sub(4);
@@ -58,6 +57,19 @@ pub fn add_legend(y: u32, out: &mut String) -> Result<u32, AllocError> {
         y = y.saturating_add(ROW - 2);
     }
     Ok(y)
+}
+
+/// Adds a box with its meaning, at a height, and gives that of the next sign.
+fn add_box(y: u32, looks: &[&str], text: &str, out: &mut String) -> Result<u32, AllocError> {
+    let area = Area {
+        x: 8,
+        y: y.saturating_sub(11),
+        width: 34,
+        height: 14,
+    };
+    add_area(area, looks, out)?;
+    add_meaning(y, text, out)?;
+    Ok(y.saturating_add(ROW - 2))
 }
 
 /// Adds the meaning of a sign.

@@ -89,6 +89,9 @@ pub fn add_summary(
     let (first, last) = (it.begun.saturating_add(1), it.ended.saturating_add(1));
     let snapshot = it.snapshot;
     write!(out, "; events {first} to {last}, snapshot {snapshot}")?;
+    if it.read_only {
+        out.push_str(", read only")?;
+    }
     match history.sessions.as_slice().get(it.session) {
         Some(name) => write!(out, ", session {name}"),
         None => Ok(()),

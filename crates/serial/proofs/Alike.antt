@@ -1,4 +1,5 @@
--- Of a transaction, conflicts look at its number, its snapshot, whether it is read only, its reads and its changes alone.
+-- Of a transaction, conflicts look at its number, its snapshot, whether it is read only, its reads and its changes
+-- alone.
 use Rattle.std.proofs.Common.{◌≡◌, ℕ, Bool, cond, ltb, leb, eqb, not, min, max, List, [], ◌∷◌, refl, sym, ap, ◌∙◌}
 use Rattle.std.specs.Prelude.{◌&&◌}
 use Rattle.std.specs.List.{list_any}
@@ -32,7 +33,8 @@ least_out_alike (w ∷ log) a b e =
     let rest = least_out_alike log a b e in
     λ i. cond (ltb w.number (e.number i) && out i) (min w.number (rest i)) (rest i)
 
-greatest_alike : (least : ℕ) (log : List Record) (a b : Record) → Alike a b → greatest_reaching least log a ≡ greatest_reaching least log b
+greatest_alike : (least : ℕ) (log : List Record) (a b : Record) → Alike a b
+    → greatest_reaching least log a ≡ greatest_reaching least log b
 greatest_alike least [] a b e = refl
 greatest_alike least (w ∷ log) a b e =
     let from = in_alike a b w e in
@@ -40,12 +42,15 @@ greatest_alike least (w ∷ log) a b e =
     λ i. cond (from i && leb least (reach w)) (max w.number (rest i)) (rest i)
 
 pub greatest_in_alike : (log : List Record) (a b : Record) → Alike a b → greatest_in log a ≡ greatest_in log b
-greatest_in_alike log a b e = ap (λ least. greatest_reaching least log a) (least_out_alike log a b e) ∙ greatest_alike (least_out log b) log a b e
+greatest_in_alike log a b e =
+    ap (λ least. greatest_reaching least log a) (least_out_alike log a b e)
+    ∙ greatest_alike (least_out log b) log a b e
 
 pivot_alike : (log : List Record) (a b p : Record) → Alike a b → is_reader_of log a p ≡ is_reader_of log b p
 pivot_alike log a b p e =
     let out = out_alike a b p e in
-    λ i. out i && (ltb (least_out log p) p.number && leb (least_out log p) (cond (e.read_only i) (e.snapshot i) (e.number i)))
+    let reaches : reach a ≡ reach b = λ i. cond (e.read_only i) (e.snapshot i) (e.number i) in
+    λ i. out i && (ltb (least_out log p) p.number && leb (least_out log p) (reaches i))
 
 any_same : {X : Type 0} (test other : X → Bool) (xs : List X) → ((x : X) → test x ≡ other x) → list_any test xs ≡ list_any other xs
 any_same test other xs same = ap (λ t. list_any t xs) (λ i x. same x i)

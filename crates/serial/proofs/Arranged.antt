@@ -32,7 +32,8 @@ pub conflict_from : (a b : Record) → a.number ≢ b.number → b.snapshot < a.
 unfolding conflicts_to
 conflict_from a b d l m t = and_from _ _ (and_from _ _ (ap not (ne_eqb _ _ d)) (and_from _ _ (lt-ltb _ _ l) (lt-ltb _ _ m))) t
 
-no_keys_of_none : (keys : List LockKey) → list_any (λ key. list_any (λ (change : Change). touches change key) []) keys ≡ false
+no_keys_of_none : (keys : List LockKey)
+    → list_any (λ key. list_any (λ (change : Change). touches change key) []) keys ≡ false
 no_keys_of_none [] = refl
 no_keys_of_none (key ∷ keys) = no_keys_of_none keys
 
@@ -40,7 +41,9 @@ no_keys_of_none (key ∷ keys) = no_keys_of_none keys
 pub no_conflict_to : (a b : Record) → b.changes ≡ [] → conflicts_to a b ≡ true → ⊥
 unfolding conflicts_to touch_any
 no_conflict_to a b none h =
-    both_ways _ (no_keys_of_none a.reads) (subst (λ changes. list_any (λ key. list_any (λ (change : Change). touches change key) changes) a.reads ≡ true) none (and_parts _ _ h).1)
+    both_ways _ (no_keys_of_none a.reads)
+    (subst (λ changes. list_any (λ key. list_any (λ (change : Change). touches change key) changes) a.reads ≡ true)
+    none (and_parts _ _ h).1)
 
 -- the list lists the log's commits, each once
 abbrev pub Arranges : List Record → List Record → Type 0

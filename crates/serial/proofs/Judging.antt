@@ -14,32 +14,45 @@ use Rattle.serial.proofs.Arranged.{conflict_overlaps}
 use Rattle.alone.proofs.Members.{any_from}
 use Rattle.serial.proofs.Ranks.{clean, least_out_up_to, least_out_met, numbers_below, reach_high}
 
-pub greatest_in_up_to : (least : ℕ) (log : List Record) (c w : Record) → Contains log w → conflicts_to w c ≡ true → least ≤ reach w → w.number ≤ greatest_reaching least log c
+pub greatest_in_up_to : (least : ℕ) (log : List Record) (c w : Record) → Contains log w
+    → conflicts_to w c ≡ true → least ≤ reach w → w.number ≤ greatest_reaching least log c
 greatest_in_up_to least [] c w m h l = absurd (not_in_nil w m)
 greatest_in_up_to least (v ∷ log) c w m h l = elim (in_cases v log w m) [
-  | inl same ↦ here (conflicts_to v c && leb least (reach v)) (subst (λ z. (conflicts_to z c && leb least (reach z)) ≡ true) (sym same) (and_from _ _ h (le-leb _ _ l))) (ap (λ z. z.number) same)
+  | inl same ↦
+      here (conflicts_to v c && leb least (reach v))
+      (subst (λ z. (conflicts_to z c && leb least (reach z)) ≡ true) (sym same) (and_from _ _ h (le-leb _ _ l)))
+      (ap (λ z. z.number) same)
   | inr there ↦ later (conflicts_to v c && leb least (reach v)) (greatest_in_up_to least log c w there h l)
 ]
   where
-    here : (b : Bool) → b ≡ true → v.number ≡ w.number → w.number ≤ cond b (max (v.number) (greatest_reaching least log c)) (greatest_reaching least log c)
+    here : (b : Bool) → b ≡ true → v.number ≡ w.number
+        → w.number ≤ cond b (max (v.number) (greatest_reaching least log c)) (greatest_reaching least log c)
     here true t e = omega arith
     here false t e = cc
 
-    later : (b : Bool) → w.number ≤ greatest_reaching least log c → w.number ≤ cond b (max (v.number) (greatest_reaching least log c)) (greatest_reaching least log c)
+    later : (b : Bool) → w.number ≤ greatest_reaching least log c
+        → w.number ≤ cond b (max (v.number) (greatest_reaching least log c)) (greatest_reaching least log c)
     later true l = omega arith
     later false l = l
 
 abbrev IsGreatestIn : ℕ → Record → List Record → ℕ → Type 0
-IsGreatestIn least c log m = (m ≡ 0) ⊎ ((x : Record) × Contains log x × (conflicts_to x c ≡ true) × (least ≤ reach x) × (x.number ≡ m))
+IsGreatestIn least c log m =
+    (m ≡ 0) ⊎ ((x : Record) × Contains log x × (conflicts_to x c ≡ true) × (least ≤ reach x) × (x.number ≡ m))
 
-greatest_in_later : (least : ℕ) (c v : Record) (log : List Record) (m n : ℕ) → m ≡ n → IsGreatestIn least c log n → IsGreatestIn least c (v ∷ log) m
-greatest_in_later least c v log m n e h = elim h [ inl own ↦ inl (e ∙ own) | inr y ↦ inr (y.0, in_tail v log y.0 y.1, y.2, y.3, y.4 ∙ sym e) ]
+greatest_in_later : (least : ℕ) (c v : Record) (log : List Record) (m n : ℕ) → m ≡ n → IsGreatestIn least c log n
+    → IsGreatestIn least c (v ∷ log) m
+greatest_in_later least c v log m n e h = elim h [
+  | inl own ↦ inl (e ∙ own)
+  | inr y ↦ inr (y.0, in_tail v log y.0 y.1, y.2, y.3, y.4 ∙ sym e)
+]
 
-pub greatest_in_met : (least : ℕ) (log : List Record) (c : Record) → IsGreatestIn least c log (greatest_reaching least log c)
+pub greatest_in_met : (least : ℕ) (log : List Record) (c : Record)
+    → IsGreatestIn least c log (greatest_reaching least log c)
 greatest_in_met least [] c = inl refl
 greatest_in_met least (v ∷ log) c = go (conflicts_to v c && leb least (reach v)) refl (greatest_in_met least log c)
   where
-    go : (b : Bool) → (conflicts_to v c && leb least (reach v)) ≡ b → IsGreatestIn least c log (greatest_reaching least log c)
+    go : (b : Bool) → (conflicts_to v c && leb least (reach v)) ≡ b
+        → IsGreatestIn least c log (greatest_reaching least log c)
         → IsGreatestIn least c (v ∷ log) (cond b (max (v.number) (greatest_reaching least log c)) (greatest_reaching least log c))
     go false e h = greatest_in_later least c v log _ _ refl h
     go true e h =
@@ -119,7 +132,9 @@ module _ (log : List Record) (h : IsLog log) (c : Record) (number : c.number ≡
               reader_in = x.1;
               writer_in = y.1;
               danger = record { first = x.2; second = y.2; before_pivot = y.3; up_to_reader = omega (arith, x.3, y.4) };
-              greatest = λ w v mw mv d. let f = greatest_in_up_to (least_out log c) log c w mw d.first (reached w v mv d) in omega (arith, x.4);
+              greatest = λ w v mw mv d.
+                  let f = greatest_in_up_to (least_out log c) log c w mw d.first (reached w v mv d) in
+                  omega (arith, x.4);
               least = λ w m k. let f = least_out_up_to log c w m (below w m) k in omega (arith, y.4);
             };
             reader_named = x.4;
@@ -129,7 +144,10 @@ module _ (log : List Record) (h : IsLog log) (c : Record) (number : c.number ≡
       ]
     where
       reached : (w v : Record) → Contains log v → IsDangerous w c v → least_out log c ≤ reach w
-      reached w v m d = let low = least_out_up_to log c v m (below v m) d.second in let within = d.up_to_reader in omega arith
+      reached w v m d =
+          let low = least_out_up_to log c v m (below v m) d.second in
+          let within = d.up_to_reader in
+          omega arith
 
       positive : (y : Record) → Contains log y → y.number ≡ 0 → ⊥
       positive y m z = omega (arith, (clean log h).snapshots y m)

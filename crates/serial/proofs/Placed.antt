@@ -7,7 +7,7 @@ use Rattle.serial.specs.Commits.{IsLog}
 use Rattle.serial.specs.Order.{least_out, rank, sort_by, serial_order, Before, StandBySnapshot}
 use Rattle.alone.proofs.Lists.{Each, Pairs, each_weaker, each_both, each_left, pairs_put}
 use Rattle.serial.proofs.Arranged.{arranges_in, arranges_each, before_pairs, one_is_before}
-use Rattle.serial.proofs.Ranks.{Insertion, insertion, ascends, sorted_arranges, log_falls}
+use Rattle.serial.proofs.Ranks.{Insertion, insertion, ascends, at_place, sorted_arranges, log_falls}
 
 abbrev pub Precedes : (Record → ℕ) → Record → Record → Type 0
 Precedes key a b = (key a < key b) ⊎ ((key a ≡ key b) × (a.number < b.number))
@@ -43,16 +43,15 @@ stands_before log h a b ma mb p =
     let order = serial_order log in
     let member = arranges_in order log (sorted_arranges (rank log) log) in
     let differ : (a ≡ b) → ⊥
-    = λ e. let own : Precedes (rank log) a a = subst (λ z. Precedes (rank log) a z) (sym e) p in not_both (rank log) a a own own in
+    = λ e.
+    let own : Precedes (rank log) a a = subst (λ z. Precedes (rank log) a z) (sym e) p in
+    not_both (rank log) a a own own in
     elim (one_is_before order a b (member a ma) (member b mb) differ) [
       | inl l ↦ l
       | inr r ↦
           let turned = before_pairs (Precedes (rank log)) order (precede (rank log) log (log_falls log h)) b a r in
           absurd (not_both (rank log) a b p turned)
     ]
-
-abbrev at_place : List Record → Record → ℕ
-at_place log c = cond (eqb (least_out log c) c.number) (3 * c.number + 1) (3 * least_out log c)
 
 reader_rank : (log : List Record) (r : Record) → r.read_only ≡ true → rank log r ≡ 3 * r.snapshot + 2
 reader_rank log r e = ap (λ b. cond b (3 * r.snapshot + 2) (at_place log r)) e

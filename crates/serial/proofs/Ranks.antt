@@ -47,7 +47,10 @@ clean (c ∷ log) h =
             ]
           ];
       no_danger = h.0.no_danger;
-      changes_nothing = λ a m. elim (in_cases c log a m) [ inl same ↦ subst (λ z. z.read_only ≡ true → z.changes ≡ []) same h.0.changes_nothing | inr there ↦ prev.changes_nothing a there ];
+      changes_nothing = λ a m. elim (in_cases c log a m) [
+        | inl same ↦ subst (λ z. z.read_only ≡ true → z.changes ≡ []) same h.0.changes_nothing
+        | inr there ↦ prev.changes_nothing a there
+      ];
     }
 
 -- where a commit stands
@@ -107,12 +110,16 @@ pub record Moves (log : List Record) (c y : Record) : Type 0 where
 abbrev pub Stands : List Record → Record → Type 0
 Stands log c = Follows log c ⊎ Stays log c ⊎ ((y : Record) × Moves log c y)
 
-abbrev at_place : List Record → Record → ℕ
+abbrev pub at_place : List Record → Record → ℕ
 at_place log c = cond (eqb (least_out log c) c.number) (3 * c.number + 1) (3 * least_out log c)
 
 pub stands : (log : List Record) (c : Record) → Stands log c
 stands log c = elim (cases_Bool c.read_only) [
-  | inl only ↦ inl (record { read_only = only; at_rank = ap (λ b. cond b (3 * c.snapshot + 2) (at_place log c)) only; reaches = ap (λ b. cond b c.snapshot c.number) only })
+  | inl only ↦ inl (record {
+    read_only = only;
+    at_rank = ap (λ b. cond b (3 * c.snapshot + 2) (at_place log c)) only;
+    reaches = ap (λ b. cond b c.snapshot c.number) only;
+  })
   | inr writes ↦ inr (
       let placed : rank log c ≡ at_place log c = ap (λ b. cond b (3 * c.snapshot + 2) (at_place log c)) writes in
       let reaches : reach c ≡ c.number = ap (λ b. cond b c.snapshot c.number) writes in
@@ -128,7 +135,9 @@ stands log c = elim (cases_Bool c.read_only) [
             listed = y.1;
             conflict = y.2;
             below = y.3;
-            at_rank = placed ∙ ap (λ b. cond b (3 * c.number + 1) (3 * least_out log c)) (ne_eqb _ _ (let l = y.3 in let e = y.4 in λ q. omega arith)) ∙ ap (λ n. 3 * n) (sym y.4);
+            at_rank = placed
+                ∙ ap (λ b. cond b (3 * c.number + 1) (3 * least_out log c)) (ne_eqb _ _ (let l = y.3 in let e = y.4 in λ q. omega arith))
+                ∙ ap (λ n. 3 * n) (sym y.4);
             reaches = reaches;
             least = λ w m l h. let k = least_out_up_to log c w m l h in omega (arith, y.4);
           },
@@ -209,7 +218,9 @@ module _ (log : List Record) (clean : Clean log) (a b : Record) (ma : Contains l
               ]
             ]
           ]
-          | inr m ↦ (let past = past_reader m.0 m.1.listed m.1.conflict m.1.below in omega (arith, past, high, m.1.at_rank))
+          | inr m ↦
+              let past = past_reader m.0 m.1.listed m.1.conflict m.1.below in
+              omega (arith, past, high, m.1.at_rank)
         ]
       ]
 
@@ -264,7 +275,9 @@ pub ascends : (key : Record → ℕ) (log : List Record) → Ascends key (sort_b
 ascends key [] = tt
 ascends key (c ∷ log) =
     let k = insertion key c (sort_by key log) (ascends key log) in
-    subst (Ascends key) (sym k.put) (pairs_put (λ a b. key a ≤ key b) k.before c k.after k.small (each_weaker (λ w. key c < key w) (λ w. key c ≤ key w) (λ w l. omega arith) k.after k.large) (subst (Ascends key) k.whole (ascends key log)))
+    let large = each_weaker (λ w. key c < key w) (λ w. key c ≤ key w) (λ w l. omega arith) k.after k.large in
+    subst (Ascends key) (sym k.put) (pairs_put (λ a b. key a ≤ key b) k.before c k.after k.small large
+    (subst (Ascends key) k.whole (ascends key log)))
 
 pub sorted_arranges : (key : Record → ℕ) (log : List Record) → Arranges (sort_by key log) log
 sorted_arranges key [] = refl
@@ -297,14 +310,18 @@ least_out_stays c log w l = ap (λ b. cond (b && conflicts_to w c) (min c.number
 
 pub rank_stays : (c : Record) (log : List Record) (w : Record) → w.number < c.number → rank (c ∷ log) w ≡ rank log w
 rank_stays c log w l =
-    ap (λ p. cond w.read_only (3 * w.snapshot + 2) (cond (eqb p w.number) (3 * w.number + 1) (3 * p))) (least_out_stays c log w l)
+    ap (λ p. cond w.read_only (3 * w.snapshot + 2) (cond (eqb p w.number) (3 * w.number + 1) (3 * p)))
+    (least_out_stays c log w l)
 
 -- the candidate has no conflict to itself
 pub own_least : (c : Record) (log : List Record) → least_out (c ∷ log) c ≡ least_out log c
-own_least c log = ap (λ b. cond (b && conflicts_to c c) (min c.number (least_out log c)) (least_out log c)) (le-ltb _ _ (omega arith))
+own_least c log =
+    ap (λ b. cond (b && conflicts_to c c) (min c.number (least_out log c)) (least_out log c)) (le-ltb _ _ (omega arith))
 
 pub own_rank : (c : Record) (log : List Record) → rank (c ∷ log) c ≡ rank log c
-own_rank c log = ap (λ p. cond c.read_only (3 * c.snapshot + 2) (cond (eqb p c.number) (3 * c.number + 1) (3 * p))) (own_least c log)
+own_rank c log =
+    ap (λ p. cond c.read_only (3 * c.snapshot + 2) (cond (eqb p c.number) (3 * c.number + 1) (3 * p)))
+    (own_least c log)
 
 put_by_same : (key other : Record → ℕ) (c : Record) (order : List Record) → key c ≡ other c → Each (λ w. key w ≡ other w) order → put_by key c order ≡ put_by other c order
 put_by_same key other c [] e h = refl
@@ -318,10 +335,14 @@ sort_by_same key other (c ∷ log) h =
     ∙ ap (put_by other c) (sort_by_same key other log h.1)
 
 -- The order with one commit more: it is put in by its rank.
-pub order_step : (c : Record) (earlier : List Record) → IsLog (c ∷ earlier) → serial_order (c ∷ earlier) ≡ put_by (rank earlier) c (serial_order earlier)
+pub order_step : (c : Record) (earlier : List Record) → IsLog (c ∷ earlier)
+    → serial_order (c ∷ earlier) ≡ put_by (rank earlier) c (serial_order earlier)
 order_step c earlier h =
-    sort_by_same (rank (c ∷ earlier)) (rank earlier) (c ∷ earlier)
-    (own_rank c earlier, each_from (λ w. rank (c ∷ earlier) w ≡ rank earlier w) earlier (λ w m. rank_stays c earlier w (earlier_numbers c earlier h.0 h.1 w m)))
+    sort_by_same (rank (c ∷ earlier)) (rank earlier) (c ∷ earlier) (
+      own_rank c earlier,
+      each_from (λ w. rank (c ∷ earlier) w ≡ rank earlier w) earlier (λ w m.
+          rank_stays c earlier w (earlier_numbers c earlier h.0 h.1 w m)),
+    )
 
 pub order_is_kept : (c : Record) (earlier : List Record) → IsLog (c ∷ earlier) → without c.number (serial_order (c ∷ earlier)) ≡ serial_order earlier
 order_is_kept c earlier h =

@@ -17,7 +17,8 @@ turned_each P (x ∷ xs) e = subst (Each P) (sym (reverse-cons x xs)) (each_appe
 
 pub turned_twice : {X : Type 0} (xs : List X) → reverse (reverse xs) ≡ xs
 turned_twice [] = refl
-turned_twice (x ∷ xs) = ap reverse (reverse-cons x xs) ∙ reverse-append (reverse xs) (x ∷ []) ∙ ap (λ o. x ∷ o) (turned_twice xs)
+turned_twice (x ∷ xs) =
+    ap reverse (reverse-cons x xs) ∙ reverse-append (reverse xs) (x ∷ []) ∙ ap (λ o. x ∷ o) (turned_twice xs)
 
 pub in_turned : {X : Type 0} (xs : List X) (y : X) → Contains xs y → Contains (reverse xs) y
 in_turned xs = each_at (Contains (reverse xs)) xs (each_turned (Contains (reverse xs)) xs (each_from (Contains (reverse xs)) (reverse xs) (λ y m. m)))

@@ -1,12 +1,12 @@
 -- The readers of a key ascend, as others are put last, taken out, and trimmed.
-use Rattle.std.proofs.Common.{◌≡◌, ◌≢◌, ℕ, ◌+◌, ◌<◌, Bool, true, false, cond, List, [], ◌∷◌, ◌++◌, filter, nat_lt, refl, sym, ◌∙◌, subst, arith, eq-eqb}
+use Rattle.std.proofs.Common.{◌≡◌, ◌≢◌, ℕ, ◌+◌, ◌<◌, Bool, true, false, cond, List, [], ◌∷◌, ◌++◌, filter, refl, sym, ◌∙◌, subst, arith, eq-eqb}
 use Rattle.std.specs.Prelude.{Contains}
 use Rattle.std.specs.List.{AllByRecursion}
 use Rattle.std.proofs.lemmas.Bool.{both_ways}
 use Rattle.siread.specs.declared.keys.LockKey.{LockKey}
 use Rattle.siread.specs.Keys.{same_key}
-use Rattle.siread.specs.Readers.{ends_in, left_out, with_last, IsAscending}
-use Rattle.siread.specs.Locks.{above, changed_at, AreAscending, AreBelow, Reads}
+use Rattle.siread.specs.Readers.{ends_in, left_out, reaches_above, with_last, IsAscending}
+use Rattle.siread.specs.Locks.{changed_at, reaching, AreAscending, AreBelow, Reads}
 use Rattle.siread.proofs.KeyOrder.{same_key-true}
 use Rattle.siread.proofs.Members.{in_head, in_tail}
 use Rattle.siread.proofs.Steps.{ends_later}
@@ -64,5 +64,6 @@ put_ascends number key reads a below = changed_ascends key (with_last number) re
 pub taken_ascends : (number : ℕ) (key : LockKey) (reads : Reads) → AreAscending reads → AreAscending (changed_at key (left_out number) reads)
 taken_ascends number key reads a = changed_ascends key (left_out number) reads a (filter_ascends _ (reads key) (a key))
 
-pub trimmed_ascends : (number : ℕ) (reads : Reads) → AreAscending reads → AreAscending (above number reads)
-trimmed_ascends number reads a key = filter_ascends (nat_lt number) (reads key) (a key)
+pub trimmed_ascends : (low : ℕ) (reaches : List ℕ) (reads : Reads) → AreAscending reads
+    → AreAscending (reaching low reaches reads)
+trimmed_ascends low reaches reads a key = filter_ascends (reaches_above low reaches) (reads key) (a key)

@@ -1,7 +1,6 @@
 -- Of a key's readers, which ascend, the last that reaches so far is the greatest that does.
 use Rattle.std.proofs.Common.{◌≡◌, ℕ, ◌<◌, ◌≤◌, Bool, true, false, cond, ltb, leb, List, [], ◌∷◌, ◌++◌, inl, inr, ◌⊎◌, refl, sym, subst, arith, ltb-true}
 use Rattle.std.specs.Prelude.{Contains, ⊤}
-use Rattle.std.specs.List.{AllByRecursion}
 use mathlib.Core.List.{reverse, reverse-cons}
 use Rattle.std.proofs.lemmas.Bool.{leb-true, leb-false}
 use Rattle.std.proofs.lemmas.List.Elements.{All-contains, All-from_recursion, Contains-append_left, Contains-append_right}
@@ -35,10 +34,14 @@ abbrev IsDescending : List ℕ → Type 0
 IsDescending [] = ⊤
 IsDescending (x ∷ xs) = ((y : ℕ) → Contains xs y → y ≤ x) × IsDescending xs
 
-descends_more : (xs : List ℕ) (x : ℕ) → IsDescending xs → ((y : ℕ) → Contains xs y → x ≤ y) → IsDescending (xs ++ x ∷ [])
+descends_more : (xs : List ℕ) (x : ℕ) → IsDescending xs → ((y : ℕ) → Contains xs y → x ≤ y)
+    → IsDescending (xs ++ x ∷ [])
 descends_more [] x d l = (λ y m. absurd (not_in_nil y m), tt)
 descends_more (z ∷ xs) x d l = (
-  λ y m. elim (in_end xs x y m) [ inl there ↦ d.0 y there | inr last ↦ (let k = l z (in_head z xs) in omega (arith, last, k)) ],
+  λ y m. elim (in_end xs x y m) [
+    | inl there ↦ d.0 y there
+    | inr last ↦ (let k = l z (in_head z xs) in omega (arith, last, k))
+  ],
   descends_more xs x d.1 (λ y m. l y (in_tail z xs y m)),
 )
 
@@ -47,7 +50,9 @@ descends [] a = tt
 descends (x ∷ xs) a =
     subst IsDescending (sym (reverse-cons x xs))
     (descends_more (reverse xs) x (descends xs a.1) (λ y m.
-    let l = All-contains (λ other. x < other) xs y (All-from_recursion (λ other. x < other) xs a.0) (from_turned xs y m) in omega (arith, l)))
+    let all = All-from_recursion (λ other. x < other) xs a.0 in
+    let l = All-contains (λ other. x < other) xs y all (from_turned xs y m) in
+    omega (arith, l)))
 
 module _ (least : ℕ) (reaches : List ℕ) where
   abbrev first : List ℕ → ℕ
@@ -61,23 +66,33 @@ module _ (least : ℕ) (reaches : List ℕ) where
   first_there [] = inl refl
   first_there (x ∷ xs) = go (ltb x least) (leb least (reach_of reaches x)) refl (first_there xs)
     where
-      go : (b c : Bool) → leb least (reach_of reaches x) ≡ c → IsOneOf xs (first xs) → IsOneOf (x ∷ xs) (cond b 0 (cond c x (first xs)))
+      go : (b c : Bool) → leb least (reach_of reaches x) ≡ c → IsOneOf xs (first xs)
+          → IsOneOf (x ∷ xs) (cond b 0 (cond c x (first xs)))
       go true c e later = inl refl
       go false true e later = inr (in_head x xs, leb-true _ _ e)
-      go false false e later = elim later [ inl none ↦ inl none | inr there ↦ inr (in_tail x xs (first xs) there.0, there.1) ]
+      go false false e later = elim later [
+        | inl none ↦ inl none
+        | inr there ↦ inr (in_tail x xs (first xs) there.0, there.1)
+      ]
 
   pub last_there : (readers : List ℕ) → IsOneOf readers (last_reaching least reaches readers)
-  last_there readers = elim (first_there (reverse readers)) [ inl none ↦ inl none | inr there ↦ inr (from_turned readers _ there.0, there.1) ]
+  last_there readers = elim (first_there (reverse readers)) [
+    | inl none ↦ inl none
+    | inr there ↦ inr (from_turned readers _ there.0, there.1)
+  ]
 
-  first_is_greatest : ReachNoFurther reaches → (xs : List ℕ) → IsDescending xs → (reader : ℕ) → Contains xs reader → least ≤ reach_of reaches reader → reader ≤ first xs
+  first_is_greatest : ReachNoFurther reaches → (xs : List ℕ) → IsDescending xs → (reader : ℕ)
+      → Contains xs reader → least ≤ reach_of reaches reader → reader ≤ first xs
   first_is_greatest no_further [] d reader m l = absurd (not_in_nil reader m)
   first_is_greatest no_further (x ∷ xs) d reader m l =
-      go (ltb x least) (leb least (reach_of reaches x)) refl refl (in_cases x xs reader m) (λ there. first_is_greatest no_further xs d.1 reader there l)
+      go (ltb x least) (leb least (reach_of reaches x)) refl refl (in_cases x xs reader m)
+      (λ there. first_is_greatest no_further xs d.1 reader there l)
     where
       up_to : (x ≡ reader) ⊎ Contains xs reader → reader ≤ x
       up_to here = elim here [ inl same ↦ omega (arith, same) | inr there ↦ d.0 reader there ]
 
-      go : (b c : Bool) → ltb x least ≡ b → leb least (reach_of reaches x) ≡ c → (x ≡ reader) ⊎ Contains xs reader → (Contains xs reader → reader ≤ first xs)
+      go : (b c : Bool) → ltb x least ≡ b → leb least (reach_of reaches x) ≡ c
+          → (x ≡ reader) ⊎ Contains xs reader → (Contains xs reader → reader ≤ first xs)
           → reader ≤ cond b 0 (cond c x (first xs))
       go true c e k here later =
           let below : x < least = ltb-true _ _ e in
@@ -87,11 +102,13 @@ module _ (least : ℕ) (reaches : List ℕ) where
       go false true e k here later = up_to here
       go false false e k here later = elim here [
         | inl same ↦
-            let short : reach_of reaches reader < least = subst (λ n. reach_of reaches n < least) same (leb-false _ _ k) in
+            let short : reach_of reaches reader < least
+            = subst (λ n. reach_of reaches n < least) same (leb-false _ _ k) in
             absurd (omega (arith, short, l))
         | inr there ↦ later there
       ]
 
-  pub last_is_greatest : ReachNoFurther reaches → (readers : List ℕ) → IsAscending readers → (reader : ℕ) → Contains readers reader → least ≤ reach_of reaches reader
-      → reader ≤ last_reaching least reaches readers
-  last_is_greatest no_further readers a reader m = first_is_greatest no_further (reverse readers) (descends readers a) reader (in_turned readers reader m)
+  pub last_is_greatest : ReachNoFurther reaches → (readers : List ℕ) → IsAscending readers → (reader : ℕ)
+      → Contains readers reader → least ≤ reach_of reaches reader → reader ≤ last_reaching least reaches readers
+  last_is_greatest no_further readers a reader m =
+      first_is_greatest no_further (reverse readers) (descends readers a) reader (in_turned readers reader m)

@@ -1,6 +1,6 @@
 -- Families of keys: those that differ by a value alone. Where the keys of a family stand under their values, those that
 -- a row is under are found by what stands in the row.
-use Rattle.std.specs.Prelude.{◌≡◌, ◌+◌, ◌^◌, ◌-◌, ℕ, Bool, true, false, ◌==◌, ◌&&◌, nat_lt, List, [], ◌∷◌, Option, Some, None, length, map, filter, max, min, unwrap_or, if◌then◌else◌, ⊤}
+use Rattle.std.specs.Prelude.{◌≡◌, ◌+◌, ◌^◌, ◌-◌, ℕ, Bool, true, false, ◌==◌, ◌&&◌, List, [], ◌∷◌, Option, Some, None, length, map, filter, max, min, unwrap_or, if◌then◌else◌, ⊤}
 use Rattle.std.specs.List.{IsDistinct}
 use Rattle.std.specs.Map.{lookup, keys_of, values_of}
 use Rattle.value.specs.declared.values.Value.{Value}
@@ -13,6 +13,7 @@ use Rattle.siread.specs.declared.keys.Family.TheVariants.{Rows, Column, Table}
 use Rattle.siread.specs.declared.keys.LockKey.{LockKey}
 use Rattle.siread.specs.declared.keys.LockKey.TheVariants.{Row as OneRow, Column as InColumn, Table as WholeTable}
 use Rattle.siread.specs.Keys.{place_of, same_value}
+use Rattle.siread.specs.Readers.{reaches_above}
 
 -- the family of a key, and its value there
 abbrev pub family_of : LockKey → Family
@@ -51,9 +52,9 @@ no_readers value = []
 abbrev pub changed_value : Value → (List ℕ → List ℕ) → (Value → List ℕ) → Value → List ℕ
 changed_value read change readers value = if same_value read value then change (readers value) else readers value
 
--- with the readers above this number alone
-abbrev pub above_each : ℕ → (Value → List ℕ) → Value → List ℕ
-above_each number readers value = filter (nat_lt number) (readers value)
+-- with the readers alone that reach above this number
+abbrev pub reaching_each : (low : ℕ) → (reaches : List ℕ) → (Value → List ℕ) → Value → List ℕ
+reaching_each low reaches readers value = filter (reaches_above low reaches) (readers value)
 
 abbrev pub is_no_entry : ValueReaders → Bool
 is_no_entry [] = true

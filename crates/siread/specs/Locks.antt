@@ -1,5 +1,5 @@
 -- Who read what: for each key the ascending list of its readers, each the number of a commit.
-use Rattle.std.specs.Prelude.{◌≡◌, ◌≢◌, ◌<◌, ◌≤◌, ◌+◌, ◌^◌, ◌-◌, ◌⊎◌, ℕ, Bool, true, nat_lt, List, [], ◌∷◌, ◌++◌, length, map, filter, take, Contains, max, min, unwrap_or, if◌then◌else◌}
+use Rattle.std.specs.Prelude.{◌≡◌, ◌≢◌, ◌<◌, ◌≤◌, ◌^◌, ◌-◌, ◌⊎◌, ℕ, Bool, true, List, [], ◌∷◌, ◌++◌, length, map, filter, take, Contains, max, min, unwrap_or, if◌then◌else◌}
 use Rattle.std.specs.List.{list_any, IsDistinct}
 use Rattle.std.specs.Map.{lookup}
 use Rattle.table.specs.declared.rows.Change.{Change}
@@ -7,7 +7,7 @@ use Rattle.siread.specs.declared.keys.Family.{Family}
 use Rattle.siread.specs.declared.keys.LockKey.{LockKey}
 use Rattle.siread.specs.Keys.{same_key, touches}
 use Rattle.siread.specs.Families.{ValueReaders, family_of, last_in, readers_of, same_family, total, value_of}
-use Rattle.siread.specs.Readers.{IsAscending, left_out, reach_of}
+use Rattle.siread.specs.Readers.{IsAscending, left_out, reach_of, reaches_above}
 
 -- the families, each once, with the readers of their keys
 abbrev pub Locks : Type 0
@@ -53,9 +53,9 @@ IsUndone number keys old new =
 abbrev pub IsPartlyPut : ℕ → List LockKey → Reads → Reads → Type 0
 IsPartlyPut number keys old new = (count : ℕ) × (new ≡ with_reader number (take count keys) old)
 
--- with the readers above this number alone
-abbrev pub above : ℕ → Reads → Reads
-above number reads key = filter (nat_lt number) (reads key)
+-- with the readers alone that reach above this number
+abbrev pub reaching : (low : ℕ) → (reaches : List ℕ) → Reads → Reads
+reaching low reaches reads key = filter (reaches_above low reaches) (reads key)
 
 -- the keys that have readers are among these, each of which is listed once
 pub record AreKeysRead (keys : List LockKey) (reads : Reads) : Type 0 where

@@ -27,6 +27,10 @@ abbrev pub reach_of : List ℕ → ℕ → ℕ
 reach_of reaches zero = 0
 reach_of reaches (suc before) = slice_index_or reaches before 0
 
+-- whether the reader of a number reaches above this one
+abbrev pub reaches_above : (low : ℕ) → (reaches : List ℕ) → ℕ → Bool
+reaches_above low reaches reader = nat_lt low (reach_of reaches reader)
+
 -- none reaches further than its number
 abbrev pub ReachNoFurther : List ℕ → Type 0
 ReachNoFurther reaches = (number : ℕ) → reach_of reaches number ≤ number

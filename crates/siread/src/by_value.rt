@@ -1,8 +1,8 @@
 //! The readers of one family of keys.
 
-ghost use Rattle.std.specs.Prelude.{◌≡◌, [], true, nat_lt, filter, not, IsOkUnless, OnOk, OnErr};
-ghost use Rattle.siread.specs.Families.{above_each, changed_value, is_no_entry, no_readers, readers_of, IsValueCount};
-ghost use Rattle.siread.specs.Readers.{is_none, last_reaching, left_out, with_last};
+ghost use Rattle.std.specs.Prelude.{◌≡◌, [], true, filter, not, IsOkUnless, OnOk, OnErr};
+ghost use Rattle.siread.specs.Families.{changed_value, is_no_entry, no_readers, reaching_each, readers_of, IsValueCount};
+ghost use Rattle.siread.specs.Readers.{is_none, last_reaching, left_out, reaches_above, with_last};
 ghost use Rattle.value.specs.declared.refusals.Refusal.TheVariants.{NoMemory};
 
 use crate::readers::{Reach, Readers, last_reaching};
@@ -82,12 +82,12 @@ impl ByValue {
         }
     }
 
-    /// Keeps the readers above a number alone, and says whether some are left.
-    pub fn keeps_some_above(&mut self, number: u64) -> bool
-        ensures kept { readers_of self.new ≡ above_each number (readers_of self.old) }
+    /// Keeps the readers alone that reach above a number, and says whether some are left.
+    pub fn keeps_some_reaching(&mut self, low: u64, reaches: &[u64]) -> bool
+        ensures kept { readers_of self.new ≡ reaching_each low reaches.now (readers_of self.old) }
         ensures some { result ≡ not (is_no_entry self.new) }
     {
-        self.keep_above(number);
+        self.keep_reaching(low, reaches);
         !self.readers.is_empty()
     }
 
@@ -102,15 +102,15 @@ impl ByValue {
         count
     }
 
-    /// Keeps the readers above a number alone, and the values that have some.
-    fn keep_above(&mut self, number: u64)
-        ensures { readers_of self.new ≡ above_each number (readers_of self.old) }
+    /// Keeps the readers alone that reach above a number, and the values that have some.
+    fn keep_reaching(&mut self, low: u64, reaches: &[u64])
+        ensures { readers_of self.new ≡ reaching_each low reaches.now (readers_of self.old) }
     {
         self.readers.retain(
             |_value, readers|
-                ensures kept { readers.new ≡ filter (nat_lt number) readers.old }
+                ensures kept { readers.new ≡ filter (reaches_above low reaches.entry.now) readers.old }
                 ensures some { result ≡ not (is_none readers.new) }
-            { readers.keeps_some_above(number) },
+            { readers.keeps_some_reaching(low, reaches) },
         );
     }
 

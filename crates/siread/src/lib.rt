@@ -11,7 +11,8 @@
 //! BY puts them into one group (ISO/IEC 9075:1992, group by clause).
 //!
 //! A [`LockTable`] keeps for each key the numbers of the commits that read it. It is changed in place, and a look-up
-//! costs no more than the depth of a map. Readers that no running transaction overlaps are trimmed.
+//! costs no more than the depth of a map. Readers that can matter to none who will ask are trimmed: those that reach
+//! no further than the least snapshot that may ask.
 //!
 //! The greatest reader of the keys that changes touch is found by what stands in the rows, without memory. Not every
 //! reader counts: one that is read only may stand earlier than its number, so the caller says how far each *reaches*,

@@ -2,8 +2,8 @@
 
 ghost use Rattle.std.specs.Prelude.{◌≡◌, ◌+◌, ◌∷◌, [], ℕ, not, IsOkUnless, OnOk, OnErr};
 ghost use Rattle.table.specs.Rows.{value_in};
-ghost use Rattle.siread.specs.Families.{above_each, is_no_entry, last_in, last_over, last_under, readers_of, IsFamilyCount};
-ghost use Rattle.siread.specs.Locks.{above, changed_at, no_reads, readers_at, with_reader, without_reader, AreBelow, IsCount, IsGreatestReader, IsPartlyPut, IsUndone};
+ghost use Rattle.siread.specs.Families.{is_no_entry, last_in, last_over, last_under, reaching_each, readers_of, IsFamilyCount};
+ghost use Rattle.siread.specs.Locks.{changed_at, no_reads, reaching, readers_at, with_reader, without_reader, AreBelow, IsCount, IsGreatestReader, IsPartlyPut, IsUndone};
 ghost use Rattle.siread.specs.Readers.{last_reaching, left_out, with_last, ReachNoFurther};
 ghost use Rattle.value.specs.declared.refusals.Refusal.TheVariants.{NoMemory};
 
@@ -115,11 +115,12 @@ impl LockTable {
         }
     }
 
-    /// Takes out the readers numbered at most this, of all keys. It takes no memory.
-    pub fn trim_below(&mut self, number: u64)
-        ensures { readers_at self.new ≡ above number (readers_at self.old) }
+    /// Keeps the readers alone that reach above a number, of all keys. How far a reader reaches stands in `reaches`,
+    /// from the number 1 on; past its end that is 0. It takes no memory.
+    pub fn trim(&mut self, low: u64, reaches: &[u64])
+        ensures { readers_at self.new ≡ reaching low reaches.now (readers_at self.old) }
     {
-        keep_above(&mut self.families, number);
+        keep_reaching(&mut self.families, low, reaches);
     }
 
     /// Puts a reader to these keys one after the other, up to the first that finds no memory.
@@ -184,15 +185,15 @@ impl LockTable {
     }
 }
 
-/// Takes out the readers numbered at most this, and the families without readers.
-fn keep_above(families: &mut BTreeMap<Family, ByValue>, number: u64)
-    ensures { readers_at families.new.entries ≡ above number (readers_at families.old.entries) }
+/// Keeps the readers alone that reach above a number, and the families that have some.
+fn keep_reaching(families: &mut BTreeMap<Family, ByValue>, low: u64, reaches: &[u64])
+    ensures { readers_at families.new.entries ≡ reaching low reaches.now (readers_at families.old.entries) }
 {
     families.retain(
         |_family, readers|
-            ensures kept { readers_of readers.new ≡ above_each number (readers_of readers.old) }
+            ensures kept { readers_of readers.new ≡ reaching_each low reaches.entry.now (readers_of readers.old) }
             ensures some { result ≡ not (is_no_entry readers.new) }
-        { readers.keeps_some_above(number) },
+        { readers.keeps_some_reaching(low, reaches) },
     );
 }
 

@@ -1,7 +1,7 @@
 //! The readers of one key.
 
-ghost use Rattle.std.specs.Prelude.{◌≡◌, [], ◌∷◌, length, filter, nat_lt, not, slice_index_or, IfOk, IsOkUnless, OnOk, OnErr};
-ghost use Rattle.siread.specs.Readers.{ends_in, is_none, last_reaching, left_out, reach_of, with_last};
+ghost use Rattle.std.specs.Prelude.{◌≡◌, [], ◌∷◌, length, filter, not, slice_index_or, IfOk, IsOkUnless, OnOk, OnErr};
+ghost use Rattle.siread.specs.Readers.{ends_in, is_none, last_reaching, left_out, reach_of, reaches_above, with_last};
 ghost use Rattle.value.specs.declared.refusals.Refusal.TheVariants.{NoMemory};
 
 use std::alloc::Global;
@@ -62,19 +62,20 @@ impl Readers {
         self.numbers.retain(|reader| *reader != number);
     }
 
-    /// Keeps the numbers above this one alone.
-    pub fn keep_above(&mut self, number: u64)
-        ensures { self.new ≡ filter (nat_lt number) self.old }
+    /// Keeps those alone that reach above a number.
+    pub fn keep_reaching(&mut self, low: u64, reaches: &[u64])
+        ensures { self.new ≡ filter (reaches_above low reaches.now) self.old }
     {
-        self.numbers.retain(|reader| number < *reader);
+        self.numbers
+            .retain(|reader| low < reach_of(reaches, *reader));
     }
 
     /// The same, and whether some are left.
-    pub fn keeps_some_above(&mut self, number: u64) -> bool
-        ensures kept { self.new ≡ filter (nat_lt number) self.old }
+    pub fn keeps_some_reaching(&mut self, low: u64, reaches: &[u64]) -> bool
+        ensures kept { self.new ≡ filter (reaches_above low reaches.now) self.old }
         ensures some { result ≡ not (is_none self.new) }
     {
-        self.keep_above(number);
+        self.keep_reaching(low, reaches);
         !self.is_empty()
     }
 

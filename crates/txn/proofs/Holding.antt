@@ -1,9 +1,6 @@
 -- A statement more, and what is held is again what the trace leaves.
 use Rattle.std.proofs.Common.{◌≡◌, true, List, [], ◌∷◌, ◌++◌, Option, Some, None, Result, Ok, Err, map, length, refl, sym, ap, ◌∙◌, subst, append-nil}
 use Rattle.std.specs.Prelude.{Contains, unwrap_or, IfOk, IfErr, ◌≢◌}
-use Rattle.std.specs.List.{list_all}
-use Rattle.std.proofs.lemmas.List.Folds.{list_all-append}
-use Rattle.std.proofs.lemmas.Bool.{and_from}
 use Rattle.value.specs.declared.refusals.Refusal.{Refusal}
 use Rattle.value.specs.declared.refusals.Refusal.TheVariants.{NoMemory}
 use Rattle.value.specs.Ordered.{HoldsOf}
@@ -15,6 +12,7 @@ use Rattle.siread.specs.declared.keys.Place.{Place}
 use Rattle.siread.specs.Keys.{place_of}
 use Rattle.modes.specs.Modes.{Immediates}
 use Rattle.alone.specs.declared.statements.Resolved.{Resolved}
+use Rattle.alone.proofs.ReadOnly.{one_more}
 use Rattle.alone.specs.Alone.{Run, Standing, Step, followed, ran, stepped}
 use Rattle.alone.specs.Resolve.{is_read_only}
 use Rattle.delta.specs.Views.{Shown}
@@ -59,10 +57,6 @@ long_left : (modes : Immediates) (new : Option Immediates) (declared : Declared)
 long_left modes None declared e h = e
 long_left modes (Some after) declared e h = h
 
--- a statement that changes no rows, behind such
-pub no_changes_with : (trace : List Resolved) (s : Resolved) → list_all is_read_only trace ≡ true → is_read_only s ≡ true → list_all is_read_only (trace ++ s ∷ []) ≡ true
-no_changes_with trace s before now = list_all-append is_read_only trace (s ∷ []) ∙ and_from _ _ before (and_from _ _ now refl)
-
 pub held_after : (t : OpenTransaction) (own : Shown) (modes : Immediates) (touched more : List Place) (reads all : List LockKey) (s : Resolved) (d : Done) → InParts
     → IsHeld t own modes touched reads
     → IsDone (standing own modes) (stepped own.declared t.start (standing own modes) s) d → IsOf own.declared d
@@ -84,7 +78,7 @@ held_after t own modes touched more reads all s d parts h done of differ kept ad
           (subst (λ u. DifferAt (layouts_in t.declared) own.state u (map place_of d.changes.items)) (sym (view_left own d.view))
           (subst (λ (declared : Declared). DifferAt (layouts_in declared) own.state (rows_left own.state d.view) (map place_of d.changes.items)) (ap (λ (o : Shown). o.declared) h.own_is) differ));
       reads_are = read ∙ ap (λ ks. ks ++ d.reads.items) h.reads_are ∙ ap (λ ks. (run_of t).reads ++ ks) (sym done.reads ∙ ap (λ (p : Step). p.reads) step) ∙ sym (reads_with t own modes s parts);
-      no_changes = λ only. no_changes_with t.trace s (h.no_changes only) (may only);
+      no_changes = λ only. one_more t.trace s (h.no_changes only) (may only);
     }
 
 pub reply_ok : (r : Result Reply Refusal) (step : Step) → step.reply ≡ r → IfOk r (λ reply. step.reply ≡ Ok reply)

@@ -20,7 +20,7 @@ returns-then-place-snapshot c =
     c.loop-commit.yielded_by (c.in-Some.commit, c.in-Some.place) c.in-Some.is c.next.ensures.steps in (
       λ no. let never : ⊥ = cc in absurd never,
       λ safe. absurd (not_safe commits c.args.snapshot (length c.loop-commit.yielded) c.in-Some.commit.now c.in-Some.place.now c.requires.log c.requires.within here
-      c.if-not-commit.true c.if-place-snapshot.true safe),
+          c.if-not-commit.true c.if-place-snapshot.true safe),
     )
 
 pub loop-commit-preserved : goal.loop-commit-preserved

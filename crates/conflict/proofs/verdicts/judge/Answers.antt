@@ -15,7 +15,14 @@ returns-then-place-reader c = λ commit e.
     = record { log = c.requires.log; next = c.requires.next; after_snapshot = c.requires.after_snapshot; is = e } in
     as_pivot c.args.committed.now c.args.candidate.now commit asked c.least_out-place.result c.greatest_in-reader.result
     (c.two_numbers_decide.ensures _ commit (is_next c.args.committed.now c.args.candidate.now commit asked)) c.in_default.ensures.none
-    (record { least = c.least_out-place.ensures; greatest = c.greatest_in-reader.ensures c.args.committed.now (candidate_next c.args.committed.now c.args.candidate.now c.requires.log c.requires.next) c.requires.readers c.requires.reaches (least_found c.args.committed.now c.args.candidate.now c.requires.log c.requires.next c.requires.after_snapshot c.least_out-place.result c.least_out-place.ensures) }) c.if-place-reader.true
+    (record {
+      least = c.least_out-place.ensures;
+      greatest = c.greatest_in-reader.ensures c.args.committed.now
+          (candidate_next c.args.committed.now c.args.candidate.now c.requires.log c.requires.next)
+          c.requires.readers c.requires.reaches
+          (least_found c.args.committed.now c.args.candidate.now c.requires.log c.requires.next
+          c.requires.after_snapshot c.least_out-place.result c.least_out-place.ensures);
+    }) c.if-place-reader.true
 
 pub returns-in-None : goal.returns-in-None
 returns-in-None c = λ commit e.
@@ -23,7 +30,14 @@ returns-in-None c = λ commit e.
     = record { log = c.requires.log; next = c.requires.next; after_snapshot = c.requires.after_snapshot; is = e } in
     as_fine c.args.committed.now c.args.candidate.now commit asked c.least_out-place.result c.greatest_in-reader.result
     (c.two_numbers_decide.ensures _ commit (is_next c.args.committed.now c.args.candidate.now commit asked)) c.in_default.ensures.none
-    (record { least = c.least_out-place.ensures; greatest = c.greatest_in-reader.ensures c.args.committed.now (candidate_next c.args.committed.now c.args.candidate.now c.requires.log c.requires.next) c.requires.readers c.requires.reaches (least_found c.args.committed.now c.args.candidate.now c.requires.log c.requires.next c.requires.after_snapshot c.least_out-place.result c.least_out-place.ensures) }) c.if-place-reader.false c.in-None.ensures.none
+    (record {
+      least = c.least_out-place.ensures;
+      greatest = c.greatest_in-reader.ensures c.args.committed.now
+          (candidate_next c.args.committed.now c.args.candidate.now c.requires.log c.requires.next)
+          c.requires.readers c.requires.reaches
+          (least_found c.args.committed.now c.args.candidate.now c.requires.log c.requires.next
+          c.requires.after_snapshot c.least_out-place.result c.least_out-place.ensures);
+    }) c.if-place-reader.false c.in-None.ensures.none
 
 pub returns-in-Some-find_pivot : goal.returns-in-Some-find_pivot
 returns-in-Some-find_pivot c = λ commit e.
@@ -31,8 +45,16 @@ returns-in-Some-find_pivot c = λ commit e.
     = record { log = c.requires.log; next = c.requires.next; after_snapshot = c.requires.after_snapshot; is = e } in
     as_reader c.args.committed.now c.args.candidate.now commit asked c.least_out-place.result c.greatest_in-reader.result
     (c.two_numbers_decide.ensures _ commit (is_next c.args.committed.now c.args.candidate.now commit asked)) c.in_default.ensures.none
-    (record { least = c.least_out-place.ensures; greatest = c.greatest_in-reader.ensures c.args.committed.now (candidate_next c.args.committed.now c.args.candidate.now c.requires.log c.requires.next) c.requires.readers c.requires.reaches (least_found c.args.committed.now c.args.candidate.now c.requires.log c.requires.next c.requires.after_snapshot c.least_out-place.result c.least_out-place.ensures) }) c.if-place-reader.false
+    (record {
+      least = c.least_out-place.ensures;
+      greatest = c.greatest_in-reader.ensures c.args.committed.now
+          (candidate_next c.args.committed.now c.args.candidate.now c.requires.log c.requires.next)
+          c.requires.readers c.requires.reaches
+          (least_found c.args.committed.now c.args.candidate.now c.requires.log c.requires.next
+          c.requires.after_snapshot c.least_out-place.result c.least_out-place.ensures);
+    }) c.if-place-reader.false
     c.in-Some-find_pivot.pivot.now c.in-Some-find_pivot.writer c.in-Some-find_pivot.ensures.found c.in-Some-find_pivot.ensures.writer
 
 pub greatest_in-reader-requires-clause-no_further : goal.greatest_in-reader-requires-clause-no_further
-greatest_in-reader-requires-clause-no_further c = subst ReachNoFurther (sym c.requires.reaches) (no_further c.args.committed.now c.requires.log)
+greatest_in-reader-requires-clause-no_further c =
+    subst ReachNoFurther (sym c.requires.reaches) (no_further c.args.committed.now c.requires.log)

@@ -1,7 +1,8 @@
-use Rattle.std.proofs.Common.{◌≡◌, ◌<◌, ◌+◌, ◌∙◌, ap, length, subst, sym, Some}
+use Rattle.std.proofs.Common.{◌≡◌, ◌<◌, ◌+◌, ◌∙◌, ap, length, map, subst, sym, Some}
 use Rattle.std.specs.Prelude.{vec_capacity, vec_len}
 use Rattle.siread.specs.Locks.{AreBelow, readers_at, with_reader}
-use Rattle.live.specs.Live.{least_held}
+use Rattle.live.specs.Live.{least_writing}
+use Rattle.serial.specs.Commits.{reach}
 use Rattle.txn.specs.Transactions.{keys_of}
 use Rattle.conflict.proofs.Readers.{reads_below}
 use Rattle.commit.specs.Cores.{reads_kept}
@@ -21,7 +22,7 @@ invariant_of-self-2 c =
     let keys : c.reads.result.now ≡ keys_of p.closed = c.reads.ensures ∙ ap keys_of c.give_up-closed.ensures in
     let low : AreBelow (c.len.result + 1) (reads_kept now) =
     subst (λ n. AreBelow n (reads_kept now)) (sym number)
-    (reads_below c.self.inside.records.items (length c.self.inside.records.items + 1) (least_held (length c.self.inside.records.items) c.self.inside.live.snapshots)
+    (reads_below c.self.inside.records.items (length c.self.inside.records.items + 1) (least_writing (length c.self.inside.records.items) c.self.inside.live.snapshots) (map reach c.self.inside.records.items)
     (below now c.self.invariant.0.epoch.accepted)) in
     kept_idle now c.self.inside.newest c.self.inside.places.items c.self.inside.reaches.items c.self.inside.order.items (readers_at c.take_back.new.self) Room c.take.new.self c.take.ensures.after
     c.self.invariant.0

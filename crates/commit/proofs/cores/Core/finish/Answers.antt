@@ -1,9 +1,9 @@
 use Rattle.std.proofs.Common.{◌≡◌, ◌<◌, ◌+◌, ◌∙◌, ◌++◌, ◌∷◌, ℕ, List, [], ap, length, map, reverse, subst, sym, Some}
 use Rattle.std.specs.Prelude.{vec_capacity, vec_len}
-use Rattle.std.proofs.lemmas.List.{length-append}
+use Rattle.std.proofs.lemmas.List.{length-append, map_push}
 use Rattle.serial.specs.declared.records.Record.{Record}
-use Rattle.siread.specs.Locks.{above, readers_at}
-use Rattle.live.specs.Live.{least_held, without}
+use Rattle.siread.specs.Locks.{reaching, readers_at}
+use Rattle.live.specs.Live.{least_writing, without}
 use Rattle.serial.specs.Commits.{IsLog, reach}
 use Rattle.serial.specs.Order.{least_out, put_by, rank, serial_order}
 use Rattle.conflict.specs.Ordered.{numbers_of}
@@ -12,23 +12,24 @@ use Rattle.commit.specs.Kept.{idle_core}
 use Rattle.commit.proofs.Accepting.{core_next}
 use Rattle.commit.proofs.Keeping.{kept_idle, kept_ready, same_core}
 use Rattle.commit.proofs.Locking.{kept_committed}
+use Rattle.commit.proofs.Recording.{below}
 use Rattle.commit.proofs.cores.Core.finish.Goals as goal
 
 pub put_in_order-requires-clause-log : goal.put_in_order-requires-clause-log
-put_in_order-requires-clause-log c = subst (λ (records : List Record). IsLog (reverse records)) (sym c.as_slice.ensures.value) c.self.invariant.0.epoch.accepted
+put_in_order-requires-clause-log c = subst (λ (records : List Record). IsLog (reverse records)) (sym c.as_slice-committed.ensures.value) c.self.invariant.0.epoch.accepted
 
 pub put_in_order-requires-clause-places : goal.put_in_order-requires-clause-places
 put_in_order-requires-clause-places c =
-    c.as_slice-2.ensures.value ∙ c.self.invariant.0.places_are
-    ∙ (λ i. map (least_out (reverse (sym c.as_slice.ensures.value i))) (sym c.as_slice.ensures.value i))
+    c.as_slice-places.ensures.value ∙ c.self.invariant.0.places_are
+    ∙ (λ i. map (least_out (reverse (sym c.as_slice-committed.ensures.value i))) (sym c.as_slice-committed.ensures.value i))
 
 pub put_in_order-requires-clause-order : goal.put_in_order-requires-clause-order
-put_in_order-requires-clause-order c = c.self.invariant.0.order_is ∙ ap (λ (records : List Record). numbers_of (serial_order (reverse records))) (sym c.as_slice.ensures.value)
+put_in_order-requires-clause-order c = c.self.invariant.0.order_is ∙ ap (λ (records : List Record). numbers_of (serial_order (reverse records))) (sym c.as_slice-committed.ensures.value)
 
 pub put_in_order-requires-clause-next : goal.put_in_order-requires-clause-next
 put_in_order-requires-clause-next c =
     ap (λ (r : Record). r.number) c.record_of-record.ensures ∙ ap (λ n. n + 1) (c.len.ensures ∙ c.self.inside.records.ok.0)
-    ∙ ap (λ (records : List Record). length records + 1) (sym c.as_slice.ensures.value)
+    ∙ ap (λ (records : List Record). length records + 1) (sym c.as_slice-committed.ensures.value)
 
 pub put_in_order-requires-clause-place : goal.put_in_order-requires-clause-place
 put_in_order-requires-clause-place c =
@@ -46,7 +47,7 @@ put_in_order-requires-clause-place c =
       reads = c.into_parts.ensures.reads i;
       changes = c.into_parts.ensures.changes i;
     }) in
-    ready.1.place_is ∙ (λ i. least_out (reverse (sym c.as_slice.ensures.value i)) (sym made i))
+    ready.1.place_is ∙ (λ i. least_out (reverse (sym c.as_slice-committed.ensures.value i)) (sym made i))
 
 pub invariant_of-self-2 : goal.invariant_of-self-2
 invariant_of-self-2 c =
@@ -77,11 +78,13 @@ invariant_of-self-2 c =
     = λ i. idle_core c.self.inside.limit c.self.inside.loaded (sym records i) c.self.inside.refused.items (sym live i) in
     let order : c.put_in_order.new.order.items ≡ numbers_of (put_by (rank (log_of now)) commit (serial_order (log_of now)))
     = c.put_in_order.ensures
-    ∙ (λ i. numbers_of (put_by (rank (reverse (c.as_slice.ensures.value i))) (made i) (serial_order (reverse (c.as_slice.ensures.value i))))) in
+    ∙ (λ i. numbers_of (put_by (rank (reverse (c.as_slice-committed.ensures.value i))) (made i) (serial_order (reverse (c.as_slice-committed.ensures.value i))))) in
     let count : c.len.result + 1 ≡ length (c.self.inside.records.items ++ commit ∷ []) = ap (λ n. n + 1) long ∙ sym (length-append c.self.inside.records.items (commit ∷ [])) in
+    let far : c.as_slice.result.now ≡ map reach (c.self.inside.records.items ++ commit ∷ [])
+    = c.as_slice.ensures.value ∙ reaches ∙ ap (λ (rs : List ℕ). rs ++ reach commit ∷ []) c.self.invariant.0.reaches_are ∙ sym (map_push reach c.self.inside.records.items commit) in
     let left : readers_at c.forget.new.locks ≡ reads_kept after =
-    c.forget.ensures.locks ∙ (λ i. above (least_held (count i) (live i).snapshots) (ready.2 i))
-    ∙ kept_committed c.self.inside.live c.self.inside.records.items t.ticket commit in
+    c.forget.ensures.locks ∙ (λ i. reaching (least_writing (count i) (live i).snapshots) (far i) (ready.2 i))
+    ∙ kept_committed c.self.inside.live c.self.inside.records.items t.ticket commit (below now c.self.invariant.0.epoch.accepted) in
     kept_idle _ p.tables c.push_reserved.new.self.items c.push_reserved-2.new.self.items c.put_in_order.new.order.items (readers_at c.forget.new.locks) _ c.take.new.self c.take.ensures.after
     (same_core after _ p.tables p.tables (c.self.inside.places.items ++ p.place ∷ []) _ (c.self.inside.reaches.items ++ reach commit ∷ []) _ c.put_in_order.new.order.items _ same
     (λ i. p.tables) (sym c.push_reserved.ensures.items) (sym reaches) (λ i. c.put_in_order.new.order.items)

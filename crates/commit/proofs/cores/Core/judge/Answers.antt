@@ -1,9 +1,10 @@
-use Rattle.std.proofs.Common.{◌≡◌, ◌<◌, ◌+◌, [], List, ap, length, reverse, subst, sym}
+use Rattle.std.proofs.Common.{◌≡◌, ◌<◌, ◌+◌, ◌∙◌, ℕ, [], List, ap, length, map, reverse, subst, sym}
 use Rattle.std.specs.Prelude.{All, slice_index_or, vec_capacity, vec_len}
 use Rattle.table.specs.declared.rows.Change.{Change}
 use Rattle.table.specs.Rows.{Tables, names_of}
 use Rattle.siread.specs.Locks.{readers_at}
 use Rattle.serial.specs.declared.records.Record.{Record}
+use Rattle.serial.specs.Commits.{reach}
 use Rattle.conflict.specs.declared.verdicts.Verdict.TheVariants.{Fine, Dangerous}
 use Rattle.conflict.specs.Judged.{IsConflictAt, IsVerdict}
 use Rattle.conflict.specs.Readers.{HasReaders}
@@ -19,16 +20,18 @@ use Rattle.commit.proofs.Weighing.{judged_conflict, judged_danger, judged_fine}
 use Rattle.commit.proofs.cores.Core.judge.Goals as goal
 
 pub judge-requires-clause-readers : goal.judge-requires-clause-readers
-judge-requires-clause-readers c =
+judge-requires-clause-readers c = λ writes.
     let now = idle_core c.self.inside.limit c.self.inside.loaded c.self.inside.records.items c.self.inside.refused.items c.self.inside.live in
     let Room : Type 0 = (vec_len c.self.inside.records < vec_capacity c.self.inside.records) × (vec_len c.self.inside.places < vec_capacity c.self.inside.places) × (vec_len c.self.inside.reaches < vec_capacity c.self.inside.reaches) × (vec_len c.self.inside.order < vec_capacity c.self.inside.order) in
     let idle = is_idle now c.args.self.now c.self.inside.prepared c.self.view_is c.requires.idle in
     let is : now ≡ c.args.self.now = idle_view now c.args.self.now c.self.inside.prepared c.self.view_is c.requires.idle in
     let locks = locks_idle now c.self.inside.newest c.self.inside.places.items c.self.inside.reaches.items c.self.inside.order.items (readers_at c.self.inside.locks) Room c.self.inside.prepared idle c.self.invariant in
     let live = subst (λ (s : CoreState). IsLive s c.args.closed.now) (sym is) c.requires.live in
-    subst (HasReaders (readers_at c.self.inside.locks) c.as_slice-records.result.now) (sym c.snapshot.ensures)
-    (subst (λ records. HasReaders (readers_at c.self.inside.locks) records c.args.closed.now.snapshot) (sym c.as_slice-records.ensures.value)
-    (readers_above now c.args.closed.now (readers_at c.self.inside.locks) live locks))
+    let known : HasReaders (readers_at c.self.inside.locks) (map reach c.self.inside.records.items) c.self.inside.records.items c.args.closed.now.snapshot =
+    readers_above now c.args.closed.now (readers_at c.self.inside.locks) live (sym c.is_read_only.ensures ∙ writes) locks in
+    subst (λ (far : List ℕ). HasReaders (readers_at c.self.inside.locks) far c.as_slice-records.result.now c.snapshot.result) (sym (c.as_slice-2.ensures.value ∙ c.self.invariant.0.reaches_are))
+    (subst (HasReaders (readers_at c.self.inside.locks) (map reach c.self.inside.records.items) c.as_slice-records.result.now) (sym c.snapshot.ensures)
+    (subst (λ records. HasReaders (readers_at c.self.inside.locks) (map reach c.self.inside.records.items) records c.args.closed.now.snapshot) (sym c.as_slice-records.ensures.value) known))
 
 pub returns-in-Fine-clause-judged : goal.returns-in-Fine-clause-judged
 returns-in-Fine-clause-judged c = λ session.

@@ -11,6 +11,8 @@ loop-change-preserved c =
     let least = c.args.least in
     let reaches = c.args.reaches.now in
     let reads = readers_at c.args.self.now in
-    subst (λ done. IsGreatestReader reads done least reaches c.max-greatest.result) (one_more changes i c.change-item.result c.loop-change-test.true c.change-item.is)
+    subst (λ done. IsGreatestReader reads done least reaches c.max-greatest.result)
+    (one_more changes i c.change-item.result c.loop-change-test.true c.change-item.is)
     (subst (IsGreatestReader reads _ least reaches) (sym c.max-greatest.ensures)
-    (greatest_more reads (take i changes) c.change-item.result least reaches c.loop-change.greatest c.greatest_touched.result c.loop-change.invariant c.greatest_touched.ensures))
+    (greatest_more reads (take i changes) c.change-item.result least reaches
+    c.loop-change.greatest c.greatest_touched.result c.loop-change.invariant c.greatest_touched.ensures))

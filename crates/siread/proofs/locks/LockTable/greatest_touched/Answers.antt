@@ -20,6 +20,8 @@ returns c =
     = subst (λ es. IsDistinct same_family (keys_of es)) c.self.view_is (distinct_by family_order.it same_family is_eq-family _ c.iter-family-items.ensures.ordered) in
     let none = ap (last_touched (last_reaching least reaches) change) c.in-None.ensures.steps.0 in
     let so_far = c.loop-family.invariant in
-    let is : c.loop-family.greatest ≡ last_touched (last_reaching least reaches) change es = omega (arith, none, so_far) in
+    let is : c.loop-family.greatest ≡ last_touched (last_reaching least reaches) change es
+    = omega (arith, none, so_far) in
     subst (IsGreatestReader (readers_at es) (change ∷ []) least reaches) (sym is)
-    (greatest_touched least reaches c.requires.no_further change es once (subst (λ es. AreAscending (readers_at es)) c.self.view_is c.self.invariant))
+    (greatest_touched least reaches c.requires.no_further change es once
+    (subst (λ es. AreAscending (readers_at es)) c.self.view_is c.self.invariant))

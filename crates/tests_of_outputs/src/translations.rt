@@ -1,5 +1,6 @@
-//! Pieces of the SQL, as they are written by hand.
+//! Pieces of the SQL for PostgreSQL, as they are written by hand.
 
+use crate::writers::Brittle;
 use commit::admit;
 use delta::View;
 use parse::parse_schema;
@@ -13,7 +14,7 @@ use value::Refusal;
 fn let_go<T: Drop>(_value: T) {}
 
 /// The tables and assertions of a text.
-pub fn view_of(alloc: Global, defs: &str) -> Result<View, Refusal> {
+fn view_of(alloc: Global, defs: &str) -> Result<View, Refusal> {
     let definitions = parse_schema(alloc, defs.as_bytes())?;
     let view = admit(alloc, definitions.as_slice());
     let_go(definitions);
@@ -88,5 +89,19 @@ fn long_names(rt: HostRuntime) -> Result<(), Fail> {
     let_go(view);
     assert!(&rt; matches!(printed, Err(PrintFault::LongName { .. })));
     assert!(&rt; out.is_empty());
+    Ok(())
+}
+
+/// The rows, the rules and the flush are a call each.
+#[test]
+fn each_call_failing(rt: HostRuntime) -> Result<(), Fail> {
+    let alloc = rt.alloc();
+    let defs = "CREATE TABLE T (ID INTEGER PRIMARY KEY); INSERT INTO T VALUES (7);";
+    let view = view_of(alloc, defs)?;
+    for calls in 0..3 {
+        let mut out = Brittle { left: calls };
+        let printed = print_into(alloc, &view, &mut out);
+        assert!(&rt; matches!(printed, Err(PrintFault::Output)), "{calls}");
+    }
     Ok(())
 }

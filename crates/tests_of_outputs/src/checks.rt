@@ -1,6 +1,7 @@
 //! What is shown of whole texts.
 
-use checkup::{Colour, Health, Named, Style, check_into};
+use crate::writers::Brittle;
+use checkup::{CheckFault, Colour, Health, Named, Style, check_into};
 use std::alloc::Global;
 use std::process::Abort;
 use std::test::Fail;
@@ -100,4 +101,22 @@ CREATE ASSERTION RULE CHECK (NOT EXISTS (SELECT * FROM T R WHERE EXISTS (SELECT 
          \"start\":125,\"what\":\"this query is not linked to the row around it\"}],\"notes\":[],\"ok\":false,\
          \"sessions\":0,\"tables\":[]}\n",
     )
+}
+
+/// The text and the flush are a call each.
+#[test]
+fn each_call_failing(rt: HostRuntime) -> Result<(), Fail> {
+    let alloc = rt.alloc();
+    let defs = Named {
+        name: "defs.sql",
+        bytes: b"CREATE TABLE T (ID INTEGER PRIMARY KEY);",
+    };
+    for calls in 0..3 {
+        let mut out = Brittle { left: calls };
+        let style = Style::Text(Colour::Plain);
+        let fault = check_into(alloc, defs, None, style, &mut out).err();
+        let is_output = matches!(fault, Some(CheckFault::Output));
+        assert!(&rt; is_output == (calls < 2), "{calls}");
+    }
+    Ok(())
 }

@@ -1,6 +1,8 @@
 //! A picture of a small script.
 
+use crate::writers::Brittle;
 use picture::picture_into;
+use running::ProgramFault;
 use std::test::Fail;
 
 /// The first lines of the picture. Behind them stands its style.
@@ -48,5 +50,42 @@ fn one_transaction(rt: HostRuntime) -> Result<(), Fail> {
     assert!(rt; out.as_slice().starts_with(HEAD.as_bytes()));
     assert!(rt; place_of(BODY.as_bytes(), out.as_slice()).is_some());
     assert!(rt; out.as_slice().ends_with(b"</g>\n</svg>\n"));
+    Ok(())
+}
+
+/// Round corners mark a transaction that is read only, and the legend says so where there is one.
+#[test]
+fn a_reader(rt: HostRuntime) -> Result<(), Fail> {
+    let defs = "CREATE TABLE T (ID INTEGER PRIMARY KEY);";
+    let script = "A: BEGIN READ ONLY; A: COMMIT; B: BEGIN; B: COMMIT;";
+    let mut out = Vec::new(rt.alloc());
+    picture_into(rt.alloc(), defs.as_bytes(), script.as_bytes(), 2, &mut out)?;
+    let pieces = [
+        "<title>commit 1, place 1; events 1 to 2, snapshot 0, read only, session A</title>",
+        "height=\"40\" rx=\"13\" class=\"done\"",
+        "<title>commit 2, place 2; events 3 to 4, snapshot 1, session B</title>",
+        "height=\"40\" rx=\"4\" class=\"done\"",
+        "height=\"14\" rx=\"7\" class=\"done\"",
+        ">read only: it writes nothing, and may stand as early as its snapshot lets it</text>",
+    ];
+    for piece in pieces {
+        assert!(rt;
+            place_of(piece.as_bytes(), out.as_slice()).is_some(),
+            "{piece}"
+        );
+    }
+    Ok(())
+}
+
+/// What is printed is one write, and then it is flushed.
+#[test]
+fn each_call_failing(rt: HostRuntime) -> Result<(), Fail> {
+    let alloc = rt.alloc();
+    let (defs, script) = (b"CREATE TABLE T (ID INTEGER PRIMARY KEY);", b"A: COMMIT;");
+    for calls in 0..2 {
+        let mut out = Brittle { left: calls };
+        let picture = picture_into(alloc, defs, script, 1, &mut out);
+        assert!(&rt; matches!(picture, Err(ProgramFault::Output)));
+    }
     Ok(())
 }
