@@ -3,8 +3,7 @@
 ghost use Rattle.std.specs.Prelude.{◌≡◌, [], IfOk, OnOk, None};
 ghost use Rattle.cond.specs.Bounds.{IsSmallRow};
 ghost use Rattle.cond.specs.Slots.{kinds_of};
-ghost use Rattle.siread.specs.Locks.{above, readers_at};
-ghost use Rattle.conflict.specs.Readers.{reads_of};
+ghost use Rattle.siread.specs.Locks.{no_reads, readers_at};
 ghost use Rattle.commit.specs.Cores.{IsLive};
 
 use crate::driver::{equal, let_go};
@@ -187,7 +186,7 @@ fn locks(rt: HostRuntime) -> Result<(), Fail> {
     equal(&rt, greatest(&locks, &[change]), 2);
     locks.take_back(2, &keys);
     equal(&rt, locks.len(), 2);
-    locks.trim_below(1);
+    locks.trim(1, &[1, 2]);
     equal(&rt, locks.len(), 0);
     ask_in_vain(rt.alloc());
     Ok(())
@@ -202,9 +201,9 @@ fn snapshots(rt: HostRuntime) -> Result<(), Fail> {
     equal(&rt, live.next_ticket(), 2);
     assert!(rt; live.holds(0, 1, true) && !live.holds(1, 1, false));
     assert!(rt; live.writers_hold(3));
-    equal(&rt, live.least(4), 1);
-    live.end(0);
-    equal(&rt, live.least(4), 3);
+    equal(&rt, live.least_writing(4), 3);
+    live.end(1);
+    equal(&rt, live.least_writing(4), 4);
     ask_in_vain(rt.alloc());
     Ok(())
 }
@@ -227,14 +226,14 @@ fn judgment(rt: HostRuntime) -> Result<(), Fail> {
 }
 
 fn no_locks(alloc: Global) -> LockTable
-    ensures { readers_at result ≡ above 0 (reads_of []) }
+    ensures { readers_at result ≡ no_reads }
 {
     LockTable::new(alloc)
 }
 
 /// The verdict on the first that is to be committed.
 fn judged(locks: &LockTable, reads: &[LockKey], changes: &[Change]) -> Verdict
-    requires { readers_at locks.now ≡ above 0 (reads_of []) }
+    requires { readers_at locks.now ≡ no_reads }
 {
     let candidate = Candidate {
         number: 1,

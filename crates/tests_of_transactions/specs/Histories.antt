@@ -14,4 +14,4 @@ pub record AreKept (committed : List Record) (places reaches order : List ℕ) (
   pub places_are : places ≡ map (least_out (reverse committed)) committed
   pub reaches_are : reaches ≡ map reach committed
   pub order_is : order ≡ numbers_of (serial_order (reverse committed))
-  pub readers : HasReaders reads committed 0
+  pub readers : HasReaders reads reaches committed 0

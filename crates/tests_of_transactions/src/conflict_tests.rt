@@ -141,7 +141,6 @@ impl History {
                 &mut self.order,
             )?;
             self.locks.put(commit.number, commit.reads.as_slice())?;
-            self.locks.trim_below(0);
             put_in_order(
                 &mut self.order,
                 self.committed.as_slice(),
@@ -151,6 +150,7 @@ impl History {
             );
             self.places.push_reserved(place);
             self.reaches.push_reserved(commit.reach());
+            self.locks.trim(0, self.reaches.as_slice());
             self.committed.push_reserved(commit);
         }
         Ok(verdict)
@@ -159,7 +159,8 @@ impl History {
     /// Judges a transaction that is a record already.
     fn judge(&self, commit: &Record) -> Verdict
         requires next { commit.now.number ≡ length self.now + 1 }
-        requires after_snapshot { commit.now.snapshot < commit.now.number }
+        requires start { commit.now.snapshot ≡ 0 }
+        requires changes_nothing { commit.now.read_only ≡ true → commit.now.changes ≡ [] }
         ensures { IsVerdict (reverse self.now) commit.now result }
     {
         let candidate = Candidate {

@@ -102,13 +102,17 @@ fn put_three(locks: &mut LockTable) -> Result<(), Refusal>
     locks.put(3, &[LockKey::Table(0)])
 }
 
-/// The third is taken back, then the first is trimmed, and then the second.
+/// How far the three reach: the second nothing.
+const REACHES: [u64; 3] = [1, 0, 3];
+
+/// The second is trimmed before the first, since it reaches less far. The third is taken back in between.
 fn trims<R: Abort>(rt: &R, locks: &mut LockTable) {
+    locks.trim(0, &REACHES);
+    assert!(rt; locks.readers(&LockKey::Table(0)) == [1, 3].as_slice());
+    assert!(rt; locks.readers(&LockKey::Table(1)).is_empty());
     locks.take_back(3, &[LockKey::Table(0)]);
-    assert!(rt; locks.readers(&LockKey::Table(0)) == [1, 2].as_slice());
-    locks.trim_below(1);
-    assert!(rt; locks.readers(&LockKey::Table(0)) == [2].as_slice());
-    locks.trim_below(2);
+    assert!(rt; locks.readers(&LockKey::Table(0)) == [1].as_slice());
+    locks.trim(1, &REACHES);
     assert!(rt; locks.len() == 0);
 }
 
@@ -130,9 +134,9 @@ fn put_values(locks: &mut LockTable) -> Result<(), Refusal>
     locks.put(3, &[second_column(Value::Int(2))])
 }
 
-/// The greatest reader of what changes touch that reaches so far, where the second reaches nothing.
+/// The greatest of them who read what changes touch and reaches so far.
 fn greatest(locks: &LockTable, changes: &[Change], least: u64) -> u64 {
-    locks.greatest_reader(changes, least, &[1, 0, 3])
+    locks.greatest_reader(changes, least, &REACHES)
 }
 
 /// The first two have read what the change touches, and the third has not.

@@ -1,7 +1,8 @@
 use Rattle.std.proofs.Common.{◌≡◌, ◌+◌, ◌++◌, ◌∷◌, [], ℕ, List, length, refl, sym, ap, ◌∙◌, subst}
 use mathlib.Core.List.{reverse}
-use Rattle.siread.specs.Locks.{above, readers_at, with_reader}
+use Rattle.siread.specs.Locks.{reaching, readers_at, with_reader}
 use Rattle.serial.specs.declared.records.Record.{Record}
+use Rattle.serial.specs.Commits.{reach}
 use Rattle.serial.specs.Order.{put_by, rank, serial_order}
 use Rattle.conflict.specs.Judged.{IsVerdict}
 use Rattle.conflict.specs.Ordered.{numbers_of}
@@ -27,12 +28,15 @@ invariant_of-self-in-Fine c =
     let same : c.as_slice-in-Fine.result.now ≡ h.committed.items = c.as_slice-in-Fine.ensures.value ∙ room.committed in
     let order : c.put_in_order.new.order.items ≡ numbers_of (put_by (rank (reverse h.committed.items)) commit (serial_order (reverse h.committed.items)))
     = c.put_in_order.ensures ∙ ap (λ (committed : List Record). numbers_of (put_by (rank (reverse committed)) commit (serial_order (reverse committed)))) same in
-    let reads : readers_at c.trim_below.new.self ≡ above 0 (with_reader commit.number commit.reads (readers_at h.locks))
-    = c.trim_below.ensures ∙ ap (above 0) (c.in_ok-put.ensures.put ∙ ap (λ keys. with_reader commit.number keys (readers_at h.locks)) c.as_slice.ensures) in
+    let far : c.push_reserved-in-Fine.new.self.items ≡ h.reaches.items ++ reach commit ∷ []
+    = c.push_reserved-in-Fine.ensures.items ∙ (λ i. room.reaches i ++ c.reach.ensures i ∷ []) in
+    let put : readers_at c.put.new.self ≡ with_reader commit.number commit.reads (readers_at h.locks)
+    = c.in_ok-put.ensures.put ∙ ap (λ keys. with_reader commit.number keys (readers_at h.locks)) c.as_slice.ensures in
+    let reads : readers_at c.trim.new.self ≡ reaching 0 (h.reaches.items ++ reach commit ∷ []) (with_reader commit.number commit.reads (readers_at h.locks))
+    = c.trim.ensures ∙ (λ i. reaching 0 ((c.as_slice-in-Fine-3.ensures.value ∙ far) i) (put i)) in
     kept_same (h.committed.items ++ commit ∷ []) _ (h.places.items ++ place ∷ []) _ _ _ c.put_in_order.new.order.items _ _ _
     (sym (c.push_reserved-in-Fine-2.ensures.items ∙ ap (λ (o : List Record). o ++ commit ∷ []) room.committed))
     (sym (c.push_reserved.ensures.items ∙ ap (λ (o : List ℕ). o ++ place ∷ []) room.places))
-    (sym (c.push_reserved-in-Fine.ensures.items ∙ (λ i. room.reaches i ++ c.reach.ensures i ∷ [])))
-    refl (sym reads)
+    (sym far) refl (sym reads)
     (kept_more h.committed.items h.places.items h.reaches.items h.order.items (readers_at h.locks) c.self.invariant commit place c.put_in_order.new.order.items
     next c.in_ok-commit.ensures.snapshot c.in_ok-commit.ensures.changes_nothing verdict order)
