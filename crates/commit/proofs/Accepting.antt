@@ -117,19 +117,19 @@ module _ (now : CoreState) (tables : Shown) (places reaches order : List ℕ) (c
         → (t.read_only ≡ true → (outcome_of t).changes ≡ []) → place ≡ least_out log commit → after ≡ numbers_of (put_by (rank log) commit (serial_order log))
         → IsCore (committed now session t) view (places ++ place ∷ []) (reaches ++ reach commit ∷ []) after
     core_next view place after none room answer is changes_nothing there put =
-      let next = epoch_next now session t live core.epoch answer none changes_nothing in record {
-      epoch = subst (IsEpoch now.declared now.start) (sym (log_with records commit)) next;
-      newest_is = is;
-      places_are =
-          ap (λ p. places ++ p ∷ []) there
-          ∙ ap (λ ps. ps ++ least_out log commit ∷ []) core.places_are
-          ∙ places_more records commit next.accepted;
-      reaches_are = ap (λ (rs : List ℕ). rs ++ reach commit ∷ []) core.reaches_are ∙ sym (map_push reach records commit);
-      order_is =
-          put
-          ∙ ap numbers_of (sym (order_step commit log next.accepted))
-          ∙ ap (λ log. numbers_of (serial_order log)) (sym (log_with records commit));
-      within = (let within = core.within in let long = length-append records (commit ∷ []) in let other = eqb-false _ _ room in omega arith);
-      small = core.small;
-      tickets = fewer now.live t.ticket core.tickets;
-    }
+        let next = epoch_next now session t live core.epoch answer none changes_nothing in record {
+          epoch = subst (IsEpoch now.declared now.start) (sym (log_with records commit)) next;
+          newest_is = is;
+          places_are =
+              ap (λ p. places ++ p ∷ []) there
+              ∙ ap (λ ps. ps ++ least_out log commit ∷ []) core.places_are
+              ∙ places_more records commit next.accepted;
+          reaches_are = ap (λ (rs : List ℕ). rs ++ reach commit ∷ []) core.reaches_are ∙ sym (map_push reach records commit);
+          order_is =
+              put
+              ∙ ap numbers_of (sym (order_step commit log next.accepted))
+              ∙ ap (λ log. numbers_of (serial_order log)) (sym (log_with records commit));
+          within = (let within = core.within in let long = length-append records (commit ∷ []) in let other = eqb-false _ _ room in omega arith);
+          small = core.small;
+          tickets = fewer now.live t.ticket core.tickets;
+        }

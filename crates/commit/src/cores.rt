@@ -346,11 +346,7 @@ impl Core {
         let snapshot = txn.snapshot();
         txn.is_read_only()
             && (self.live.writers_hold(snapshot)
-                && is_safe(
-                    self.records.as_slice(),
-                    self.places.as_slice(),
-                    snapshot,
-                ))
+                && is_safe(self.records.as_slice(), self.places.as_slice(), snapshot))
     }
 
     /// The commit that is prepared, with the tables after it.
@@ -587,13 +583,7 @@ fn forget(live: &mut Live, locks: &mut LockTable, reaches: &[u64], ticket: u64, 
 }
 
 /// The record of a commit.
-fn record_of(
-    number: u64,
-    snapshot: u64,
-    read_only: bool,
-    session: Text,
-    parts: Parts,
-) -> Record
+fn record_of(number: u64, snapshot: u64, read_only: bool, session: Text, parts: Parts) -> Record
     ensures { result
         ≡ record {
           number = number;

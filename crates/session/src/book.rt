@@ -521,14 +521,7 @@ impl<N: Named> Book<N> {
     }
 
     /// A ticket whose index is that of the Book's own token shows the tables of its snapshot.
-    fn settle(
-        &self,
-        shelf: &Shelf,
-        ticket: &Ticket<N>,
-        one: LiveSnapshot,
-        id: u64,
-        epoch: u64,
-    )
+    fn settle(&self, shelf: &Shelf, ticket: &Ticket<N>, one: LiveSnapshot, id: u64, epoch: u64)
         requires shelf { shelf.now ≡ N.shelf id }
         requires owned { IsOwned self.now ticket.now one id epoch }
         ensures id { self.now.id ≡ id }

@@ -115,7 +115,11 @@ impl<N: Named> Manager<N> {
     /// # Errors
     ///
     /// Those of [`Manager::begin`].
-    pub fn begin_read_only<R: Wait>(&self, rt: &R, session: &mut Session<N>) -> Result<Txn<N>, Refusal>
+    pub fn begin_read_only<R: Wait>(
+        &self,
+        rt: &R,
+        session: &mut Session<N>,
+    ) -> Result<Txn<N>, Refusal>
         ensures fresh { IfOk result (λ txn. session.old.seen ≤ txn.inner.snapshot) }
         ensures seen { IfOk result (λ txn. session.new ≡ record session.old { seen = txn.inner.snapshot }) }
         ensures view { IfOk result (λ txn. (txn.ticket.token.value.number ≡ txn.inner.snapshot) × IsTicketed txn) }
@@ -123,7 +127,9 @@ impl<N: Named> Manager<N> {
         ensures refused { IfErr result (λ refusal. refusal ≢ NoMemory → refusal ≡ Stranger) }
         ensures same { OnErr result (session.new ≡ session.old) }
     {
-        self.book.lock(rt).begin_read_only(self.id, self.epoch, session)
+        self.book
+            .lock(rt)
+            .begin_read_only(self.id, self.epoch, session)
     }
 
     /// COMMIT. The check of the transaction's own tables takes no lock.

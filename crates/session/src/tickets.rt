@@ -186,21 +186,21 @@ impl<N: Named> Txn<N> {
     pub fn execute(&mut self, statement: &Statement) -> Result<Reply, Refusal>
         ensures replied { IfOk result (λ reply.
             (step_of self.old.inner
-              (resolved self.old.inner.declared self.old.inner.read_only statement.now)).reply ≡ Ok reply) }
+            (resolved self.old.inner.declared self.old.inner.read_only statement.now)).reply ≡ Ok reply) }
         ensures run { IfOk result (λ _.
             self.new ≡ record self.old {
               inner = with_statement self.old.inner
-                (resolved self.old.inner.declared self.old.inner.read_only statement.now);
+                  (resolved self.old.inner.declared self.old.inner.read_only statement.now);
             }) }
         ensures refused { IfErr result (λ refusal.
             refusal ≢ NoMemory
             → (step_of self.old.inner
-              (resolved self.old.inner.declared self.old.inner.read_only statement.now)).reply ≡ Err refusal) }
+            (resolved self.old.inner.declared self.old.inner.read_only statement.now)).reply ≡ Err refusal) }
         ensures noted { IfErr result (λ refusal.
             refusal ≢ NoMemory
             → self.new ≡ record self.old {
               inner = with_statement self.old.inner
-                (resolved self.old.inner.declared self.old.inner.read_only statement.now);
+                  (resolved self.old.inner.declared self.old.inner.read_only statement.now);
             }) }
         ensures same { IfErr result (λ refusal. refusal ≡ NoMemory → self.new ≡ self.old) }
     {

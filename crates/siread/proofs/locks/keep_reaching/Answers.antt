@@ -17,10 +17,10 @@ returns c =
     let said = t.called.met.1 in
     let left = sym t.leaves in (
       (λ goes.
-      let some = said.1 ∙ ap (λ (readers : ValueReaders). not (is_no_entry readers)) (sym left) in
-      ap readers_of (no_entry_is_empty w (not-false (is_no_entry w) (sym some ∙ goes)))),
+          let some = said.1 ∙ ap (λ (readers : ValueReaders). not (is_no_entry readers)) (sym left) in
+          ap readers_of (no_entry_is_empty w (not-false (is_no_entry w) (sym some ∙ goes)))),
       ap readers_of left ∙ said.0 ∙ (λ j. reaching_each (i.0 j) (i.1 j) (readers_of t.value.now))
-      ∙ ap (λ readers. keep (readers_of readers)) t.shows.1,
+          ∙ ap (λ readers. keep (readers_of readers)) t.shows.1,
       (ap (λ x. x.now) t.called.met.0.0 ∙ i.0, ap (λ x. x.now) t.called.met.0.1 ∙ i.1),
     ))
     _ _ _ (refl, refl) (distinct_by family_order.it same_family is_eq-family _ c.retain.ensures.was_ordered)

@@ -19,8 +19,8 @@ returns c =
     let said = t.called.met.1 in
     let left = sym t.leaves in (
       (λ goes.
-      let some = said.1 ∙ ap (λ readers. not (is_none readers)) (sym left) in
-      none_is_empty w (not-false (is_none w) (sym some ∙ goes))),
+          let some = said.1 ∙ ap (λ readers. not (is_none readers)) (sym left) in
+          none_is_empty w (not-false (is_none w) (sym some ∙ goes))),
       left ∙ said.0 ∙ (λ j. filter (reaches_above (i.0 j) (i.1 j)) t.value.now) ∙ ap keep t.shows.1,
       (ap (λ x. x.now) t.called.met.0.0 ∙ i.0, ap (λ x. x.now) t.called.met.0.1 ∙ i.1),
     ))
