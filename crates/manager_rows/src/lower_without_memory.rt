@@ -3,8 +3,7 @@
 ghost use Rattle.std.specs.Prelude.{◌≡◌, [], IfOk, OnOk, None};
 ghost use Rattle.cond.specs.Bounds.{IsSmallRow};
 ghost use Rattle.cond.specs.Slots.{kinds_of};
-ghost use Rattle.siread.specs.Locks.{above, readers_at};
-ghost use Rattle.conflict.specs.Readers.{reads_of};
+ghost use Rattle.siread.specs.Locks.{no_reads, readers_at};
 ghost use Rattle.commit.specs.Cores.{IsLive};
 
 use crate::driver::{equal, let_go};
@@ -12,7 +11,7 @@ use crate::printed::{COVER, SEVEN, TABLES, defined, steps_of};
 use crate::without_memory::{ask_in_vain, end_memory};
 use commit::{Core, Uncommitted, admit, first_false};
 use cond::{Cond, Expr, Slots, bound, eval, is_bounded};
-use conflict::{Candidate, Verdict, judge, share_row, touch_any};
+use conflict::{Candidate, Verdict, is_safe, judge, share_row, touch_any};
 use delta::View;
 use groups::{Member, Totals};
 use live::Live;
@@ -170,6 +169,11 @@ fn row_key(key: i64) -> LockKey {
     })
 }
 
+/// The greatest reader of what changes touch that reaches the first commit.
+fn greatest(locks: &LockTable, changes: &[Change]) -> u64 {
+    locks.greatest_reader(changes, 1, &[1, 2])
+}
+
 #[test]
 fn locks(rt: HostRuntime) -> Result<(), Fail> {
     let change = insertion(rt.alloc(), 7)?;
@@ -179,10 +183,10 @@ fn locks(rt: HostRuntime) -> Result<(), Fail> {
     locks.put(2, &keys)?;
     assert!(rt; end_memory(rt.alloc()));
     assert!(rt; locks.readers(&row_key(7)) == [1, 2].as_slice());
-    equal(&rt, locks.greatest_reader(&[change]), 2);
+    equal(&rt, greatest(&locks, &[change]), 2);
     locks.take_back(2, &keys);
     equal(&rt, locks.len(), 2);
-    locks.trim_below(1);
+    locks.trim(1, &[1, 2]);
     equal(&rt, locks.len(), 0);
     ask_in_vain(rt.alloc());
     Ok(())
@@ -191,14 +195,15 @@ fn locks(rt: HostRuntime) -> Result<(), Fail> {
 #[test]
 fn snapshots(rt: HostRuntime) -> Result<(), Fail> {
     let mut live = Live::new(rt.alloc());
-    live.begin(1)?;
-    live.begin(3)?;
+    live.begin(1, true)?;
+    live.begin(3, false)?;
     assert!(rt; end_memory(rt.alloc()));
     equal(&rt, live.next_ticket(), 2);
-    assert!(rt; live.holds(0, 1) && !live.holds(1, 1));
-    equal(&rt, live.least(4), 1);
-    live.end(0);
-    equal(&rt, live.least(4), 3);
+    assert!(rt; live.holds(0, 1, true) && !live.holds(1, 1, false));
+    assert!(rt; live.writers_hold(3));
+    equal(&rt, live.least_writing(4), 3);
+    live.end(1);
+    equal(&rt, live.least_writing(4), 4);
     ask_in_vain(rt.alloc());
     Ok(())
 }
@@ -213,6 +218,7 @@ fn judgment(rt: HostRuntime) -> Result<(), Fail> {
         judged(&locks, &reads, &changes),
         Verdict::Fine { place: 1 }
     );
+    assert!(rt; is_safe(&[], &[], 0));
     assert!(rt; touch_any(&changes, &reads) && share_row(&changes, &changes));
     assert!(rt; touches(&changes[0], &LockKey::Table(0)));
     ask_in_vain(rt.alloc());
@@ -220,22 +226,23 @@ fn judgment(rt: HostRuntime) -> Result<(), Fail> {
 }
 
 fn no_locks(alloc: Global) -> LockTable
-    ensures { readers_at result ≡ above 0 (reads_of []) }
+    ensures { readers_at result ≡ no_reads }
 {
     LockTable::new(alloc)
 }
 
 /// The verdict on the first that is to be committed.
 fn judged(locks: &LockTable, reads: &[LockKey], changes: &[Change]) -> Verdict
-    requires { readers_at locks.now ≡ above 0 (reads_of []) }
+    requires { readers_at locks.now ≡ no_reads }
 {
     let candidate = Candidate {
         number: 1,
         snapshot: 0,
+        read_only: false,
         reads,
         changes,
     };
-    judge(&[], &[], locks, &candidate)
+    judge(&[], &[], &[], locks, &candidate)
 }
 
 /// Takes one of two off call.
@@ -362,9 +369,10 @@ fn a_transaction_ends(rt: HostRuntime) -> Result<(), Fail> {
     let mut core = core(rt.alloc())?;
     let txn = run(&mut core, &step.event)?;
     assert!(rt; end_memory(rt.alloc()));
-    assert!(rt; core.holds(txn.ticket(), txn.snapshot()));
+    assert!(rt; core.holds(txn.ticket(), txn.snapshot(), false));
+    assert!(rt; !txn.is_read_only() && !core.is_safe(&txn));
     core.end(txn);
-    assert!(rt; !core.holds(0, 0));
+    assert!(rt; !core.holds(0, 0, false));
     ask_in_vain(rt.alloc());
     Ok(())
 }

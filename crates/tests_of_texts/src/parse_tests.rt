@@ -228,6 +228,7 @@ fn a_sum_under_a_minus_stays(rt: HostRuntime) -> Result<(), Fail> {
 fn letter(event: &Event) -> u8 {
     match event {
         Event::Begin => b'b',
+        Event::BeginReadOnly => b'o',
         Event::Commit => b'c',
         Event::Rollback => b'r',
         Event::Run(Statement::Insert(_)) => b'I',
@@ -249,7 +250,7 @@ fn letters(alloc: Global, steps: &Items<Step>) -> Result<Vec<u8>, AllocError> {
 }
 
 /// A script of each event.
-const SCRIPT: &[u8] = b"a: begin; B: begin; a: insert into T values (null, +1, 'x');
+const SCRIPT: &[u8] = b"a: begin; B: begin read only; a: insert into T values (null, +1, 'x');
     b: update T set X = null, Y = X * 2 where not X in (1, 2)
         or (select max(Z) from T U where U.Z = 1) = 3;
     a: delete from T; a: select * from T where exists (select * from T);
@@ -267,14 +268,16 @@ fn letters_of_script(alloc: Global) -> Result<Vec<u8>, Refusal> {
 #[test]
 fn a_script_of_each_event(rt: HostRuntime) -> Result<(), Fail> {
     let found = letters_of_script(rt.alloc())?;
-    assert!(rt; found.as_slice() == b"bbIUDSCVcrcr".as_slice());
+    assert!(rt; found.as_slice() == b"boIUDSCVcrcr".as_slice());
     Ok(())
 }
 
 /// Texts, and the places at which they are refused.
 const NO_EVENTS: &[(&[u8], usize)] = &[
     (b"SELECT ID FROM ACCT WHERE BAL = NULL", 32),
-    (b"BEGIN READ ONLY", 6),
+    (b"BEGIN READ", 10),
+    (b"BEGIN READ ONLY WORK", 16),
+    (b"READ", 0),
     (b"COMMIT; COMMIT", 6),
     (b"SELECT A FROM B WHERE", 21),
     (b"UPDATE T SET WHERE = 1", 13),

@@ -38,6 +38,7 @@ fn commit(alloc: Global, number: u64, session: Text, changes: Items<Change>) -> 
     Record {
         number,
         snapshot: 0,
+        read_only: false,
         session,
         trace: Items::new(alloc),
         reads: Items::new(alloc),

@@ -1,11 +1,17 @@
 //! That calls succeed. Events of many sessions are run by the tests of the program.
 
 ghost use Rattle.std.specs.Prelude.{◌≡◌, None, IfOk, OnOk};
+ghost use Rattle.alone.specs.Alone.{IsSound};
+ghost use Rattle.commit.specs.Events.{AreLive};
 
 use crate::texts::let_go;
 use answer::Answer;
-use commit::{Core, Outcome, Uncommitted, admit, replies_are_those_alone, run};
-use parse::parse_script;
+use commit::{
+    Core, Engine, Outcome, Uncommitted, admit, replies_are_those_alone, run,
+    safe_readers_are_never_refused,
+};
+use delta::View;
+use parse::{parse_schema, parse_script};
 use statement_syntax::Step;
 use std::alloc::Global;
 use std::process::Abort;
@@ -13,15 +19,32 @@ use std::test::Fail;
 use txn::{Closed, Txn, Unclosed};
 use value::{Refusal, Text};
 
-/// The outcome of events over no tables.
-fn outcome_of(alloc: Global, steps: &[Step]) -> Result<Outcome, Refusal> {
-    run(alloc, 1, admit(alloc, &[])?, steps)
+/// The tables that a text defines.
+fn tables_of(alloc: Global, text: &str) -> Result<View, Refusal>
+    ensures { IfOk result (λ view. IsSound view.declared view.state) }
+{
+    let definitions = parse_schema(alloc, text.as_bytes())?;
+    let admitted = admit(alloc, definitions.as_slice());
+    let_go(definitions);
+    admitted
 }
 
-/// The outcome of one BEGIN.
-fn begun(alloc: Global) -> Result<Outcome, Refusal> {
-    let steps = parse_script(alloc, "A: BEGIN;".as_bytes())?;
-    let outcome = outcome_of(alloc, steps.as_slice());
+/// The outcome of events over tables.
+fn outcome_over(alloc: Global, tables: View, steps: &[Step]) -> Result<Outcome, Refusal>
+    requires { IsSound tables.declared tables.state }
+    ensures { IfOk result (λ outcome. AreLive outcome.engine.core outcome.engine.seats) }
+{
+    let outcome = run(alloc, 4, tables, steps)?;
+    Ok(outcome)
+}
+
+/// The outcome of a script over the tables that a text defines.
+fn outcome_of(alloc: Global, text: &str, script: &str) -> Result<Outcome, Refusal>
+    ensures { IfOk result (λ outcome. AreLive outcome.engine.core outcome.engine.seats) }
+{
+    let tables = tables_of(alloc, text)?;
+    let steps = parse_script(alloc, script.as_bytes())?;
+    let outcome = outcome_over(alloc, tables, steps.as_slice());
     let_go(steps);
     outcome
 }
@@ -37,10 +60,81 @@ fn is_begun<R: Abort>(rt: &R, outcome: &Outcome) {
 
 #[test]
 fn a_transaction_begins(rt: HostRuntime) -> Result<(), Fail> {
-    let outcome = begun(rt.alloc())?;
+    let outcome = outcome_of(rt.alloc(), "", "A: BEGIN;")?;
     is_begun(&rt, &outcome);
     let_go(outcome);
     replies_are_those_alone();
+    Ok(())
+}
+
+/// Whether the transaction of the session that came last is open and safe.
+fn is_last_safe(engine: &Engine) -> bool
+    requires { AreLive engine.now.core engine.now.seats }
+{
+    match engine.seats().last() {
+        Some(seat) => match &seat.txn {
+            Some(txn) => engine.core().is_safe(txn),
+            None => false,
+        },
+        None => false,
+    }
+}
+
+/// Two rows that nobody has changed yet.
+const ROWS: &str = "CREATE TABLE DUTY (ID INTEGER PRIMARY KEY, ONCALL INTEGER);
+    INSERT INTO DUTY VALUES (1, 0); INSERT INTO DUTY VALUES (2, 0);";
+
+/// Whether that transaction is safe after these events.
+fn safety(alloc: Global, script: &str) -> Result<bool, Refusal> {
+    let outcome = outcome_of(alloc, ROWS, script)?;
+    let safe = is_last_safe(&outcome.engine);
+    let_go(outcome);
+    Ok(safe)
+}
+
+/// A writer matters where its snapshot doesn't hold what the reader's holds.
+#[test]
+fn readers_become_safe(rt: HostRuntime) -> Result<(), Fail> {
+    safe_readers_are_never_refused();
+    for (script, want) in [
+        ("R: BEGIN READ ONLY;", true),
+        ("R: BEGIN;", false),
+        ("R: BEGIN READ ONLY; R: COMMIT;", false),
+        ("W: BEGIN; R: BEGIN READ ONLY;", true),
+        ("W: BEGIN; X: BEGIN; X: COMMIT; R: BEGIN READ ONLY;", false),
+        (
+            "W: BEGIN; X: BEGIN; X: COMMIT; R: BEGIN READ ONLY; W: COMMIT;",
+            true,
+        ),
+        (
+            "W: BEGIN; X: BEGIN; X: COMMIT; R: BEGIN READ ONLY; W: ROLLBACK;",
+            true,
+        ),
+    ] {
+        assert_eq!(rt; safety(rt.alloc(), script)?, want, "{script}");
+    }
+    Ok(())
+}
+
+/// W, which has begun, reads a row as it was before X changed it. R begins after that.
+const OVERTAKEN: &str = "W: SELECT ONCALL FROM DUTY WHERE ID = 1;
+    X: BEGIN; X: UPDATE DUTY SET ONCALL = 1 WHERE ID = 1; X: COMMIT; R: BEGIN READ ONLY;";
+
+/// W has changed another row.
+const CHANGES: &str = "W: BEGIN; W: UPDATE DUTY SET ONCALL = 1 WHERE ID = 2;";
+
+#[test]
+fn readers_stay_unsafe(rt: HostRuntime) -> Result<(), Fail> {
+    let alloc = rt.alloc();
+    for (begin, end, want) in [
+        (CHANGES, "", false),
+        (CHANGES, "W: COMMIT;", false),
+        (CHANGES, "W: ROLLBACK;", true),
+        ("W: BEGIN READ ONLY;", "W: COMMIT;", true),
+    ] {
+        let script = format!(in alloc; "{begin} {OVERTAKEN} {end}")?;
+        assert_eq!(rt; safety(alloc, script.as_str())?, want, "{script}");
+    }
     Ok(())
 }
 
@@ -105,6 +199,27 @@ fn roll_back(core: &mut Core) -> Result<(), Refusal>
     let txn = core.begin()?;
     core.end(txn);
     Ok(())
+}
+
+/// A transaction that is read only, and safe since no other is open. It is rolled back.
+fn reads_alone<R: Abort>(rt: &R, core: &mut Core) -> Result<(), Refusal>
+    requires { core.old.prepared ≡ None }
+{
+    let txn = core.begin_read_only()?;
+    assert!(rt; core.holds(txn.ticket(), txn.snapshot(), true));
+    assert!(rt; !core.holds(txn.ticket(), txn.snapshot(), false));
+    assert!(rt; core.is_safe(&txn));
+    core.end(txn);
+    Ok(())
+}
+
+#[test]
+fn a_read_only_transaction_begins(rt: HostRuntime) -> Result<(), Fail> {
+    let mut core = empty(rt.alloc())?;
+    let outcome = reads_alone(&rt, &mut core);
+    assert!(rt; !core.holds(0, 0, true));
+    let_go(core);
+    Ok(outcome?)
 }
 
 /// A commit that is prepared and given up, a rollback, and a commit that is prepared and made.

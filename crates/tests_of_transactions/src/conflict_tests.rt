@@ -1,28 +1,40 @@
 //! Small histories, of transactions that all began before the first commit.
 
-ghost use Rattle.std.specs.Prelude.{◌≡◌, ◌≤◌, ◌<◌, ◌+◌, [], length, map, reverse, IfOk};
-ghost use Rattle.siread.specs.Locks.{above, readers_at};
-ghost use Rattle.serial.specs.Commits.{IsLog};
-ghost use Rattle.serial.specs.Order.{least_out};
+ghost use Rattle.std.specs.Prelude.{◌≡◌, ◌<◌, ◌+◌, [], true, is_none, length, reverse, vec_capacity, vec_len, IfOk, OnOk};
 ghost use Rattle.conflict.specs.Judged.{IsVerdict};
-ghost use Rattle.conflict.specs.Readers.{reads_of};
 
 use crate::texts::let_go;
-use conflict::{Candidate, Danger, Verdict, judge, put_in_order};
-use serial::Record;
+use conflict::{Candidate, Danger, Verdict, is_safe, judge, put_in_order};
+use serial::{Record, safe_snapshots_have_no_danger};
 use siread::{LockKey, LockTable, Place};
 use sqlite_items::Items;
-use std::alloc::Global;
+use std::alloc::{AllocError, Global};
+use std::marker::Model;
 use std::process::Abort;
 use std::test::Fail;
 use table::{Change, Row};
 use value::{Refusal, Text, Value};
 
-/// That nobody has read anything.
-fn no_locks(alloc: Global) -> LockTable
-    ensures { readers_at result ≡ above 0 (reads_of []) }
-{
-    LockTable::new(alloc)
+/// What a transaction did: it read one row of the first table, and put in another one. Where there is none, it is read
+/// only.
+#[derive(Clone, Copy)]
+struct Ran {
+    read: i64,
+    written: Option<i64>,
+}
+
+fn writer(read: i64, written: i64) -> Ran {
+    Ran {
+        read,
+        written: Some(written),
+    }
+}
+
+fn reader(read: i64) -> Ran {
+    Ran {
+        read,
+        written: None,
+    }
 }
 
 /// Puts the row of a key into the first table.
@@ -44,164 +56,286 @@ fn row_key(key: i64) -> LockKey {
     })
 }
 
-/// The transaction with the next number, which read one row of the first table and put in another.
-fn next(alloc: Global, committed: &[Record], read: i64, written: i64) -> Result<Record, Refusal>
-    requires { length committed.now < 9 }
-    ensures number { IfOk result (λ made. made.number ≡ length committed.now + 1) }
-    ensures snapshot { IfOk result (λ made. made.snapshot ≡ 0) }
+/// The net change that puts in the row of a key, if there is one.
+fn changes_of(alloc: Global, written: Option<i64>) -> Result<Items<Change>, Refusal>
+    ensures { IfOk result (λ changes. is_none written ≡ true → changes ≡ []) }
 {
-    let number = committed.len() as u64 + 1;
-    let session = Text::from_str(alloc, "A")?;
-    let reads = vec![in alloc; row_key(read)]?;
-    let changes = vec![in alloc; insertion(alloc, written)?]?;
-    Ok(Record {
-        number,
-        snapshot: 0,
-        session,
-        trace: Items::new(alloc),
-        reads: Items::from_vec(reads),
-        changes: Items::from_vec(changes),
-    })
-}
-
-/// Judges the next transaction. One that may join those before it then does.
-fn submit(
-    alloc: Global,
-    committed: &mut Vec<Record>,
-    places: &mut Vec<u64>,
-    locks: &mut LockTable,
-    read: i64,
-    written: i64,
-) -> Result<Verdict, Refusal>
-    requires few { length committed.old.items < 9 }
-    requires log { IsLog (reverse committed.old.items) }
-    requires places { places.old.items ≡ map (least_out (reverse committed.old.items)) committed.old.items }
-    requires readers { readers_at locks.old ≡ above 0 (reads_of committed.old.items) }
-    ensures few { length committed.new.items ≤ length committed.old.items + 1 }
-    ensures log { IfOk result (λ _. IsLog (reverse committed.new.items)) }
-    ensures places { IfOk result (λ _.
-        places.new.items ≡ map (least_out (reverse committed.new.items)) committed.new.items) }
-    ensures readers { IfOk result (λ _. readers_at locks.new ≡ above 0 (reads_of committed.new.items)) }
-{
-    let commit = next(alloc, committed.as_slice(), read, written)?;
-    let verdict = judge_whole(committed.as_slice(), places.as_slice(), locks, &commit);
-    if let Verdict::Fine { place } = verdict {
-        locks.put(commit.number, commit.reads.as_slice())?;
-        locks.trim_below(0);
-        places.push(place)?;
-        committed.push(commit)?;
+    match written {
+        None => Ok(Items::new(alloc)),
+        Some(key) => Ok(Items::from_vec(vec![in alloc; insertion(alloc, key)?]?)),
     }
-    Ok(verdict)
 }
 
-/// Judges a transaction that is a record already.
-fn judge_whole(committed: &[Record], places: &[u64], locks: &LockTable, commit: &Record) -> Verdict
-    requires log { IsLog (reverse committed.now) }
-    requires next { commit.now.number ≡ length committed.now + 1 }
-    requires after_snapshot { commit.now.snapshot < commit.now.number }
-    requires places { places.now ≡ map (least_out (reverse committed.now)) committed.now }
-    requires readers { readers_at locks.now ≡ above 0 (reads_of committed.now) }
-    ensures { IsVerdict (reverse committed.now) commit.now result }
-{
-    let candidate = Candidate {
-        number: commit.number,
-        snapshot: commit.snapshot,
-        reads: commit.reads.as_slice(),
-        changes: commit.changes.as_slice(),
-    };
-    judge(committed, places, locks, &candidate)
+impl Ran {
+    /// It as the commit of a number.
+    fn commit(&self, alloc: Global, number: u64) -> Result<Record, Refusal>
+        ensures number { IfOk result (λ made. made.number ≡ number) }
+        ensures snapshot { IfOk result (λ made. made.snapshot ≡ 0) }
+        ensures changes_nothing { IfOk result (λ made. made.read_only ≡ true → made.changes ≡ []) }
+    {
+        let session = Text::from_str(alloc, "A")?;
+        let reads = vec![in alloc; row_key(self.read)]?;
+        let changes = changes_of(alloc, self.written)?;
+        Ok(Record {
+            number,
+            snapshot: 0,
+            read_only: self.written.is_none(),
+            session,
+            trace: Items::new(alloc),
+            reads: Items::from_vec(reads),
+            changes,
+        })
+    }
 }
 
-/// Judges transactions one after the other, each by what it read and what it put in, and answers the last verdict.
-fn submit_all(
-    alloc: Global,
-    committed: &mut Vec<Record>,
-    places: &mut Vec<u64>,
-    locks: &mut LockTable,
-    commits: &[(i64, i64)],
-) -> Result<Verdict, Refusal>
-    requires log { IsLog (reverse committed.old.items) }
-    requires places { places.old.items ≡ map (least_out (reverse committed.old.items)) committed.old.items }
-    requires readers { readers_at locks.old ≡ above 0 (reads_of committed.old.items) }
-{
-    let mut last = Verdict::Fine { place: 0 };
-    for commit in commits {
-        if committed.len() >= 9 {
-            return Err(Refusal::TooWide);
+/// The commits so far, and what is kept beside them.
+#[derive(Drop)]
+struct History {
+    committed: Vec<Record>,
+    places: Vec<u64>,
+    reaches: Vec<u64>,
+    order: Vec<u64>,
+    locks: LockTable,
+}
+
+impl Model for History {
+    ghost use Rattle.cond.specs.contracts.conds.Cond as cond_type;
+    ghost use Rattle.cond.specs.contracts.exprs.Expr as expr_type;
+    ghost use Rattle.std.specs.Coded.{codes};
+    ghost use Rattle.std.specs.Prelude.{List};
+    ghost use Rattle.siread.specs.Locks.{readers_at};
+    ghost use Rattle.serial.specs.declared.records.Record.{Record as Commit};
+    ghost use Rattle.tests_of_transactions.specs.Histories.{AreKept};
+
+    ghost Value = { List Commit };
+
+    ghost coded = { Prim.hlevel (codes, cond_type.the_row.coded, expr_type.the_row.coded) };
+
+    ghost view = { λ h. h.committed.items };
+
+    ghost invariant = { λ h.
+        AreKept h.committed.items h.places.items h.reaches.items h.order.items (readers_at h.locks) };
+}
+
+impl History {
+    /// No commit yet.
+    fn new(alloc: Global) -> History {
+        History {
+            committed: Vec::new(alloc),
+            places: Vec::new(alloc),
+            reaches: Vec::new(alloc),
+            order: Vec::new(alloc),
+            locks: LockTable::new(alloc),
         }
-        last = submit(alloc, committed, places, locks, commit.0, commit.1)?;
     }
-    Ok(last)
+
+    /// Judges the next transaction. One that may join those before it then does.
+    fn submit(&mut self, alloc: Global, ran: &Ran) -> Result<Verdict, Refusal> {
+        let commit = ran.commit(alloc, self.committed.len() as u64 + 1)?;
+        let verdict = self.judge(&commit);
+        if let Verdict::Fine { place } = verdict {
+            make_room(
+                &mut self.committed,
+                &mut self.places,
+                &mut self.reaches,
+                &mut self.order,
+            )?;
+            self.locks.put(commit.number, commit.reads.as_slice())?;
+            put_in_order(
+                &mut self.order,
+                self.committed.as_slice(),
+                self.places.as_slice(),
+                &commit,
+                place,
+            );
+            self.places.push_reserved(place);
+            self.reaches.push_reserved(commit.reach());
+            self.locks.trim(0, self.reaches.as_slice());
+            self.committed.push_reserved(commit);
+        }
+        Ok(verdict)
+    }
+
+    /// Judges a transaction that is a record already.
+    fn judge(&self, commit: &Record) -> Verdict
+        requires next { commit.now.number ≡ length self.now + 1 }
+        requires start { commit.now.snapshot ≡ 0 }
+        requires changes_nothing { commit.now.read_only ≡ true → commit.now.changes ≡ [] }
+        ensures { IsVerdict (reverse self.now) commit.now result }
+    {
+        let candidate = Candidate {
+            number: commit.number,
+            snapshot: commit.snapshot,
+            read_only: commit.read_only,
+            reads: commit.reads.as_slice(),
+            changes: commit.changes.as_slice(),
+        };
+        judge(
+            self.committed.as_slice(),
+            self.places.as_slice(),
+            self.reaches.as_slice(),
+            &self.locks,
+            &candidate,
+        )
+    }
+
+    /// Judges transactions one after the other, and answers the last verdict.
+    fn submit_all(&mut self, alloc: Global, all: &[Ran]) -> Result<Verdict, Refusal> {
+        let mut last = Verdict::Fine { place: 0 };
+        for ran in all {
+            last = self.submit(alloc, ran)?;
+        }
+        Ok(last)
+    }
+
+    /// Whether the snapshot that holds so many commits is safe, if there are as many.
+    fn is_safe(&self, snapshot: u64) -> Option<bool> {
+        if snapshot <= self.committed.len() as u64 {
+            Some(is_safe(self.committed.as_slice(), self.places.as_slice(), snapshot))
+        } else {
+            None
+        }
+    }
 }
 
-/// The last verdict on transactions that all began before the first commit.
-fn last_verdict(alloc: Global, commits: &[(i64, i64)]) -> Result<Verdict, Refusal> {
-    let mut committed = Vec::new(alloc);
-    let mut places = Vec::new(alloc);
-    let mut locks = no_locks(alloc);
-    let verdict = submit_all(alloc, &mut committed, &mut places, &mut locks, commits);
-    let_go(locks);
-    let_go(committed);
-    verdict
+/// Makes room for one commit more.
+fn make_room(
+    committed: &mut Vec<Record>,
+    places: &mut Vec<u64>,
+    reaches: &mut Vec<u64>,
+    order: &mut Vec<u64>,
+) -> Result<(), AllocError>
+    ensures committed { committed.new.items ≡ committed.old.items }
+    ensures places { places.new.items ≡ places.old.items }
+    ensures reaches { reaches.new.items ≡ reaches.old.items }
+    ensures order { order.new.items ≡ order.old.items }
+    ensures room { OnOk result ((vec_len committed.new < vec_capacity committed.new)
+        × (vec_len places.new < vec_capacity places.new) × (vec_len reaches.new < vec_capacity reaches.new)
+        × (vec_len order.new < vec_capacity order.new)) }
+{
+    committed.reserve(1)?;
+    places.reserve(1)?;
+    reaches.reserve(1)?;
+    order.reserve(1)?;
+    Ok(())
 }
 
 /// The last of these transactions gets this verdict.
-fn answers<R: Abort>(
-    rt: &R,
-    alloc: Global,
-    commits: &[(i64, i64)],
-    want: Verdict,
-) -> Result<(), Fail> {
-    let verdict = last_verdict(alloc, commits)?;
-    assert_eq!(rt; verdict, want);
+fn answers<R: Abort>(rt: &R, alloc: Global, all: &[Ran], want: Verdict) -> Result<(), Fail> {
+    let mut history = History::new(alloc);
+    let verdict = history.submit_all(alloc, all);
+    let_go(history);
+    assert_eq!(rt; verdict?, want);
     Ok(())
 }
 
 #[test]
 fn the_first_commit_joins(rt: HostRuntime) -> Result<(), Fail> {
-    answers(&rt, rt.alloc(), &[(7, 7)], Verdict::Fine { place: 1 })
+    let want = Verdict::Fine { place: 1 };
+    answers(&rt, rt.alloc(), &[writer(7, 7)], want)
 }
 
 #[test]
 fn the_first_committer_wins(rt: HostRuntime) -> Result<(), Fail> {
     let want = Verdict::WriteConflict { row: 0, by: 1 };
-    answers(&rt, rt.alloc(), &[(1, 2), (3, 2)], want)
+    answers(&rt, rt.alloc(), &[writer(1, 2), writer(3, 2)], want)
 }
 
 #[test]
 fn each_read_what_the_other_wrote(rt: HostRuntime) -> Result<(), Fail> {
-    let danger = Danger::AsPivot {
+    let want = Verdict::Dangerous(Danger::AsPivot {
         reader: 1,
         writer: 1,
-    };
-    answers(
-        &rt,
-        rt.alloc(),
-        &[(1, 2), (2, 1)],
-        Verdict::Dangerous(danger),
-    )
+    });
+    answers(&rt, rt.alloc(), &[writer(1, 2), writer(2, 1)], want)
 }
 
+/// The pivot may join. Who comes last and reads what it wrote may not, unless it is read only: then it stands before
+/// the writer.
 #[test]
 fn the_reader_comes_last(rt: HostRuntime) -> Result<(), Fail> {
-    let pivot = Verdict::Fine { place: 1 };
-    answers(&rt, rt.alloc(), &[(9, 1), (1, 2)], pivot)?;
-    let danger = Danger::AsReader {
+    let (first, pivot) = (writer(9, 1), writer(1, 2));
+    let joins = Verdict::Fine { place: 1 };
+    answers(&rt, rt.alloc(), &[first, pivot], joins)?;
+    let danger = Verdict::Dangerous(Danger::AsReader {
         pivot: 2,
         writer: 1,
-    };
-    let reader = Verdict::Dangerous(danger);
-    answers(&rt, rt.alloc(), &[(9, 1), (1, 2), (2, 3)], reader)
+    });
+    answers(&rt, rt.alloc(), &[first, pivot, writer(2, 3)], danger)?;
+    let passes = Verdict::Fine { place: 2 };
+    answers(&rt, rt.alloc(), &[first, pivot, reader(2)], passes)
+}
+
+/// The reader has committed after the writer, which its snapshot does not hold, when the pivot comes.
+#[test]
+fn the_pivot_comes_last(rt: HostRuntime) -> Result<(), Fail> {
+    let (first, pivot) = (writer(9, 1), writer(1, 2));
+    let danger = Verdict::Dangerous(Danger::AsPivot {
+        reader: 2,
+        writer: 1,
+    });
+    answers(&rt, rt.alloc(), &[first, writer(2, 3), pivot], danger)?;
+    let passes = Verdict::Fine { place: 1 };
+    answers(&rt, rt.alloc(), &[first, reader(2), pivot], passes)
+}
+
+/// Who reads what the first wrote stands before it, and who is read only right behind its snapshot.
+fn are_in_order<R: Abort>(rt: &R, alloc: Global, history: &mut History) -> Result<(), Refusal> {
+    history.submit_all(alloc, &[writer(9, 1), writer(1, 2)])?;
+    assert_eq!(rt; history.order.as_slice(), [2u64, 1].as_slice());
+    history.submit(alloc, &writer(7, 7))?;
+    assert_eq!(rt; history.order.as_slice(), [2u64, 1, 3].as_slice());
+    history.submit(alloc, &reader(8))?;
+    assert_eq!(rt; history.order.as_slice(), [4u64, 2, 1, 3].as_slice());
+    assert_eq!(rt; history.reaches.as_slice(), [1u64, 2, 3, 0].as_slice());
+    Ok(())
 }
 
 #[test]
-fn a_commit_stands_before_its_writer(rt: HostRuntime) -> Result<(), Fail> {
-    let mut order = vec![in rt.alloc(); 1u64]?;
-    order.reserve(1)?;
-    put_in_order(&mut order, 1, 2);
-    assert_eq!(rt; order.as_slice(), [2u64, 1].as_slice());
-    order.reserve(1)?;
-    put_in_order(&mut order, 3, 3);
-    assert_eq!(rt; order.as_slice(), [2u64, 1, 3].as_slice());
+fn commits_stand_in_serial_order(rt: HostRuntime) -> Result<(), Fail> {
+    let mut history = History::new(rt.alloc());
+    let outcome = are_in_order(&rt, rt.alloc(), &mut history);
+    let_go(history);
+    Ok(outcome?)
+}
+
+/// Whether the snapshot that holds so many of these transactions is safe.
+fn safety(alloc: Global, all: &[Ran], snapshot: u64) -> Result<Option<bool>, Refusal> {
+    let mut history = History::new(alloc);
+    let verdict = history.submit_all(alloc, all);
+    let safe = history.is_safe(snapshot);
+    let_go(history);
+    verdict?;
+    Ok(safe)
+}
+
+/// The second reads what the first wrote, so the snapshot that holds the first alone is safe only where the second has
+/// written nothing.
+#[test]
+fn snapshots_are_safe(rt: HostRuntime) -> Result<(), Fail> {
+    safe_snapshots_have_no_danger();
+    let all = [writer(9, 1), writer(1, 2)];
+    assert_eq!(rt; safety(rt.alloc(), &all, 0)?, Some(true));
+    assert_eq!(rt; safety(rt.alloc(), &all, 1)?, Some(false));
+    assert_eq!(rt; safety(rt.alloc(), &all, 2)?, Some(true));
+    let passed = [writer(9, 1), reader(1)];
+    assert_eq!(rt; safety(rt.alloc(), &passed, 1)?, Some(true));
     Ok(())
+}
+
+/// A transaction with the number 4 on the snapshot of the first two commits.
+fn candidate(read_only: bool) -> Candidate<'static> {
+    Candidate {
+        number: 4,
+        snapshot: 2,
+        read_only,
+        reads: &[],
+        changes: &[],
+    }
+}
+
+#[test]
+fn read_only_ones_reach_their_snapshot(rt: HostRuntime) {
+    assert_eq!(rt; candidate(true).reach(), 2);
+    assert_eq!(rt; candidate(false).reach(), 4);
 }

@@ -6,27 +6,38 @@ use std::process::Abort;
 use std::test::Fail;
 use value::Refusal;
 
-/// Two transactions begin, on the tables after the first commit and after the third.
-fn begin_two(live: &mut Live) -> Result<(), Refusal> {
-    live.begin(1)?;
-    live.begin(3)
+/// One that is read only begins on the tables after the first commit, and two on those after the second and the third.
+fn begin_three(live: &mut Live) -> Result<(), Refusal> {
+    live.begin(1, true)?;
+    live.begin(2, false)?;
+    live.begin(3, false)
 }
 
-/// They end one after the other.
+/// They are open. Those that may write hold two commits, whatever the other holds.
+fn are_open<R: Abort>(rt: &R, live: &Live) {
+    assert_eq!(rt; live.next_ticket(), 3);
+    assert!(rt; live.holds(0, 1, true) && live.holds(1, 2, false));
+    assert!(rt; !live.holds(0, 1, false) && !live.holds(1, 1, false));
+    assert!(rt; live.writers_hold(2) && !live.writers_hold(3));
+    assert_eq!(rt; live.least_writing(4), 2);
+}
+
+/// Those that may write end one after the other.
 fn end_two<R: Abort>(rt: &R, live: &mut Live) {
-    assert_eq!(rt; live.next_ticket(), 2);
-    assert_eq!(rt; live.least(4), 1);
-    live.end(0);
-    assert_eq!(rt; live.least(4), 3);
     live.end(1);
-    assert_eq!(rt; live.least(4), 4);
+    assert_eq!(rt; live.least_writing(4), 3);
+    assert!(rt; live.writers_hold(3));
+    live.end(2);
+    assert_eq!(rt; live.least_writing(4), 4);
+    assert!(rt; live.holds(0, 1, true));
 }
 
 #[test]
-fn the_least_snapshot_is_that_of_the_oldest(rt: HostRuntime) -> Result<(), Fail> {
+fn the_least_snapshot_is_that_of_the_oldest_writer(rt: HostRuntime) -> Result<(), Fail> {
     let mut live = Live::new(rt.alloc());
-    assert_eq!(rt; live.least(4), 4);
-    let begun = begin_two(&mut live);
+    assert_eq!(rt; live.least_writing(4), 4);
+    let begun = begin_three(&mut live);
+    are_open(&rt, &live);
     end_two(&rt, &mut live);
     let_go(live);
     Ok(begun?)

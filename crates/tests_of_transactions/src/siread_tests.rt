@@ -102,13 +102,17 @@ fn put_three(locks: &mut LockTable) -> Result<(), Refusal>
     locks.put(3, &[LockKey::Table(0)])
 }
 
-/// The third is taken back, then the first is trimmed, and then the second.
+/// How far the three reach: the second nothing.
+const REACHES: [u64; 3] = [1, 0, 3];
+
+/// The second is trimmed before the first, since it reaches less far. The third is taken back in between.
 fn trims<R: Abort>(rt: &R, locks: &mut LockTable) {
+    locks.trim(0, &REACHES);
+    assert!(rt; locks.readers(&LockKey::Table(0)) == [1, 3].as_slice());
+    assert!(rt; locks.readers(&LockKey::Table(1)).is_empty());
     locks.take_back(3, &[LockKey::Table(0)]);
-    assert!(rt; locks.readers(&LockKey::Table(0)) == [1, 2].as_slice());
-    locks.trim_below(1);
-    assert!(rt; locks.readers(&LockKey::Table(0)) == [2].as_slice());
-    locks.trim_below(2);
+    assert!(rt; locks.readers(&LockKey::Table(0)) == [1].as_slice());
+    locks.trim(1, &REACHES);
     assert!(rt; locks.len() == 0);
 }
 
@@ -130,17 +134,27 @@ fn put_values(locks: &mut LockTable) -> Result<(), Refusal>
     locks.put(3, &[second_column(Value::Int(2))])
 }
 
+/// The greatest of them who read what changes touch and reaches so far.
+fn greatest(locks: &LockTable, changes: &[Change], least: u64) -> u64 {
+    locks.greatest_reader(changes, least, &REACHES)
+}
+
+/// The first two have read what the change touches, and the third has not.
 #[test]
 fn the_greatest_reader_is_of_a_touched_key(rt: HostRuntime) -> Result<(), Fail> {
     let changes = [null_to_one(rt.alloc())?];
     let mut locks = no_reads(rt.alloc());
     let put = put_values(&mut locks);
-    let greatest = locks.greatest_reader(&changes);
-    let of_none = locks.greatest_reader(&[]);
+    let of_all = greatest(&locks, &changes, 0);
+    let of_those_that_reach = greatest(&locks, &changes, 1);
+    let of_no_such = greatest(&locks, &changes, 2);
+    let of_none = greatest(&locks, &[], 0);
     let_go(locks);
     let_go(changes);
     put?;
-    assert_eq!(rt; greatest, 2);
-    assert_eq!(rt; of_none, 0);
+    assert_eq!(rt;
+        [of_all, of_those_that_reach, of_no_such, of_none],
+        [2, 1, 0, 0]
+    );
     Ok(())
 }

@@ -25,6 +25,8 @@ const TABLES: &str = "CREATE TABLE DUTY (ID INTEGER PRIMARY KEY, SHIFT INTEGER, 
 struct Case<'a> {
     /// A script of another one before it, on whose own view it begins.
     first: &'a str,
+    /// Whether it is read only.
+    read_only: bool,
     script: &'a str,
     /// What it prints.
     want: &'a str,
@@ -75,7 +77,7 @@ fn printed(alloc: Global, txn: &mut Txn, script: &str) -> Result<Report, Fail> {
 /// The own view that a script leaves, of a transaction on empty tables.
 fn left_by(alloc: Global, script: &str) -> Result<View, Fail> {
     let tables = view_of(alloc, TABLES)?;
-    let begun = Txn::begin(alloc, 0, 0, &tables);
+    let begun = Txn::begin(alloc, 0, 0, false, &tables);
     let_go(tables);
     let mut txn = begun?;
     let lines = printed(alloc, &mut txn, script);
@@ -84,10 +86,10 @@ fn left_by(alloc: Global, script: &str) -> Result<View, Fail> {
     Ok(left)
 }
 
-/// A transaction on these tables.
-fn begun_after(alloc: Global, script: &str) -> Result<Txn, Fail> {
+/// A transaction, read only or not, on these tables.
+fn begun_after(alloc: Global, script: &str, read_only: bool) -> Result<Txn, Fail> {
     let tables = left_by(alloc, script)?;
-    let begun = Txn::begin(alloc, 5, 1, &tables);
+    let begun = Txn::begin(alloc, 5, 1, read_only, &tables);
     let_go(tables);
     Ok(begun?)
 }
@@ -107,6 +109,8 @@ fn reopened(txn: Txn) -> Txn {
 fn open_tells<R: Abort>(rt: &R, txn: &Txn, leader: &Text, case: &Case) {
     assert_eq!(rt; txn.ticket(), 5);
     assert_eq!(rt; txn.snapshot(), 1);
+    assert_eq!(rt; txn.is_read_only(), case.read_only);
+    txn.recall_read_only();
     assert_eq!(rt; txn.trace().len(), case.statements);
     assert_eq!(rt; txn.verdict(leader), Some(case.leader));
     match txn.pending() {
@@ -117,6 +121,8 @@ fn open_tells<R: Abort>(rt: &R, txn: &Txn, leader: &Text, case: &Case) {
 
 /// What a closed one tells.
 fn closed_tells<R: Abort>(rt: &R, closed: &Closed, case: &Case) {
+    assert_eq!(rt; closed.is_read_only(), case.read_only);
+    closed.recall_read_only();
     assert_eq!(rt; closed.changes().len(), case.rows);
     assert_eq!(rt; closed.refused().is_some(), case.is_refused);
 }
@@ -139,7 +145,7 @@ fn end<R: Abort>(rt: &R, txn: Txn, case: &Case) {
 /// The case comes of its script. The transaction is closed and opened again before it ends.
 fn comes<R: Abort>(rt: &R, alloc: Global, case: &Case) -> Result<(), Fail> {
     let leader = Text::from_str(alloc, "LEADER")?;
-    let mut txn = begun_after(alloc, case.first)?;
+    let mut txn = begun_after(alloc, case.first, case.read_only)?;
     let lines = printed(alloc, &mut txn, case.script);
     open_tells(rt, &txn, &leader, case);
     end(rt, reopened(txn), case);
@@ -151,6 +157,7 @@ fn comes<R: Abort>(rt: &R, alloc: Global, case: &Case) -> Result<(), Fail> {
 fn rows_are_put_in_and_taken_out(rt: HostRuntime) -> Result<(), Fail> {
     let case = Case {
         first: "",
+        read_only: false,
         script: "A: INSERT INTO DUTY VALUES (1, 7, NULL); A: INSERT INTO DUTY VALUES (2, 7, NULL);
             A: DELETE FROM DUTY WHERE SHIFT = 7; A: INSERT INTO DUTY VALUES (2, 7, NULL);
             A: INSERT INTO DUTY VALUES (2, 7, NULL);",
@@ -169,6 +176,7 @@ fn rows_are_put_in_and_taken_out(rt: HostRuntime) -> Result<(), Fail> {
 fn null_is_not_taken_out(rt: HostRuntime) -> Result<(), Fail> {
     let case = Case {
         first: "",
+        read_only: false,
         script: "A: INSERT INTO DUTY VALUES (1, NULL, NULL); A: DELETE FROM DUTY WHERE SHIFT = 7;
             A: INSERT INTO DUTY VALUES (1, NULL, NULL);",
         want: "A: INSERT 1\nA: DELETE 0\nA: REFUSED 7 23000 DUTY 1\n",
@@ -185,6 +193,7 @@ fn null_is_not_taken_out(rt: HostRuntime) -> Result<(), Fail> {
 fn a_refused_statement_leaves_rows_and_modes(rt: HostRuntime) -> Result<(), Fail> {
     let case = Case {
         first: "",
+        read_only: false,
         script: "A: INSERT INTO LEADERS VALUES (1, NULL, NULL); A: INSERT INTO LEADERS VALUES (2, NULL, NULL);
             A: VERDICT LEADER; A: VERDICT DUTY; A: INSERT INTO LEADERS VALUES (2, NULL, NULL);",
         want: "A: INSERT 1\nA: REFUSED 10 23000 LEADER ALL\nA: VERDICT LEADER TRUE\nA: REFUSED 3 - DUTY\n\
@@ -202,6 +211,7 @@ fn a_refused_statement_leaves_rows_and_modes(rt: HostRuntime) -> Result<(), Fail
 fn update_counts_and_select_lists_in_key_order(rt: HostRuntime) -> Result<(), Fail> {
     let case = Case {
         first: "",
+        read_only: false,
         script: "A: INSERT INTO DUTY VALUES (2, 8, NULL); A: INSERT INTO DUTY VALUES (1, 7, NULL);
             A: UPDATE DUTY SET SHIFT = SHIFT + 1; A: UPDATE DUTY SET SHIFT = SHIFT + 1000000000000000;
             A: UPDATE DUTY SET SHIFT = 3; A: SELECT * FROM DUTY;",
@@ -220,6 +230,7 @@ fn update_counts_and_select_lists_in_key_order(rt: HostRuntime) -> Result<(), Fa
 fn update_evaluates_on_the_old_row(rt: HostRuntime) -> Result<(), Fail> {
     let case = Case {
         first: "",
+        read_only: false,
         script: "A: INSERT INTO DUTY VALUES (1, 7, NULL); A: UPDATE DUTY SET SHIFT = SPARE, SPARE = SHIFT;
             A: SELECT * FROM DUTY; A: UPDATE DUTY SET SHIFT = SPARE, SPARE = SHIFT; A: SELECT * FROM DUTY;",
         want: "A: INSERT 1\nA: UPDATE 1\nA: SELECT 1\n  1, NULL, 7\nA: UPDATE 1\nA: SELECT 1\n  1, 7, NULL\n",
@@ -237,6 +248,7 @@ fn update_evaluates_on_the_old_row(rt: HostRuntime) -> Result<(), Fail> {
 fn refused_set_constraints_keeps_the_modes(rt: HostRuntime) -> Result<(), Fail> {
     let case = Case {
         first: "",
+        read_only: false,
         script: "A: SET CONSTRAINTS ALONE DEFERRED; A: SET CONSTRAINTS LEADER DEFERRED;
             A: INSERT INTO LEADERS VALUES (1, 1, NULL); A: INSERT INTO LEADERS VALUES (2, 2, NULL);
             A: VERDICT LEADER; A: SET CONSTRAINTS LEADER IMMEDIATE; A: DELETE FROM LEADERS WHERE SHIFT = 2;
@@ -258,6 +270,7 @@ fn refused_set_constraints_keeps_the_modes(rt: HostRuntime) -> Result<(), Fail> 
 fn commit_checks_what_is_deferred(rt: HostRuntime) -> Result<(), Fail> {
     let case = Case {
         first: "",
+        read_only: false,
         script: "A: SET CONSTRAINTS LEADER DEFERRED; A: INSERT INTO LEADERS VALUES (1, 1, NULL);
             A: INSERT INTO LEADERS VALUES (2, 2, NULL); A: VERDICT LEADER;",
         want: "A: SET CONSTRAINTS\nA: INSERT 1\nA: INSERT 1\nA: VERDICT LEADER FALSE\n",
@@ -274,9 +287,33 @@ fn commit_checks_what_is_deferred(rt: HostRuntime) -> Result<(), Fail> {
 fn a_row_set_to_what_it_held_is_no_change(rt: HostRuntime) -> Result<(), Fail> {
     let case = Case {
         first: "A: INSERT INTO DUTY VALUES (1, 7, NULL);",
+        read_only: false,
         script: "A: UPDATE DUTY SET SHIFT = 8; A: UPDATE DUTY SET SHIFT = 7;",
         want: "A: UPDATE 1\nA: UPDATE 1\n",
         statements: 2,
+        leader: Truth::True,
+        false_ones: 0,
+        rows: 0,
+        is_refused: false,
+    };
+    comes(&rt, rt.alloc(), &case)
+}
+
+/// What would change rows is refused before all else, also where there is no such table or row.
+#[test]
+fn a_read_only_transaction_looks_alone(rt: HostRuntime) -> Result<(), Fail> {
+    let case = Case {
+        first: "A: INSERT INTO DUTY VALUES (1, 7, NULL);",
+        read_only: true,
+        script: "A: INSERT INTO DUTY VALUES (2, 8, NULL); A: UPDATE DUTY SET SHIFT = 8; A: DELETE FROM DUTY;
+            A: INSERT INTO GUESTS VALUES (1); A: UPDATE GUESTS SET SHIFT = 8; A: DELETE FROM GUESTS;
+            A: UPDATE DUTY SET SHIFT = 8 WHERE ID = 2; A: DELETE FROM DUTY WHERE ID = 2;
+            A: SELECT * FROM DUTY; A: SET CONSTRAINTS LEADER DEFERRED;",
+        want: "A: REFUSED 23 - READ ONLY\nA: REFUSED 23 - READ ONLY\nA: REFUSED 23 - READ ONLY\n\
+            A: REFUSED 23 - READ ONLY\nA: REFUSED 23 - READ ONLY\nA: REFUSED 23 - READ ONLY\n\
+            A: REFUSED 23 - READ ONLY\nA: REFUSED 23 - READ ONLY\n\
+            A: SELECT 1\n  1, 7, NULL\nA: SET CONSTRAINTS\n",
+        statements: 10,
         leader: Truth::True,
         false_ones: 0,
         rows: 0,
@@ -312,7 +349,7 @@ fn reads(txn: &Txn, words: &[&str]) -> bool {
 /// alone.
 #[test]
 fn keys_read_are_noted(rt: HostRuntime) -> Result<(), Fail> {
-    let mut txn = begun_after(rt.alloc(), "")?;
+    let mut txn = begun_after(rt.alloc(), "", false)?;
     let lines = printed(
         rt.alloc(),
         &mut txn,
