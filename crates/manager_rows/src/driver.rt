@@ -175,22 +175,23 @@ fn answer<N: Named, R: Wait>(
     receipts: &mut Vec<Receipt<N>>,
 ) -> Result<Answer, Fail> {
     match event {
-        Event::Begin => Ok(begin(rt, manager, seat, false)),
-        Event::BeginReadOnly => Ok(begin(rt, manager, seat, true)),
+        Event::Begin => begin(rt, manager, seat, false),
+        Event::BeginReadOnly => begin(rt, manager, seat, true),
         Event::Run(statement) => Ok(run(seat, statement)),
         Event::Commit => commit(rt, manager, seat, receipts),
         Event::Rollback => Ok(roll_back(rt, manager, seat)),
     }
 }
 
+/// BEGIN, or BEGIN READ ONLY. The transaction says that it is of the kind that was asked for.
 fn begin<N: Named, R: Wait>(
     rt: &R,
     manager: &Manager<N>,
     seat: &mut Seat<N>,
     read_only: bool,
-) -> Answer {
+) -> Result<Answer, Fail> {
     if seat.txn.is_some() {
-        return Answer::Refused(Refusal::TransactionOpen);
+        return Ok(Answer::Refused(Refusal::TransactionOpen));
     }
     let begun = if read_only {
         manager.begin_read_only(rt, &mut seat.session)
@@ -199,11 +200,15 @@ fn begin<N: Named, R: Wait>(
     };
     match begun {
         Ok(txn) => {
-            let snapshot = txn.snapshot();
+            let (snapshot, is_read_only) = (txn.snapshot(), txn.is_read_only());
             set_txn(seat, Some(txn));
-            Answer::Begun(snapshot)
+            if is_read_only == read_only {
+                Ok(Answer::Begun(snapshot))
+            } else {
+                Err(Fail::from("a transaction of the other kind"))
+            }
         }
-        Err(refusal) => Answer::Refused(refusal),
+        Err(refusal) => Ok(Answer::Refused(refusal)),
     }
 }
 
