@@ -110,6 +110,7 @@ fn tells<N: Named, R: Abort>(rt: &R, txn: &Txn<N>, cover: &Text) {
 /// What an open transaction's close_check made, as it stands and open again.
 fn reopens<N: Named, R: Abort>(rt: &R, closed: Closed<N>) {
     equal(rt, closed.snapshot(), 1);
+    equal(rt, closed.is_read_only(), false);
     equal(rt, closed.changes().len(), 1);
     assert!(rt; closed.refused().is_none());
     equal(rt, closed.own().assertions().len(), 1);
