@@ -23,8 +23,8 @@
 //!
 //! The module `program` is the command line: which subcommand is meant, and the status to end with. `commands` has the
 //! words that are taken; `runs`, `checks`, `explanations` and `translations` what they do; `files` and `texts` what is
-//! read, `signs` the line that shows on a terminal that long work goes on, and `endings` what is said of a run that
-//! failed. A further subcommand is a function in `commands` and a line in `program::run_named`.
+//! read, and `endings` what is said of a run that failed. A further subcommand is a function in `commands` and a line
+//! in `program::run_matches`.
 #![tactic(auto)]
 
 mod checks;
@@ -34,12 +34,10 @@ mod explanations;
 mod files;
 mod program;
 mod runs;
-mod signs;
 mod texts;
 mod translations;
 
 use files::Streams;
-use signs::Sign;
 use std::io::IsTerminal;
 use std::process::ExitCode;
 
@@ -48,13 +46,11 @@ fn main(rt: HostRuntime) -> ExitCode {
     let mut err = rt.stderr();
     let out_is_terminal = out.is_terminal();
     let err_is_terminal = err.is_terminal();
-    let sign = Sign::new();
     let mut streams = Streams {
         out: &mut out,
         err: &mut err,
         out_is_terminal,
         err_is_terminal,
-        sign: &sign,
     };
     ExitCode::from(program::command_line(&rt, &mut streams))
 }
