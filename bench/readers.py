@@ -2,23 +2,24 @@
 """How many commits are refused for readers, with a plain BEGIN and with BEGIN READ ONLY, beside PostgreSQL.
 
     apt-get install -y postgresql python3-psycopg2
-    python3 bench/readers.py [--program PATH] [--transactions 2000] [--open 4,8,16] [--owners 100] [--seed 1]
+    python3 bench/readers.py [--program PATH] [--transactions 2000] [--open 4,8,16] [--owners 50] [--seed 1]
 
 Without --program the program is built first by `rt run` in crates/skewguard, which proves it. The table that
 docs/PERFORMANCE.md holds is printed as it stands there.
 
 The load is the ledger: no owner's accounts sum below zero, and each owner has two. Of four transactions one reads 20
-accounts, each by its key, as a report does; the others read the two accounts of an owner, and take from one of them. So
-many sessions are open at once, and take their turns at random, a statement a turn. The same turns are played four times:
-through `skewguard replay`, the readers beginning with BEGIN and with BEGIN READ ONLY, and on PostgreSQL, SERIALIZABLE, over
-the SQL that `skewguard postgresql` prints, the readers beginning READ WRITE and READ ONLY. A refused transaction is not
-tried again. On PostgreSQL a session may wait for another one's row; its turns then wait with it.
+accounts, each by its key, as a report does; the others look at an account, and add to one of another owner. So many
+sessions are open at once, and take their turns at random, a statement a turn. The same turns are played four times:
+through `skewguard replay`, the readers beginning with BEGIN and with BEGIN READ ONLY, and on PostgreSQL, SERIALIZABLE,
+over the SQL that `skewguard postgresql` prints, the readers beginning READ WRITE and READ ONLY. A refused transaction is
+not tried again. On PostgreSQL a session may wait for another one's row; its turns then wait with it.
 """
 
 import argparse
 import os
 import queue
 import random
+import re
 import subprocess
 import sys
 import tempfile
@@ -35,6 +36,7 @@ from replays import built
 ACCOUNTS = 2  # of an owner
 READ = 20  # accounts that a report reads
 REFUSED_FOR_OTHERS = ('40001', '40P01')
+NAMES = re.compile(r'\b(ACCT|BAL|ID)\b')  # (the SQL that is printed quotes all names, in upper case)
 
 
 def definitions(owners):
@@ -49,10 +51,9 @@ def report(rng, owners):
     return [f'SELECT BAL FROM ACCT WHERE ID = {key}' for key in keys]
 
 
-def withdrawal(rng, owners):
-    first = rng.randint(1, owners) * 10
-    looks = [f'SELECT BAL FROM ACCT WHERE ID = {first + i}' for i in range(ACCOUNTS)]
-    return [*looks, f'UPDATE ACCT SET BAL = BAL - {rng.randint(1, 3)} WHERE ID = {first + rng.randrange(ACCOUNTS)}']
+def transfer(rng, owners):
+    one, other = (owner * 10 + rng.randrange(ACCOUNTS) for owner in rng.sample(range(1, owners + 1), 2))
+    return [f'SELECT BAL FROM ACCT WHERE ID = {one}', f'UPDATE ACCT SET BAL = BAL + {rng.randint(1, 3)} WHERE ID = {other}']
 
 
 def turns(transactions, sessions, owners, seed):
@@ -68,7 +69,7 @@ def turns(transactions, sessions, owners, seed):
             is_report = left % 4 == 0
             running[session] = [
                 'BEGIN READER' if is_report else 'BEGIN',
-                *(report if is_report else withdrawal)(rng, owners),
+                *(report if is_report else transfer)(rng, owners),
                 'COMMIT',
             ]
         script.append((session, running[session].pop(0)))
@@ -76,7 +77,7 @@ def turns(transactions, sessions, owners, seed):
 
 
 class Counts:
-    """What COMMITs were answered, of reports and of withdrawals; a transaction that is refused before is counted once."""
+    """What COMMITs were answered, of reports and of transfers; a transaction that is refused before is counted once."""
 
     def __init__(self):
         self.ended, self.refused = {True: 0, False: 0}, {True: 0, False: 0}
@@ -137,7 +138,7 @@ class Player(threading.Thread):
             return
         if not self.is_lost:
             try:
-                self.cursor.execute(event)
+                self.cursor.execute(NAMES.sub(r'"\1"', event))
             except psycopg2.Error as error:
                 assert error.pgcode in REFUSED_FOR_OTHERS, error
                 self.is_lost = True
@@ -174,7 +175,7 @@ def main():
     parser.add_argument('--program')
     parser.add_argument('--transactions', type=int, default=2000)
     parser.add_argument('--open', default='4,8,16')
-    parser.add_argument('--owners', type=int, default=100)
+    parser.add_argument('--owners', type=int, default=50)
     parser.add_argument('--seed', type=int, default=1)
     given = parser.parse_args()
     program = os.path.abspath(given.program or built())
