@@ -7,8 +7,8 @@ use Rattle.serial.specs.Safe.{IsSafe}
 use Rattle.txn.specs.Transactions.{OpenTransaction}
 use Rattle.commit.specs.Cores.{CoreState, log_of}
 
--- It is read only. Each transaction that may write, and that was open at its begin, has ended, and none of them committed
--- with a conflict to a commit that its snapshot holds.
+-- It is read only. Each transaction that may write, and that began on older tables than it did, has ended, and none of
+-- them committed with a conflict to a commit that its snapshot holds.
 pub record IsSafeReader (c : CoreState) (t : OpenTransaction) : Type 0 where
   pub reads : t.read_only ≡ true
   pub alone : writers_hold t.snapshot c.live.snapshots ≡ true
