@@ -29,8 +29,8 @@ pub fn replies_are_those_alone()
 
 /// A read-only transaction that is safe is never refused for what others read and wrote ([`value::Refusal::Dangerous`],
 /// [`value::Refusal::WriteConflict`]): neither now, nor later, since it stays safe whatever others do. It is safe once
-/// each transaction that may write, and that was open at its begin, has ended, and none of them has committed with a
-/// conflict to a commit that its snapshot holds (Ports and Grittner 2012, on safe snapshots).
+/// each transaction that may write, and that began on older tables than it did, has ended, and none of them has
+/// committed with a conflict to a commit that its snapshot holds (Ports and Grittner 2012, on safe snapshots).
 pub fn safe_readers_are_never_refused()
     ensures answered { (c : CoreState) (session : List ℕ) (t : OpenTransaction) → IsLog (log_of c)
         → (t.read_only ≡ true → (outcome_of t).changes ≡ []) → IsSafeReader c t

@@ -105,6 +105,16 @@ module _ (commits : List Record) (candidate : Candidate) (commit : Record) (aske
     pub least : place ≡ least_out (reverse recent) (record_of candidate)
     pub greatest : reader ≡ greatest_in (reverse commits) (record_of candidate)
 
+  -- how each of them is found: the greatest reader is asked for with the least conflict out
+  pub found : (place reader : ℕ) → place ≡ least_out (reverse recent) (record_of candidate)
+      → (IsNext (record_of candidate) (reverse commits) → place ≡ least_out (reverse commits) (record_of candidate)
+      → reader ≡ greatest_in (reverse commits) (record_of candidate)) → Found place reader
+  found place reader least greatest = record {
+    least = least;
+    greatest = greatest (candidate_next commits candidate asked.log asked.next)
+        (least_found commits candidate asked.log asked.next asked.after_snapshot place least);
+  }
+
   pub as_pivot : (place reader : ℕ) → AreJudged (reverse commits) commit → IsFree → Found place reader → place ≤ reader
       → IsVerdict (reverse commits) commit (Dangerous (AsPivot reader place))
   as_pivot place reader judged none f within =
