@@ -291,6 +291,18 @@ impl Core {
         self.locks.len()
     }
 
+    /// The most commits that there may be.
+    pub(crate) fn limit(&self) -> u64
+        ensures value { result ≡ self.now.limit }
+        ensures small { result ≤ 4294967295 }
+    {
+        self.limit
+    }
+
+    pub(crate) fn allocator(&self) -> Global {
+        *self.records.allocator()
+    }
+
     /// The tables before the first commit.
     pub fn loaded(&self) -> &View
         ensures { result.now ≡ record { declared = self.now.declared; state = self.now.start } }

@@ -1,9 +1,10 @@
 //! Events of many sessions, one after the other.
 
-ghost use Rattle.std.specs.Prelude.{◌≡◌, ◌≤◌, [], true, false, length, take, IfOk, IsOkUnless, OnErr, OnOk};
+ghost use Rattle.std.specs.Prelude.{◌≡◌, ◌≤◌, ◌≢◌, [], true, false, length, take, IfOk, IfErr, IsOkUnless, OnErr, OnOk, Err};
 ghost use Rattle.value.specs.declared.refusals.Refusal.TheVariants.{NoMemory};
 ghost use Rattle.alone.specs.Alone.{IsSound};
 ghost use Rattle.commit.specs.Cores.{IsSerializable};
+ghost use Rattle.commit.specs.Epochs.{IsNextEpoch, is_any_open, next_start_of};
 ghost use Rattle.commit.specs.Events.{IsAnswered, after, as_answer};
 ghost use Rattle.commit.specs.Fitting.{AllFit};
 ghost use Rattle.commit.specs.Runs.{AreAnswers, IsNext, beginning, led_to, seated};
@@ -13,6 +14,7 @@ use crate::cores::Core;
 use crate::laws::answers_lead_to_a_serial_order;
 use crate::seats::{Seat, answer_event, find_seat, make_seats, seat_session};
 use answer::Answer;
+use definitions::NewAssertion;
 use delta::View;
 use statement_syntax::Step;
 use std::alloc::Global;
@@ -88,6 +90,32 @@ impl Engine {
         as_answer(answered)
     }
 
+    /// Begins a new epoch, as [`Core::checkpoint`] does, and hands out what the epoch before left. The sessions keep
+    /// their seats.
+    ///
+    /// # Errors
+    ///
+    /// [`Refusal::TransactionOpen`] while a transaction is open; else those of [`Core::checkpoint`]. Nothing has changed
+    /// then.
+    pub fn checkpoint(
+        &mut self,
+        dropped: &[Text],
+        created: &[NewAssertion],
+    ) -> Result<Core, Refusal>
+        ensures before { IfOk result (λ before. before ≡ self.old.core) }
+        ensures closed { IfOk result (λ _. is_any_open self.old.seats ≡ false) }
+        ensures after { IfOk result (λ _. IsNextEpoch dropped.now created.now self.old.core self.new.core) }
+        ensures seats { IfOk result (λ _. self.new.seats ≡ self.old.seats) }
+        ensures refused { IfErr result (λ refusal. refusal ≢ NoMemory
+            → next_start_of dropped.now created.now self.old ≡ Err refusal) }
+        ensures same { OnErr result (self.new ≡ self.old) }
+    {
+        if is_any_open(self.seats.as_slice()) {
+            return Err(Refusal::TransactionOpen);
+        }
+        self.core.checkpoint(dropped, created)
+    }
+
     /// The committed transactions.
     pub fn core(&self) -> &Core
         ensures { result.now ≡ self.now.core }
@@ -161,6 +189,13 @@ fn answer_next(engine: &mut Engine, step: &Step, answers: &mut Vec<Answer>) -> b
     let answer = engine.answer(step);
     answers.push_reserved(answer);
     true
+}
+
+/// Whether a transaction is open.
+fn is_any_open(seats: &[Seat]) -> bool
+    ensures { result ≡ is_any_open seats.now }
+{
+    seats.iter().any(|seat| seat.txn.is_some())
 }
 
 /// An answer, or that no memory was found.

@@ -41,6 +41,7 @@ mod admission;
 mod cores;
 mod decisions;
 mod engine;
+mod epochs;
 mod laws;
 mod prepared;
 mod seats;
@@ -48,6 +49,7 @@ mod seats;
 pub use admission::{admit, first_false, require_satisfied};
 pub use cores::{Core, Uncommitted};
 pub use engine::{Engine, Outcome, run};
+pub use epochs::{Epoch, Epochs, readmit, run_epochs};
 pub use laws::{
     answers_lead_to_a_serial_order, replies_are_those_alone, safe_readers_are_never_refused,
 };

@@ -1,3 +1,4 @@
+pub mod Redeclaration
 pub mod Tables
 pub mod Taken
 pub mod Written

@@ -20,9 +20,15 @@
 //! the assertions are those that are written (`specs/Written`): there is one for each CREATE ASSERTION, in their
 //! order, which has its name and means what its condition means as it is written (`meaning`), over all tables of the
 //! schema.
+//!
+//! Of tables that there are [`redeclare`] drops assertions and creates others (SQL-92: drop assertion statement,
+//! assertion definition; `specs/Redeclaration`), and [`Definitions::of`] is what a view shows, as if a schema had defined
+//! it.
 #![tactic(auto)]
 
+mod redeclaration;
 mod tables;
 mod taken;
 
+pub use redeclaration::{NewAssertion, redeclare};
 pub use taken::Definitions;

@@ -15,7 +15,7 @@ use crate::tables::schema_of;
 use assertcheck::{NewRow, check, check_insert};
 use assertion::Assertion;
 use changes::{insertion, name_at, schema_at};
-use delta::View;
+use delta::{View, copy_assertions, copy_catalog};
 use mvrows::Rows;
 use statement_syntax::{Attributes, ColumnDefinition, Definition, Insert};
 use std::alloc::Global;
@@ -73,6 +73,25 @@ impl Definitions {
             made = made.with(alloc, definition)?;
         }
         Ok(made)
+    }
+
+    /// What a view shows, as if it were defined by a schema: so that what one run left is what another begins with. The
+    /// rows are shared with the view. Only memory can fail.
+    pub fn of(alloc: Global, view: &View) -> Result<Definitions, Refusal>
+        ensures only_memory { IsOkUnless result NoMemory }
+        ensures equal { IfOk result (λ made. made ≡ view.now) }
+    {
+        let assertions = copy_assertions(alloc, view.assertions())?;
+        let catalog = copy_catalog(alloc, view.catalog())?;
+        let mut rows = Vec::new(alloc);
+        for table in 0..catalog.len() {
+            rows.push(view.rows(table).copy()?)?;
+        }
+        Ok(Definitions {
+            catalog,
+            assertions,
+            rows,
+        })
     }
 
     /// The assertions in the order of their creation.
@@ -240,7 +259,7 @@ impl Definitions {
 }
 
 /// Whether an assertion has this name.
-fn is_asserted(assertions: &[Assertion], name: &Text) -> bool
+pub(crate) fn is_asserted(assertions: &[Assertion], name: &Text) -> bool
     ensures { result ≡ is_asserted name.now assertions.now }
 {
     assertions.iter().any(|assertion| assertion.name == *name)

@@ -1,5 +1,6 @@
 -- What contracts see of a view, and what may be put into it.
-use Rattle.std.specs.Prelude.{◌≡◌, ℕ, List, [], All, length, slice_index_or}
+use Rattle.std.specs.Prelude.{◌≡◌, ◌++◌, ℕ, List, [], ◌∷◌, All, filter, length, not, slice_index_or}
+use Rattle.std.specs.Str.{bytes_eq}
 use Rattle.value.specs.Ordered.{HoldsOf}
 use Rattle.table.specs.declared.rows.Change.{Change}
 use Rattle.table.specs.Rows.{Layout, FitsColumns, IsTable}
@@ -29,3 +30,11 @@ IsFitting layouts change = HoldsOf (FitsColumns (layout_at change.table layouts)
 -- each assertion is evaluated without overflow
 abbrev pub AreBounded : List Assertion → Type 0
 AreBounded assertions = All (λ a. IsBounded a.form) assertions
+
+-- what is declared with an assertion behind the others, or without those of a name
+abbrev pub with_assertion : Assertion → Declared → Declared
+with_assertion assertion declared = record declared { assertions = declared.assertions ++ assertion ∷ [] }
+
+abbrev pub without_assertion : (name : List ℕ) → Declared → Declared
+without_assertion name declared =
+    record declared { assertions = filter (λ a. not (bytes_eq a.name name)) declared.assertions }

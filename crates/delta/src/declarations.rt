@@ -1,6 +1,6 @@
 //! What all versions of a view share.
 
-ghost use Rattle.std.specs.Prelude.{◌≡◌, IfOk, IsOkUnless};
+ghost use Rattle.std.specs.Prelude.{◌≡◌, ◌++◌, ◌∷◌, [], IfOk, IsOkUnless};
 ghost use Rattle.value.specs.declared.refusals.Refusal.TheVariants.{NoMemory};
 ghost use Rattle.table.specs.Rows.{layouts_of};
 
@@ -30,4 +30,32 @@ pub fn schemas_of(alloc: Global, catalog: &Catalog) -> Result<Vec<Schema>, Refus
         }
     }
     Ok(schemas)
+}
+
+/// A catalog equal to this one.
+pub fn copy_catalog(alloc: Global, catalog: &Catalog) -> Result<Catalog, Refusal>
+    ensures only_memory { IsOkUnless result NoMemory }
+    ensures equal { IfOk result (λ copy. copy ≡ catalog.now) }
+{
+    let mut copy = Catalog::new(alloc);
+    for table in 0..catalog.len() {
+        if let Some(name) = catalog.name(table) {
+            if let Some(schema) = catalog.at(table) {
+                copy.add(name.copy()?, schema.copy()?)?;
+            }
+        }
+    }
+    Ok(copy)
+}
+
+/// Assertions equal to these.
+pub fn copy_assertions(alloc: Global, assertions: &[Assertion]) -> Result<Vec<Assertion>, Refusal>
+    ensures only_memory { IsOkUnless result NoMemory }
+    ensures equal { IfOk result (λ made. made.items ≡ assertions.now) }
+{
+    let mut made = Vec::new(alloc);
+    for assertion in assertions {
+        made.push(assertion.copy(alloc)?)?;
+    }
+    Ok(made)
 }

@@ -32,6 +32,8 @@
 //! - [`View::load`] is the view of given tables.
 //! - [`View::with`] is the view after a change of one row, [`View::after`] that after several, one after the other,
 //!   and [`View::copy`] one that is equal.
+//! - [`View::with_assertion`] and [`View::without_assertion`] are views of the same tables on which an assertion more
+//!   is declared, or one less.
 //! - [`View::catalog`], [`View::schema`], [`View::assertions`] and [`View::rows`] lend what it shows.
 //! - [`View::verdict`] and [`View::least_bad`] are an assertion's truth and the least root at which it is false. They
 //!   take no memory.
@@ -52,4 +54,5 @@ mod versions;
 mod views;
 mod watches;
 
+pub use declarations::{copy_assertions, copy_catalog};
 pub use views::View;

@@ -1,7 +1,8 @@
 //! The tables and what is maintained for the assertions, at the start and after a change.
 
-ghost use Rattle.std.specs.Prelude.{◌≡◌, map, length, IfOk, IsOkUnless};
+ghost use Rattle.std.specs.Prelude.{◌≡◌, filter, map, length, not, IfOk, IsOkUnless};
 ghost use Rattle.std.specs.Arc.{arc_value};
+ghost use Rattle.std.specs.Str.{bytes_eq};
 ghost use Rattle.value.specs.declared.refusals.Refusal.TheVariants.{NoMemory};
 ghost use Rattle.assertion.specs.Roots.{IsChangeOf, state_after};
 ghost use Rattle.delta.specs.Maintained.{AreShort, AreWatched, IsGood, IsStep};
@@ -14,7 +15,7 @@ use roots::key_column;
 use std::alloc::Global;
 use std::sync::Arc;
 use table::{Change, Schema};
-use value::Refusal;
+use value::{Refusal, Text};
 
 /// What is maintained for the assertions on these tables.
 pub fn watches_of(
@@ -110,4 +111,42 @@ pub fn copy_watches(alloc: Global, watches: &[Arc<Watch>]) -> Result<Vec<Arc<Wat
         made.push(Arc::try_clone(watch)?)?;
     }
     Ok(made)
+}
+
+/// Assertions, and what is maintained for each of them.
+pub struct Watched {
+    pub assertions: Vec<Assertion>,
+    pub watches: Vec<Arc<Watch>>,
+}
+
+/// The assertions that do not have this name, with the same watches, shared.
+pub fn leave_out(
+    alloc: Global,
+    _schemas: &[Schema],
+    _tables: &[Rows],
+    assertions: &[Assertion],
+    watches: &[Arc<Watch>],
+    name: &Text,
+) -> Result<Watched, Refusal>
+    requires watched { AreWatched _schemas.now _tables.now assertions.now (length assertions.now)
+        (map arc_value watches.now) }
+    ensures only_memory { IsOkUnless result NoMemory }
+    ensures left { IfOk result (λ made.
+        made.assertions.items ≡ filter (λ a. not (bytes_eq a.name name.now)) assertions.now) }
+    ensures watched { IfOk result (λ made. AreWatched _schemas.now _tables.now made.assertions.items
+        (length made.assertions.items) (map arc_value made.watches.items)) }
+{
+    let mut left = Vec::new(alloc);
+    let mut shared = Vec::new(alloc);
+    for index in 0..assertions.len() {
+        let assertion = &assertions[index];
+        if assertion.name != *name {
+            left.push(assertion.copy(alloc)?)?;
+            shared.push(Arc::try_clone(&watches[index])?)?;
+        }
+    }
+    Ok(Watched {
+        assertions: left,
+        watches: shared,
+    })
 }

@@ -1,19 +1,24 @@
 //! Versions of the tables, with the maintained verdicts of the assertions.
 
-ghost use Rattle.std.specs.Prelude.{◌≡◌, ◌<◌, length, slice_index_or, All, IfOk, IsOkUnless};
+ghost use Rattle.std.specs.Prelude.{◌≡◌, ◌<◌, length, map, slice_index_or, All, IfOk, IsOkUnless};
+ghost use Rattle.std.specs.Arc.{arc_value};
 ghost use Rattle.std.specs.Option.{option_copied};
 ghost use Rattle.value.specs.declared.refusals.Refusal.TheVariants.{NoMemory};
 ghost use Rattle.table.specs.Rows.{IsTable, layouts_of};
 ghost use Rattle.cond.specs.Bounds.{IsSmallRow};
+ghost use Rattle.assertion.specs.Bounded.{IsBounded};
 ghost use Rattle.assertion.specs.declared.assertions.Assertion.{Assertion as AnyAssertion};
 ghost use Rattle.assertion.specs.Candidates.{candidates_of};
 ghost use Rattle.assertion.specs.Declarations.{layouts_in};
 ghost use Rattle.assertion.specs.Meaning.{least_bad_of, rows_of, verdict_of};
 ghost use Rattle.assertion.specs.Roots.{AreChangesOf, IsChangeOf, state_after, state_after_all};
-ghost use Rattle.delta.specs.Views.{AreBounded, AreTables, IsFitting, layout_at};
+ghost use Rattle.delta.specs.Maintained.{AreWatched};
+ghost use Rattle.delta.specs.Views.{AreBounded, AreTables, IsFitting, layout_at, with_assertion, without_assertion};
 
-use crate::declarations::{Declarations, schemas_of};
-use crate::versions::{copy_tables, copy_watches, tables_after, watches_after, watches_of};
+use crate::declarations::{Declarations, copy_assertions, copy_catalog, schemas_of};
+use crate::versions::{
+    Watched, copy_tables, copy_watches, leave_out, tables_after, watches_after, watches_of,
+};
 use crate::watches::Watch;
 use assertion::Assertion;
 use mvrows::Rows;
@@ -23,7 +28,7 @@ use std::marker::Model;
 use std::sync::Arc;
 use table::{Catalog, Change, Schema};
 use threeval::Truth;
-use value::{Refusal, Root};
+use value::{Refusal, Root, Text};
 
 /// The rows of each table, with the maintained verdicts of the assertions on them. It never changes.
 #[derive(Drop)]
@@ -151,6 +156,76 @@ impl View {
             declarations: Arc::try_clone(&self.declarations)?,
             tables: copy_tables(alloc, &self.tables)?,
             watches: copy_watches(alloc, &self.watches)?,
+        })
+    }
+
+    /// The view of the same tables with an assertion behind the others. One pass is made over the tables for it; what
+    /// is maintained for the others is shared with this view, which stays as it is. Only memory can fail.
+    pub fn with_assertion(&self, assertion: Assertion) -> Result<View, Refusal>
+        requires bounded { IsBounded assertion.form }
+        ensures only_memory { IsOkUnless result NoMemory }
+        ensures declared { IfOk result (λ view. view
+            ≡ record self.now { declared = with_assertion assertion self.now.declared }) }
+    {
+        let alloc = *self.tables.allocator();
+        let schemas = &self.declarations.schemas;
+        let watch = Watch::of(alloc, schemas, &self.tables, &assertion.form)?;
+        let mut watches = copy_watches(alloc, &self.watches)?;
+        watches.push(Arc::new(alloc, watch)?)?;
+        let mut assertions = copy_assertions(alloc, &self.declarations.assertions)?;
+        assertions.push(assertion)?;
+        self.redeclare(
+            alloc,
+            Watched {
+                assertions,
+                watches,
+            },
+        )
+    }
+
+    /// The view of the same tables without the assertions of a name. What is maintained for the others is shared with
+    /// this view, which stays as it is. Only memory can fail.
+    pub fn without_assertion(&self, name: &Text) -> Result<View, Refusal>
+        ensures only_memory { IsOkUnless result NoMemory }
+        ensures declared { IfOk result (λ view. view
+            ≡ record self.now { declared = without_assertion name.now self.now.declared }) }
+    {
+        let alloc = *self.tables.allocator();
+        let left = leave_out(
+            alloc,
+            &self.declarations.schemas,
+            &self.tables,
+            &self.declarations.assertions,
+            &self.watches,
+            name,
+        )?;
+        self.redeclare(alloc, left)
+    }
+
+    /// The view of the same tables with other assertions, for which this is maintained.
+    fn redeclare(&self, alloc: Global, watched: Watched) -> Result<View, Refusal>
+        requires bounded { AreBounded watched.assertions.items }
+        requires watched { AreWatched (layouts_in self.now.declared) self.now.state watched.assertions.items
+            (length watched.assertions.items) (map arc_value watched.watches.items) }
+        ensures only_memory { IsOkUnless result NoMemory }
+        ensures declared { IfOk result (λ view. view ≡ record self.now {
+          declared = record self.now.declared { assertions = watched.assertions.items };
+        }) }
+    {
+        let Watched {
+            assertions,
+            watches,
+        } = watched;
+        let catalog = copy_catalog(alloc, &self.declarations.catalog)?;
+        let declarations = Declarations {
+            schemas: schemas_of(alloc, &catalog)?,
+            catalog,
+            assertions,
+        };
+        Ok(View {
+            declarations: Arc::new(alloc, declarations)?,
+            tables: copy_tables(alloc, &self.tables)?,
+            watches,
         })
     }
 
