@@ -292,7 +292,7 @@ impl Core {
     }
 
     /// The most commits that there may be.
-    pub(crate) fn limit(&self) -> u64
+    pub fn limit(&self) -> u64
         ensures value { result ≡ self.now.limit }
         ensures small { result ≤ 4294967295 }
     {
