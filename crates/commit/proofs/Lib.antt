@@ -13,3 +13,4 @@ pub mod Weighing
 pub mod Seating
 pub mod Satisfying
 pub mod Safe
+pub mod Continuing

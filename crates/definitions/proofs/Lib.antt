@@ -1,2 +1,3 @@
 pub mod GoodTables
+pub mod Redeclaring
 pub mod WrittenAssertions

@@ -81,16 +81,10 @@ impl Definitions {
         ensures only_memory { IsOkUnless result NoMemory }
         ensures equal { IfOk result (λ made. made ≡ view.now) }
     {
-        let assertions = copy_assertions(alloc, view.assertions())?;
-        let catalog = copy_catalog(alloc, view.catalog())?;
-        let mut rows = Vec::new(alloc);
-        for table in 0..catalog.len() {
-            rows.push(view.rows(table).copy()?)?;
-        }
         Ok(Definitions {
-            catalog,
-            assertions,
-            rows,
+            catalog: copy_catalog(alloc, view.catalog())?,
+            assertions: copy_assertions(alloc, view.assertions())?,
+            rows: view.copy_rows()?,
         })
     }
 

@@ -12,7 +12,7 @@ ghost use Rattle.assertion.specs.Candidates.{candidates_of};
 ghost use Rattle.assertion.specs.Declarations.{layouts_in};
 ghost use Rattle.assertion.specs.Meaning.{least_bad_of, rows_of, verdict_of};
 ghost use Rattle.assertion.specs.Roots.{AreChangesOf, IsChangeOf, state_after, state_after_all};
-ghost use Rattle.delta.specs.Maintained.{AreWatched};
+ghost use Rattle.delta.specs.Maintained.{AreWatched, IsGood};
 ghost use Rattle.delta.specs.Views.{AreBounded, AreTables, IsFitting, layout_at, with_assertion, without_assertion};
 
 use crate::declarations::{Declarations, copy_assertions, copy_catalog, schemas_of};
@@ -253,6 +253,15 @@ impl View {
         ensures small { All IsSmallRow result.now }
     {
         &self.tables[table]
+    }
+
+    /// The rows of each table, in the order of the catalog, shared with this view. Only memory can fail.
+    pub fn copy_rows(&self) -> Result<Vec<Rows>, Refusal>
+        ensures only_memory { IsOkUnless result NoMemory }
+        ensures equal { IfOk result (λ rows. rows.items ≡ self.now.state) }
+        ensures good { IfOk result (λ rows. IsGood (layouts_in self.now.declared) rows.items) }
+    {
+        copy_tables(*self.tables.allocator(), &self.tables)
     }
 
     /// The roots at which an assertion can be another after these changes than before.

@@ -1,0 +1,45 @@
+-- The assertions that are created are those that are written.
+use Rattle.std.proofs.Common.{◌≡◌, ℕ, List, [], ◌∷◌, ◌++◌, Result, Ok, append-nil, append_assoc, sym, ◌∙◌, ap, subst}
+use Rattle.std.specs.Prelude.{not}
+use Rattle.value.specs.declared.refusals.Refusal.{Refusal}
+use Rattle.value.specs.declared.refusals.Refusal.TheVariants.{NameTaken}
+use Rattle.value.specs.Results.{and_then}
+use Rattle.value.proofs.Results.{and_then_ok, ok_same, provided_ok}
+use Rattle.assertion.specs.declared.assertions.Assertion.{Assertion}
+use Rattle.assertcheck.specs.Assertions.{checked}
+use Rattle.meaning.specs.Laws.{Pairs}
+use Rattle.meaning.proofs.Checked.{TakesWritten-law}
+use Rattle.delta.specs.Views.{Shown}
+use Rattle.definitions.specs.declared.redeclaration.NewAssertion.{NewAssertion}
+use Rattle.definitions.specs.Redeclaration.{AreCreated, IsCreated, with_new}
+use Rattle.definitions.specs.Taken.{is_asserted, with_assertion}
+
+-- one is created, and then others
+new_first : (new : NewAssertion) (rest : List NewAssertion) (now next after : Shown) → with_assertion new.name new.condition new.attributes now ≡ Ok next → AreCreated next rest after → AreCreated now (new ∷ rest) after
+new_first new rest now next after e made =
+    let make : Assertion → Shown = λ a. record now { declared = record (now.declared) { assertions = now.declared.assertions ++ a ∷ [] } } in
+    let step : Assertion → Result Shown Refusal = λ a. Ok (make a) in
+    let form : Result Assertion Refusal = checked now.declared.tables new.name new.condition new.attributes in
+    let found = and_then_ok form step next (provided_ok (not (is_asserted new.name now.declared.assertions)) (NameTaken new.name) (and_then form step) next e) in
+    let is : make found.0 ≡ next = ok_same (make found.0) next found.1.1 in
+    record {
+      more = found.0 ∷ made.more;
+      assertions = made.assertions ∙ ap (λ (s : Shown). s.declared.assertions ++ made.more) (sym is) ∙ append_assoc now.declared.assertions (found.0 ∷ []) made.more;
+      written = (TakesWritten-law now.declared.tables new.name new.condition new.attributes found.0 found.1.0, subst (λ (s : Shown). Pairs (IsCreated s.declared.tables) rest made.more) (sym is) made.written);
+      tables = made.tables ∙ ap (λ (s : Shown). s.declared.tables) (sym is);
+      state = made.state ∙ ap (λ (s : Shown). s.state) (sym is);
+    }
+
+pub new_written : (created : List NewAssertion) (now after : Shown) → with_new created now ≡ Ok after → AreCreated now created after
+new_written [] now after e =
+    let same : now ≡ after = ok_same now after e in
+    record {
+      more = [];
+      assertions = ap (λ (s : Shown). s.declared.assertions) (sym same) ∙ sym (append-nil now.declared.assertions);
+      written = tt;
+      tables = ap (λ (s : Shown). s.declared.tables) (sym same);
+      state = ap (λ (s : Shown). s.state) (sym same);
+    }
+new_written (new ∷ rest) now after e =
+    let found = and_then_ok (with_assertion new.name new.condition new.attributes now) (with_new rest) after e in
+    new_first new rest now found.0 after found.1.0 (new_written rest found.0 after found.1.1)
