@@ -1,6 +1,6 @@
 -- The assertions that are created are those that are written.
 use Rattle.std.proofs.Common.{◌≡◌, ℕ, List, [], ◌∷◌, ◌++◌, Result, Ok, append-nil, append_assoc, sym, ◌∙◌, ap, subst}
-use Rattle.std.specs.Prelude.{not}
+use Rattle.std.specs.Prelude.{not, Err, IfOk}
 use Rattle.value.specs.declared.refusals.Refusal.{Refusal}
 use Rattle.value.specs.declared.refusals.Refusal.TheVariants.{NameTaken}
 use Rattle.value.specs.Results.{and_then}
@@ -11,7 +11,7 @@ use Rattle.meaning.specs.Laws.{Pairs}
 use Rattle.meaning.proofs.Checked.{TakesWritten-law}
 use Rattle.delta.specs.Views.{Shown}
 use Rattle.definitions.specs.declared.redeclaration.NewAssertion.{NewAssertion}
-use Rattle.definitions.specs.Redeclaration.{AreCreated, IsCreated, with_new}
+use Rattle.definitions.specs.Redeclaration.{AreCreated, IsCreated, with_new, without_names}
 use Rattle.definitions.specs.Taken.{is_asserted, with_assertion}
 
 -- one is created, and then others
@@ -30,7 +30,7 @@ new_first new rest now next after e made =
       state = made.state ∙ ap (λ (s : Shown). s.state) (sym is);
     }
 
-pub new_written : (created : List NewAssertion) (now after : Shown) → with_new created now ≡ Ok after → AreCreated now created after
+new_written : (created : List NewAssertion) (now after : Shown) → with_new created now ≡ Ok after → AreCreated now created after
 new_written [] now after e =
     let same : now ≡ after = ok_same now after e in
     record {
@@ -43,3 +43,10 @@ new_written [] now after e =
 new_written (new ∷ rest) now after e =
     let found = and_then_ok (with_assertion new.name new.condition new.attributes now) (with_new rest) after e in
     new_first new rest now found.0 after found.1.0 (new_written rest found.0 after found.1.1)
+
+-- so it is of whatever was left
+pub as_written : (dropped : List (List ℕ)) (created : List NewAssertion) (view now : Shown) (result : Result Shown Refusal) → without_names dropped view ≡ Ok now → IfOk result (λ next. with_new created now ≡ Ok next)
+    → IfOk result (λ next. (left : Shown) → without_names dropped view ≡ Ok left → AreCreated left created next)
+as_written dropped created view now (Ok next) d h = λ left e.
+    subst (λ (s : Shown). AreCreated s created next) (ok_same now left (sym d ∙ e)) (new_written created now next h)
+as_written dropped created view now (Err refusal) d h = tt
