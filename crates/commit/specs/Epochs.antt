@@ -48,13 +48,13 @@ next_start_of dropped created now =
 pub record IsOutcome (limit : ℕ) (before : Shown) (epoch : Epoch) (outcome : Outcome) : Type 0 where
   pub start : Shown
   pub starts : next_start epoch.dropped.items epoch.created.items before ≡ Ok start
-  pub within : length outcome.answers.items ≤ length epoch.steps.items
-  pub answers : AreAnswers (beginning limit start epoch.steps.items)
-      (take (length outcome.answers.items) epoch.steps.items) outcome.answers.items
-  pub left : outcome.engine ≡ led_to (beginning limit start epoch.steps.items)
-      (take (length outcome.answers.items) epoch.steps.items) outcome.answers.items
+  pub within : length outcome.answers.items ≤ length epoch.steps
+  pub answers : AreAnswers (beginning limit start epoch.steps)
+      (take (length outcome.answers.items) epoch.steps) outcome.answers.items
+  pub left : outcome.engine ≡ led_to (beginning limit start epoch.steps)
+      (take (length outcome.answers.items) epoch.steps) outcome.answers.items
   pub serializable : IsSerializable outcome.engine.core
-  pub told : WereToldAlone outcome.engine.core (take (length outcome.answers.items) epoch.steps.items)
+  pub told : WereToldAlone outcome.engine.core (take (length outcome.answers.items) epoch.steps)
       outcome.answers.items
   pub fit : AllFit outcome.engine
 
@@ -72,7 +72,7 @@ AreOutcomes limit before (epoch ∷ epochs) (outcome ∷ rest) =
 
 -- each event of an epoch was answered
 abbrev pub IsWhole : Epoch → Outcome → Type 0
-IsWhole epoch outcome = length outcome.answers.items ≡ length epoch.steps.items
+IsWhole epoch outcome = length outcome.answers.items ≡ length epoch.steps
 
 -- an epoch more has passed, each of whose events was answered or not
 pub record IsOneMore (limit : ℕ) (before : Shown) (epoch : Epoch) (outcomes more : List Outcome) (whole : Bool) :

@@ -13,6 +13,7 @@ use crate::cores::Core;
 use crate::engine::{Outcome, run};
 use definitions::{NewAssertion, redeclare};
 use delta::View;
+use sqlite_items::Items;
 use statement_syntax::Step;
 use std::alloc::Global;
 use std::mem;
@@ -25,7 +26,7 @@ pub struct Epoch {
     pub dropped: Vec<Text>,
     /// The assertions that are then created.
     pub created: Vec<NewAssertion>,
-    pub steps: Vec<Step>,
+    pub steps: Items<Step>,
 }
 
 /// What epochs led to, one after the other, and why the next did not begin, if they ended early.
@@ -146,7 +147,7 @@ fn run_next(
     let before = tables_left(loaded, outcomes.as_slice());
     let start = readmit(alloc, before, &epoch.dropped, &epoch.created)?;
     outcomes.reserve(1)?;
-    let outcome = run(alloc, limit, start, &epoch.steps)?;
+    let outcome = run(alloc, limit, start, epoch.steps.as_slice())?;
     let is_whole = outcome.answers.len() == epoch.steps.len();
     outcomes.push_reserved(outcome);
     Ok(is_whole)

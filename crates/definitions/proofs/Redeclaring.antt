@@ -1,18 +1,22 @@
 -- The assertions that are created are those that are written.
-use Rattle.std.proofs.Common.{◌≡◌, ℕ, List, [], ◌∷◌, ◌++◌, Result, Ok, append-nil, append_assoc, sym, ◌∙◌, ap, subst}
-use Rattle.std.specs.Prelude.{not, Err, IfOk}
+use Rattle.std.proofs.Common.{◌≡◌, ℕ, Bool, true, false, List, [], ◌∷◌, ◌++◌, Result, Ok, map, reverse, append-nil, append_assoc, refl, sym, ◌∙◌, ap, subst}
+use Rattle.std.specs.List.{list_all}
+use Rattle.std.proofs.lemmas.List.{reverse-append}
+use Rattle.std.specs.Prelude.{not, ◌&&◌, Err, IfOk}
 use Rattle.value.specs.declared.refusals.Refusal.{Refusal}
 use Rattle.value.specs.declared.refusals.Refusal.TheVariants.{NameTaken}
 use Rattle.value.specs.Results.{and_then}
 use Rattle.value.proofs.Results.{and_then_ok, ok_same, provided_ok}
+use Rattle.statement_syntax.specs.declared.definitions.Definition.{Definition}
 use Rattle.assertion.specs.declared.assertions.Assertion.{Assertion}
 use Rattle.assertcheck.specs.Assertions.{checked}
 use Rattle.meaning.specs.Laws.{Pairs}
 use Rattle.meaning.proofs.Checked.{TakesWritten-law}
 use Rattle.delta.specs.Views.{Shown}
 use Rattle.definitions.specs.declared.redeclaration.NewAssertion.{NewAssertion}
-use Rattle.definitions.specs.Redeclaration.{AreCreated, IsCreated, with_new, without_names}
+use Rattle.definitions.specs.Redeclaration.{AreCreated, IsCreated, definition_of, with_new, without_names}
 use Rattle.definitions.specs.Taken.{is_asserted, with_assertion}
+use Rattle.definitions.specs.Written.{is_assertion}
 
 -- one is created, and then others
 new_first : (new : NewAssertion) (rest : List NewAssertion) (now next after : Shown) → with_assertion new.name new.condition new.attributes now ≡ Ok next → AreCreated next rest after → AreCreated now (new ∷ rest) after
@@ -50,3 +54,25 @@ pub as_written : (dropped : List (List ℕ)) (created : List NewAssertion) (view
 as_written dropped created view now (Ok next) d h = λ left e.
     subst (λ (s : Shown). AreCreated s created next) (ok_same now left (sym d ∙ e)) (new_written created now next h)
 as_written dropped created view now (Err refusal) d h = tt
+
+not_all : (rest more : List Definition) (d : Definition) → is_assertion d ≡ false → list_all is_assertion (rest ++ d ∷ more) ≡ false
+not_all [] more d other = rw other refl
+not_all (x ∷ xs) more d other = go (is_assertion x) (not_all xs more d other)
+  where
+    go : (b : Bool) → list_all is_assertion (xs ++ d ∷ more) ≡ false → (b && list_all is_assertion (xs ++ d ∷ more)) ≡ false
+    go true rest = rest
+    go false rest = refl
+
+-- one definition more is taken from the end
+pub turn_new : (left rest all : List Definition) (turned : List NewAssertion) (d : Definition) (new : NewAssertion) → left ≡ rest ++ d ∷ [] → d ≡ definition_of new → left ++ map definition_of (reverse turned) ≡ all
+    → rest ++ map definition_of (reverse (turned ++ new ∷ [])) ≡ all
+turn_new left rest all turned d new l n e =
+    ap (λ (news : List NewAssertion). rest ++ map definition_of news) (reverse-append turned (new ∷ []))
+    ∙ sym (append_assoc rest (definition_of new ∷ []) (map definition_of (reverse turned)))
+    ∙ ap (λ (x : Definition). (rest ++ x ∷ []) ++ map definition_of (reverse turned)) (sym n)
+    ∙ ap (λ (ds : List Definition). ds ++ map definition_of (reverse turned)) (sym l) ∙ e
+
+-- one that is of something else is among all
+pub turn_other : (left rest all more : List Definition) (d : Definition) → left ≡ rest ++ d ∷ [] → is_assertion d ≡ false → left ++ more ≡ all → list_all is_assertion all ≡ false
+turn_other left rest all more d l other e =
+    ap (list_all is_assertion) (sym e ∙ ap (λ (ds : List Definition). ds ++ more) l ∙ append_assoc rest (d ∷ []) more) ∙ not_all rest more d other

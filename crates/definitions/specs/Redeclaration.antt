@@ -4,11 +4,17 @@ use Rattle.value.specs.declared.refusals.Refusal.{Refusal}
 use Rattle.value.specs.declared.refusals.Refusal.TheVariants.{UnknownName}
 use Rattle.value.specs.Results.{and_then, provided}
 use Rattle.table.specs.Rows.{Tables}
+use Rattle.statement_syntax.specs.declared.definitions.Definition.{Definition}
+use Rattle.statement_syntax.specs.declared.definitions.Definition.TheVariants as definition
 use Rattle.assertion.specs.declared.assertions.Assertion.{Assertion}
 use Rattle.meaning.specs.Laws.{IsWritten, Pairs}
 use Rattle.delta.specs.Views.{Shown, without_assertion}
 use Rattle.definitions.specs.declared.redeclaration.NewAssertion.{NewAssertion}
 use Rattle.definitions.specs.Taken.{is_asserted, with_assertion}
+
+-- the definition that creates an assertion
+abbrev pub definition_of : NewAssertion → Definition
+definition_of new = definition.Assertion new.name new.condition new.attributes
 
 -- DROP ASSERTION: there is one of the name
 abbrev pub without_name : (name : List ℕ) → Shown → Result Shown Refusal

@@ -30,5 +30,5 @@ mod redeclaration;
 mod tables;
 mod taken;
 
-pub use redeclaration::{NewAssertion, redeclare};
+pub use redeclaration::{NewAssertion, new_assertions, redeclare};
 pub use taken::Definitions;

@@ -1,16 +1,17 @@
 //! Assertions of tables that there are: some are dropped, and new ones created.
 
-ghost use Rattle.std.specs.Prelude.{◌≡◌, ◌≢◌, false, IfOk, IfErr, IsOkUnless, Ok, Err};
-ghost use Rattle.value.specs.declared.refusals.Refusal.TheVariants.{NoMemory};
+ghost use Rattle.std.specs.Prelude.{◌≡◌, ◌≢◌, false, map, IfOk, IfErr, Ok, Err};
+ghost use Rattle.std.specs.List.{list_all};
+ghost use Rattle.value.specs.declared.refusals.Refusal.TheVariants.{NoMemory, OutsideClass};
 ghost use Rattle.delta.specs.Views.{Shown};
-ghost use Rattle.definitions.specs.Redeclaration.{AreCreated, redeclaration, with_new, without_name, without_names};
-ghost use Rattle.statement_syntax.specs.declared.definitions.Definition.TheVariants.{Assertion};
+ghost use Rattle.definitions.specs.Redeclaration.{AreCreated, definition_of, redeclaration, with_new, without_name, without_names};
 ghost use Rattle.definitions.specs.Taken.{with_assertion};
 ghost use Rattle.definitions.specs.Written.{is_assertion};
 
 use crate::taken::is_asserted;
 use assertcheck::check;
 use delta::View;
+use sqlite_items::Items;
 use statement_syntax::{Attributes, Definition};
 use std::alloc::Global;
 use syntax::Condition;
@@ -27,7 +28,7 @@ pub struct NewAssertion {
 impl NewAssertion {
     /// The assertion that a definition creates. A definition of something else is given back.
     pub fn of(definition: Definition) -> Result<NewAssertion, Definition>
-        ensures created { IfOk result (λ new. definition ≡ Assertion new.name new.condition new.attributes) }
+        ensures created { IfOk result (λ new. definition ≡ definition_of new) }
         ensures other { IfErr result (λ back. (back ≡ definition) × (is_assertion definition ≡ false)) }
     {
         match definition {
@@ -44,6 +45,44 @@ impl NewAssertion {
         }
     }
 }
+
+/// The new assertions that definitions write, in their order: so that they may be read from a text.
+///
+/// # Errors
+///
+/// [`Refusal::OutsideClass`] where a definition is of something else; or [`Refusal::NoMemory`].
+pub fn new_assertions(
+    alloc: Global,
+    mut definitions: Items<Definition>,
+) -> Result<Vec<NewAssertion>, Refusal>
+    ensures written { IfOk result (λ new. definitions ≡ map definition_of new.items) }
+    ensures refused { IfErr result (λ refusal. refusal ≢ NoMemory
+        → (refusal ≡ OutsideClass) × (list_all is_assertion definitions ≡ false)) }
+{
+    let mut new = Vec::new(alloc);
+    'turn: while let Some(definition) = definitions.pop() {
+        new.push(read_new(definition)?)?;
+    }
+    new.reverse();
+    Ok(new)
+}
+
+/// The new assertion that a definition writes.
+fn read_new(definition: Definition) -> Result<NewAssertion, Refusal>
+    ensures created { IfOk result (λ new. definition ≡ definition_of new) }
+    ensures refused { IfErr result (λ refusal. (refusal ≡ OutsideClass) × (is_assertion definition ≡ false)) }
+{
+    match NewAssertion::of(definition) {
+        Ok(new) => Ok(new),
+        Err(other) => {
+            let_go(other);
+            Err(Refusal::OutsideClass)
+        }
+    }
+}
+
+/// Lets a value go. Its type is a parameter here, so that the caller's proof does not go over its fields.
+fn let_go<T: Drop>(_value: T) {}
 
 /// The view of the same tables without the assertions of some names and with new ones behind those that are left. A
 /// name that is dropped may be given anew. Whether they are satisfied is not asked, and the view

@@ -10,6 +10,8 @@ mod commit_tests;
 #[cfg(test)]
 mod conflict_tests;
 #[cfg(test)]
+mod epoch_tests;
+#[cfg(test)]
 mod live_tests;
 #[cfg(test)]
 mod modes_tests;

@@ -1,0 +1,211 @@
+//! Epochs that follow one another.
+
+ghost use Rattle.std.specs.Prelude.{IfOk};
+ghost use Rattle.alone.specs.Alone.{IsSound};
+
+use crate::texts::let_go;
+use commit::{Core, Engine, Epoch, Epochs, Outcome, admit, run_epochs};
+use definitions::{Definitions, NewAssertion};
+use delta::View;
+use parse::{parse_schema, parse_script};
+use report::Report;
+use statement_syntax::Step;
+use std::alloc::Global;
+use std::test::Fail;
+use value::{Refusal, Text};
+
+/// An account of KIM.
+const ACCOUNT: &str = "CREATE TABLE ACCT (ID INTEGER PRIMARY KEY, OWNER VARCHAR(8) NOT NULL, BAL INTEGER NOT NULL);
+    INSERT INTO ACCT VALUES (1, 'KIM', 5);";
+
+/// No owner's accounts sum below zero.
+const FUNDS: &str = "CREATE ASSERTION FUNDS CHECK (NOT EXISTS (SELECT OWNER FROM ACCT GROUP BY OWNER
+    HAVING SUM(BAL) < 0));";
+
+/// No account is below zero.
+const OWN_FUNDS: &str = "CREATE ASSERTION FUNDS CHECK (NOT EXISTS (SELECT * FROM ACCT WHERE BAL < 0));";
+
+/// The new assertions that a text writes.
+fn new_assertions(alloc: Global, text: &str) -> Result<Vec<NewAssertion>, Refusal> {
+    let mut new = Vec::new(alloc);
+    let mut definitions = parse_schema(alloc, text.as_bytes())?;
+    while let Some(definition) = definitions.pop() {
+        if let Ok(assertion) = NewAssertion::of(definition) {
+            new.push(assertion)?;
+        }
+    }
+    Ok(new)
+}
+
+/// An epoch of these texts: the name that is dropped, if one is, the new assertions, and the events.
+fn epoch_of(
+    alloc: Global,
+    (dropped, created, script): (&str, &str, &str),
+) -> Result<Epoch, Refusal> {
+    let mut names = Vec::new(alloc);
+    if !dropped.is_empty() {
+        names.push(Text::from_str(alloc, dropped)?)?;
+    }
+    Ok(Epoch {
+        dropped: names,
+        created: new_assertions(alloc, created)?,
+        steps: parse_script(alloc, script.as_bytes())?,
+    })
+}
+
+/// The tables that a text defines.
+fn tables_of(alloc: Global, text: &str) -> Result<View, Refusal>
+    ensures { IfOk result (λ view. IsSound view.declared view.state) }
+{
+    let definitions = parse_schema(alloc, text.as_bytes())?;
+    let admitted = admit(alloc, definitions.as_slice());
+    let_go(definitions);
+    admitted
+}
+
+/// Adds what the events of an epoch were answered.
+fn add_outcome(report: &mut Report, steps: &[Step], outcome: &Outcome) -> Result<(), Refusal> {
+    for (step, answer) in steps.iter().zip(outcome.answers.iter()) {
+        report.add_answer(step, answer)?;
+    }
+    Ok(())
+}
+
+/// What was printed of epochs over the tables that a text defines, and why they ended early, if they did.
+fn printed(
+    alloc: Global,
+    tables: &str,
+    texts: &[(&str, &str, &str)],
+) -> Result<(Report, Option<Refusal>), Refusal> {
+    let loaded = tables_of(alloc, tables)?;
+    let mut epochs = Vec::new(alloc);
+    for text in texts {
+        epochs.push(epoch_of(alloc, *text)?)?;
+    }
+    let Epochs { outcomes, refused } = run_epochs(alloc, 4, &loaded, epochs.as_slice());
+    let mut report = Report::new(alloc);
+    for (epoch, outcome) in epochs.iter().zip(outcomes.iter()) {
+        add_outcome(&mut report, epoch.steps.as_slice(), outcome)?;
+    }
+    let_go((outcomes, epochs));
+    Ok((report, refused))
+}
+
+/// KIM's accounts sum below zero for a while.
+const MEANWHILE: (&str, &str, &str) = (
+    "",
+    "",
+    "A: BEGIN; A: INSERT INTO ACCT VALUES (2, 'KIM', -7); A: COMMIT;
+    B: BEGIN; B: UPDATE ACCT SET BAL = 0 WHERE ID = 2; B: COMMIT;",
+);
+
+#[test]
+fn checkpoint_with_funds(rt: HostRuntime) -> Result<(), Fail> {
+    let next = (
+        "",
+        FUNDS,
+        "C: BEGIN; C: INSERT INTO ACCT VALUES (3, 'KIM', -6);",
+    );
+    let (report, refused) = printed(rt.alloc(), ACCOUNT, &[MEANWHILE, next])?;
+    assert!(rt; refused.is_none());
+    assert_eq!(
+        rt;
+        report.as_bytes(),
+        b"A: BEGIN 0\nA: INSERT 1\nA: COMMIT 1\nB: BEGIN 1\nB: UPDATE 1\nB: COMMIT 2\n\
+        C: BEGIN 0\nC: REFUSED 10 23000 FUNDS 'KIM'\n".as_slice(),
+    );
+    Ok(())
+}
+
+/// A new assertion that is false on the newest tables: it is true on those that were loaded.
+#[test]
+fn a_false_assertion_begins_no_epoch(rt: HostRuntime) -> Result<(), Fail> {
+    let before = (
+        "",
+        "",
+        "A: BEGIN; A: INSERT INTO ACCT VALUES (2, 'KIM', -7); A: COMMIT;",
+    );
+    let (report, refused) = printed(
+        rt.alloc(),
+        ACCOUNT,
+        &[before, ("", FUNDS, "C: BEGIN;"), MEANWHILE],
+    )?;
+    assert!(rt; matches!(&refused, Some(Refusal::FalseAtCreation { assertion, .. }) if assertion.as_bytes() == b"FUNDS".as_slice()));
+    assert_eq!(rt; report.as_bytes(), b"A: BEGIN 0\nA: INSERT 1\nA: COMMIT 1\n".as_slice());
+    Ok(())
+}
+
+/// An assertion is replaced by another of its name. The sum was above zero, and the account that is put in is not.
+#[test]
+fn an_assertion_is_replaced(rt: HostRuntime) -> Result<(), Fail> {
+    let insert = "A: BEGIN; A: INSERT INTO ACCT VALUES (2, 'KIM', -1); A: ROLLBACK;";
+    let (report, refused) = printed(
+        rt.alloc(),
+        ACCOUNT,
+        &[
+            ("", FUNDS, insert),
+            ("FUNDS", OWN_FUNDS, insert),
+            ("FUNDS", "", insert),
+            ("FUNDS", "", insert),
+        ],
+    )?;
+    assert!(rt; matches!(&refused, Some(Refusal::UnknownName { name }) if name.as_bytes() == b"FUNDS".as_slice()));
+    assert_eq!(
+        rt;
+        report.as_bytes(),
+        b"A: BEGIN 0\nA: INSERT 1\nA: ROLLBACK\nA: BEGIN 0\nA: REFUSED 10 23000 FUNDS 2\nA: ROLLBACK\n\
+        A: BEGIN 0\nA: INSERT 1\nA: ROLLBACK\n".as_slice(),
+    );
+    Ok(())
+}
+
+/// An engine over an account, with a transaction open.
+fn engine_with_open(alloc: Global, steps: &[Step]) -> Result<Engine, Refusal> {
+    let mut engine = Engine::new(alloc, 4, tables_of(alloc, ACCOUNT)?, steps)?;
+    for step in steps {
+        let_go(engine.answer(step));
+    }
+    Ok(engine)
+}
+
+/// What an engine hands out once no transaction is open.
+fn hand_out(engine: &mut Engine, end: &Step, created: &[NewAssertion]) -> Result<Core, Refusal> {
+    if !matches!(engine.checkpoint(&[], created), Err(Refusal::TransactionOpen)) {
+        return Err(Refusal::NoTransaction);
+    }
+    let_go(engine.answer(end));
+    engine.checkpoint(&[], created)
+}
+
+#[test]
+fn an_open_transaction_keeps_its_epoch(rt: HostRuntime) -> Result<(), Fail> {
+    let alloc = rt.alloc();
+    let steps = parse_script(
+        alloc,
+        b"A: BEGIN; A: COMMIT; A: BEGIN; A: INSERT INTO ACCT VALUES (2, 'KIM', -7);",
+    )?;
+    let end = parse_script(alloc, b"A: ROLLBACK;")?;
+    let created = new_assertions(alloc, FUNDS)?;
+    let mut engine = engine_with_open(alloc, steps.as_slice())?;
+    let before = hand_out(&mut engine, &end.as_slice()[0], created.as_slice())?;
+    assert_eq!(rt; before.records().len(), 1);
+    assert_eq!(rt; engine.core().records().len(), 0);
+    assert_eq!(rt; engine.seats().len(), 1);
+    assert_eq!(rt; engine.core().loaded().assertions().len(), 1);
+    let_go((engine, before, steps, end, created));
+    Ok(())
+}
+
+/// What a view shows is defined anew.
+#[test]
+fn definitions_are_made_of_a_view(rt: HostRuntime) -> Result<(), Fail> {
+    let alloc = rt.alloc();
+    let text = format!(in alloc; "{ACCOUNT}{FUNDS}")?;
+    let view = tables_of(alloc, text.as_str())?;
+    let again = Definitions::of(alloc, &view)?.load(alloc)?;
+    assert_eq!(rt; again.catalog().len(), 1);
+    assert_eq!(rt; again.assertions().len(), 1);
+    assert_eq!(rt; again.rows(0).len(), 1);
+    let_go((view, again));
+    Ok(())
+}
