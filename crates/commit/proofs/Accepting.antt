@@ -30,7 +30,7 @@ use Rattle.serial.proofs.Semantics.{history_nets}
 use Rattle.conflict.specs.Ordered.{numbers_of}
 use Rattle.txn.specs.Transactions.{OpenTransaction, begun, outcome_of, own_view}
 use Rattle.commit.specs.Cores.{CoreState, IsLive, committed, log_of, newest_tables, record_of, with_begun, with_commit}
-use Rattle.commit.proofs.Tickets.{fewer, held_last}
+use Rattle.commit.proofs.Tickets.{fewer}
 use Rattle.commit.proofs.Recording.{begin_live, changes_are, epoch_next, log_with, newest_at}
 use Rattle.commit.specs.Kept.{IsCore}
 

@@ -1,31 +1,35 @@
 -- Epochs that follow one another.
-use Rattle.std.proofs.Common.{◌≡◌, ℕ, ◌+◌, ◌<◌, ◌≤◌, zero, suc, Bool, true, false, List, [], ◌∷◌, ◌++◌, Option, Some, None, length, get_or, take, refl, sym, ◌∙◌, ap, subst, arith, length-append}
-use Rattle.std.specs.Prelude.{is_some, slice_get}
-use Rattle.std.specs.List.{list_any}
+use Rattle.std.proofs.Common.{◌≡◌, ℕ, ◌+◌, ◌-◌, ◌<◌, ◌≤◌, zero, suc, Bool, true, false, List, [], ◌∷◌, ◌++◌, Option, Some, None, length, get_or, take, refl, sym, ◌∙◌, ap, subst, arith}
+use Rattle.std.specs.Prelude.{◌||◌, ◌≢◌, is_some, slice_get, Result, Ok, Err, IfOk, OnErr}
 use Rattle.std.proofs.lemmas.List.{length-take-le, take_all, take_more}
+use Rattle.std.proofs.lemmas.List.Elements.{All-nil}
 use Rattle.std.proofs.lemmas.Option.{slice_get_read}
+use Rattle.value.specs.declared.refusals.Refusal.{Refusal}
+use Rattle.value.specs.declared.refusals.Refusal.TheVariants.{NoMemory}
 use Rattle.meaning.specs.Laws.{Pairs}
 use Rattle.delta.specs.Views.{Shown}
+use Rattle.definitions.specs.declared.redeclaration.NewAssertion.{NewAssertion}
+use Rattle.live.specs.declared.snapshots.LiveSnapshot.{LiveSnapshot}
 use Rattle.live.specs.Live.{none_live}
 use Rattle.txn.specs.Transactions.{OpenTransaction}
 use Rattle.commit.specs.declared.engine.Outcome.{Outcome}
 use Rattle.commit.specs.declared.epochs.Epoch.{Epoch}
 use Rattle.commit.specs.declared.seats.Seat.{Seat}
-use Rattle.commit.specs.Cores.{newest_tables}
-use Rattle.commit.specs.Epochs.{AreOutcomes, IsOneMore, IsOutcome, IsWhole, is_any_open, tables_left}
-use Rattle.commit.specs.Events.{txn_of}
+use Rattle.commit.specs.Cores.{CoreState, newest_tables}
+use Rattle.commit.specs.Epochs.{AreOutcomes, IsEnd, IsNextEpoch, IsOneMore, IsOutcome, IsWhole, is_any_open, next_start, tables_left}
+use Rattle.commit.specs.Events.{AreLive, txn_of}
 
 -- where no transaction is open, none is in a seat
 pub none_open : (seats : List Seat) → is_any_open seats ≡ false → (place : ℕ) (t : OpenTransaction) → txn_of (slice_get seats place) ≡ Some t → ⊥
 none_open [] closed place t e = cc
 none_open (seat ∷ rest) closed zero t e = go seat.txn closed e
   where
-    go : (txn : Option OpenTransaction) → (if is_some txn then true else is_any_open rest) ≡ false → txn ≡ Some t → ⊥
+    go : (txn : Option OpenTransaction) → (is_some txn || is_any_open rest) ≡ false → txn ≡ Some t → ⊥
     go None closed e = cc
     go (Some u) closed e = cc
 none_open (seat ∷ rest) closed (suc place) t e = none_open rest (go (is_some seat.txn) closed) place t e
   where
-    go : (open : Bool) → (if open then true else is_any_open rest) ≡ false → is_any_open rest ≡ false
+    go : (b : Bool) → (b || is_any_open rest) ≡ false → is_any_open rest ≡ false
     go true closed = cc
     go false closed = closed
 
@@ -68,7 +72,7 @@ passed_long limit before epochs n outcomes less passed =
     sym (pairs_long IsWhole (take n epochs) outcomes passed.whole) ∙ length-take-le n epochs (omega arith)
 
 -- the next of them
-pub next_epoch : (limit : ℕ) (before : Shown) (epochs : List Epoch) (n : ℕ) (outcomes : List Outcome) (epoch : Epoch) → n < length epochs → epoch ≡ get_or epochs n epoch → HavePassed limit before epochs n outcomes → slice_get epochs (length outcomes) ≡ Some epoch
+next_epoch : (limit : ℕ) (before : Shown) (epochs : List Epoch) (n : ℕ) (outcomes : List Outcome) (epoch : Epoch) → n < length epochs → epoch ≡ get_or epochs n epoch → HavePassed limit before epochs n outcomes → slice_get epochs (length outcomes) ≡ Some epoch
 next_epoch limit before epochs n outcomes epoch less is passed =
     ap (slice_get epochs) (passed_long limit before epochs n outcomes less passed) ∙ slice_get_read epochs (length epochs) n epoch refl less is
 
@@ -94,3 +98,31 @@ passed_more limit before epochs n outcomes more epoch less is passed one =
 pub all_passed : (limit : ℕ) (before : Shown) (epochs : List Epoch) (n : ℕ) (outcomes : List Outcome) → length epochs ≤ n → HavePassed limit before epochs n outcomes → Pairs IsWhole epochs outcomes
 all_passed limit before epochs n outcomes le passed =
     subst (λ (es : List Epoch). Pairs IsWhole es outcomes) (take_all n epochs le) passed.whole
+
+-- the next is refused
+pub refused_next : (limit : ℕ) (before : Shown) (epochs : List Epoch) (n : ℕ) (outcomes more : List Outcome) (epoch : Epoch) (refusal : Refusal) → n < length epochs → epoch ≡ get_or epochs n epoch → HavePassed limit before epochs n outcomes
+    → more ≡ outcomes → (refusal ≢ NoMemory → next_start epoch.dropped.items epoch.created.items (tables_left before outcomes) ≡ Err refusal) → IsEnd before epochs more (Some refusal)
+refused_next limit before epochs n outcomes more epoch refusal less is passed same refused known = record {
+  epoch = epoch;
+  next = ap (λ (os : List Outcome). slice_get epochs (length os)) same ∙ next_epoch limit before epochs n outcomes epoch less is passed;
+  refused = ap (λ (os : List Outcome). next_start epoch.dropped.items epoch.created.items (tables_left before os)) same ∙ refused known;
+}
+
+-- what the last left
+pub last_left : (before : Shown) (outcomes : List Outcome) (outcome : Outcome) → Some outcome ≡ slice_get outcomes (length outcomes - 1) → newest_tables outcome.engine.core ≡ tables_left before outcomes
+last_left before [] outcome e = cc
+last_left before (o ∷ []) outcome e = let same : outcome ≡ o = cc in ap (λ (x : Outcome). newest_tables x.engine.core) same
+last_left before (o ∷ (p ∷ rest)) outcome e =
+    let shorter : length (o ∷ p ∷ rest) - 1 ≡ suc (length (p ∷ rest) - 1) = omega arith in
+    last_left (newest_tables o.engine.core) (p ∷ rest) outcome (e ∙ ap (slice_get (o ∷ p ∷ rest)) shorter)
+
+-- the sessions go on, where no transaction is open, or where no epoch begins
+pub live_after : (dropped : List (List ℕ)) (created : List NewAssertion) (before after : CoreState) (seats : List Seat) (result : Result CoreState Refusal) → is_any_open seats ≡ false → AreLive before seats
+    → IfOk result (λ old. IsNextEpoch dropped created before after) → OnErr result (after ≡ before) → AreLive after seats
+live_after dropped created before after seats (Ok old) closed live next same = subst (λ (c : CoreState). AreLive c seats) (sym next.empty) (record {
+  each = λ place t e. absurd (none_open seats closed place t e);
+  apart = λ place other t u e f same. absurd (none_open seats closed place t e);
+  begun = All-nil (λ (one : LiveSnapshot). one.ticket < none_live.begun);
+  idle = refl;
+})
+live_after dropped created before after seats (Err refusal) closed live next same = subst (λ (c : CoreState). AreLive c seats) (sym same) live

@@ -10,7 +10,6 @@ use Rattle.definitions.specs.declared.redeclaration.NewAssertion.{NewAssertion}
 use Rattle.definitions.specs.Redeclaration.{redeclaration}
 use Rattle.commit.specs.declared.engine.Outcome.{Outcome}
 use Rattle.commit.specs.declared.epochs.Epoch.{Epoch}
-use Rattle.commit.specs.declared.epochs.Epochs.{Epochs}
 use Rattle.commit.specs.declared.seats.Seat.{Seat}
 use Rattle.commit.specs.Admission.{satisfied}
 use Rattle.commit.specs.Cores.{CoreState, IsSerializable, newest_tables}

@@ -1,5 +1,5 @@
 -- Transactions that can no more be refused for what others read and wrote (Ports and Grittner 2012, on safe snapshots).
-use Rattle.std.specs.Prelude.{◌≡◌, ℕ, true, ⊤, Result, Ok, Err}
+use Rattle.std.specs.Prelude.{◌≡◌, ℕ, true, ⊤, Result, Err}
 use Rattle.value.specs.declared.refusals.Refusal.{Refusal}
 use Rattle.value.specs.declared.refusals.Refusal.TheVariants.{Dangerous, WriteConflict}
 use Rattle.live.specs.Live.{writers_hold}
