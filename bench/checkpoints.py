@@ -1,0 +1,113 @@
+#!/usr/bin/env python3
+"""The memory and the time of many commits through an engine, with a checkpoint after so many, and without.
+
+    python3 bench/checkpoints.py [--commits 1000000] [--rows 10000] [--every 10000]
+
+The program is made in a copy of the repository, by `rt run`, which proves it: a transaction of one UPDATE by key each, key
+after key, under the rule that no sum of a group is below zero. What a checkpoint hands out is dropped.
+The table that docs/PERFORMANCE.md holds is printed as it stands there. One process at a time runs.
+"""
+
+import argparse
+import os
+import pathlib
+import shutil
+import subprocess
+import tempfile
+
+from replays import TOP, launched, least_memory, table
+
+PROGRAM = """//! Commits of one row each, with a checkpoint after so many.
+#![tactic(auto)]
+
+use commit::{{Engine, admit}};
+use parse::{{parse_schema, parse_script}};
+use sqlite_items::Items;
+use statement_syntax::Step;
+use std::alloc::Global;
+use value::Refusal;
+
+const ROWS: u64 = {rows};
+const COMMITS: u64 = {commits};
+const EVERY: u64 = {every};
+
+const TABLE: &str = "CREATE TABLE T (ID INTEGER PRIMARY KEY, G INTEGER, V INTEGER);
+    CREATE ASSERTION R CHECK (NOT EXISTS (SELECT G FROM T GROUP BY G HAVING SUM(V) < 0));";
+
+fn engine(alloc: Global) -> Result<Engine, Refusal> {{
+    let mut text = String::from_str(alloc, TABLE)?;
+    for row in 0..ROWS {{
+        text.push_str(format!(in alloc; "INSERT INTO T VALUES ({{row}}, {{}}, 0);", row / 10)?.as_str())?;
+    }}
+    let definitions = parse_schema(alloc, text.as_bytes())?;
+    let loaded = admit(alloc, definitions.as_slice())?;
+    let steps = transaction(alloc, 0)?;
+    Engine::new(alloc, 4_294_967_295, loaded, steps.as_slice())
+}}
+
+fn transaction(alloc: Global, row: u64) -> Result<Items<Step>, Refusal> {{
+    let text = format!(in alloc; "A: BEGIN; A: UPDATE T SET V = V + 1 WHERE ID = {{row}}; A: COMMIT;")?;
+    parse_script(alloc, text.as_bytes())
+}}
+
+fn run(alloc: Global) -> Result<(), Refusal> {{
+    let mut transactions = Vec::new(alloc);
+    for row in 0..ROWS {{
+        transactions.push(transaction(alloc, row)?)?;
+    }}
+    let mut engine = engine(alloc)?;
+    for done in 0..COMMITS {{
+        if let Some(steps) = transactions.get((done % ROWS) as usize) {{
+            for step in steps.as_slice() {{
+                engine.answer(step);
+            }}
+        }}
+        if EVERY > 0 && (done + 1) % EVERY == 0 {{
+            drop(engine.checkpoint(&[], &[])?);
+        }}
+    }}
+    Ok(())
+}}
+
+fn main(rt: HostRuntime) -> Result<(), Refusal> {{
+    run(rt.alloc())
+}}
+"""
+
+
+def program(folder, rows, commits, every):
+    """The program with these numbers, built without proofs in a copy of the repository."""
+    for name in ("crates", "crates.txt", "HANDLES"):
+        if not (folder / name).exists():
+            copy = shutil.copytree if (TOP / name).is_dir() else shutil.copy
+            copy(TOP / name, folder / name, **({"ignore": shutil.ignore_patterns("out")} if name == "crates" else {}))
+    crate = folder / "crates" / "checkpointed"
+    if not crate.exists():
+        (crate / "src").mkdir(parents=True)
+        with open(folder / "crates.txt", "a") as out:
+            out.write("\ncheckpointed: commit parse statement_syntax sqlite_items value\n")
+    (crate / "src" / "main.rt").write_text(PROGRAM.format(rows=rows, commits=commits, every=every))
+    subprocess.run(["rt", "run"], cwd=crate, check=True, stdout=subprocess.DEVNULL)
+    return str(crate / "out" / "checkpointed")
+
+
+def measured(folder, rows, commits, every):
+    return launched([program(folder, rows, commits, every)], os.devnull)
+
+
+def main():
+    words = argparse.ArgumentParser(description=__doc__, formatter_class=argparse.RawDescriptionHelpFormatter)
+    words.add_argument("--commits", type=int, default=1_000_000)
+    words.add_argument("--rows", type=int, default=10_000)
+    words.add_argument("--every", type=int, default=10_000)
+    asked = words.parse_args()
+    rows = []
+    with tempfile.TemporaryDirectory() as folder:
+        for commits, every in ((0, 0), (asked.every, 0), (asked.commits, asked.every), (asked.commits, 0)):
+            used = measured(pathlib.Path(folder), asked.rows, commits, every)
+            rows.append([f"{commits:,}", f"{every:,}" if every else "none", f"{used.seconds:.1f}",
+                         f"{(used.memory - least_memory()) / 1e6:,.0f}"])
+    table(["commits", "a checkpoint every", "processor seconds", "peak memory, MB"], rows)
+
+
+main()
