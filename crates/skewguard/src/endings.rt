@@ -4,7 +4,8 @@ ghost use Rattle.std.specs.Prelude.{◌≡◌, ◌≢◌, ◌≤◌, Err, IfErr,
 ghost use Rattle.running.specs.declared.faults.ProgramFault.TheVariants.{Output};
 
 use crate::files::{OUTSIDE, REFUSED, Streams, WELL, report_refused};
-use checkup::{Colour, Named, Which, picture_of_refusal};
+use crate::texts::Texts;
+use checkup::{Colour, Which, picture_of_refusal};
 use running::ProgramFault;
 use std::alloc::Global;
 use std::io::Write;
@@ -14,14 +15,13 @@ use std::io::Write;
 pub fn end_run<W: Write, E: Write>(
     alloc: Global,
     run: Result<(), ProgramFault>,
-    defs: Named,
-    script: Option<Named>,
+    texts: &Texts<'_>,
     streams: &mut Streams<'_, W, E>,
 ) -> u8
     ensures { result ≤ 3 }
 {
     let drawn = if streams.err_is_terminal {
-        picture_of(alloc, &run, defs, script)
+        picture_of(alloc, &run, texts)
     } else {
         String::new(alloc)
     };
@@ -31,15 +31,10 @@ pub fn end_run<W: Write, E: Write>(
 }
 
 /// The picture of the fault for which a text was refused; empty where none was, or where there is no memory for it.
-fn picture_of(
-    alloc: Global,
-    run: &Result<(), ProgramFault>,
-    defs: Named,
-    script: Option<Named>,
-) -> String {
-    let drawn = match (run, script) {
+fn picture_of(alloc: Global, run: &Result<(), ProgramFault>, texts: &Texts<'_>) -> String {
+    let drawn = match (run, texts.script()) {
         (Err(ProgramFault::Defs(refusal)), _) => {
-            picture_of_refusal(alloc, Which::Defs, defs, refusal, Colour::Terminal)
+            picture_of_refusal(alloc, Which::Defs, texts.defs(), refusal, Colour::Terminal)
         }
         (Err(ProgramFault::Script(refusal)), Some(script)) => {
             picture_of_refusal(alloc, Which::Script, script, refusal, Colour::Terminal)

@@ -3,8 +3,8 @@
 ghost use Rattle.std.specs.Prelude.{◌≤◌};
 
 use crate::endings::end_run;
-use crate::files::{REFUSED, Streams};
-use crate::texts::read_texts;
+use crate::files::{REFUSED, Streams, USAGE};
+use crate::texts::{limit_of, read_texts};
 use clap::ArgMatches;
 use explain::{ExplainFault, explain_into};
 use picture::picture_into;
@@ -19,17 +19,19 @@ where
     E: Write,
     ensures { result ≤ 3 }
 {
+    let Some(limit) = limit_of(words) else {
+        return USAGE;
+    };
     let texts = match read_texts(rt, words, streams) {
         Ok(texts) => texts,
         Err(status) => return status,
     };
-    let (defs, script) = (texts.defs(), texts.script());
     let event = words.get_one::<u64>("EVENT");
     let run = match explain_into(
         rt.alloc(),
-        defs.bytes,
-        script.bytes,
-        texts.limit,
+        texts.defs().bytes,
+        texts.script_bytes(),
+        limit,
         event,
         streams.out,
     ) {
@@ -42,7 +44,7 @@ where
             return REFUSED;
         }
     };
-    end_run(rt.alloc(), run, defs, Some(script), streams)
+    end_run(rt.alloc(), run, &texts, streams)
 }
 
 /// Draws the transactions of the two files that the words name.
@@ -53,17 +55,19 @@ where
     E: Write,
     ensures { result ≤ 3 }
 {
+    let Some(limit) = limit_of(words) else {
+        return USAGE;
+    };
     let texts = match read_texts(rt, words, streams) {
         Ok(texts) => texts,
         Err(status) => return status,
     };
-    let (defs, script) = (texts.defs(), texts.script());
     let run = picture_into(
         rt.alloc(),
-        defs.bytes,
-        script.bytes,
-        texts.limit,
+        texts.defs().bytes,
+        texts.script_bytes(),
+        limit,
         streams.out,
     );
-    end_run(rt.alloc(), run, defs, Some(script), streams)
+    end_run(rt.alloc(), run, &texts, streams)
 }

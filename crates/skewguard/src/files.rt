@@ -1,8 +1,9 @@
 //! The texts, the streams, and the statuses to end with.
 
-ghost use Rattle.std.specs.Prelude.{◌≡◌, ◌⊎◌};
+ghost use Rattle.std.specs.Prelude.{◌≡◌, ◌≤◌, ◌⊎◌, IfErr};
 ghost use Rattle.running.specs.declared.files.ReadFault.TheVariants.{NoMemory, Unreadable};
 
+use crate::signs::Sign;
 use checkup::{Colour, Named};
 use report::Report;
 use running::{ReadFault, fault_of, read_all};
@@ -28,20 +29,8 @@ pub struct Streams<'a, W, E> {
     pub err: &'a mut E,
     pub out_is_terminal: bool,
     pub err_is_terminal: bool,
-}
-
-/// From so many bytes on definitions may take more than a second.
-const LONG: usize = 1_000_000;
-
-/// Says on a terminal that long definitions are being taken in.
-pub fn tell_long<E: Write>(alloc: Global, bytes: usize, is_terminal: bool, err: &mut E) {
-    if !is_terminal || bytes < LONG {
-        return;
-    }
-    let megabytes = bytes / 1_000_000;
-    if let Ok(line) = format!(in alloc; "DEFS has {megabytes} MB: it is being read.\n") {
-        let _ = err.write_all(line.as_bytes());
-    }
+    /// What shows on a terminal that long work goes on.
+    pub sign: &'a Sign,
 }
 
 /// The colours of a stream.
@@ -53,13 +42,47 @@ pub fn colour_of(is_terminal: bool) -> Colour {
     }
 }
 
-/// A text with its name.
-pub fn named<'a>(name: &'a str, bytes: &'a [u8]) -> Named<'a> {
-    Named { name, bytes }
+/// A text with the name of its file.
+#[derive(Drop)]
+pub struct Source<'a> {
+    name: &'a str,
+    pub bytes: Vec<u8>,
+}
+
+impl<'a> Source<'a> {
+    /// The text as a reader is shown it.
+    pub fn named(&self) -> Named<'_> {
+        Named {
+            name: self.name,
+            bytes: self.bytes.as_slice(),
+        }
+    }
+}
+
+/// The text of a file that stands in the command line's place of this name.
+///
+/// # Errors
+///
+/// The status to end with, where the file can't be read, of which the second stream then says it.
+pub fn read_or_report<'a, R, E>(
+    rt: &R,
+    place: &str,
+    path: &'a str,
+    err: &mut E,
+) -> Result<Source<'a>, u8>
+where
+    R: Files + AllocGlobal,
+    E: Write,
+    ensures { IfErr result (λ status. status ≤ 3) }
+{
+    match read(rt, path) {
+        Ok(bytes) => Ok(Source { name: path, bytes }),
+        Err(fault) => Err(report_unread(rt.alloc(), place, fault, err)),
+    }
 }
 
 /// The bytes of a file.
-pub fn read<R: Files + AllocGlobal>(rt: &R, path: &str) -> Result<Vec<u8>, ReadFault> {
+fn read<R: Files + AllocGlobal>(rt: &R, path: &str) -> Result<Vec<u8>, ReadFault> {
     match File::open(rt, path) {
         Ok(mut file) => read_all(rt.alloc(), &mut file),
         Err(error) => Err(fault_of(&error)),
@@ -75,7 +98,7 @@ pub fn report_no_memory<E: Write>(err: &mut E) -> u8
 }
 
 /// Says that a file was not read, and gives the status to end with.
-pub fn report_unread<E: Write>(alloc: Global, name: &str, fault: ReadFault, err: &mut E) -> u8
+fn report_unread<E: Write>(alloc: Global, name: &str, fault: ReadFault, err: &mut E) -> u8
     ensures unreadable { fault ≡ Unreadable → result ≡ 3 }
     ensures no_memory { fault ≡ NoMemory → result ≡ 1 }
     ensures either { (result ≡ 1) ⊎ (result ≡ 3) }

@@ -23,8 +23,8 @@
 //!
 //! The module `program` is the command line: which subcommand is meant, and the status to end with. `commands` has the
 //! words that are taken; `runs`, `checks`, `explanations` and `translations` what they do; `files` and `texts` what is
-//! read, and `endings` what is said of a run that failed. A further subcommand is a function in `commands` and a line
-//! in `program::run_matches`.
+//! read, `signs` the line that shows on a terminal that long work goes on, and `endings` what is said of a run that
+//! failed. A further subcommand is a function in `commands` and a line in `program::run_named`.
 #![tactic(auto)]
 
 mod checks;
@@ -34,23 +34,25 @@ mod explanations;
 mod files;
 mod program;
 mod runs;
+mod signs;
 mod texts;
 mod translations;
 
 use files::Streams;
-use std::io::IsTerminal;
+use signs::Sign;
 use std::process::ExitCode;
 
 fn main(rt: HostRuntime) -> ExitCode {
-    let mut out = rt.stdout();
-    let mut err = rt.stderr();
-    let out_is_terminal = out.is_terminal();
-    let err_is_terminal = err.is_terminal();
+    let sign = Sign::new();
+    let mut out = sign.beside(&rt, rt.stdout());
+    let mut err = sign.beside(&rt, rt.stderr());
+    let (out_is_terminal, err_is_terminal) = (out.is_terminal, err.is_terminal);
     let mut streams = Streams {
         out: &mut out,
         err: &mut err,
         out_is_terminal,
         err_is_terminal,
+        sign: &sign,
     };
     ExitCode::from(program::command_line(&rt, &mut streams))
 }

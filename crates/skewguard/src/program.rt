@@ -1,24 +1,27 @@
 //! The command line: which subcommand is meant, and the status to end with.
 
 ghost use Rattle.std.specs.Prelude.{◌≤◌};
+ghost use denote.Param.Send.{IsSync};
 
 use crate::checks::check;
 use crate::commands::make_command;
 use crate::explanations::{draw, explain};
 use crate::files::{OUTSIDE, Streams, USAGE, WELL, report_no_memory};
 use crate::runs::{Way, run};
+use crate::signs::Task;
 use crate::translations::translate;
 use clap::ArgMatches;
-use std::env;
 use std::io::Write;
 use std::rt::{Env, Files};
 use std::sync::Wait;
 use std::thread::Threads;
+use std::time::Clock;
+use std::{env, thread};
 
 /// Does what the words of the command line ask for, and gives the status to end with.
 pub fn command_line<R, W, E>(rt: &R, streams: &mut Streams<'_, W, E>) -> u8
 where
-    R: Env + Files + Print + Eprint + AllocGlobal + Threads + Wait + Sync,
+    R: Env + Files + Print + Eprint + AllocGlobal + Clock + Threads + Wait + Sync,
     W: Write,
     E: Write,
     ensures { result ≤ 3 }
@@ -46,10 +49,10 @@ where
     }
 }
 
-/// Runs the subcommand that the words name.
+/// Runs the subcommand that the words name, beside a sign of life where the second stream is a terminal.
 fn run_matches<R, W, E>(rt: &R, matches: &ArgMatches<'_>, streams: &mut Streams<'_, W, E>) -> u8
 where
-    R: Files + AllocGlobal + Threads + Wait + Sync,
+    R: Files + Eprint + AllocGlobal + Clock + Threads + Wait + Sync,
     W: Write,
     E: Write,
     ensures { result ≤ 3 }
@@ -57,6 +60,73 @@ where
     let Some((name, words)) = matches.subcommand() else {
         return USAGE;
     };
+    if streams.err_is_terminal {
+        run_in_sight(rt, name, words, streams)
+    } else {
+        run_named(rt, name, words, streams)
+    }
+}
+
+/// Runs the subcommand of this name, while a thread shows that it goes on. Without a thread there is no such line.
+fn run_in_sight<R, W, E>(
+    rt: &R,
+    name: &str,
+    words: &ArgMatches<'_>,
+    streams: &mut Streams<'_, W, E>,
+) -> u8
+where
+    R: Files + Eprint + AllocGlobal + Clock + Threads + Wait + Sync,
+    W: Write,
+    E: Write,
+    ensures { result ≤ 3 }
+{
+    let (sign, task) = (streams.sign, task_of(name));
+    thread::scope(
+        thread::scope_env(),
+        rt,
+        |scope| -> u8
+            requires runtime { IsSync R.row }
+            ensures { result ≤ 3 }
+        {
+            let _ = scope.spawn(move || sign.show(rt, task));
+            let status = run_named(rt, name, words, streams);
+            sign.end(rt);
+            status
+        },
+    )
+}
+
+/// What the subcommand of this name does, in words for the sign of life.
+fn task_of(name: &str) -> Task {
+    match name {
+        "replay" => Task {
+            before: "loading",
+            after: "running",
+        },
+        "check" | "postgresql" => Task {
+            before: "loading",
+            after: "printing",
+        },
+        _ => Task {
+            before: "loading and running",
+            after: "printing",
+        },
+    }
+}
+
+/// Runs the subcommand of this name.
+fn run_named<R, W, E>(
+    rt: &R,
+    name: &str,
+    words: &ArgMatches<'_>,
+    streams: &mut Streams<'_, W, E>,
+) -> u8
+where
+    R: Files + AllocGlobal + Threads + Wait + Sync,
+    W: Write,
+    E: Write,
+    ensures { result ≤ 3 }
+{
     match name {
         "replay" => run(rt, Way::InOrder, words, streams),
         "threads" => run(rt, Way::OnThreads, words, streams),

@@ -3,8 +3,8 @@
 ghost use Rattle.std.specs.Prelude.{◌≤◌};
 
 use crate::endings::end_run;
-use crate::files::{Streams, tell_long};
-use crate::texts::{Texts, read_texts};
+use crate::files::{Streams, USAGE};
+use crate::texts::{Texts, limit_of, read_texts};
 use clap::ArgMatches;
 use replay::replay_into;
 use running::ProgramFault;
@@ -34,37 +34,40 @@ where
     E: Write,
     ensures { result ≤ 3 }
 {
+    let Some(limit) = limit_of(words) else {
+        return USAGE;
+    };
     let texts = match read_texts(rt, words, streams) {
         Ok(texts) => texts,
         Err(status) => return status,
     };
-    run_texts(rt, way, &texts, streams)
+    run_texts(rt, way, &texts, limit, streams)
 }
 
 /// Runs the two texts. What is refused is said in one line on the second stream, and on a terminal with a picture
 /// behind it.
-fn run_texts<R, W, E>(rt: &R, way: Way, texts: &Texts<'_>, streams: &mut Streams<'_, W, E>) -> u8
+fn run_texts<R, W, E>(
+    rt: &R,
+    way: Way,
+    texts: &Texts<'_>,
+    limit: u64,
+    streams: &mut Streams<'_, W, E>,
+) -> u8
 where
     R: AllocGlobal + Threads + Wait + Sync,
     W: Write,
     E: Write,
-    requires some { 1 ≤ texts.now.limit }
-    requires within { texts.now.limit ≤ 4294967295 }
+    requires some { 1 ≤ limit }
+    requires within { limit ≤ 4294967295 }
     ensures { result ≤ 3 }
 {
     let alloc = rt.alloc();
-    let (defs, script) = (texts.defs(), texts.script());
-    tell_long(
-        alloc,
-        defs.bytes.len(),
-        streams.err_is_terminal,
-        streams.err,
-    );
+    let (defs, script) = (texts.defs().bytes, texts.script_bytes());
     let run = match way {
-        Way::InOrder => replay_into(alloc, defs.bytes, script.bytes, texts.limit, streams.out),
-        Way::OnThreads => run_threads(rt, defs.bytes, script.bytes, texts.limit, streams.out),
+        Way::InOrder => replay_into(alloc, defs, script, limit, streams.out),
+        Way::OnThreads => run_threads(rt, defs, script, limit, streams.out),
     };
-    end_run(alloc, run, defs, Some(script), streams)
+    end_run(alloc, run, texts, streams)
 }
 
 /// Runs each session of a script on a thread, which no gate holds.

@@ -1,32 +1,40 @@
-//! The two texts that are run, and at most how many commits.
+//! The texts that the words name, and at most how many commits.
 
-ghost use Rattle.std.specs.Prelude.{◌≡◌, ◌≤◌, IfErr, IfOk};
+ghost use Rattle.std.specs.Prelude.{◌≤◌, IfErr, IfSome};
 
-use crate::files::{Streams, USAGE, named, read, report_unread};
+use crate::files::{Source, Streams, USAGE, read_or_report};
 use checkup::Named;
 use clap::ArgMatches;
 use std::io::Write;
 use std::rt::Files;
 
-/// Two texts with the names of their files, and at most how many commits their run makes.
+/// The definitions, and a script where there is one.
 #[derive(Drop)]
 pub struct Texts<'a> {
-    defs_name: &'a str,
-    defs: Vec<u8>,
-    script_name: &'a str,
-    script: Vec<u8>,
-    pub limit: u64,
+    defs: Source<'a>,
+    script: Option<Source<'a>>,
 }
 
 impl<'a> Texts<'a> {
     /// The definitions.
     pub fn defs(&self) -> Named<'_> {
-        named(self.defs_name, self.defs.as_slice())
+        self.defs.named()
     }
 
-    /// The script.
-    pub fn script(&self) -> Named<'_> {
-        named(self.script_name, self.script.as_slice())
+    /// The script, if there is one.
+    pub fn script(&self) -> Option<Named<'_>> {
+        match &self.script {
+            Some(script) => Some(script.named()),
+            None => None,
+        }
+    }
+
+    /// The bytes of the script; none where there is no script.
+    pub fn script_bytes(&self) -> &[u8] {
+        match &self.script {
+            Some(script) => script.bytes.as_slice(),
+            None => &[],
+        }
     }
 }
 
@@ -44,49 +52,33 @@ where
     R: Files + AllocGlobal,
     W: Write,
     E: Write,
-    ensures some { IfOk result (λ texts. 1 ≤ texts.limit) }
-    ensures within { IfOk result (λ texts. texts.limit ≤ 4294967295) }
-    ensures status { IfErr result (λ status. status ≤ 3) }
+    ensures { IfErr result (λ status. status ≤ 3) }
 {
-    match (
-        words.get_one::<u32>("max-commits"),
-        words.get_str("DEFS"),
-        words.get_str("SCRIPT"),
-    ) {
-        (Some(limit), Some(defs), Some(script)) if limit > 0 => {
-            read_files(rt, u64::from(limit), defs, script, streams)
-        }
-        _ => Err(USAGE),
-    }
+    let Some(path) = words.get_str("DEFS") else {
+        return Err(USAGE);
+    };
+    let defs = read_or_report(rt, "DEFS", path, streams.err)?;
+    let script = match words.get_str("SCRIPT") {
+        Some(path) => Some(read_or_report(rt, "SCRIPT", path, streams.err)?),
+        None => None,
+    };
+    let texts = Texts { defs, script };
+    let bytes = texts
+        .defs
+        .bytes
+        .len()
+        .saturating_add(texts.script_bytes().len());
+    streams.sign.take_down(bytes);
+    Ok(texts)
 }
 
-fn read_files<'a, R, W, E>(
-    rt: &R,
-    limit: u64,
-    defs_name: &'a str,
-    script_name: &'a str,
-    streams: &mut Streams<'_, W, E>,
-) -> Result<Texts<'a>, u8>
-where
-    R: Files + AllocGlobal,
-    W: Write,
-    E: Write,
-    ensures limit { IfOk result (λ texts. texts.limit ≡ limit) }
-    ensures status { IfErr result (λ status. status ≤ 3) }
+/// At most so many commits, as the words say.
+pub fn limit_of(words: &ArgMatches<'_>) -> Option<u64>
+    ensures some { IfSome result (λ limit. 1 ≤ limit) }
+    ensures within { IfSome result (λ limit. limit ≤ 4294967295) }
 {
-    let defs = match read(rt, defs_name) {
-        Ok(bytes) => bytes,
-        Err(fault) => return Err(report_unread(rt.alloc(), "DEFS", fault, streams.err)),
-    };
-    let script = match read(rt, script_name) {
-        Ok(bytes) => bytes,
-        Err(fault) => return Err(report_unread(rt.alloc(), "SCRIPT", fault, streams.err)),
-    };
-    Ok(Texts {
-        defs_name,
-        defs,
-        script_name,
-        script,
-        limit,
-    })
+    match words.get_one::<u32>("max-commits") {
+        Some(limit) if limit > 0 => Some(u64::from(limit)),
+        _ => None,
+    }
 }

@@ -3,7 +3,8 @@
 ghost use Rattle.std.specs.Prelude.{◌≡◌, ◌≤◌};
 
 use crate::endings::end_run;
-use crate::files::{REFUSED, Streams, USAGE, named, read, report_unread, tell_long};
+use crate::files::{REFUSED, Streams};
+use crate::texts::read_texts;
 use clap::ArgMatches;
 use commit::admit;
 use delta::View;
@@ -24,21 +25,11 @@ where
     ensures { result ≤ 3 }
 {
     let alloc = rt.alloc();
-    let Some(path) = words.get_str("DEFS") else {
-        return USAGE;
+    let texts = match read_texts(rt, words, streams) {
+        Ok(texts) => texts,
+        Err(status) => return status,
     };
-    let text = match read(rt, path) {
-        Ok(text) => text,
-        Err(fault) => return report_unread(alloc, "DEFS", fault, streams.err),
-    };
-    let defs = named(path, text.as_slice());
-    tell_long(
-        alloc,
-        defs.bytes.len(),
-        streams.err_is_terminal,
-        streams.err,
-    );
-    let run = match take_in(alloc, defs.bytes) {
+    let run = match take_in(alloc, texts.defs().bytes) {
         Ok(view) => match print_into(alloc, &view, streams.out) {
             Ok(()) => Ok(()),
             Err(PrintFault::NoMemory) => Err(ProgramFault::Defs(Refusal::NoMemory)),
@@ -47,7 +38,7 @@ where
         },
         Err(refusal) => Err(ProgramFault::Defs(refusal)),
     };
-    end_run(alloc, run, defs, None, streams)
+    end_run(alloc, run, &texts, streams)
 }
 
 /// The tables that a text of definitions defines.

@@ -1,0 +1,131 @@
+#!/usr/bin/env python3
+"""Tries the line that shows on a terminal that long work goes on.
+
+    tools/signs_of_life.py PROGRAM
+
+The definitions come through a named pipe that is empty until the line was seen, so that nothing here depends on how
+fast the machine is. All subcommands wait at the same time. Wanted of each: on the terminal the line, brought up to
+date, wiped before anything else is written, and nothing else but a fault; and on standard output what is printed
+where standard error is no terminal. There no line is to be seen, though the program waits for as long.
+"""
+import os
+import pty
+import re
+import subprocess
+import sys
+import tempfile
+import threading
+import time
+
+DEFS = """CREATE TABLE T (ID INTEGER PRIMARY KEY, A INTEGER);
+CREATE ASSERTION POSITIVE CHECK (NOT EXISTS (SELECT * FROM T WHERE A < 0));
+INSERT INTO T VALUES (1, 5);
+"""
+SCRIPT = "ALICE: BEGIN;\nALICE: INSERT INTO T VALUES (2, -5);\nALICE: COMMIT;\n"
+SUBCOMMANDS = ("replay", "threads", "check", "explain", "picture", "postgresql")
+READING = re.compile(rb"(\rreading, [0-9]+ s\x1b\[K){2}")
+WIPED = re.compile(rb"(\rreading, [0-9]+ s\x1b\[K){2,}(\r[a-z ]+( [0-9]+ MB)?, [0-9]+ s\x1b\[K)*\r\x1b\[K")
+PATIENCE = 60
+
+
+class Run:
+    """The program with a named pipe for definitions. `on` tells which of its streams a terminal gets."""
+
+    def __init__(self, program, folder, name, defs, on):
+        self.name, self.defs, self.on = f"{name} with a terminal for {' and '.join(on) or 'nothing'}", defs, on
+        self.path = os.path.join(folder, f"{name}-{len(defs)}-{len(on)}.sql")
+        os.mkfifo(self.path)
+        words = [program, name, self.path]
+        if name != "postgresql":
+            words.append(os.path.join(folder, "script.sql"))
+        self.shown, self.printed, self.said = b"", b"", b""
+        self.terminal, end = pty.openpty()
+        stream = {True: end, False: subprocess.PIPE}
+        self.process = subprocess.Popen(words, stdin=subprocess.DEVNULL, stdout=stream["output" in on],
+            stderr=stream["errors" in on])
+        os.close(end)
+        self.readers = [threading.Thread(target=self.read_terminal)]
+        if "output" not in on:
+            self.readers.append(threading.Thread(target=self.read_printed))
+        if "errors" not in on:
+            self.readers.append(threading.Thread(target=self.read_said))
+        for reader in self.readers:
+            reader.start()
+
+    def read_terminal(self):
+        while True:
+            try:
+                more = os.read(self.terminal, 65536)
+            except OSError:
+                more = b""
+            if not more:
+                return
+            self.shown += more
+
+    def read_printed(self):
+        self.printed = self.process.stdout.read()
+
+    def read_said(self):
+        self.said = self.process.stderr.read()
+
+    def feed(self):
+        """Waits for the line to come twice, or for as long as that takes, and then hands the definitions over."""
+        with open(self.path, "wb") as pipe:
+            end = time.monotonic() + (PATIENCE if "errors" in self.on else 2.5)
+            while time.monotonic() < end and not READING.match(self.shown):
+                time.sleep(0.05)
+            pipe.write(self.defs.encode())
+
+    def finish(self):
+        self.feed()
+        self.process.wait(PATIENCE)
+        for reader in self.readers:
+            reader.join()
+        os.close(self.terminal)
+        # (a terminal turns each end of a line into two bytes)
+        self.shown = self.shown.replace(b"\r\n", b"\n")
+
+    def behind_the_line(self):
+        """What the terminal got behind the line; None where the line is not as it is wanted."""
+        found = WIPED.match(self.shown)
+        return self.shown[found.end():] if found else None
+
+
+def faults_of(plain, errors, both, refused):
+    """What is not as it is wanted, of one subcommand."""
+    if plain.said or plain.shown:
+        yield plain, plain.said + plain.shown
+    if errors.behind_the_line() != b"" or errors.printed != plain.printed:
+        yield errors, errors.shown
+    behind = both.behind_the_line()
+    # (a terminal gets colours of `check`)
+    if behind is None or re.sub(rb"\x1b\[[0-9;]*m", b"", behind) != plain.printed:
+        yield both, both.shown
+    behind = refused.behind_the_line()
+    if behind is None or b"\x1b[K" in behind or not behind + refused.printed:
+        yield refused, refused.shown
+    for run in (plain, errors, both):
+        if run.process.returncode != 0:
+            yield run, b"the status is %d" % run.process.returncode
+
+
+def main(program):
+    with tempfile.TemporaryDirectory() as folder:
+        with open(os.path.join(folder, "script.sql"), "w", encoding="utf-8") as it:
+            it.write(SCRIPT)
+        ways = ((DEFS, ()), (DEFS, ("errors",)), (DEFS, ("output", "errors")), ("CREATE TABEL", ("errors",)))
+        runs = [[Run(program, folder, name, defs, on) for defs, on in ways] for name in SUBCOMMANDS]
+        feeders = [threading.Thread(target=run.finish) for some in runs for run in some]
+        for feeder in feeders:
+            feeder.start()
+        for feeder in feeders:
+            feeder.join()
+    bad = [fault for some in runs for fault in faults_of(*some)]
+    for run, what in bad:
+        print(f"{run.name}: {what!r}")
+    print(f"{len(SUBCOMMANDS) * len(ways)} runs that wait, {len(bad)} not as they are wanted")
+    return 1 if bad else 0
+
+
+if __name__ == "__main__":
+    sys.exit(main(os.path.abspath(sys.argv[1])))
