@@ -1,0 +1,4 @@
+pub mod Cutting
+pub mod Seating
+pub mod Feeding
+pub mod Talking
