@@ -9,7 +9,7 @@ use Rattle.shell.specs.Cuts.{Piece, Rest, forward, pieces_of, rest_of, scan, who
 use Rattle.shell.specs.Reading.{ReadsOn, ReadsSome}
 use Rattle.shell.specs.Outcomes.{AreOutcomes, IsOutcome, Outcome, line_of, lines_in}
 use Rattle.shell.specs.Writing.{Answers, AreRun, Feeds, FeedsAll, FeedsFirst, IsOver, left_by, left_by_all}
-use Rattle.shell.proofs.Cutting.{IsQuietTurn, IsWholeTurn, pieces_append, quiet_turn, rest_append, whole_turn}
+use Rattle.shell.proofs.Pieces.{IsQuietTurn, IsWholeTurn, pieces_append, quiet_turn, rest_append, whole_turn}
 
 -- ---- outcomes one behind the other
 
@@ -129,7 +129,10 @@ module _ (before : EngineState) (rest : Rest) where
   -- ---- one turn
 
   module _ (now : Rest) (from to : Option (List ℕ)) (read : ReadsOn rest now true from to) where
-    now_is : (record { at = rest.at; bytes = rest.bytes ++ read.bytes; place = scan rest.place read.bytes }) ≡ now
+    abbrev grown : Rest
+    grown = record { at = rest.at; bytes = rest.bytes ++ read.bytes; place = scan rest.place read.bytes }
+
+    now_is : grown ≡ now
     now_is = λ i. record { at = sym read.longer.at_is i; bytes = sym read.longer.bytes_are i; place = sym read.longer.place_is i }
 
     some_read : ReadsSome from to

@@ -1,4 +1,4 @@
-pub mod Cutting
+pub mod Pieces
 pub mod Seating
 pub mod Feeding
 pub mod Talking

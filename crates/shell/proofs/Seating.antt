@@ -117,7 +117,6 @@ module _ (seats : List Seat) (step : Step) (rest : List Step) where
       same true = refl
       same false = refl
   all_step None true e f =
-      let new : List Seat = seats ++ free_seat step.session ∷ [] in
       let now : Now ≡ seats ++ free_seat step.session ∷ [] = within_is None true e f in
       let all : kept Now ≡ step ∷ seated_steps Now rest = kept_by Now true (ap (λ now. is_some (seat_of now step.session)) now ∙ some_new seats step.session) in
       ap (all_seated seats) all ∙ ap (λ at. all_seated (unless_seated at seats step.session) (seated_steps Now rest)) e
@@ -147,8 +146,6 @@ module _ (seats : List Seat) (step : Step) (rest : List Step) where
       same true = refl
       same false = refl
   late_step None true e f =
-      let new : List Seat = seats ++ free_seat step.session ∷ [] in
-      let others : List Seat = late (names seats ++ step.session ∷ []) rest in
       ap (λ l. seats ++ l) (placed None true e f)
       ∙ sym (append_assoc seats (free_seat step.session ∷ []) (late (names seats ++ step.session ∷ []) rest))
       ∙ ap (λ n. (seats ++ free_seat step.session ∷ []) ++ late n rest) (sym (map-append (λ (seat : Seat). seat.session) seats (free_seat step.session ∷ [])))
@@ -236,12 +233,12 @@ names_with seats place txn (Some seat) e = names_set seats place seat txn e
 names_after : (now : EngineState) (step : Step) (answer : Answer) → names (after now step answer).seats ≡ names now.seats
 names_after now step answer = go (found_no_memory answer)
   where
-    at : (place : Option ℕ) → names (after_at now step.session step.event place answer).seats ≡ names now.seats
-    at None = refl
-    at (Some place) = names_with now.seats place (txn_after now.core step.event (txn_of (slice_get now.seats place))) (slice_get now.seats place) refl
+    left : (place : Option ℕ) → names (after_at now step.session step.event place answer).seats ≡ names now.seats
+    left None = refl
+    left (Some place) = names_with now.seats place (txn_after now.core step.event (txn_of (slice_get now.seats place))) (slice_get now.seats place) refl
     go : (b : Bool) → names (cond b now (after_at now step.session step.event (seat_of now.seats step.session) answer)).seats ≡ names now.seats
     go true = refl
-    go false = at (seat_of now.seats step.session)
+    go false = left (seat_of now.seats step.session)
 
 -- ---- with all seats that come later
 

@@ -55,7 +55,7 @@ after_end Quote b h = go (b == 39) h
     go false h = let no : ⊥ = cc in absurd no
 
 -- behind a byte that ends no piece
-longer : Place → Rest → List ℕ → Rest
+abbrev longer : Place → Rest → List ℕ → Rest
 longer place rest bytes = record { at = rest.at; bytes = rest.bytes ++ bytes; place = place }
 
 none_ended : (place : Place) (rest : Rest) → (place ≡ End → ⊥) → ended place rest ≡ []
@@ -66,7 +66,6 @@ none_ended Quote rest h = refl
 none_ended End rest h = absurd (h refl)
 
 byte_kept : (place : Place) (rest : Rest) (b : ℕ) → (place ≡ End → ⊥) → with_byte place rest b ≡ longer place rest (b ∷ [])
-unfolding longer
 byte_kept Plain rest b h = refl
 byte_kept Dash rest b h = refl
 byte_kept Comment rest b h = refl
@@ -86,7 +85,6 @@ quiet_pieces rest (b ∷ bytes) h =
     ∙ quiet_pieces (with_byte (after rest.place b) rest b) bytes h.1
 
 quiet_rest : (rest : Rest) (bytes : List ℕ) → AreQuiet bytes → rest_of rest bytes ≡ longer (scan rest.place bytes) rest bytes
-unfolding longer
 quiet_rest rest [] h = ap (λ (l : List ℕ). let r : Rest = record { at = rest.at; bytes = l; place = rest.place } in r) (sym (append-nil rest.bytes))
 quiet_rest rest (b ∷ bytes) h =
     let goes : after rest.place b ≡ End → ⊥ = λ e. h.0 (after_end rest.place b e) in
@@ -105,12 +103,15 @@ pub record IsLastOf (bytes : List ℕ) : Type 0 where
   pub last : ℕ
   pub is : bytes ≡ front ++ last ∷ []
 
+last_from : (b : ℕ) (bytes : List ℕ) → IsLastOf (b ∷ bytes)
+last_from b [] = record { front = []; last = b; is = refl }
+last_from b (c ∷ bytes) =
+    let rest : IsLastOf (c ∷ bytes) = last_from c bytes in
+    record { front = b ∷ rest.front; last = rest.last; is = ap (λ l. b ∷ l) rest.is }
+
 last_of : (bytes : List ℕ) → bytes ≢ [] → IsLastOf bytes
 last_of [] some = absurd (some refl)
-last_of (b ∷ []) some = record { front = []; last = b; is = refl }
-last_of (b ∷ c ∷ bytes) some =
-    let rest : IsLastOf (c ∷ bytes) = last_of (c ∷ bytes) (λ e. let no : ⊥ = cc in no) in
-    record { front = b ∷ rest.front; last = rest.last; is = ap (λ l. b ∷ l) rest.is }
+last_of (b ∷ bytes) some = last_from b bytes
 
 front_is : (front : List ℕ) (last : ℕ) → take (length (front ++ last ∷ []) - 1) (front ++ last ∷ []) ≡ front
 front_is front last =
@@ -131,16 +132,14 @@ module _ (rest : Rest) (front : List ℕ) (last : ℕ) (quiet : AreQuiet front) 
   place_is = sym (scan_append rest.place front (last ∷ []))
 
   pieces_are : pieces_of rest bytes ≡ ended place before
-  unfolding longer
-  pieces_are =
+    pieces_are =
       pieces_append rest front (last ∷ []) ∙ ap (λ l. l ++ pieces_of (rest_of rest front) (last ∷ [])) (quiet_pieces rest front quiet)
       ∙ ap (λ r. pieces_of r (last ∷ [])) (quiet_rest rest front quiet)
       ∙ append-nil (ended (after (scan rest.place front) last) (longer (scan rest.place front) rest front))
       ∙ ap (λ p. ended p (longer (scan rest.place front) rest front)) place_is
 
   rest_is : rest_of rest bytes ≡ with_byte place before last
-  unfolding longer
-  rest_is =
+    rest_is =
       rest_append rest front (last ∷ []) ∙ ap (λ r. rest_of r (last ∷ [])) (quiet_rest rest front quiet)
       ∙ ap (λ p. with_byte p (longer (scan rest.place front) rest front) last) place_is
 
@@ -156,14 +155,12 @@ module _ (rest : Rest) (front : List ℕ) (last : ℕ) (quiet : AreQuiet front) 
   length_whole = sym (length-append (rest.bytes ++ front) (last ∷ [])) ∙ ap length (append_assoc rest.bytes front (last ∷ []))
 
   ends_pieces : place ≡ End → pieces_of rest bytes ≡ (record { at = rest.at; bytes = take (length now.bytes - 1) now.bytes }) ∷ []
-  unfolding longer
-  ends_pieces e =
+    ends_pieces e =
       pieces_are ∙ ap (λ p. ended p (longer (scan rest.place front) rest front)) e
       ∙ ap (λ (l : List ℕ). let p : Piece = record { at = rest.at; bytes = l } in p ∷ []) (sym piece_whole)
 
   ends_rest : place ≡ End → rest_of rest bytes ≡ record { at = forward rest.at (length now.bytes); bytes = []; place = End }
-  unfolding longer
-  ends_rest e =
+    ends_rest e =
       rest_is ∙ ap (λ p. with_byte p (longer (scan rest.place front) rest front) last) e
       ∙ ap (λ (n : ℕ). let r : Rest = record { at = forward rest.at n; bytes = []; place = End } in r) length_whole
 
@@ -171,8 +168,7 @@ module _ (rest : Rest) (front : List ℕ) (last : ℕ) (quiet : AreQuiet front) 
   goes_pieces h = pieces_are ∙ none_ended place before h
 
   goes_rest : (place ≡ End → ⊥) → rest_of rest bytes ≡ now
-  unfolding longer
-  goes_rest h =
+    goes_rest h =
       rest_is ∙ byte_kept place before last h
       ∙ ap (λ (l : List ℕ). let r : Rest = record { at = rest.at; bytes = l; place = scan rest.place (front ++ last ∷ []) } in r) (append_assoc rest.bytes front (last ∷ []))
 
