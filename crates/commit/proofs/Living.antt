@@ -283,5 +283,11 @@ unless_live core seats session None live = record {
 }
 
 -- nor does a seat for a session
-pub seated_live : (core : CoreState) (seats : List Seat) (session : List ℕ) → AreLive core seats → AreLive core (seated seats session)
+seated_live : (core : CoreState) (seats : List Seat) (session : List ℕ) → AreLive core seats → AreLive core (seated seats session)
 seated_live core seats session live = unless_live core seats session (seat_of seats session) live
+
+-- and where there was no memory for it, there are the seats of before
+pub live_with_seat : {A : Type 0} (core : CoreState) (old new : List Seat) (session : List ℕ) (result : Result A Refusal)
+    → OnOk result (new ≡ seated old session) → OnErr result (new ≡ old) → AreLive core old → AreLive core new
+live_with_seat core old new session (Ok made) more same live = subst (AreLive core) (sym more) (seated_live core old session live)
+live_with_seat core old new session (Err refusal) more same live = subst (AreLive core) (sym same) live

@@ -67,7 +67,6 @@ impl Engine {
     /// # Errors
     ///
     /// [`Refusal::NoMemory`] alone. Nothing has changed then.
-    #[tactic(auto, using(crate::proofs::Living::seated_live))]
     pub fn seat(&mut self, session: &Text) -> Result<(), Refusal>
         ensures only_memory { IsOkUnless result NoMemory }
         ensures seated { OnOk result (self.new ≡ record self.old { seats = seated self.old.seats session.now }) }
