@@ -142,7 +142,7 @@ module _ (before : EngineState) (rest : Rest) where
     pub feeds_quiet : (old : Option (List ℕ)) → (now.place ≡ End → ⊥) → Feeds before rest before now from to old old
     feeds_quiet old goes =
         let turn : IsQuietTurn rest read.bytes now = subst (IsQuietTurn rest read.bytes) now_is
-            (quiet_turn rest read.bytes read.stops (read.some refl) (λ e. goes (read.longer.place_is ∙ e))) in
+        (quiet_turn rest read.bytes read.stops (read.some refl) (λ e. goes (read.longer.place_is ∙ e))) in
         record {
           bytes = read.bytes;
           read = read.read;
@@ -159,7 +159,7 @@ module _ (before : EngineState) (rest : Rest) where
         → last ≡ record { at = forward now.at (length now.bytes); bytes = []; place = now.place } → Feeds before rest left last from to old new
     feeds_whole left last old new end answered last_is =
         let turn : IsWholeTurn rest read.bytes now = subst (IsWholeTurn rest read.bytes) now_is
-            (whole_turn rest read.bytes read.stops (read.some refl) (sym read.longer.place_is ∙ end)) in
+        (whole_turn rest read.bytes read.stops (read.some refl) (sym read.longer.place_is ∙ end)) in
         record {
           bytes = read.bytes;
           read = read.read;

@@ -132,14 +132,14 @@ module _ (rest : Rest) (front : List ℕ) (last : ℕ) (quiet : AreQuiet front) 
   place_is = sym (scan_append rest.place front (last ∷ []))
 
   pieces_are : pieces_of rest bytes ≡ ended place before
-    pieces_are =
+  pieces_are =
       pieces_append rest front (last ∷ []) ∙ ap (λ l. l ++ pieces_of (rest_of rest front) (last ∷ [])) (quiet_pieces rest front quiet)
       ∙ ap (λ r. pieces_of r (last ∷ [])) (quiet_rest rest front quiet)
       ∙ append-nil (ended (after (scan rest.place front) last) (longer (scan rest.place front) rest front))
       ∙ ap (λ p. ended p (longer (scan rest.place front) rest front)) place_is
 
   rest_is : rest_of rest bytes ≡ with_byte place before last
-    rest_is =
+  rest_is =
       rest_append rest front (last ∷ []) ∙ ap (λ r. rest_of r (last ∷ [])) (quiet_rest rest front quiet)
       ∙ ap (λ p. with_byte p (longer (scan rest.place front) rest front) last) place_is
 
@@ -155,12 +155,12 @@ module _ (rest : Rest) (front : List ℕ) (last : ℕ) (quiet : AreQuiet front) 
   length_whole = sym (length-append (rest.bytes ++ front) (last ∷ [])) ∙ ap length (append_assoc rest.bytes front (last ∷ []))
 
   ends_pieces : place ≡ End → pieces_of rest bytes ≡ (record { at = rest.at; bytes = take (length now.bytes - 1) now.bytes }) ∷ []
-    ends_pieces e =
+  ends_pieces e =
       pieces_are ∙ ap (λ p. ended p (longer (scan rest.place front) rest front)) e
       ∙ ap (λ (l : List ℕ). let p : Piece = record { at = rest.at; bytes = l } in p ∷ []) (sym piece_whole)
 
   ends_rest : place ≡ End → rest_of rest bytes ≡ record { at = forward rest.at (length now.bytes); bytes = []; place = End }
-    ends_rest e =
+  ends_rest e =
       rest_is ∙ ap (λ p. with_byte p (longer (scan rest.place front) rest front) last) e
       ∙ ap (λ (n : ℕ). let r : Rest = record { at = forward rest.at n; bytes = []; place = End } in r) length_whole
 
@@ -168,7 +168,7 @@ module _ (rest : Rest) (front : List ℕ) (last : ℕ) (quiet : AreQuiet front) 
   goes_pieces h = pieces_are ∙ none_ended place before h
 
   goes_rest : (place ≡ End → ⊥) → rest_of rest bytes ≡ now
-    goes_rest h =
+  goes_rest h =
       rest_is ∙ byte_kept place before last h
       ∙ ap (λ (l : List ℕ). let r : Rest = record { at = rest.at; bytes = l; place = scan rest.place (front ++ last ∷ []) } in r) (append_assoc rest.bytes front (last ∷ []))
 

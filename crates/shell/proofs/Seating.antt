@@ -193,7 +193,7 @@ module _ (now : EngineState) (more : List Seat) (step : Step) (answer : Answer) 
   answered_more (inr told) =
       let here : IsAnsweredAt now step.session step.event (Some place) answer = subst (λ at. IsAnsweredAt now step.session step.event at answer) placed told in
       let there : IsAnsweredAt full step.session step.event (Some place) answer =
-          subst (λ s. IsReply now.core step.session step.event (txn_of s) answer) (found.there ∙ sym there_more) here in
+      subst (λ s. IsReply now.core step.session step.event (txn_of s) answer) (found.there ∙ sym there_more) here in
       inr (subst (λ at. IsAnsweredAt full step.session step.event at answer) (sym placed_more) there)
 
   -- what the event leaves, by its seat
@@ -236,6 +236,7 @@ names_after now step answer = go (found_no_memory answer)
     left : (place : Option ℕ) → names (after_at now step.session step.event place answer).seats ≡ names now.seats
     left None = refl
     left (Some place) = names_with now.seats place (txn_after now.core step.event (txn_of (slice_get now.seats place))) (slice_get now.seats place) refl
+
     go : (b : Bool) → names (cond b now (after_at now step.session step.event (seat_of now.seats step.session) answer)).seats ≡ names now.seats
     go true = refl
     go false = left (seat_of now.seats step.session)
@@ -270,7 +271,7 @@ module _ (now : EngineState) (step : Step) (rest : List Step) where
       one false = refl
   full_by None true e f none =
       let some : is_some (seat_of met.seats step.session) ≡ true =
-          ap (λ s. is_some (seat_of s step.session)) (within_is now.seats step rest None true e f) ∙ some_new now.seats step.session in
+      ap (λ s. is_some (seat_of s step.session)) (within_is now.seats step rest None true e f) ∙ some_new now.seats step.session in
       let no : ⊥ = (let other : is_some (seat_of met.seats step.session) ≡ false = ap is_some none in cc) in absurd no
   full_by None false e f none = ap (λ (s : List Seat). nat_lt (length s) most_sessions) (within_is now.seats step rest None false e f) ∙ f
 

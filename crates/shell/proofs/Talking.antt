@@ -25,7 +25,8 @@ are_answers now (Fault refusal ∷ more) h = are_answers now more h.1
 are_answers now (Reply step answer ∷ more) h = (
   answered_whole now step (steps_in more) answer h.0,
   subst (λ e. AreAnswers e (steps_in more) (answers_in more)) (sym (after_whole now step (steps_in more) answer h.0))
-      (are_answers (after (welcomed now step.session) step answer) more h.1))
+      (are_answers (after (welcomed now step.session) step answer) more h.1),
+)
 
 lead_to : (now : EngineState) (outcomes : List Outcome) → AreRun now outcomes
     → whole (left_by_all now outcomes) [] ≡ led_to (whole now (steps_in outcomes)) (steps_in outcomes) (answers_in outcomes)
@@ -43,86 +44,86 @@ whole_first limit shown steps =
 
 module _ (defs : List ℕ) (limit : ℕ) (engine : EngineState) (begun : IsBeginning defs limit engine)
     (serializable : InEachRun (λ loaded steps answers left. IsSerializable left.core)) (told : InEachRun (λ loaded steps answers left. WereToldAlone left.core steps answers))
-    where
-      talk : (pieces : List Piece) (outcomes : List Outcome) → AreOutcomes pieces outcomes → AreRun engine outcomes → IsTalk limit begun.shown pieces outcomes (left_by_all engine outcomes)
-      talk pieces outcomes are run =
-          let from : whole engine (steps_in outcomes) ≡ first_seated limit begun.shown (steps_in outcomes) =
-              ap (λ e. whole e (steps_in outcomes)) begun.is ∙ whole_first limit begun.shown (steps_in outcomes) in
-          let answered : AreAnswers (first_seated limit begun.shown (steps_in outcomes)) (steps_in outcomes) (answers_in outcomes) =
-              subst (λ e. AreAnswers e (steps_in outcomes) (answers_in outcomes)) from (are_answers engine outcomes run) in
-          let leaves : left_by_all engine outcomes ≡ led_to (first_seated limit begun.shown (steps_in outcomes)) (steps_in outcomes) (answers_in outcomes) =
-              sym (whole_now (left_by_all engine outcomes)) ∙ lead_to engine outcomes run ∙ ap (λ e. led_to e (steps_in outcomes) (answers_in outcomes)) from in
-          record {
-            are = are;
-            answered = answered;
-            leaves = leaves;
-            serializable = subst (λ e. IsSerializable e.core) (sym leaves)
-                (serializable limit begun.shown (seated_steps [] (steps_in outcomes)) (steps_in outcomes) (answers_in outcomes) begun.sound answered);
-            told = subst (λ e. WereToldAlone e.core (steps_in outcomes) (answers_in outcomes)) (sym leaves)
-                (told limit begun.shown (seated_steps [] (steps_in outcomes)) (steps_in outcomes) (answers_in outcomes) begun.sound answered);
-          }
+  where
+    talk : (pieces : List Piece) (outcomes : List Outcome) → AreOutcomes pieces outcomes → AreRun engine outcomes → IsTalk limit begun.shown pieces outcomes (left_by_all engine outcomes)
+    talk pieces outcomes are run =
+        let from : whole engine (steps_in outcomes) ≡ first_seated limit begun.shown (steps_in outcomes) =
+        ap (λ e. whole e (steps_in outcomes)) begun.is ∙ whole_first limit begun.shown (steps_in outcomes) in
+        let answered : AreAnswers (first_seated limit begun.shown (steps_in outcomes)) (steps_in outcomes) (answers_in outcomes) =
+        subst (λ e. AreAnswers e (steps_in outcomes) (answers_in outcomes)) from (are_answers engine outcomes run) in
+        let leaves : left_by_all engine outcomes ≡ led_to (first_seated limit begun.shown (steps_in outcomes)) (steps_in outcomes) (answers_in outcomes) =
+        sym (whole_now (left_by_all engine outcomes)) ∙ lead_to engine outcomes run ∙ ap (λ e. led_to e (steps_in outcomes) (answers_in outcomes)) from in
+        record {
+          are = are;
+          answered = answered;
+          leaves = leaves;
+          serializable = subst (λ e. IsSerializable e.core) (sym leaves)
+              (serializable limit begun.shown (seated_steps [] (steps_in outcomes)) (steps_in outcomes) (answers_in outcomes) begun.sound answered);
+          told = subst (λ e. WereToldAlone e.core (steps_in outcomes) (answers_in outcomes)) (sym leaves)
+              (told limit begun.shown (seated_steps [] (steps_in outcomes)) (steps_in outcomes) (answers_in outcomes) begun.sound answered);
+        }
 
-      -- the shell came to its end
-      pub conversation : (left : EngineState) (rest : Rest) (reports : Bool) (from old middle new : Option (List ℕ)) → FeedsAll engine no_rest left rest from old middle
-          → Finishes rest left reports middle new → WritesConversation defs limit reports from old new
-      conversation left rest reports from old middle new fed ended = record {
-        input = fed.bytes;
-        all = fed.all;
-        bytes = (lines_in fed.outcomes ++ line_of ended.last) ++ ending_if reports left;
-        is = record {
-          shown = begun.shown;
-          taken = begun.taken;
-          outcomes = fed.outcomes;
-          left = left;
-          talk = subst (IsTalk limit begun.shown (pieces_of no_rest fed.bytes) fed.outcomes) (sym fed.leaves) (talk (pieces_of no_rest fed.bytes) fed.outcomes fed.are fed.run);
-          last = ended.last;
-          last_is = subst (λ (r : Rest). IsLast (piece_of r) ended.last) fed.last_is ended.last_is;
-          prints = refl;
-        };
-        written = subst (Appends old new) (sym (append_assoc (lines_in fed.outcomes) (line_of ended.last) (ending_if reports left)))
-            (Appends-trans old middle new (lines_in fed.outcomes) (line_of ended.last ++ ending_if reports left) fed.written ended.written);
-      }
-
-      begins_with : (from to : Option (List ℕ)) (bytes : List ℕ) → Consumes from to bytes → IfSome from (λ known. BeginsWith bytes known)
-      begins_with None to bytes h = tt
-      begins_with (Some xs) None bytes h = absurd h
-      begins_with (Some xs) (Some ys) bytes h = record { rest = ys; is = h }
-
-      begins_all : (from : Option (List ℕ)) (bytes : List ℕ) → IfSome from (λ known. bytes ≡ known) → IfSome from (λ known. BeginsWith bytes known)
-      begins_all None bytes h = tt
-      begins_all (Some xs) bytes h = record { rest = []; is = sym h ∙ sym (append-nil bytes) }
-
-      -- it ended among the pieces
-      pub first_pieces : (from to old new : Option (List ℕ)) → FeedsFirst engine no_rest from to old new → WritesFirst defs limit from old new
-      first_pieces from to old new fed = record {
+    -- the shell came to its end
+    pub conversation : (left : EngineState) (rest : Rest) (reports : Bool) (from old middle new : Option (List ℕ)) → FeedsAll engine no_rest left rest from old middle
+        → Finishes rest left reports middle new → WritesConversation defs limit reports from old new
+    conversation left rest reports from old middle new fed ended = record {
+      input = fed.bytes;
+      all = fed.all;
+      bytes = (lines_in fed.outcomes ++ line_of ended.last) ++ ending_if reports left;
+      is = record {
         shown = begun.shown;
         taken = begun.taken;
-        input = fed.bytes;
-        begins = begins_with from to fed.bytes fed.read;
-        first = fed.first;
-        others = fed.others;
-        split = fed.split;
         outcomes = fed.outcomes;
-        left = left_by_all engine fed.outcomes;
-        talk = talk fed.first fed.outcomes fed.are fed.run;
-        written = fed.written;
-      }
+        left = left;
+        talk = subst (IsTalk limit begun.shown (pieces_of no_rest fed.bytes) fed.outcomes) (sym fed.leaves) (talk (pieces_of no_rest fed.bytes) fed.outcomes fed.are fed.run);
+        last = ended.last;
+        last_is = subst (λ (r : Rest). IsLast (piece_of r) ended.last) fed.last_is ended.last_is;
+        prints = refl;
+      };
+      written = subst (Appends old new) (sym (append_assoc (lines_in fed.outcomes) (line_of ended.last) (ending_if reports left)))
+          (Appends-trans old middle new (lines_in fed.outcomes) (line_of ended.last ++ ending_if reports left) fed.written ended.written);
+    }
 
-      -- or behind them
-      pub all_pieces : (left : EngineState) (rest : Rest) (from old new : Option (List ℕ)) → FeedsAll engine no_rest left rest from old new → WritesFirst defs limit from old new
-      all_pieces left rest from old new fed = record {
-        shown = begun.shown;
-        taken = begun.taken;
-        input = fed.bytes;
-        begins = begins_all from fed.bytes fed.all;
-        first = pieces_of no_rest fed.bytes;
-        others = [];
-        split = append-nil (pieces_of no_rest fed.bytes);
-        outcomes = fed.outcomes;
-        left = left_by_all engine fed.outcomes;
-        talk = talk (pieces_of no_rest fed.bytes) fed.outcomes fed.are fed.run;
-        written = fed.written;
-      }
+    begins_with : (from to : Option (List ℕ)) (bytes : List ℕ) → Consumes from to bytes → IfSome from (λ known. BeginsWith bytes known)
+    begins_with None to bytes h = tt
+    begins_with (Some xs) None bytes h = absurd h
+    begins_with (Some xs) (Some ys) bytes h = record { rest = ys; is = h }
+
+    begins_all : (from : Option (List ℕ)) (bytes : List ℕ) → IfSome from (λ known. bytes ≡ known) → IfSome from (λ known. BeginsWith bytes known)
+    begins_all None bytes h = tt
+    begins_all (Some xs) bytes h = record { rest = []; is = sym h ∙ sym (append-nil bytes) }
+
+    -- it ended among the pieces
+    pub first_pieces : (from to old new : Option (List ℕ)) → FeedsFirst engine no_rest from to old new → WritesFirst defs limit from old new
+    first_pieces from to old new fed = record {
+      shown = begun.shown;
+      taken = begun.taken;
+      input = fed.bytes;
+      begins = begins_with from to fed.bytes fed.read;
+      first = fed.first;
+      others = fed.others;
+      split = fed.split;
+      outcomes = fed.outcomes;
+      left = left_by_all engine fed.outcomes;
+      talk = talk fed.first fed.outcomes fed.are fed.run;
+      written = fed.written;
+    }
+
+    -- or behind them
+    pub all_pieces : (left : EngineState) (rest : Rest) (from old new : Option (List ℕ)) → FeedsAll engine no_rest left rest from old new → WritesFirst defs limit from old new
+    all_pieces left rest from old new fed = record {
+      shown = begun.shown;
+      taken = begun.taken;
+      input = fed.bytes;
+      begins = begins_all from fed.bytes fed.all;
+      first = pieces_of no_rest fed.bytes;
+      others = [];
+      split = append-nil (pieces_of no_rest fed.bytes);
+      outcomes = fed.outcomes;
+      left = left_by_all engine fed.outcomes;
+      talk = talk (pieces_of no_rest fed.bytes) fed.outcomes fed.are fed.run;
+      written = fed.written;
+    }
 
 pub taken_of : (defs : List ℕ) (limit : ℕ) (engine : EngineState) → IsBeginning defs limit engine → IsTaken defs
 taken_of defs limit engine begun = (begun.shown, begun.taken)

@@ -1,11 +1,11 @@
 //! What a person at a terminal may ask for beside events.
 
 use crate::faults::ShellFault;
-use crate::shells::Shell;
+use crate::shells::{Shell, write_out};
 use assertion::{Assertion, Form};
 use delta::View;
 use report::Report;
-use running::{ProgramFault, flush, write_all};
+use running::ProgramFault;
 use std::alloc::{AllocError, Global};
 use std::io::Write;
 use table::{Catalog, Schema};
@@ -73,18 +73,6 @@ fn add_history(shell: &Shell, lines: &mut Report) -> Result<(), AllocError> {
     lines.add_commits(core.records())?;
     lines.add_serial_order(core.serial_order())?;
     lines.add_refused(core.refused())
-}
-
-/// Writes bytes, and flushes the writer.
-pub fn write_out<W: Write>(bytes: &[u8], out: &mut W) -> Result<(), ShellFault> {
-    match write_all(bytes, out) {
-        Ok(()) => {}
-        Err(fault) => return Err(ShellFault::Run(fault)),
-    }
-    match flush(out) {
-        Ok(()) => Ok(()),
-        Err(fault) => Err(ShellFault::Run(fault)),
-    }
 }
 
 /// Each table with its columns, and how many rows it has.

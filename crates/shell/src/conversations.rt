@@ -2,10 +2,10 @@
 
 ghost use Rattle.std.specs.Prelude.{◌≤◌};
 
-use crate::commands::{Command, command_of, tell, write_out};
+use crate::commands::{Command, command_of, tell};
 use crate::faults::ShellFault;
 use crate::headings::is_blank;
-use crate::shells::{Shell, begin_shell, fault_of_reader};
+use crate::shells::{Shell, begin_shell, fault_of_reader, write_out};
 use std::alloc::Global;
 use std::io::{BufRead, Write};
 

@@ -3,6 +3,8 @@
 ghost use Rattle.std.specs.Prelude.{◌≡◌, ◌≢◌, ◌≤◌, [], true, length, IfErr, IfOk, OnOk};
 ghost use Rattle.std.specs.Io.KnownBytes.{Appends};
 ghost use Rattle.running.specs.Texts.{is_before_the_run};
+ghost use Rattle.running.specs.declared.faults.ProgramFault.TheVariants.{Output};
+ghost use Rattle.shell.specs.declared.faults.ShellFault.TheVariants.{Run};
 ghost use Rattle.shell.specs.declared.cutting.Place.TheVariants.{End};
 ghost use Rattle.shell.specs.Cuts.{forward, no_rest, whole_of};
 ghost use Rattle.shell.specs.Shell.{IsBeginning, IsInTheTalk, IsRunFault, is_stop};
@@ -80,6 +82,20 @@ pub fn fault_of_reader(error: &io::Error) -> ShellFault
     }
 }
 
+/// Writes bytes, and flushes the writer. The only error is `Output`.
+pub fn write_out<W: Write>(bytes: &[u8], out: &mut W) -> Result<(), ShellFault>
+    ensures written { OnOk result (Appends (W.contents out.old) (W.contents out.new) bytes.now) }
+    ensures output { IfErr result (λ fault. fault ≡ Run Output) }
+{
+    if let Err(fault) = write_all(bytes, out) {
+        return Err(ShellFault::Run(fault));
+    }
+    match flush(out) {
+        Ok(()) => Ok(()),
+        Err(fault) => Err(ShellFault::Run(fault)),
+    }
+}
+
 impl Shell {
     /// Reads all that a reader has, and answers each piece as soon as it is whole. What is left is kept for more.
     ///
@@ -100,7 +116,7 @@ impl Shell {
             → FeedsFirst self.old.engine self.old.cutter (R.remaining input.old) (R.remaining input.new)
             (W.contents out.old) (W.contents out.new)) }
     {
-        for _ in 0..u64::MAX {
+        for _turn in 0..u64::MAX {
             if !self.feed_piece(input, out)? {
                 return Ok(());
             }
@@ -122,14 +138,17 @@ impl Shell {
             → FeedsFirst self.old.engine self.old.cutter (R.remaining input.old) (R.remaining input.new)
             (W.contents out.old) (W.contents out.new)) }
     {
-        match self.cutter.read_on(input) {
+        let more = match self.cutter.read_on(input) {
+            Ok(more) => more,
             Err(error) => return Err(fault_of_reader(&error)),
-            Ok(false) => return Ok(false),
-            Ok(true) => {}
+        };
+        if !more {
+            return Ok(false);
         }
-        if self.cutter.is_whole() {
-            self.answer_whole(out)?;
+        if !self.cutter.is_whole() {
+            return Ok(true);
         }
+        self.answer_whole(out)?;
         Ok(true)
     }
 
@@ -162,14 +181,7 @@ impl Shell {
         ensures late { IfErr result IsInTheTalk }
         ensures stopped { IfErr result (λ fault. is_stop fault ≡ true → out.new ≡ out.old) }
     {
-        match write_all(self.lines.as_bytes(), out) {
-            Ok(()) => {}
-            Err(fault) => return Err(ShellFault::Run(fault)),
-        }
-        match flush(out) {
-            Ok(()) => Ok(()),
-            Err(fault) => Err(ShellFault::Run(fault)),
-        }
+        write_out(self.lines.as_bytes(), out)
     }
 
     /// Answers what is left at the end of the input, and writes the report behind it, if it is asked for.
@@ -198,8 +210,9 @@ impl Shell {
         let at = self.cutter.at();
         answer_rest(self.alloc, at, self.cutter.bytes(), &mut self.lines)?;
         if with_report {
-            add_ending(self.alloc, &self.engine, &mut self.lines)?;
+            add_ending(self.alloc, &self.engine, &mut self.lines)
+        } else {
+            Ok(())
         }
-        Ok(())
     }
 }
