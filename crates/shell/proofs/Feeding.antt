@@ -172,5 +172,29 @@ module _ (before : EngineState) (rest : Rest) where
         }
 
     -- or one that is not, since memory ended it
-    pub first_whole : (old : Option (List ℕ)) → FeedsFirst before rest from to old old
-    first_whole old = first_none from to old some_read
+    pub first_whole : (old new : Option (List ℕ)) → new ≡ old → FeedsFirst before rest from to old new
+    first_whole old new same = subst (FeedsFirst before rest from to old) (sym same) (first_none from to old some_read)
+
+    nothing_added : (xs ys : List ℕ) → xs ++ ys ≡ [] → ys ≡ []
+    nothing_added [] ys e = e
+    nothing_added (x ∷ xs) ys e = let no : ⊥ = cc in absurd no
+
+    -- some bytes are there
+    some_there : now.bytes ≢ []
+    some_there none = read.some refl (nothing_added rest.bytes read.bytes (sym read.longer.bytes_are ∙ none))
+
+    pub feeds_unless : (old : Option (List ℕ)) → (now.bytes ≢ [] → now.place ≢ End) → Feeds before rest before now from to old old
+    feeds_unless old goes = feeds_quiet old (goes some_there)
+
+  -- a turn that reads nothing
+  pub over_turn : (now : Rest) (from to old : Option (List ℕ)) → ReadsOn rest now false from to → IsAtEnd from → IsOver before rest before now from old old
+  over_turn now from to old read end = record {
+    at_end = end;
+    left_is = refl;
+    last_is = λ i. record {
+      at = read.longer.at_is i;
+      bytes = (read.longer.bytes_are ∙ ap (λ l. rest.bytes ++ l) (read.none refl) ∙ append-nil rest.bytes) i;
+      place = (read.longer.place_is ∙ ap (scan rest.place) (read.none refl)) i;
+    };
+    same = refl;
+  }

@@ -1,6 +1,6 @@
 -- What was fed to a shell from its beginning is a conversation.
-use Rattle.std.proofs.Common.{◌≡◌, ℕ, Bool, List, [], ◌∷◌, ◌++◌, Option, Some, None, Result, Ok, Err, refl, sym, ap, ◌∙◌, subst, append-nil, append_assoc}
-use Rattle.std.specs.Prelude.{IfSome}
+use Rattle.std.proofs.Common.{◌≡◌, ℕ, Bool, true, List, [], ◌∷◌, ◌++◌, Option, Some, None, Result, Ok, Err, refl, sym, ap, ◌∙◌, subst, append-nil, append_assoc}
+use Rattle.std.specs.Prelude.{IfErr, IfSome, OnOk}
 use Rattle.std.specs.Io.KnownBytes.{Appends, Consumes}
 use Rattle.std.proofs.KnownBytes.{Appends-trans}
 use Rattle.statement_syntax.specs.declared.statements.Step.{Step}
@@ -10,10 +10,15 @@ use Rattle.commit.specs.Runs.{AreAnswers, InEachRun, beginning, led_to}
 use Rattle.commit.specs.Told.{WereToldAlone}
 use Rattle.delta.specs.Views.{Shown}
 use Rattle.report.specs.Fronts.{BeginsWith}
+use Rattle.running.specs.declared.faults.ProgramFault.{ProgramFault}
+use Rattle.running.specs.declared.faults.ProgramFault.TheVariants.{Defs, Script, Stopped, Output, NoThread}
+use Rattle.running.specs.Texts.{IsInTheRun, is_before_the_run}
+use Rattle.shell.specs.declared.faults.ShellFault.{ShellFault}
+use Rattle.shell.specs.declared.faults.ShellFault.TheVariants.{Run, Input}
 use Rattle.shell.specs.Cuts.{Piece, Rest, no_rest, piece_of, pieces_of, rest_of}
 use Rattle.shell.specs.Outcomes.{AreOutcomes, IsLast, Outcome, Blank, Reply, Fault, answers_in, line_of, lines_in, steps_in}
 use Rattle.shell.specs.Seats.{first_seated, seated_steps, welcomed}
-use Rattle.shell.specs.Shell.{IsBeginning, IsConversation, IsTalk, IsTaken, WritesConversation, WritesFirst}
+use Rattle.shell.specs.Shell.{IsBeginning, IsConversation, IsFirstFault, IsInTheTalk, IsRunFault, IsTalk, IsTaken, WritesConversation, WritesFirst, is_before_the_talk, is_run_stop, is_stop}
 use Rattle.shell.specs.Writing.{AreRun, FeedsAll, FeedsFirst, Finishes, ending_if, left_by, left_by_all}
 use Rattle.shell.proofs.Seating.{after_whole, answered_whole, seated_late, whole, whole_now}
 
@@ -124,6 +129,62 @@ module _ (defs : List ℕ) (limit : ℕ) (engine : EngineState) (begun : IsBegin
       talk = talk (pieces_of no_rest fed.bytes) fed.outcomes fed.are fed.run;
       written = fed.written;
     }
+
+    -- by how it ended
+    pub conversation_if : {A : Type 0} (finished : Result A ShellFault) (left : EngineState) (rest : Rest) (reports : Bool) (from old middle new : Option (List ℕ))
+        → FeedsAll engine no_rest left rest from old middle → OnOk finished (Finishes rest left reports middle new) → OnOk finished (WritesConversation defs limit reports from old new)
+    conversation_if (Ok done) left rest reports from old middle new fed ended = conversation left rest reports from old middle new fed ended
+    conversation_if (Err fault) left rest reports from old middle new fed ended = tt
+
+    pub all_if : {A : Type 0} {W : Type 0} (contents : W → Option (List ℕ)) (finished : Result A ShellFault) (left : EngineState) (rest : Rest) (from old : Option (List ℕ)) (middle new : W)
+        → FeedsAll engine no_rest left rest from old (contents middle) → IfErr finished (λ fault. is_stop fault ≡ true → new ≡ middle)
+        → IfErr finished (λ fault. is_stop fault ≡ true → WritesFirst defs limit from old (contents new))
+    all_if contents (Ok done) left rest from old middle new fed same = tt
+    all_if contents (Err fault) left rest from old middle new fed same =
+        λ stop. subst (λ w. WritesFirst defs limit from old (contents w)) (sym (same stop)) (all_pieces left rest from old (contents middle) fed)
+
+-- a fault of a shell that was begun
+
+late_run : (defs : List ℕ) → IsTaken defs → (fault : ProgramFault) → IsInTheRun fault → IsRunFault defs fault
+late_run defs taken (Defs refusal) h = absurd h
+late_run defs taken (Script refusal) h = absurd h
+late_run defs taken Stopped h = taken
+late_run defs taken Output h = taken
+late_run defs taken NoThread h = absurd h
+
+pub late_fault : (defs : List ℕ) → IsTaken defs → (fault : ShellFault) → IsInTheTalk fault → IsFirstFault defs fault
+late_fault defs taken (Run fault) h = late_run defs taken fault h
+late_fault defs taken Input h = taken
+
+pub late_faults : {A : Type 0} (defs : List ℕ) → IsTaken defs → (finished : Result A ShellFault) → IfErr finished IsInTheTalk → IfErr finished (IsFirstFault defs)
+late_faults defs taken (Ok done) h = tt
+late_faults defs taken (Err fault) h = late_fault defs taken fault h
+
+not_before : (P : Type 0) (fault : ProgramFault) → IsInTheRun fault → is_before_the_run fault ≡ true → P
+not_before P (Defs refusal) h e = absurd h
+not_before P (Script refusal) h e = absurd h
+not_before P Stopped h e = let no : ⊥ = cc in absurd no
+not_before P Output h e = let no : ⊥ = cc in absurd no
+not_before P NoThread h e = absurd h
+
+pub was_begun : (P : Type 0) (fault : ShellFault) → IsInTheTalk fault → is_before_the_talk fault ≡ true → P
+was_begun P (Run fault) h e = not_before P fault h e
+was_begun P Input h e = let no : ⊥ = cc in absurd no
+
+pub were_begun : {A : Type 0} (P : Type 0) (finished : Result A ShellFault) → IfErr finished IsInTheTalk → IfErr finished (λ fault. is_before_the_talk fault ≡ true → P)
+were_begun P (Ok done) h = tt
+were_begun P (Err fault) h = was_begun P fault h
+
+run_not_stop : {P : Type 0} (fault : ProgramFault) → is_before_the_run fault ≡ true → is_run_stop fault ≡ true → P
+run_not_stop (Defs refusal) h e = let no : ⊥ = cc in absurd no
+run_not_stop (Script refusal) h e = let no : ⊥ = cc in absurd no
+run_not_stop Stopped h e = let no : ⊥ = cc in absurd no
+run_not_stop Output h e = let no : ⊥ = cc in absurd no
+run_not_stop NoThread h e = let no : ⊥ = cc in absurd no
+
+-- what ends it before the first byte says nothing of what was written
+pub not_a_stop : {P : Type 0} (fault : ProgramFault) → is_before_the_run fault ≡ true → is_stop (Run fault) ≡ true → P
+not_a_stop fault h e = run_not_stop fault h e
 
 pub taken_of : (defs : List ℕ) (limit : ℕ) (engine : EngineState) → IsBeginning defs limit engine → IsTaken defs
 taken_of defs limit engine begun = (begun.shown, begun.taken)

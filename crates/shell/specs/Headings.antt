@@ -1,10 +1,11 @@
 -- What stands in front of a piece's event.
-use Rattle.std.specs.Prelude.{◌≡◌, ℕ, Bool, true, false, List, Option, Some, None, Result, Ok, Err, codes, drop, slice_range}
+use Rattle.std.specs.Prelude.{◌≡◌, ℕ, Bool, true, false, List, Option, Some, None, Result, Ok, Err, codes, drop, slice_range, if◌then◌else◌}
 use Rattle.value.specs.declared.refusals.Refusal.{Refusal}
 use Rattle.token.specs.declared.kinds.Kind.{Kind}
 use Rattle.token.specs.declared.kinds.Kind.TheVariants as k
 use Rattle.token.specs.declared.spans.Token.{Token}
 use Rattle.token.specs.Bytes.{name_of}
+use Rattle.reading.specs.Reading.{same_kind}
 use Rattle.token.specs.Lexer.{answer, next_of}
 
 -- the next token, from an offset on
@@ -20,25 +21,11 @@ is_end (Err refusal) = false
 abbrev pub is_blank : List ℕ → Bool
 is_blank bytes = is_end (next_in bytes 0)
 
--- a token, if it is a name
-abbrev pub as_name : Kind → Token → Option Token
-as_name k.Name t = Some t
-as_name _ t = None
-
-abbrev pub if_name : Result (Option Token) Refusal → Option Token
-if_name (Ok (Some t)) = as_name t.kind t
-if_name (Ok None) = None
-if_name (Err refusal) = None
-
--- a token, if it is a colon
-abbrev pub as_colon : Kind → Token → Option Token
-as_colon k.Colon t = Some t
-as_colon _ t = None
-
-abbrev pub if_colon : Result (Option Token) Refusal → Option Token
-if_colon (Ok (Some t)) = as_colon t.kind t
-if_colon (Ok None) = None
-if_colon (Err refusal) = None
+-- the token, if it is of this kind
+abbrev pub if_kind : Kind → Result (Option Token) Refusal → Option Token
+if_kind kind (Ok (Some t)) = if same_kind t.kind kind then Some t else None
+if_kind kind (Ok None) = None
+if_kind kind (Err refusal) = None
 
 -- the session, and where the event begins
 pub record Address : Type 0 where
@@ -58,11 +45,11 @@ address_behind bytes name (Some colon) = record {
 
 abbrev pub address_with : List ℕ → Option Token → Address
 address_with bytes None = nameless
-address_with bytes (Some name) = address_behind bytes name (if_colon (next_in bytes name.end))
+address_with bytes (Some name) = address_behind bytes name (if_kind k.Colon (next_in bytes name.end))
 
 -- a name and a colon in front, or the session ME
 abbrev pub address : List ℕ → Address
-address bytes = address_with bytes (if_name (next_in bytes 0))
+address bytes = address_with bytes (if_kind k.Name (next_in bytes 0))
 
 -- the bytes of the event
 abbrev pub event_text : List ℕ → List ℕ

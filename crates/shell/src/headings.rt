@@ -2,6 +2,7 @@
 
 ghost use Rattle.std.specs.Prelude.{◌≡◌, ◌≤◌, ◌<◌, length, IfOk, IfSome, IsOkUnless};
 ghost use Rattle.value.specs.declared.refusals.Refusal.TheVariants.{NoMemory};
+ghost use Rattle.reading.specs.Reading.{same_kind};
 ghost use Rattle.shell.specs.Headings as spec;
 
 use std::alloc::Global;
@@ -25,30 +26,27 @@ pub fn is_blank(bytes: &[u8]) -> bool
     matches!(next_token(bytes, 0), Ok(None))
 }
 
-/// The next token, if it is a name.
-fn find_name(bytes: &[u8]) -> Option<Token>
-    ensures found { result ≡ spec.if_name (spec.next_in bytes.now 0) }
-    ensures within { IfSome result (λ t. (t.start < t.end) × (t.end ≤ length bytes.now)) }
+/// Whether two kinds are one.
+#[tactic(auto, unfolding(reading::specs::Reading::same_kind))]
+fn is_same(one: Kind, other: Kind) -> bool
+    ensures { result ≡ same_kind one other }
 {
-    match next_token(bytes, 0) {
-        Ok(Some(token)) => match token.kind {
-            Kind::Name => Some(token),
-            _ => None,
-        },
-        _ => None,
-    }
+    one == other
 }
 
-/// The next token from an offset on, if it is a colon.
-fn find_colon(bytes: &[u8], from: usize) -> Option<Token>
-    ensures found { result ≡ spec.if_colon (spec.next_in bytes.now from) }
-    ensures within { IfSome result (λ t. t.end ≤ length bytes.now) }
+/// The next token from an offset on, if it is of this kind.
+fn find(bytes: &[u8], from: usize, kind: Kind) -> Option<Token>
+    ensures found { result ≡ spec.if_kind kind (spec.next_in bytes.now from) }
+    ensures within { IfSome result (λ t. (t.start < t.end) × (t.end ≤ length bytes.now)) }
 {
     match next_token(bytes, from) {
-        Ok(Some(token)) => match token.kind {
-            Kind::Colon => Some(token),
-            _ => None,
-        },
+        Ok(Some(token)) => {
+            if is_same(token.kind, kind) {
+                Some(token)
+            } else {
+                None
+            }
+        }
         _ => None,
     }
 }
@@ -60,10 +58,10 @@ pub fn read_address(alloc: Global, bytes: &[u8]) -> Result<Address, Refusal>
     ensures from { IfOk result (λ address. address.from ≡ (spec.address bytes.now).from) }
     ensures within { IfOk result (λ address. address.from ≤ length bytes.now) }
 {
-    let Some(name) = find_name(bytes) else {
+    let Some(name) = find(bytes, 0, Kind::Name) else {
         return nameless(alloc);
     };
-    match find_colon(bytes, name.end) {
+    match find(bytes, name.end, Kind::Colon) {
         None => nameless(alloc),
         Some(colon) => Ok(Address {
             session: Text::new(name_bytes(alloc, &bytes[name.start..name.end])?),
