@@ -45,6 +45,7 @@ fn moved(at: usize, refusal: Refusal) -> Refusal
 }
 
 /// The event of a piece that has a token.
+#[tactic(auto, using(crate::proofs::Refusals::fault_of_memory, crate::proofs::Refusals::fault_of_text, crate::proofs::Refusals::step_of_text))]
 fn read_step(alloc: Global, at: usize, bytes: &[u8]) -> Result<Step, Refusal>
     requires some { heading.is_blank bytes.now ≡ false }
     ensures read { IfOk result (IsStepOf bytes.now) }
@@ -74,6 +75,7 @@ fn welcome(engine: &mut Engine, session: &Text) -> Result<(), Refusal>
 }
 
 /// Answers the event of a piece that has a token.
+#[tactic(auto, using(crate::proofs::Refusals::fault_of_memory))]
 fn run_piece(
     alloc: Global,
     engine: &mut Engine,
@@ -93,6 +95,7 @@ fn run_piece(
 }
 
 /// Answers a piece, and adds its line.
+#[tactic(auto, using(crate::proofs::Refusals::responds_blank, crate::proofs::Refusals::responds_reply, crate::proofs::Refusals::responds_fault))]
 pub fn answer_piece(
     alloc: Global,
     engine: &mut Engine,
@@ -113,6 +116,7 @@ pub fn answer_piece(
 }
 
 /// Why what is left at the end of the input is no event, of a rest that has a token.
+#[tactic(auto, using(crate::proofs::Refusals::break_of_memory, crate::proofs::Refusals::break_of_text, crate::proofs::Refusals::break_of_event))]
 fn refuse_rest(alloc: Global, at: usize, bytes: &[u8]) -> Refusal
     requires some { heading.is_blank bytes.now ≡ false }
     ensures { IsBreak (record { at = at; bytes = bytes.now }) result }
@@ -132,6 +136,7 @@ fn refuse_rest(alloc: Global, at: usize, bytes: &[u8]) -> Refusal
 }
 
 /// Adds the line of what is left at the end of the input.
+#[tactic(auto, using(crate::proofs::Refusals::breaks_blank, crate::proofs::Refusals::breaks_fault))]
 pub fn answer_rest(
     alloc: Global,
     at: usize,

@@ -103,6 +103,7 @@ impl Shell {
     ///
     /// `Stopped` where there is no memory for what is read or for the lines of an answer, `Output` at the first fault
     /// of the writer, and [`ShellFault::Input`] at the first of the reader.
+    #[tactic(auto, using(crate::proofs::Feeding::feeds_none, crate::proofs::Feeding::feeds_more, crate::proofs::Feeding::first_more, crate::proofs::Feeding::feeds_first, crate::proofs::Feeding::feeds_all))]
     pub fn feed<R: BufRead, W: Write>(
         &mut self,
         input: &mut R,
@@ -125,6 +126,7 @@ impl Shell {
     }
 
     /// Reads on to the next semicolon, and answers the piece that it ends, if it ends one. False: nothing is left.
+    #[tactic(auto, using(crate::proofs::Feeding::first_none, crate::proofs::Feeding::over_turn, crate::proofs::Feeding::feeds_unless, crate::proofs::Feeding::feeds_whole, crate::proofs::Feeding::first_whole))]
     fn feed_piece<R: BufRead, W: Write>(
         &mut self,
         input: &mut R,
@@ -153,6 +155,7 @@ impl Shell {
     }
 
     /// Answers the piece that is whole, and cuts it off.
+    #[tactic(auto, using(crate::proofs::Lines::answers_if, crate::proofs::Refusals::late_output, crate::proofs::Refusals::no_stop))]
     fn answer_whole<W: Write>(&mut self, out: &mut W) -> Result<(), ShellFault>
         ensures answered { OnOk result
             (Answers self.old.engine (whole_of self.old.cutter) self.new.engine (W.contents out.old)
@@ -176,6 +179,7 @@ impl Shell {
     }
 
     /// Writes the lines, and flushes the writer.
+    #[tactic(auto, using(crate::proofs::Refusals::late_output, crate::proofs::Refusals::no_stop))]
     fn write_lines<W: Write>(&self, out: &mut W) -> Result<(), ShellFault>
         ensures written { OnOk result (Appends (W.contents out.old) (W.contents out.new) self.now.lines) }
         ensures late { IfErr result IsInTheTalk }
@@ -190,6 +194,7 @@ impl Shell {
     ///
     /// `Stopped` where there is no memory for the lines, and then nothing was written; `Output` at the first fault of
     /// the writer.
+    #[tactic(auto, using(crate::proofs::Lines::finishes_if))]
     pub fn finish<W: Write>(&mut self, with_report: bool, out: &mut W) -> Result<(), ShellFault>
         ensures finished { OnOk result
             (Finishes self.old.cutter self.old.engine with_report (W.contents out.old) (W.contents out.new)) }
@@ -204,6 +209,7 @@ impl Shell {
     }
 
     /// Adds the lines behind those of the pieces.
+    #[tactic(auto, using(crate::proofs::Lines::ends_with, crate::proofs::Lines::ends_without))]
     fn add_end(&mut self, with_report: bool) -> Result<(), AllocError>
         ensures { OnOk result (Ends self.old.cutter self.old.engine with_report self.old.lines self.new.lines) }
     {
