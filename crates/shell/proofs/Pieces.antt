@@ -7,7 +7,20 @@ use Rattle.std.proofs.lemmas.List.{length-append}
 use Rattle.std.proofs.Math.Seq.{take-append_seam}
 use Rattle.shell.specs.declared.cutting.Place.{Place}
 use Rattle.shell.specs.declared.cutting.Place.TheVariants.{Plain, Dash, Comment, Quote, End}
-use Rattle.shell.specs.Cuts.{Piece, Rest, after, behind, ended, forward, piece_of, pieces_of, rejoined, rest_of, scan, with_byte}
+use Rattle.shell.specs.Cuts.{Piece, Rest, after, behind, ended, forward, piece_of, pieces_of, rejoined, rest_of, scan, whole_of, with_byte}
+
+abbrev pub piece_at : ℕ → List ℕ → Piece
+piece_at at bytes = record { at = at; bytes = bytes }
+
+abbrev pub rest_at : ℕ → List ℕ → Place → Rest
+rest_at at bytes place = record { at = at; bytes = bytes; place = place }
+
+pub same_pieces : (p q : Piece) → p.at ≡ q.at → p.bytes ≡ q.bytes → p ≡ q
+same_pieces p q same_at same_bytes = ap (λ n. piece_at n p.bytes) same_at ∙ ap (piece_at q.at) same_bytes
+
+pub same_rests : (r s : Rest) → r.at ≡ s.at → r.bytes ≡ s.bytes → r.place ≡ s.place → r ≡ s
+same_rests r s same_at same_bytes same_place =
+    ap (λ n. rest_at n r.bytes r.place) same_at ∙ ap (λ l. rest_at s.at l r.place) same_bytes ∙ ap (rest_at s.at s.bytes) same_place
 
 -- more bytes behind the first
 pub pieces_append : (rest : Rest) (xs ys : List ℕ) → pieces_of rest (xs ++ ys) ≡ pieces_of rest xs ++ pieces_of (rest_of rest xs) ys
@@ -56,7 +69,7 @@ after_end Quote b h = go (b == 39) h
 
 -- behind a byte that ends no piece
 abbrev longer : Place → Rest → List ℕ → Rest
-longer place rest bytes = record { at = rest.at; bytes = rest.bytes ++ bytes; place = place }
+longer place rest bytes = rest_at rest.at (rest.bytes ++ bytes) place
 
 none_ended : (place : Place) (rest : Rest) → (place ≡ End → ⊥) → ended place rest ≡ []
 none_ended Plain rest h = refl
@@ -85,12 +98,12 @@ quiet_pieces rest (b ∷ bytes) h =
     ∙ quiet_pieces (with_byte (after rest.place b) rest b) bytes h.1
 
 quiet_rest : (rest : Rest) (bytes : List ℕ) → AreQuiet bytes → rest_of rest bytes ≡ longer (scan rest.place bytes) rest bytes
-quiet_rest rest [] h = ap (λ (l : List ℕ). let r : Rest = record { at = rest.at; bytes = l; place = rest.place } in r) (sym (append-nil rest.bytes))
+quiet_rest rest [] h = ap (λ l. rest_at rest.at l rest.place) (sym (append-nil rest.bytes))
 quiet_rest rest (b ∷ bytes) h =
     let goes : after rest.place b ≡ End → ⊥ = λ e. h.0 (after_end rest.place b e) in
     ap (λ r. rest_of r bytes) (byte_kept (after rest.place b) rest b goes)
     ∙ quiet_rest (longer (after rest.place b) rest (b ∷ [])) bytes h.1
-    ∙ ap (λ (l : List ℕ). let r : Rest = record { at = rest.at; bytes = l; place = scan (after rest.place b) bytes } in r) (append_assoc rest.bytes (b ∷ []) bytes)
+    ∙ ap (λ l. rest_at rest.at l (scan (after rest.place b) bytes)) (append_assoc rest.bytes (b ∷ []) bytes)
 
 -- ---- bytes of which only the last may be a semicolon
 
@@ -144,7 +157,7 @@ module _ (rest : Rest) (front : List ℕ) (last : ℕ) (quiet : AreQuiet front) 
       ∙ ap (λ p. with_byte p (longer (scan rest.place front) rest front) last) place_is
 
   abbrev now : Rest
-  now = record { at = rest.at; bytes = rest.bytes ++ bytes; place = place }
+  now = rest_at rest.at (rest.bytes ++ bytes) place
 
   -- the last one ends a piece
   piece_whole : take (length now.bytes - 1) now.bytes ≡ rest.bytes ++ front
@@ -154,15 +167,15 @@ module _ (rest : Rest) (front : List ℕ) (last : ℕ) (quiet : AreQuiet front) 
   length_whole : length (rest.bytes ++ front) + 1 ≡ length now.bytes
   length_whole = sym (length-append (rest.bytes ++ front) (last ∷ [])) ∙ ap length (append_assoc rest.bytes front (last ∷ []))
 
-  ends_pieces : place ≡ End → pieces_of rest bytes ≡ (record { at = rest.at; bytes = take (length now.bytes - 1) now.bytes }) ∷ []
+  ends_pieces : place ≡ End → pieces_of rest bytes ≡ piece_at rest.at (take (length now.bytes - 1) now.bytes) ∷ []
   ends_pieces e =
       pieces_are ∙ ap (λ p. ended p (longer (scan rest.place front) rest front)) e
-      ∙ ap (λ (l : List ℕ). let p : Piece = record { at = rest.at; bytes = l } in p ∷ []) (sym piece_whole)
+      ∙ ap (λ l. piece_at rest.at l ∷ []) (sym piece_whole)
 
-  ends_rest : place ≡ End → rest_of rest bytes ≡ record { at = forward rest.at (length now.bytes); bytes = []; place = End }
+  ends_rest : place ≡ End → rest_of rest bytes ≡ rest_at (forward rest.at (length now.bytes)) [] End
   ends_rest e =
       rest_is ∙ ap (λ p. with_byte p (longer (scan rest.place front) rest front) last) e
-      ∙ ap (λ (n : ℕ). let r : Rest = record { at = forward rest.at n; bytes = []; place = End } in r) length_whole
+      ∙ ap (λ n. rest_at (forward rest.at n) [] End) length_whole
 
   goes_pieces : (place ≡ End → ⊥) → pieces_of rest bytes ≡ []
   goes_pieces h = pieces_are ∙ none_ended place before h
@@ -170,7 +183,7 @@ module _ (rest : Rest) (front : List ℕ) (last : ℕ) (quiet : AreQuiet front) 
   goes_rest : (place ≡ End → ⊥) → rest_of rest bytes ≡ now
   goes_rest h =
       rest_is ∙ byte_kept place before last h
-      ∙ ap (λ (l : List ℕ). let r : Rest = record { at = rest.at; bytes = l; place = scan rest.place (front ++ last ∷ []) } in r) (append_assoc rest.bytes front (last ∷ []))
+      ∙ ap (λ l. rest_at rest.at l (scan rest.place (front ++ last ∷ []))) (append_assoc rest.bytes front (last ∷ []))
 
 -- ---- by what a read says
 
@@ -178,8 +191,8 @@ quiet_front : (front : List ℕ) (last : ℕ) → StopsAt (front ++ last ∷ [])
 quiet_front front last stops = quiet_from front (subst (λ l. (k : ℕ) (d : ℕ) → k < length l → get_or l k d ≢ 59) (front_is front last) stops)
 
 pub record IsWholeTurn (rest : Rest) (bytes : List ℕ) (now : Rest) : Type 0 where
-  pub piece : pieces_of rest bytes ≡ (record { at = now.at; bytes = take (length now.bytes - 1) now.bytes }) ∷ []
-  pub left : rest_of rest bytes ≡ record { at = forward now.at (length now.bytes); bytes = []; place = End }
+  pub piece : pieces_of rest bytes ≡ whole_of now ∷ []
+  pub left : rest_of rest bytes ≡ rest_at (forward now.at (length now.bytes)) [] End
 
 pub record IsQuietTurn (rest : Rest) (bytes : List ℕ) (now : Rest) : Type 0 where
   pub none : pieces_of rest bytes ≡ []
@@ -187,7 +200,7 @@ pub record IsQuietTurn (rest : Rest) (bytes : List ℕ) (now : Rest) : Type 0 wh
 
 module _ (rest : Rest) (bytes : List ℕ) (stops : StopsAt bytes 59) (some : bytes ≢ []) where
   abbrev after_all : Rest
-  after_all = record { at = rest.at; bytes = rest.bytes ++ bytes; place = scan rest.place bytes }
+  after_all = rest_at rest.at (rest.bytes ++ bytes) (scan rest.place bytes)
 
   cut : IsLastOf bytes
   cut = last_of bytes some
@@ -199,9 +212,9 @@ module _ (rest : Rest) (bytes : List ℕ) (stops : StopsAt bytes 59) (some : byt
   whole_turn e =
       let end : scan rest.place (cut.front ++ cut.last ∷ []) ≡ End = ap (scan rest.place) (sym cut.is) ∙ e in
       record {
-        piece = subst (λ l. pieces_of rest l ≡ (record { at = rest.at; bytes = take (length (rest.bytes ++ l) - 1) (rest.bytes ++ l) }) ∷ []) (sym cut.is)
+        piece = subst (λ l. pieces_of rest l ≡ piece_at rest.at (take (length (rest.bytes ++ l) - 1) (rest.bytes ++ l)) ∷ []) (sym cut.is)
             (ends_pieces rest cut.front cut.last quiet_cut end);
-        left = subst (λ l. rest_of rest l ≡ record { at = forward rest.at (length (rest.bytes ++ l)); bytes = []; place = End }) (sym cut.is)
+        left = subst (λ l. rest_of rest l ≡ rest_at (forward rest.at (length (rest.bytes ++ l))) [] End) (sym cut.is)
             (ends_rest rest cut.front cut.last quiet_cut end);
       }
 
@@ -210,6 +223,6 @@ module _ (rest : Rest) (bytes : List ℕ) (stops : StopsAt bytes 59) (some : byt
       let goes : scan rest.place (cut.front ++ cut.last ∷ []) ≡ End → ⊥ = λ e. h (ap (scan rest.place) cut.is ∙ e) in
       record {
         none = subst (λ l. pieces_of rest l ≡ []) (sym cut.is) (goes_pieces rest cut.front cut.last quiet_cut goes);
-        left = subst (λ l. rest_of rest l ≡ record { at = rest.at; bytes = rest.bytes ++ l; place = scan rest.place l }) (sym cut.is)
+        left = subst (λ l. rest_of rest l ≡ rest_at rest.at (rest.bytes ++ l) (scan rest.place l)) (sym cut.is)
             (goes_rest rest cut.front cut.last quiet_cut goes);
       }

@@ -12,6 +12,7 @@ use Rattle.statement_syntax.specs.declared.statements.Event.{Event}
 use Rattle.answer.specs.declared.answers.Answer.{Answer}
 use Rattle.txn.specs.Transactions.{OpenTransaction}
 use Rattle.commit.specs.declared.seats.Seat.{Seat}
+use Rattle.commit.specs.Cores.{CoreState}
 use Rattle.commit.specs.Events.{EngineState, FindsNoMemory, IsAnswered, IsAnsweredAt, IsReply, after, after_at, core_after, found_no_memory, seat_of, seats_set, seats_with, takes_memory, takes_memory_at, txn_after, txn_of}
 use Rattle.commit.specs.Runs.{all_seated, free_seat, seated, unless_seated}
 use Rattle.commit.proofs.Running.{HasSeat, has_seat}
@@ -168,8 +169,11 @@ get_more [] ys i x e = let no : ⊥ = cc in absurd no
 get_more (z ∷ zs) ys zero x e = e
 get_more (z ∷ zs) ys (suc i) x e = get_more zs ys i x e
 
+abbrev with_seats : CoreState → List Seat → EngineState
+with_seats core seats = record { core = core; seats = seats }
+
 abbrev with_more : EngineState → List Seat → EngineState
-with_more now more = record { core = now.core; seats = now.seats ++ more }
+with_more now more = with_seats now.core (now.seats ++ more)
 
 module _ (now : EngineState) (more : List Seat) (step : Step) (answer : Answer) (place : ℕ) (placed : seat_of now.seats step.session ≡ Some place) where
   abbrev full : EngineState
@@ -205,7 +209,7 @@ module _ (now : EngineState) (more : List Seat) (step : Step) (answer : Answer) 
 
   left_more : left_at full.seats (Some found.seat) ≡ with_more (left_at now.seats (Some found.seat)) more
   left_more =
-      ap (λ (seats : List Seat). let left : EngineState = record { core = core_after now.core step.session step.event found.seat.txn answer; seats = seats } in left)
+      ap (with_seats (core_after now.core step.session step.event found.seat.txn answer))
       (set-append_left now.seats more place (record { session = found.seat.session; txn = txn_after now.core step.event found.seat.txn }) found.within)
 
   after_more : after full step answer ≡ with_more (after now step answer) more
@@ -247,7 +251,7 @@ abbrev pub whole : EngineState → List Step → EngineState
 whole now steps = with_more now (late (names now.seats) steps)
 
 pub whole_now : (now : EngineState) → whole now [] ≡ now
-whole_now now = ap (λ (seats : List Seat). let all : EngineState = record { core = now.core; seats = seats } in all) (append-nil now.seats)
+whole_now now = ap (with_seats now.core) (append-nil now.seats)
 
 module _ (now : EngineState) (step : Step) (rest : List Step) where
   abbrev met : EngineState
@@ -255,7 +259,7 @@ module _ (now : EngineState) (step : Step) (rest : List Step) where
 
   whole_met : whole now (step ∷ rest) ≡ whole met rest
   whole_met =
-      ap (λ (seats : List Seat). let all : EngineState = record { core = now.core; seats = seats } in all)
+      ap (with_seats now.core)
       (late_step now.seats step rest (seat_of now.seats step.session) (nat_lt (length now.seats) most_sessions) refl refl)
 
   -- who has no seat comes when there is none
@@ -279,7 +283,7 @@ module _ (now : EngineState) (step : Step) (rest : List Step) where
   whole_full none =
       let full = full_by (seat_of now.seats step.session) (nat_lt (length now.seats) most_sessions) refl refl none in
       let long : nat_lt (length (names met.seats)) most_sessions ≡ false = ap (λ n. nat_lt n most_sessions) (length-map met.seats (λ (seat : Seat). seat.session)) ∙ full in
-      ap (λ (seats : List Seat). let all : EngineState = record { core = now.core; seats = seats } in all)
+      ap (with_seats now.core)
       (ap (λ l. met.seats ++ l) (late_none (names met.seats) long rest) ∙ append-nil met.seats)
 
   module _ (answer : Answer) (answered : IsAnswered met step answer) where
