@@ -9,7 +9,7 @@ use Rattle.shell.specs.Cuts.{Piece, Rest, forward, pieces_of, rest_of, scan, who
 use Rattle.shell.specs.Reading.{ReadsOn, ReadsSome}
 use Rattle.shell.specs.Outcomes.{AreOutcomes, IsOutcome, Outcome, line_of, lines_in}
 use Rattle.shell.specs.Writing.{Answers, AreRun, Feeds, FeedsAll, FeedsFirst, IsOver, left_by, left_by_all}
-use Rattle.shell.proofs.Pieces.{IsQuietTurn, IsWholeTurn, pieces_append, quiet_turn, rest_append, whole_turn}
+use Rattle.shell.proofs.Pieces.{IsQuietTurn, IsWholeTurn, pieces_append, quiet_turn, rest_append, rest_at, same_rests, whole_turn}
 
 -- ---- outcomes one behind the other
 
@@ -130,10 +130,10 @@ module _ (before : EngineState) (rest : Rest) where
 
   module _ (now : Rest) (from to : Option (List ℕ)) (read : ReadsOn rest now true from to) where
     abbrev grown : Rest
-    grown = record { at = rest.at; bytes = rest.bytes ++ read.bytes; place = scan rest.place read.bytes }
+    grown = rest_at rest.at (rest.bytes ++ read.bytes) (scan rest.place read.bytes)
 
     now_is : grown ≡ now
-    now_is = λ i. record { at = sym read.longer.at_is i; bytes = sym read.longer.bytes_are i; place = sym read.longer.place_is i }
+    now_is = same_rests grown now (sym read.longer.at_is) (sym read.longer.bytes_are) (sym read.longer.place_is)
 
     some_read : ReadsSome from to
     some_read = record { bytes = read.bytes; read = read.read }
@@ -167,7 +167,7 @@ module _ (before : EngineState) (rest : Rest) where
           are = subst (λ ps. AreOutcomes ps (answered.outcome ∷ [])) (sym turn.piece) (answered.is, tt);
           run = (answered.run, tt);
           leaves = answered.leaves;
-          last_is = last_is ∙ ap (λ p. let r : Rest = record { at = forward now.at (length now.bytes); bytes = []; place = p } in r) end ∙ sym turn.left;
+          last_is = last_is ∙ ap (rest_at (forward now.at (length now.bytes)) []) end ∙ sym turn.left;
           written = subst (Appends old new) (sym (append-nil (line_of answered.outcome))) answered.written;
         }
 
@@ -191,10 +191,7 @@ module _ (before : EngineState) (rest : Rest) where
   over_turn now from to old read end = record {
     at_end = end;
     left_is = refl;
-    last_is = λ i. record {
-      at = read.longer.at_is i;
-      bytes = (read.longer.bytes_are ∙ ap (λ l. rest.bytes ++ l) (read.none refl) ∙ append-nil rest.bytes) i;
-      place = (read.longer.place_is ∙ ap (scan rest.place) (read.none refl)) i;
-    };
+    last_is = same_rests now rest read.longer.at_is (read.longer.bytes_are ∙ ap (λ l. rest.bytes ++ l) (read.none refl) ∙ append-nil rest.bytes)
+        (read.longer.place_is ∙ ap (scan rest.place) (read.none refl));
     same = refl;
   }

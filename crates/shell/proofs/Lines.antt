@@ -6,6 +6,7 @@ use Rattle.commit.specs.Events.{EngineState}
 use Rattle.replay.specs.Lines.{ending}
 use Rattle.shell.specs.Cuts.{Piece, Rest, piece_of, whole_of}
 use Rattle.shell.specs.Outcomes.{line_of}
+use Rattle.shell.proofs.Pieces.{piece_at, same_pieces}
 use Rattle.shell.specs.Writing.{Answers, Breaks, Ends, Finishes, Responds, ending_if}
 
 -- the line of a piece goes out, where the writer takes it
@@ -13,8 +14,8 @@ pub answers_if : {A E : Type 0} (written : Result A E) (before : EngineState) (a
     → Responds before (record { at = at; bytes = bytes }) left old new → at ≡ rest.at → bytes ≡ take (length rest.bytes - 1) rest.bytes → old ≡ []
     → OnOk written (Appends out grown new) → OnOk written (Answers before (whole_of rest) left out grown)
 answers_if (Ok done) before at bytes rest left old new out grown told same_at same_bytes none more =
-    let piece : Piece = record { at = at; bytes = bytes } in
-    let told_of : Responds before (whole_of rest) left old new = subst (λ p. Responds before p left old new) (λ i. record { at = same_at i; bytes = same_bytes i }) told in
+    let told_of : Responds before (whole_of rest) left old new =
+    subst (λ (p : Piece). Responds before p left old new) (same_pieces (piece_at at bytes) (whole_of rest) same_at same_bytes) told in
     record {
       outcome = told_of.outcome;
       is = told_of.is;
@@ -28,7 +29,7 @@ module _ (at : ℕ) (bytes : List ℕ) (rest : Rest) (left : EngineState) (old m
     (same_at : at ≡ rest.at) (same_bytes : bytes ≡ rest.bytes)
   where
     told_of : Breaks (piece_of rest) old middle
-    told_of = subst (λ p. Breaks p old middle) (λ i. record { at = same_at i; bytes = same_bytes i }) told
+    told_of = subst (λ (p : Piece). Breaks p old middle) (same_pieces (piece_at at bytes) (piece_of rest) same_at same_bytes) told
 
     -- no report is asked for
     pub ends_without : Ends rest left false old middle

@@ -169,7 +169,7 @@ get_more [] ys i x e = let no : ⊥ = cc in absurd no
 get_more (z ∷ zs) ys zero x e = e
 get_more (z ∷ zs) ys (suc i) x e = get_more zs ys i x e
 
-abbrev with_seats : CoreState → List Seat → EngineState
+abbrev pub with_seats : CoreState → List Seat → EngineState
 with_seats core seats = record { core = core; seats = seats }
 
 abbrev with_more : EngineState → List Seat → EngineState

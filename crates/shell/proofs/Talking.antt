@@ -20,7 +20,7 @@ use Rattle.shell.specs.Outcomes.{AreOutcomes, IsLast, Outcome, Blank, Reply, Fau
 use Rattle.shell.specs.Seats.{first_seated, seated_steps, welcomed}
 use Rattle.shell.specs.Shell.{IsBeginning, IsConversation, IsFirstFault, IsInTheTalk, IsRunFault, IsTalk, IsTaken, WritesConversation, WritesFirst, is_before_the_talk, is_run_stop, is_stop}
 use Rattle.shell.specs.Writing.{AreRun, FeedsAll, FeedsFirst, Finishes, ending_if, left_by, left_by_all}
-use Rattle.shell.proofs.Seating.{after_whole, answered_whole, seated_late, whole, whole_now}
+use Rattle.shell.proofs.Seating.{after_whole, answered_whole, seated_late, whole, whole_now, with_seats}
 
 -- the answers of an engine whose sessions come are those of one that has all from the start
 are_answers : (now : EngineState) (outcomes : List Outcome) → AreRun now outcomes → AreAnswers (whole now (steps_in outcomes)) (steps_in outcomes) (answers_in outcomes)
@@ -45,7 +45,7 @@ lead_to now (Reply step answer ∷ more) h =
 -- from no session on
 whole_first : (limit : ℕ) (shown : Shown) (steps : List Step) → whole (beginning limit shown []) steps ≡ first_seated limit shown steps
 whole_first limit shown steps =
-    ap (λ seats. let e : EngineState = record { core = (beginning limit shown []).core; seats = seats } in e) (sym (seated_late [] steps))
+    ap (with_seats (beginning limit shown []).core) (sym (seated_late [] steps))
 
 module _ (defs : List ℕ) (limit : ℕ) (engine : EngineState) (begun : IsBeginning defs limit engine)
     (serializable : InEachRun (λ loaded steps answers left. IsSerializable left.core)) (told : InEachRun (λ loaded steps answers left. WereToldAlone left.core steps answers))
