@@ -156,7 +156,7 @@ module _ (before : EngineState) (rest : Rest) where
 
     -- or one piece, which is answered
     pub feeds_whole : (left : EngineState) (last : Rest) (old new : Option (List ℕ)) → now.place ≡ End → Answers before (whole_of now) left old new
-        → last ≡ record { at = forward now.at (length now.bytes); bytes = []; place = now.place } → Feeds before rest left last from to old new
+        → last ≡ rest_at (forward now.at (length now.bytes)) [] now.place → Feeds before rest left last from to old new
     feeds_whole left last old new end answered last_is =
         let turn : IsWholeTurn rest read.bytes now = subst (IsWholeTurn rest read.bytes) now_is
         (whole_turn rest read.bytes read.stops (read.some refl) (sym read.longer.place_is ∙ end)) in

@@ -1,4 +1,5 @@
 pub mod Pieces
+pub mod Quotes
 pub mod Lines
 pub mod Refusals
 pub mod Seating

@@ -48,7 +48,7 @@ behind_end b h = go (b == 59) (b == 39) (b == 45) refl h
     go false false true e h = let no : ⊥ = cc in absurd no
     go false false false e h = let no : ⊥ = cc in absurd no
 
-after_end : (place : Place) (b : ℕ) → after place b ≡ End → b ≡ 59
+pub after_end : (place : Place) (b : ℕ) → after place b ≡ End → b ≡ 59
 after_end Plain b h = behind_end b h
 after_end End b h = behind_end b h
 after_end Dash b h = go (b == 45) h
@@ -68,7 +68,7 @@ after_end Quote b h = go (b == 39) h
     go false h = let no : ⊥ = cc in absurd no
 
 -- behind a byte that ends no piece
-abbrev longer : Place → Rest → List ℕ → Rest
+abbrev pub longer : Place → Rest → List ℕ → Rest
 longer place rest bytes = rest_at rest.at (rest.bytes ++ bytes) place
 
 none_ended : (place : Place) (rest : Rest) → (place ≡ End → ⊥) → ended place rest ≡ []
@@ -85,25 +85,39 @@ byte_kept Comment rest b h = refl
 byte_kept Quote rest b h = refl
 byte_kept End rest b h = absurd (h refl)
 
+-- no piece ends among these
+abbrev pub HaveNoEnd : Place → List ℕ → Type 0
+HaveNoEnd place [] = Unit {0}
+HaveNoEnd place (b ∷ bytes) = (after place b ≡ End → ⊥) × HaveNoEnd (after place b) bytes
+
+pub no_end_pieces : (rest : Rest) (bytes : List ℕ) → HaveNoEnd rest.place bytes → pieces_of rest bytes ≡ []
+no_end_pieces rest [] h = refl
+no_end_pieces rest (b ∷ bytes) h =
+    ap (λ l. l ++ pieces_of (with_byte (after rest.place b) rest b) bytes) (none_ended (after rest.place b) rest h.0)
+    ∙ ap (λ r. pieces_of r bytes) (byte_kept (after rest.place b) rest b h.0)
+    ∙ no_end_pieces (longer (after rest.place b) rest (b ∷ [])) bytes h.1
+
+pub no_end_rest : (rest : Rest) (bytes : List ℕ) → HaveNoEnd rest.place bytes → rest_of rest bytes ≡ longer (scan rest.place bytes) rest bytes
+no_end_rest rest [] h = ap (λ l. rest_at rest.at l rest.place) (sym (append-nil rest.bytes))
+no_end_rest rest (b ∷ bytes) h =
+    ap (λ r. rest_of r bytes) (byte_kept (after rest.place b) rest b h.0)
+    ∙ no_end_rest (longer (after rest.place b) rest (b ∷ [])) bytes h.1
+    ∙ ap (λ l. rest_at rest.at l (scan (after rest.place b) bytes)) (append_assoc rest.bytes (b ∷ []) bytes)
+
 -- none of these is a semicolon
 abbrev AreQuiet : List ℕ → Type 0
 AreQuiet [] = Unit {0}
 AreQuiet (b ∷ bytes) = (b ≡ 59 → ⊥) × AreQuiet bytes
 
+quiet_no_end : (place : Place) (bytes : List ℕ) → AreQuiet bytes → HaveNoEnd place bytes
+quiet_no_end place [] h = tt
+quiet_no_end place (b ∷ bytes) h = ((λ e. h.0 (after_end place b e)), quiet_no_end (after place b) bytes h.1)
+
 quiet_pieces : (rest : Rest) (bytes : List ℕ) → AreQuiet bytes → pieces_of rest bytes ≡ []
-quiet_pieces rest [] h = refl
-quiet_pieces rest (b ∷ bytes) h =
-    let goes : after rest.place b ≡ End → ⊥ = λ e. h.0 (after_end rest.place b e) in
-    ap (λ l. l ++ pieces_of (with_byte (after rest.place b) rest b) bytes) (none_ended (after rest.place b) rest goes)
-    ∙ quiet_pieces (with_byte (after rest.place b) rest b) bytes h.1
+quiet_pieces rest bytes h = no_end_pieces rest bytes (quiet_no_end rest.place bytes h)
 
 quiet_rest : (rest : Rest) (bytes : List ℕ) → AreQuiet bytes → rest_of rest bytes ≡ longer (scan rest.place bytes) rest bytes
-quiet_rest rest [] h = ap (λ l. rest_at rest.at l rest.place) (sym (append-nil rest.bytes))
-quiet_rest rest (b ∷ bytes) h =
-    let goes : after rest.place b ≡ End → ⊥ = λ e. h.0 (after_end rest.place b e) in
-    ap (λ r. rest_of r bytes) (byte_kept (after rest.place b) rest b goes)
-    ∙ quiet_rest (longer (after rest.place b) rest (b ∷ [])) bytes h.1
-    ∙ ap (λ l. rest_at rest.at l (scan (after rest.place b) bytes)) (append_assoc rest.bytes (b ∷ []) bytes)
+quiet_rest rest bytes h = no_end_rest rest bytes (quiet_no_end rest.place bytes h)
 
 -- ---- bytes of which only the last may be a semicolon
 

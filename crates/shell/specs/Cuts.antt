@@ -77,3 +77,9 @@ pub record IsLonger (before now : Rest) (more : List ℕ) : Type 0 where
   pub at_is : now.at ≡ before.at
   pub bytes_are : now.bytes ≡ before.bytes ++ more
   pub place_is : now.place ≡ scan before.place more
+
+-- bytes between two places in which no piece ends
+pub record PassesOver (from : Place) (bytes : List ℕ) (to : Place) : Type 0 where
+  pub none : (rest : Rest) → rest.place ≡ from → pieces_of rest bytes ≡ []
+  pub all : (rest : Rest) → rest.place ≡ from
+      → rest_of rest bytes ≡ record { at = rest.at; bytes = rest.bytes ++ bytes; place = to }

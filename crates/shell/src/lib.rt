@@ -28,6 +28,7 @@ mod endings;
 mod events;
 mod faults;
 mod headings;
+mod laws;
 mod shells;
 #[cfg(test)]
 mod tests;
@@ -35,3 +36,4 @@ mod tests;
 pub use calls::shell_into;
 pub use conversations::converse_into;
 pub use faults::ShellFault;
+pub use laws::{pieces_are_the_input, quotes_and_comments_are_whole};
