@@ -62,9 +62,9 @@ module _ (defs : List ℕ) (limit : ℕ) (engine : EngineState) (begun : IsBegin
           are = are;
           answered = answered;
           leaves = leaves;
-          serializable = subst (λ e. IsSerializable e.core) (sym leaves)
+          serializable = subst (λ (e : EngineState). IsSerializable e.core) (sym leaves)
               (serializable limit begun.shown (seated_steps [] (steps_in outcomes)) (steps_in outcomes) (answers_in outcomes) begun.sound answered);
-          told = subst (λ e. WereToldAlone e.core (steps_in outcomes) (answers_in outcomes)) (sym leaves)
+          told = subst (λ (e : EngineState). WereToldAlone e.core (steps_in outcomes) (answers_in outcomes)) (sym leaves)
               (told limit begun.shown (seated_steps [] (steps_in outcomes)) (steps_in outcomes) (answers_in outcomes) begun.sound answered);
         }
 
