@@ -65,24 +65,25 @@ module _ (at : ℕ) (bytes : List ℕ) (some : is_blank bytes ≡ false) where
 
 -- ---- outcomes, where there was memory for the line
 
-module _ {A E : Type 0} (piece : Piece) (before : EngineState) (old : List ℕ) where
-  pub responds_blank : is_blank piece.bytes ≡ true → Responds before piece before old old
-  responds_blank blank = record { outcome = Blank; is = blank; run = tt; leaves = refl; grown = sym (append-nil old) }
+module _ (piece : Piece) (old : List ℕ) where
+  pub responds_blank : (before : EngineState) → is_blank piece.bytes ≡ true → Responds before piece before old old
+  responds_blank before blank = record { outcome = Blank; is = blank; run = tt; leaves = refl; grown = sym (append-nil old) }
 
-  pub responds_reply : (added : Result A E) (step : Step) (answer : Answer) (left : EngineState) (new : List ℕ) → IsStepOf piece.bytes step → IsAnsweredNow before step answer left
-      → OnOk added (new ≡ old ++ answer_line step answer) → OnOk added (Responds before piece left old new)
-  responds_reply (Ok done) step answer left new read now grown = record { outcome = Reply step answer; is = read; run = now.answered; leaves = now.leaves; grown = grown }
-  responds_reply (Err none) step answer left new read now grown = tt
+  pub responds_reply : {A E : Type 0} (added : Result A E) (before : EngineState) (step : Step) (answer : Answer) (left : EngineState) (new : List ℕ)
+      → IsStepOf piece.bytes step → IsAnsweredNow before step answer left → OnOk added (new ≡ old ++ answer_line step answer) → OnOk added (Responds before piece left old new)
+  responds_reply (Ok done) before step answer left new read now grown =
+      record { outcome = Reply step answer; is = read; run = now.answered; leaves = now.leaves; grown = grown }
+  responds_reply (Err none) before step answer left new read now grown = tt
 
-  pub responds_fault : (added : Result A E) (refusal : Refusal) (left : EngineState) (new : List ℕ) → IsFaultOf piece refusal → left ≡ before
-      → OnOk added (new ≡ old ++ refusal_line (codes "SCRIPT") refusal) → OnOk added (Responds before piece left old new)
-  responds_fault (Ok done) refusal left new is same grown = record { outcome = Fault refusal; is = is; run = tt; leaves = same; grown = grown }
-  responds_fault (Err none) refusal left new is same grown = tt
+  pub responds_fault : {A E : Type 0} (added : Result A E) (before : EngineState) (refusal : Refusal) (left : EngineState) (new : List ℕ)
+      → IsFaultOf piece refusal → left ≡ before → OnOk added (new ≡ old ++ refusal_line (codes "SCRIPT") refusal) → OnOk added (Responds before piece left old new)
+  responds_fault (Ok done) before refusal left new is same grown = record { outcome = Fault refusal; is = is; run = tt; leaves = same; grown = grown }
+  responds_fault (Err none) before refusal left new is same grown = tt
 
   pub breaks_blank : is_blank piece.bytes ≡ true → Breaks piece old old
   breaks_blank blank = record { outcome = Blank; is = blank; grown = sym (append-nil old) }
 
-  pub breaks_fault : (added : Result A E) (refusal : Refusal) (new : List ℕ) → IsBreak piece refusal
+  pub breaks_fault : {A E : Type 0} (added : Result A E) (refusal : Refusal) (new : List ℕ) → IsBreak piece refusal
       → OnOk added (new ≡ old ++ refusal_line (codes "SCRIPT") refusal) → OnOk added (Breaks piece old new)
   breaks_fault (Ok done) refusal new is grown = record { outcome = Fault refusal; is = is; grown = grown }
   breaks_fault (Err none) refusal new is grown = tt
