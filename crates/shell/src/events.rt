@@ -125,12 +125,12 @@ fn refuse_rest(alloc: Global, at: usize, bytes: &[u8]) -> Refusal
         Err(refusal) => refusal,
         Ok(address) => {
             let text = &bytes[address.from..];
-            let refusal = match parse_statement(alloc, text) {
+            let place = forward(at, address.from);
+            match parse_statement(alloc, text) {
                 // (its semicolon is missing)
-                Ok(_) => Refusal::Syntax { at: text.len() },
-                Err(refusal) => refusal,
-            };
-            moved(forward(at, address.from), refusal)
+                Ok(_) => moved(place, Refusal::Syntax { at: text.len() }),
+                Err(refusal) => moved(place, refusal),
+            }
         }
     }
 }
