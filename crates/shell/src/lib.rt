@@ -24,7 +24,6 @@ mod calls;
 mod commands;
 mod conversations;
 mod cutting;
-mod endings;
 mod events;
 mod faults;
 mod headings;

@@ -11,11 +11,11 @@ ghost use Rattle.shell.specs.Shell.{IsBeginning, IsInTheTalk, IsRunFault, is_sto
 ghost use Rattle.shell.specs.Writing.{Answers, Ends, FeedsAll, FeedsFirst, Finishes, Turns};
 
 use crate::cutting::Cutter;
-use crate::endings::add_ending;
 use crate::events::{answer_piece, answer_rest};
 use crate::faults::ShellFault;
 use commit::{Engine, admit};
 use parse::parse_schema;
+use replay::add_ending;
 use report::Report;
 use running::{ProgramFault, ReadFault, fault_of, flush, write_all};
 use std::alloc::{AllocError, Global};
