@@ -72,6 +72,16 @@ fn a_quote_without_its_end(rt: HostRuntime) -> Result<(), Fail> {
 }
 
 #[test]
+fn a_transaction_that_only_reads(rt: HostRuntime) -> Result<(), Fail> {
+    writes(
+        &rt,
+        "BEGIN READ ONLY; A: BEGIN READ\nONLY; SELECT NAME FROM T; DELETE FROM T; COMMIT; A: BEGIN;",
+        "ME: BEGIN 0\nA: BEGIN 0\nME: SELECT 1\n  'A'\nME: REFUSED 23 - READ ONLY\nME: COMMIT 1\n\
+         A: REFUSED 15 - TRANSACTION OPEN\n",
+    )
+}
+
+#[test]
 fn as_a_replay(rt: HostRuntime) -> Result<(), Fail> {
     let alloc = rt.alloc();
     let script = "A: BEGIN; B: BEGIN; A: INSERT INTO T VALUES (2, 'A');
