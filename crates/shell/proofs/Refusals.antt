@@ -1,6 +1,7 @@
 -- Why a piece is no event, and why a shell ends early.
-use Rattle.std.proofs.Common.{◌≡◌, ◌≢◌, ℕ, Bool, true, false, List, [], ◌∷◌, ◌++◌, length, drop, Option, Some, None, Result, Ok, Err, inl, inr, refl, sym, ap, ◌∙◌, subst, append-nil}
+use Rattle.std.proofs.Common.{◌≡◌, ◌≢◌, ℕ, Bool, true, false, List, [], ◌∷◌, ◌++◌, ◌-◌, length, take, drop, arith, Option, Some, None, Result, Ok, Err, inl, inr, refl, sym, ap, ◌∙◌, subst, append-nil}
 use Rattle.std.specs.Prelude.{IfErr, IfOk, OnOk, OnErr}
+use Rattle.std.proofs.lemmas.List.{length-drop, take_all}
 use Rattle.value.specs.declared.refusals.Refusal.{Refusal}
 use Rattle.value.specs.declared.refusals.Refusal.TheVariants.{NoMemory, Syntax}
 use Rattle.statement_syntax.specs.declared.statements.Event.{Event}
@@ -20,6 +21,10 @@ use Rattle.shell.specs.Headings.{address, event_text, is_blank}
 use Rattle.shell.specs.Outcomes.{Blank, Fault, IsBreak, IsFaultOf, IsOpen, IsStepOf, Outcome, Reply, moved}
 use Rattle.shell.specs.Shell.{IsInTheTalk, is_stop}
 use Rattle.shell.specs.Writing.{Breaks, IsAnsweredNow, Responds}
+
+-- all that stands from a place on
+all_behind : (from : ℕ) (bytes : List ℕ) → take (length bytes - from) (drop from bytes) ≡ drop from bytes
+all_behind from bytes = take_all (length bytes - from) (drop from bytes) (let long = length-drop from bytes in omega arith)
 
 module _ (at : ℕ) (bytes : List ℕ) (some : is_blank bytes ≡ false) where
   abbrev piece : Piece
@@ -52,15 +57,16 @@ module _ (at : ℕ) (bytes : List ℕ) (some : is_blank bytes ≡ false) where
     is = is ∙ ap (λ n. moved (forward at n) fault) e;
   }
 
-  pub break_of_event : (from : ℕ) (event : Event) (refusal : Refusal) → from ≡ (address bytes).from → IsRead IsEvent (drop from bytes) event
-      → refusal ≡ moved (forward at from) (Syntax (length (drop from bytes))) → IsBreak piece refusal
-  break_of_event from event refusal e read is =
-      let fault : Refusal = Syntax (length (drop from bytes)) in
+  -- only its semicolon is missing
+  pub break_of_event : (from : ℕ) (text : List ℕ) (event : Event) (refusal : Refusal) → from ≡ (address bytes).from → text ≡ take (length bytes - from) (drop from bytes)
+      → IsRead IsEvent text event → refusal ≡ moved (forward at from) (Syntax (length text)) → IsBreak piece refusal
+  break_of_event from text event refusal e is_text read is =
+      let same : text ≡ event_text bytes = is_text ∙ all_behind from bytes ∙ ap (λ n. drop n bytes) e in
       record {
         some = some;
-        fault = Syntax (length (drop from bytes));
-        broken = inr (record { event = event; read = subst (λ n. IsRead IsEvent (drop n bytes) event) e read; is = ap (λ n. Syntax (length (drop n bytes))) e });
-        is = is ∙ ap (λ n. moved (forward at n) (Syntax (length (drop from bytes)))) e;
+        fault = Syntax (length text);
+        broken = inr (record { event = event; read = subst (λ l. IsRead IsEvent l event) same read; is = ap (λ l. Syntax (length l)) same });
+        is = is ∙ ap (λ n. moved (forward at n) (Syntax (length text))) e;
       }
 
 -- ---- outcomes, where there was memory for the line

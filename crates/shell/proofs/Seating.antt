@@ -10,7 +10,7 @@ use Rattle.std.proofs.lemmas.Slice.Eq.{bytes_eq-Decides}
 use Rattle.statement_syntax.specs.declared.statements.Step.{Step}
 use Rattle.statement_syntax.specs.declared.statements.Event.{Event}
 use Rattle.answer.specs.declared.answers.Answer.{Answer}
-use Rattle.txn.specs.Transactions.{OpenTransaction}
+use Rattle.commit.specs.Transactions.{OpenTransaction}
 use Rattle.commit.specs.declared.seats.Seat.{Seat}
 use Rattle.commit.specs.Cores.{CoreState}
 use Rattle.commit.specs.Events.{EngineState, FindsNoMemory, IsAnswered, IsAnsweredAt, IsReply, after, after_at, core_after, found_no_memory, seat_of, seats_set, seats_with, takes_memory, takes_memory_at, txn_after, txn_of}

@@ -94,6 +94,9 @@ fn run_piece(
     Ok((step, answer))
 }
 
+/// Lets a value go. Its type is a parameter here, so that the caller's proof does not go over its fields.
+fn let_go<T: Drop>(_value: T) {}
+
 /// Answers a piece, and adds its line.
 #[tactic(auto, using(crate::proofs::Refusals::responds_blank, crate::proofs::Refusals::responds_reply, crate::proofs::Refusals::responds_fault))]
 pub fn answer_piece(
@@ -110,7 +113,12 @@ pub fn answer_piece(
         return Ok(());
     }
     match run_piece(alloc, engine, at, bytes) {
-        Ok((step, answer)) => lines.add_answer(&step, &answer),
+        Ok((step, answer)) => {
+            let added = lines.add_answer(&step, &answer);
+            let_go(answer);
+            let_go(step);
+            added
+        }
         Err(refusal) => lines.add_refusal(NAME, &refusal),
     }
 }
@@ -127,8 +135,11 @@ fn refuse_rest(alloc: Global, at: usize, bytes: &[u8]) -> Refusal
             let text = &bytes[address.from..];
             let place = forward(at, address.from);
             match parse_statement(alloc, text) {
-                // (its semicolon is missing)
-                Ok(_) => moved(place, Refusal::Syntax { at: text.len() }),
+                Ok(event) => {
+                    let_go(event);
+                    // (its semicolon is missing)
+                    moved(place, Refusal::Syntax { at: text.len() })
+                }
                 Err(refusal) => moved(place, refusal),
             }
         }
