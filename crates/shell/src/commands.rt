@@ -1,5 +1,8 @@
 //! What a person at a terminal may ask for beside events.
 
+ghost use Rattle.std.specs.Prelude.{IfErr};
+ghost use Rattle.shell.specs.Shell.{IsInTheTalk};
+
 use crate::faults::ShellFault;
 use crate::shells::{Shell, write_out};
 use assertion::{Assertion, Form};
@@ -45,7 +48,10 @@ pub fn command_of(line: &[u8]) -> Command {
 }
 
 /// Writes what a command asks for.
-pub fn tell<W: Write>(shell: &Shell, command: Command, out: &mut W) -> Result<(), ShellFault> {
+#[tactic(auto, using(crate::proofs::Refusals::late_output))]
+pub fn tell<W: Write>(shell: &Shell, command: Command, out: &mut W) -> Result<(), ShellFault>
+    ensures { IfErr result IsInTheTalk }
+{
     let told = match command {
         Command::Help => return write_out(HELP.as_bytes(), out),
         Command::Unknown => return write_out(UNKNOWN.as_bytes(), out),
@@ -60,7 +66,10 @@ pub fn tell<W: Write>(shell: &Shell, command: Command, out: &mut W) -> Result<()
     }
 }
 
-fn tell_history<W: Write>(shell: &Shell, out: &mut W) -> Result<(), ShellFault> {
+#[tactic(auto, using(crate::proofs::Refusals::late_output))]
+fn tell_history<W: Write>(shell: &Shell, out: &mut W) -> Result<(), ShellFault>
+    ensures { IfErr result IsInTheTalk }
+{
     let mut lines = Report::new(shell.alloc);
     match add_history(shell, &mut lines) {
         Ok(()) => write_out(lines.as_bytes(), out),

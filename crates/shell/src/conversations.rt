@@ -1,6 +1,7 @@
 //! The shell at a terminal.
 
-ghost use Rattle.std.specs.Prelude.{◌≤◌};
+ghost use Rattle.std.specs.Prelude.{◌≡◌, ◌≤◌, true, IfErr};
+ghost use Rattle.shell.specs.Shell.{IsFirstFault, IsInTheTalk, is_before_the_talk};
 
 use crate::commands::{Command, command_of, tell};
 use crate::faults::ShellFault;
@@ -19,7 +20,8 @@ const PROMPT_INSIDE: &str = "      ...> ";
 ///
 /// # Errors
 ///
-/// Those of [`shell_into`](crate::shell_into).
+/// Those of [`shell_into`](crate::shell_into). At a fault of the definitions nothing was read or written.
+#[tactic(auto, using(crate::proofs::Talking::late_faults, crate::proofs::Talking::late_fault, crate::proofs::Talking::were_begun, crate::proofs::Talking::was_begun, crate::proofs::Talking::taken_of))]
 pub fn converse_into<R: BufRead, W: Write>(
     alloc: Global,
     defs: &[u8],
@@ -29,6 +31,9 @@ pub fn converse_into<R: BufRead, W: Write>(
     out: &mut W,
 ) -> Result<(), ShellFault>
     requires within { max_commits ≤ 4294967295 }
+    ensures refused { IfErr result (IsFirstFault defs.now) }
+    ensures nothing { IfErr result (λ fault. is_before_the_talk fault ≡ true
+        → (input.new ≡ input.old) × (out.new ≡ out.old)) }
 {
     let mut shell = match begin_shell(alloc, defs, max_commits) {
         Ok(shell) => shell,
@@ -39,11 +44,14 @@ pub fn converse_into<R: BufRead, W: Write>(
 }
 
 /// Takes lines up to the end of the input, or to `.quit`.
+#[tactic(auto, using(crate::proofs::Refusals::late_output))]
 fn talk<R: BufRead, W: Write>(
     shell: &mut Shell,
     input: &mut R,
     out: &mut W,
-) -> Result<(), ShellFault> {
+) -> Result<(), ShellFault>
+    ensures { IfErr result IsInTheTalk }
+{
     let mut line = Vec::new(shell.alloc);
     for _ in 0..u64::MAX {
         ask(shell, out)?;
@@ -61,7 +69,10 @@ fn talk<R: BufRead, W: Write>(
 }
 
 /// Writes the prompt.
-fn ask<W: Write>(shell: &Shell, out: &mut W) -> Result<(), ShellFault> {
+#[tactic(auto, using(crate::proofs::Refusals::late_output))]
+fn ask<W: Write>(shell: &Shell, out: &mut W) -> Result<(), ShellFault>
+    ensures { IfErr result IsInTheTalk }
+{
     let prompt = if is_blank(shell.cutter.bytes()) {
         PROMPT
     } else {
@@ -71,7 +82,9 @@ fn ask<W: Write>(shell: &Shell, out: &mut W) -> Result<(), ShellFault> {
 }
 
 /// Does what a line says. False: it says that the talk is over.
-fn take_line<W: Write>(shell: &mut Shell, line: &[u8], out: &mut W) -> Result<bool, ShellFault> {
+fn take_line<W: Write>(shell: &mut Shell, line: &[u8], out: &mut W) -> Result<bool, ShellFault>
+    ensures { IfErr result IsInTheTalk }
+{
     let words = line.trim_ascii();
     if words.starts_with(b".") && is_blank(shell.cutter.bytes()) {
         shell.cutter.skip(line.len());
