@@ -24,7 +24,7 @@ use std::io::{BufRead, Write};
 /// read or written. Of `Stopped` where there is no memory for what is read or for the lines of an answer, and
 /// [`ShellFault::Input`] at the first fault of the reader: the writer has then gained the lines of the first pieces. Of
 /// `Output` at the first fault of the writer, after which nothing is known of the bytes that went out.
-#[tactic(auto, using(crate::proofs::Talking::conversation_if, crate::proofs::Talking::all_if, crate::proofs::Talking::first_pieces, crate::proofs::Talking::late_faults, crate::proofs::Talking::late_fault, crate::proofs::Talking::were_begun, crate::proofs::Talking::was_begun, crate::proofs::Talking::not_a_stop, crate::proofs::Talking::taken_of))]
+#[tactic(auto, using(crate::proofs::Talking::conversation_if, crate::proofs::Talking::first_pieces, crate::proofs::Talking::late_faults, crate::proofs::Talking::late_fault, crate::proofs::Talking::were_begun, crate::proofs::Talking::was_begun, crate::proofs::Talking::not_a_stop, crate::proofs::Talking::taken_of))]
 pub fn shell_into<R: BufRead, W: Write>(
     alloc: Global,
     defs: &[u8],

@@ -98,7 +98,7 @@ fn run_piece(
 fn let_go<T: Drop>(_value: T) {}
 
 /// Answers a piece, and adds its line.
-#[tactic(auto, using(crate::proofs::Refusals::responds_blank, crate::proofs::Refusals::responds_reply, crate::proofs::Refusals::responds_fault))]
+#[tactic(auto, using(crate::proofs::Refusals::responds_blank, crate::proofs::Refusals::responds_fault))]
 pub fn answer_piece(
     alloc: Global,
     engine: &mut Engine,
@@ -124,7 +124,7 @@ pub fn answer_piece(
 }
 
 /// Why what is left at the end of the input is no event, of a rest that has a token.
-#[tactic(auto, using(crate::proofs::Refusals::break_of_memory, crate::proofs::Refusals::break_of_text, crate::proofs::Refusals::break_of_event))]
+#[tactic(auto, using(crate::proofs::Refusals::break_of_memory, crate::proofs::Refusals::break_of_text))]
 fn refuse_rest(alloc: Global, at: usize, bytes: &[u8]) -> Refusal
     requires some { heading.is_blank bytes.now ≡ false }
     ensures { IsBreak (record { at = at; bytes = bytes.now }) result }
@@ -147,7 +147,7 @@ fn refuse_rest(alloc: Global, at: usize, bytes: &[u8]) -> Refusal
 }
 
 /// Adds the line of what is left at the end of the input.
-#[tactic(auto, using(crate::proofs::Refusals::breaks_blank, crate::proofs::Refusals::breaks_fault))]
+#[tactic(auto, using(crate::proofs::Refusals::breaks_blank))]
 pub fn answer_rest(
     alloc: Global,
     at: usize,

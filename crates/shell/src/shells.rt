@@ -103,7 +103,7 @@ impl Shell {
     ///
     /// `Stopped` where there is no memory for what is read or for the lines of an answer, `Output` at the first fault
     /// of the writer, and [`ShellFault::Input`] at the first of the reader.
-    #[tactic(auto, using(crate::proofs::Feeding::feeds_none, crate::proofs::Feeding::feeds_more, crate::proofs::Feeding::first_more, crate::proofs::Feeding::feeds_first, crate::proofs::Feeding::feeds_all))]
+    #[tactic(auto, using(crate::proofs::Feeding::feeds_none, crate::proofs::Feeding::feeds_more, crate::proofs::Feeding::feeds_all))]
     pub fn feed<R: BufRead, W: Write>(
         &mut self,
         input: &mut R,
@@ -126,7 +126,7 @@ impl Shell {
     }
 
     /// Reads on to the next semicolon, and answers the piece that it ends, if it ends one. False: nothing is left.
-    #[tactic(auto, using(crate::proofs::Feeding::first_none, crate::proofs::Feeding::over_turn, crate::proofs::Feeding::feeds_unless, crate::proofs::Feeding::feeds_whole, crate::proofs::Feeding::first_whole))]
+    #[tactic(auto, using(crate::proofs::Feeding::first_none, crate::proofs::Feeding::over_turn, crate::proofs::Feeding::feeds_whole, crate::proofs::Feeding::first_whole))]
     fn feed_piece<R: BufRead, W: Write>(
         &mut self,
         input: &mut R,
