@@ -219,15 +219,19 @@ fn print_ending<W: Write>(
     ensures stopped { IfErr result (λ fault. fault ≡ Stopped → out.new ≡ out.old) }
 {
     lines.clear();
-    if add_end(alloc, engine, lines).is_err() {
+    if add_ending(alloc, engine, lines).is_err() {
         return Err(ProgramFault::Stopped);
     }
     write_all(lines.as_bytes(), out)?;
     flush(out)
 }
 
-/// Adds what stands behind the answers.
-fn add_end(alloc: Global, engine: &Engine, lines: &mut Report) -> Result<(), AllocError>
+/// Adds what stands behind the answers: a line for each transaction that is open in the end, and the closing part.
+///
+/// # Errors
+///
+/// `AllocError` where no memory is left. The lines may then have gained some of those of open transactions.
+pub fn add_ending(alloc: Global, engine: &Engine, lines: &mut Report) -> Result<(), AllocError>
     ensures { OnOk result (lines.new ≡ lines.old ++ ending engine.now) }
 {
     leave_open(engine.seats(), lines)?;

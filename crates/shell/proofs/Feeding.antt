@@ -1,0 +1,197 @@
+-- What is read, answered and written so far, and what comes behind it.
+use Rattle.std.proofs.Common.{◌≡◌, ◌≢◌, ℕ, Bool, true, false, List, [], ◌∷◌, ◌++◌, length, take, Option, Some, None, Result, Ok, Err, refl, sym, ap, ◌∙◌, subst, append-nil, append_assoc}
+use Rattle.std.specs.Prelude.{IfSome}
+use Rattle.std.specs.Io.KnownBytes.{Appends, Consumes, IsAtEnd}
+use Rattle.std.proofs.KnownBytes.{Appends-nil, Appends-trans, Consumes-nil, Consumes-trans}
+use Rattle.commit.specs.Events.{EngineState}
+use Rattle.shell.specs.declared.cutting.Place.TheVariants.{End}
+use Rattle.shell.specs.Cuts.{Piece, Rest, forward, pieces_of, rest_of, scan, whole_of}
+use Rattle.shell.specs.Reading.{ReadsOn, ReadsSome}
+use Rattle.shell.specs.Outcomes.{AreOutcomes, IsOutcome, Outcome, line_of, lines_in}
+use Rattle.shell.specs.Writing.{Answers, AreRun, Feeds, FeedsAll, FeedsFirst, IsOver, left_by, left_by_all}
+use Rattle.shell.proofs.Pieces.{IsQuietTurn, IsWholeTurn, pieces_append, quiet_turn, rest_append, rest_at, same_rests, whole_turn}
+
+-- ---- outcomes one behind the other
+
+are_append : (ps qs : List Piece) (os us : List Outcome) → AreOutcomes ps os → AreOutcomes qs us → AreOutcomes (ps ++ qs) (os ++ us)
+are_append [] qs [] us h g = g
+are_append [] qs (o ∷ os) us h g = absurd h
+are_append (p ∷ ps) qs [] us h g = absurd h
+are_append (p ∷ ps) qs (o ∷ os) us h g = (h.0, are_append ps qs os us h.1 g)
+
+run_append : (now : EngineState) (os us : List Outcome) → AreRun now os → AreRun (left_by_all now os) us → AreRun now (os ++ us)
+run_append now [] us h g = g
+run_append now (o ∷ os) us h g = (h.0, run_append (left_by now o) os us h.1 g)
+
+left_append : (now : EngineState) (os us : List Outcome) → left_by_all now (os ++ us) ≡ left_by_all (left_by_all now os) us
+left_append now [] us = refl
+left_append now (o ∷ os) us = left_append (left_by now o) os us
+
+lines_append : (os us : List Outcome) → lines_in (os ++ us) ≡ lines_in os ++ lines_in us
+lines_append [] us = refl
+lines_append (o ∷ os) us = ap (λ l. line_of o ++ l) (lines_append os us) ∙ sym (append_assoc (line_of o) (lines_in os) (lines_in us))
+
+-- ---- turns one behind the other
+
+module _ (before : EngineState) (rest : Rest) where
+  -- nothing is read yet
+  pub feeds_none : (from old : Option (List ℕ)) → Feeds before rest before rest from from old old
+  feeds_none from old = record {
+    bytes = [];
+    read = Consumes-nil from;
+    outcomes = [];
+    are = tt;
+    run = tt;
+    leaves = refl;
+    last_is = refl;
+    written = Appends-nil old;
+  }
+
+  module _ (left : EngineState) (last : Rest) (from middle old now : Option (List ℕ)) (fed : Feeds before rest left last from middle old now) where
+    -- one turn more
+    pub feeds_more : (end : EngineState) (behind : Rest) (to new : Option (List ℕ)) → Feeds left last end behind middle to now new → Feeds before rest end behind from to old new
+    feeds_more end behind to new next = record {
+      bytes = fed.bytes ++ next.bytes;
+      read = Consumes-trans from middle to fed.bytes next.bytes fed.read next.read;
+      outcomes = fed.outcomes ++ next.outcomes;
+      are = subst (λ ps. AreOutcomes ps (fed.outcomes ++ next.outcomes)) (sym (pieces_append rest fed.bytes next.bytes))
+          (are_append (pieces_of rest fed.bytes) (pieces_of (rest_of rest fed.bytes) next.bytes) fed.outcomes next.outcomes fed.are
+          (subst (λ r. AreOutcomes (pieces_of r next.bytes) next.outcomes) fed.last_is next.are));
+      run = run_append before fed.outcomes next.outcomes fed.run (subst (λ e. AreRun e next.outcomes) fed.leaves next.run);
+      leaves = next.leaves ∙ ap (λ e. left_by_all e next.outcomes) fed.leaves ∙ sym (left_append before fed.outcomes next.outcomes);
+      last_is = next.last_is ∙ ap (λ r. rest_of r next.bytes) fed.last_is ∙ sym (rest_append rest fed.bytes next.bytes);
+      written = subst (Appends old new) (sym (lines_append fed.outcomes next.outcomes))
+          (Appends-trans old now new (lines_in fed.outcomes) (lines_in next.outcomes) fed.written next.written);
+    }
+
+    -- a turn more that does not come to its end
+    pub first_more : (to new : Option (List ℕ)) → FeedsFirst left last middle to now new → FeedsFirst before rest from to old new
+    first_more to new next = record {
+      bytes = fed.bytes ++ next.bytes;
+      read = Consumes-trans from middle to fed.bytes next.bytes fed.read next.read;
+      first = pieces_of rest fed.bytes ++ next.first;
+      others = next.others;
+      split = append_assoc (pieces_of rest fed.bytes) next.first next.others ∙ ap (λ l. pieces_of rest fed.bytes ++ l) next.split
+          ∙ ap (λ r. pieces_of rest fed.bytes ++ pieces_of r next.bytes) fed.last_is ∙ sym (pieces_append rest fed.bytes next.bytes);
+      outcomes = fed.outcomes ++ next.outcomes;
+      are = are_append (pieces_of rest fed.bytes) next.first fed.outcomes next.outcomes fed.are next.are;
+      run = run_append before fed.outcomes next.outcomes fed.run (subst (λ e. AreRun e next.outcomes) fed.leaves next.run);
+      written = subst (Appends old new) (sym (lines_append fed.outcomes next.outcomes))
+          (Appends-trans old now new (lines_in fed.outcomes) (lines_in next.outcomes) fed.written next.written);
+    }
+
+    -- or none more
+    pub feeds_first : FeedsFirst before rest from middle old now
+    feeds_first = record {
+      bytes = fed.bytes;
+      read = fed.read;
+      first = pieces_of rest fed.bytes;
+      others = [];
+      split = append-nil (pieces_of rest fed.bytes);
+      outcomes = fed.outcomes;
+      are = fed.are;
+      run = fed.run;
+      written = fed.written;
+    }
+
+    -- nothing is left
+    pub feeds_all : (end : EngineState) (behind : Rest) (new : Option (List ℕ)) → IsOver left last end behind middle now new → FeedsAll before rest end behind from old new
+    feeds_all end behind new over = record {
+      bytes = fed.bytes;
+      all = all_read from middle fed.bytes fed.read over.at_end;
+      outcomes = fed.outcomes;
+      are = fed.are;
+      run = fed.run;
+      leaves = over.left_is ∙ fed.leaves;
+      last_is = over.last_is ∙ fed.last_is;
+      written = subst (λ n. Appends old n (lines_in fed.outcomes)) (sym over.same) fed.written;
+    }
+      where
+        all_read : (a b : Option (List ℕ)) (bytes : List ℕ) → Consumes a b bytes → IsAtEnd b → IfSome a (λ known. bytes ≡ known)
+        all_read None b bytes h end = tt
+        all_read (Some xs) None bytes h end = absurd h
+        all_read (Some xs) (Some ys) bytes h end = sym (h ∙ ap (λ l. bytes ++ l) end ∙ append-nil bytes)
+
+  -- bytes are read, and no more is done
+  pub first_none : (from to old : Option (List ℕ)) → ReadsSome from to → FeedsFirst before rest from to old old
+  first_none from to old some = record {
+    bytes = some.bytes;
+    read = some.read;
+    first = [];
+    others = pieces_of rest some.bytes;
+    split = refl;
+    outcomes = [];
+    are = tt;
+    run = tt;
+    written = Appends-nil old;
+  }
+
+  -- ---- one turn
+
+  module _ (now : Rest) (from to : Option (List ℕ)) (read : ReadsOn rest now true from to) where
+    abbrev grown : Rest
+    grown = rest_at rest.at (rest.bytes ++ read.bytes) (scan rest.place read.bytes)
+
+    now_is : grown ≡ now
+    now_is = same_rests grown now (sym read.longer.at_is) (sym read.longer.bytes_are) (sym read.longer.place_is)
+
+    some_read : ReadsSome from to
+    some_read = record { bytes = read.bytes; read = read.read }
+
+    -- which ends no piece
+    pub feeds_quiet : (old : Option (List ℕ)) → (now.place ≡ End → ⊥) → Feeds before rest before now from to old old
+    feeds_quiet old goes =
+        let turn : IsQuietTurn rest read.bytes now = subst (IsQuietTurn rest read.bytes) now_is
+        (quiet_turn rest read.bytes read.stops (read.some refl) (λ e. goes (read.longer.place_is ∙ e))) in
+        record {
+          bytes = read.bytes;
+          read = read.read;
+          outcomes = [];
+          are = subst (λ ps. AreOutcomes ps []) (sym turn.none) tt;
+          run = tt;
+          leaves = refl;
+          last_is = sym turn.left;
+          written = Appends-nil old;
+        }
+
+    -- or one piece, which is answered
+    pub feeds_whole : (left : EngineState) (last : Rest) (old new : Option (List ℕ)) → now.place ≡ End → Answers before (whole_of now) left old new
+        → last ≡ rest_at (forward now.at (length now.bytes)) [] now.place → Feeds before rest left last from to old new
+    feeds_whole left last old new end answered last_is =
+        let turn : IsWholeTurn rest read.bytes now = subst (IsWholeTurn rest read.bytes) now_is
+        (whole_turn rest read.bytes read.stops (read.some refl) (sym read.longer.place_is ∙ end)) in
+        record {
+          bytes = read.bytes;
+          read = read.read;
+          outcomes = answered.outcome ∷ [];
+          are = subst (λ ps. AreOutcomes ps (answered.outcome ∷ [])) (sym turn.piece) (answered.is, tt);
+          run = (answered.run, tt);
+          leaves = answered.leaves;
+          last_is = last_is ∙ ap (rest_at (forward now.at (length now.bytes)) []) end ∙ sym turn.left;
+          written = subst (Appends old new) (sym (append-nil (line_of answered.outcome))) answered.written;
+        }
+
+    -- or one that is not, since memory ended it
+    pub first_whole : (old new : Option (List ℕ)) → new ≡ old → FeedsFirst before rest from to old new
+    first_whole old new same = subst (FeedsFirst before rest from to old) (sym same) (first_none from to old some_read)
+
+    nothing_added : (xs ys : List ℕ) → xs ++ ys ≡ [] → ys ≡ []
+    nothing_added [] ys e = e
+    nothing_added (x ∷ xs) ys e = let no : ⊥ = cc in absurd no
+
+    -- some bytes are there
+    some_there : now.bytes ≢ []
+    some_there none = read.some refl (nothing_added rest.bytes read.bytes (sym read.longer.bytes_are ∙ none))
+
+    pub feeds_unless : (old : Option (List ℕ)) → (now.bytes ≢ [] → now.place ≢ End) → Feeds before rest before now from to old old
+    feeds_unless old goes = feeds_quiet old (goes some_there)
+
+  -- a turn that reads nothing
+  pub over_turn : (now : Rest) (from to old : Option (List ℕ)) → ReadsOn rest now false from to → IsAtEnd from → IsOver before rest before now from old old
+  over_turn now from to old read end = record {
+    at_end = end;
+    left_is = refl;
+    last_is = same_rests now rest read.longer.at_is (read.longer.bytes_are ∙ ap (λ l. rest.bytes ++ l) (read.none refl) ∙ append-nil rest.bytes)
+        (read.longer.place_is ∙ ap (scan rest.place) (read.none refl));
+    same = refl;
+  }

@@ -1,0 +1,100 @@
+-- What becomes of each piece, and the line that tells it.
+use Rattle.std.specs.Prelude.{◌≡◌, ◌⊎◌, ℕ, true, false, List, [], ◌∷◌, ◌++◌, codes, length, ⊤}
+use Rattle.value.specs.declared.refusals.Refusal.{Refusal}
+use Rattle.value.specs.declared.refusals.Refusal.TheVariants.{Syntax, TooDeep}
+use Rattle.statement_syntax.specs.declared.statements.Step.{Step}
+use Rattle.statement_syntax.specs.declared.statements.Event.{Event}
+use Rattle.statement_syntax.specs.Grammar.{IsEvent}
+use Rattle.answer.specs.declared.answers.Answer.{Answer}
+use Rattle.report.specs.Report.{answer_line, refusal_line}
+use Rattle.running.specs.Texts.{IsRead, IsUnread}
+use Rattle.shell.specs.Cuts.{Piece, forward}
+use Rattle.shell.specs.Headings.{address, event_text, is_blank}
+
+-- nothing, where it has no token; an event with its answer; or why there is no event
+pub data Outcome : Type 0 where
+  Blank : Outcome
+  Reply : Step → Answer → Outcome
+  Fault : Refusal → Outcome
+
+-- a refusal that names a place of the event, by the place in the input
+abbrev pub moved : ℕ → Refusal → Refusal
+moved at (Syntax n) = Syntax (forward at n)
+moved at (TooDeep n) = TooDeep (forward at n)
+moved at refusal = refusal
+
+-- where the event of a piece begins in the input
+abbrev pub event_at : Piece → ℕ
+event_at piece = forward piece.at (address piece.bytes).from
+
+-- bytes are an event of a session
+pub record IsStepOf (bytes : List ℕ) (step : Step) : Type 0 where
+  pub some : is_blank bytes ≡ false
+  pub session_is : step.session ≡ (address bytes).session
+  pub read : IsRead IsEvent (event_text bytes) step.event
+
+-- they are none, or there was no memory to read it, or for the session's seat
+pub record IsFaultOf (piece : Piece) (refusal : Refusal) : Type 0 where
+  pub some : is_blank piece.bytes ≡ false
+  pub fault : Refusal
+  pub unread : IsUnread IsEvent (event_text piece.bytes) fault
+  pub is : refusal ≡ moved (event_at piece) fault
+
+-- what may become of a piece that a semicolon ends
+abbrev pub IsOutcome : Piece → Outcome → Type 0
+IsOutcome piece Blank = is_blank piece.bytes ≡ true
+IsOutcome piece (Reply step answer) = IsStepOf piece.bytes step
+IsOutcome piece (Fault refusal) = IsFaultOf piece refusal
+
+abbrev pub AreOutcomes : List Piece → List Outcome → Type 0
+AreOutcomes [] [] = ⊤
+AreOutcomes [] (outcome ∷ outcomes) = ⊥
+AreOutcomes (piece ∷ pieces) [] = ⊥
+AreOutcomes (piece ∷ pieces) (outcome ∷ outcomes) = IsOutcome piece outcome × AreOutcomes pieces outcomes
+
+-- no semicolon stands behind the event
+pub record IsOpen (text : List ℕ) (fault : Refusal) : Type 0 where
+  pub event : Event
+  pub read : IsRead IsEvent text event
+  pub is : fault ≡ Syntax (length text)
+
+-- why what is left at the end of the input is no event
+pub record IsBreak (piece : Piece) (refusal : Refusal) : Type 0 where
+  pub some : is_blank piece.bytes ≡ false
+  pub fault : Refusal
+  pub broken : IsUnread IsEvent (event_text piece.bytes) fault ⊎ IsOpen (event_text piece.bytes) fault
+  pub is : refusal ≡ moved (event_at piece) fault
+
+-- what may become of it
+abbrev pub IsLast : Piece → Outcome → Type 0
+IsLast piece Blank = is_blank piece.bytes ≡ true
+IsLast piece (Reply step answer) = ⊥
+IsLast piece (Fault refusal) = IsBreak piece refusal
+
+-- the events, their answers, and the lines of all
+abbrev pub step_in : Outcome → List Step
+step_in Blank = []
+step_in (Reply step answer) = step ∷ []
+step_in (Fault refusal) = []
+
+abbrev pub answer_in : Outcome → List Answer
+answer_in Blank = []
+answer_in (Reply step answer) = answer ∷ []
+answer_in (Fault refusal) = []
+
+abbrev pub line_of : Outcome → List ℕ
+line_of Blank = []
+line_of (Reply step answer) = answer_line step answer
+line_of (Fault refusal) = refusal_line (codes "SCRIPT") refusal
+
+abbrev pub steps_in : List Outcome → List Step
+steps_in [] = []
+steps_in (outcome ∷ outcomes) = step_in outcome ++ steps_in outcomes
+
+abbrev pub answers_in : List Outcome → List Answer
+answers_in [] = []
+answers_in (outcome ∷ outcomes) = answer_in outcome ++ answers_in outcomes
+
+abbrev pub lines_in : List Outcome → List ℕ
+lines_in [] = []
+lines_in (outcome ∷ outcomes) = line_of outcome ++ lines_in outcomes

@@ -1,0 +1,127 @@
+-- What the shell writes for definitions and an input.
+use Rattle.std.specs.Prelude.{◌≡◌, ◌++◌, ◌⊎◌, ℕ, Bool, true, false, List, [], Option, Ok, Err, IfSome, ⊤}
+use Rattle.std.specs.Io.KnownBytes.{Appends}
+use Rattle.value.specs.declared.refusals.Refusal.{Refusal}
+use Rattle.statement_syntax.specs.declared.definitions.Definition.{Definition}
+use Rattle.statement_syntax.specs.SchemaGrammar.{IsSchema}
+use Rattle.delta.specs.Views.{Shown}
+use Rattle.commit.specs.Admission.{admitted}
+use Rattle.commit.specs.Alone.{IsSound}
+use Rattle.commit.specs.Cores.{IsSerializable}
+use Rattle.commit.specs.Events.{EngineState}
+use Rattle.commit.specs.Runs.{AreAnswers, beginning, led_to}
+use Rattle.commit.specs.Told.{WereToldAlone}
+use Rattle.commit.specs.Written.{AreWritten}
+use Rattle.report.specs.Fronts.{BeginsWith}
+use Rattle.running.specs.declared.faults.ProgramFault.{ProgramFault}
+use Rattle.running.specs.declared.faults.ProgramFault.TheVariants.{Defs, Script, Stopped, Output, NoThread}
+use Rattle.running.specs.Texts.{IsInTheRun, IsRead, IsUnread, is_before_the_run}
+use Rattle.shell.specs.declared.faults.ShellFault.{ShellFault}
+use Rattle.shell.specs.declared.faults.ShellFault.TheVariants.{Run, Input}
+use Rattle.shell.specs.Cuts.{Piece, no_rest, piece_of, pieces_of, rest_of}
+use Rattle.shell.specs.Outcomes.{AreOutcomes, IsLast, Outcome, answers_in, line_of, lines_in, steps_in}
+use Rattle.shell.specs.Seats.{first_seated}
+use Rattle.shell.specs.Writing.{ending_if}
+
+-- the definitions are read and admitted; each assertion means what they write
+pub record AreTaken (defs : List ℕ) (shown : Shown) : Type 0 where
+  pub definitions : List Definition
+  pub read : IsRead IsSchema defs definitions
+  pub admits : admitted definitions ≡ Ok shown
+  pub written : AreWritten definitions shown.declared
+
+-- they are read, and refused so
+pub record AreRefused (defs : List ℕ) (refusal : Refusal) : Type 0 where
+  pub definitions : List Definition
+  pub read : IsRead IsSchema defs definitions
+  pub refused : admitted definitions ≡ Err refusal
+
+-- the engine before the first event
+pub record IsBeginning (defs : List ℕ) (limit : ℕ) (engine : EngineState) : Type 0 where
+  pub shown : Shown
+  pub taken : AreTaken defs shown
+  pub sound : IsSound shown.declared shown.state
+  pub is : engine ≡ beginning limit shown []
+
+-- The pieces of the input have these outcomes. The events among them are answered, each after those before it, from
+-- what the definitions define. The commits that they lead to are serializable, and each committed transaction was told
+-- what it answers alone.
+pub record IsTalk (limit : ℕ) (shown : Shown) (pieces : List Piece) (outcomes : List Outcome) (left : EngineState) : Type 0 where
+  pub are : AreOutcomes pieces outcomes
+  pub answered : AreAnswers (first_seated limit shown (steps_in outcomes)) (steps_in outcomes) (answers_in outcomes)
+  pub leaves : left ≡ led_to (first_seated limit shown (steps_in outcomes)) (steps_in outcomes) (answers_in outcomes)
+  pub serializable : IsSerializable left.core
+  pub told : WereToldAlone left.core (steps_in outcomes) (answers_in outcomes)
+
+-- the lines of all pieces of an input, of what is left at its end, and the report, if it is asked for
+pub record IsConversation (defs input : List ℕ) (limit : ℕ) (reports : Bool) (bytes : List ℕ) : Type 0 where
+  pub shown : Shown
+  pub taken : AreTaken defs shown
+  pub outcomes : List Outcome
+  pub left : EngineState
+  pub talk : IsTalk limit shown (pieces_of no_rest input) outcomes left
+  pub last : Outcome
+  pub last_is : IsLast (piece_of (rest_of no_rest input)) last
+  pub prints : bytes ≡ (lines_in outcomes ++ line_of last) ++ ending_if reports left
+
+-- the writer gained this for the bytes that were read, which are all that the reader had
+pub record WritesConversation (defs : List ℕ) (limit : ℕ) (reports : Bool) (from old new : Option (List ℕ)) : Type 0
+  where
+    pub input : List ℕ
+    pub all : IfSome from (λ bytes. input ≡ bytes)
+    pub bytes : List ℕ
+    pub is : IsConversation defs input limit reports bytes
+    pub written : Appends old new bytes
+
+-- the writer gained the lines of the first pieces of what was read
+pub record WritesFirst (defs : List ℕ) (limit : ℕ) (from old new : Option (List ℕ)) : Type 0 where
+  pub shown : Shown
+  pub taken : AreTaken defs shown
+  pub input : List ℕ
+  pub begins : IfSome from (λ bytes. BeginsWith input bytes)
+  pub first : List Piece
+  pub others : List Piece
+  pub split : first ++ others ≡ pieces_of no_rest input
+  pub outcomes : List Outcome
+  pub left : EngineState
+  pub talk : IsTalk limit shown first outcomes left
+  pub written : Appends old new (lines_in outcomes)
+
+-- the shell was begun
+abbrev pub IsTaken : List ℕ → Type 0
+IsTaken defs = (shown : Shown) × AreTaken defs shown
+
+abbrev pub IsRunFault : List ℕ → ProgramFault → Type 0
+IsRunFault defs (Defs refusal) = IsUnread IsSchema defs refusal ⊎ AreRefused defs refusal
+IsRunFault defs (Script refusal) = ⊥
+IsRunFault defs Stopped = IsTaken defs
+IsRunFault defs Output = IsTaken defs
+IsRunFault defs NoThread = ⊥
+
+-- Why the shell did not come to its end: the definitions are no text of their grammar; or they are, and have a fault; or
+-- it was begun, and memory, the writer or the reader ended it.
+abbrev pub IsFirstFault : List ℕ → ShellFault → Type 0
+IsFirstFault defs (Run fault) = IsRunFault defs fault
+IsFirstFault defs Input = IsTaken defs
+
+-- whether nothing was read or written
+abbrev pub is_before_the_talk : ShellFault → Bool
+is_before_the_talk (Run fault) = is_before_the_run fault
+is_before_the_talk Input = false
+
+-- memory, the writer or the reader ended it
+abbrev pub IsInTheTalk : ShellFault → Type 0
+IsInTheTalk (Run fault) = IsInTheRun fault
+IsInTheTalk Input = ⊤
+
+-- whether it is known what was written
+abbrev pub is_run_stop : ProgramFault → Bool
+is_run_stop (Defs refusal) = false
+is_run_stop (Script refusal) = false
+is_run_stop Stopped = true
+is_run_stop Output = false
+is_run_stop NoThread = false
+
+abbrev pub is_stop : ShellFault → Bool
+is_stop (Run fault) = is_run_stop fault
+is_stop Input = true

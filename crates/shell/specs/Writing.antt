@@ -1,0 +1,120 @@
+-- What a part of the input is answered, and what is written of it.
+use Rattle.std.specs.Prelude.{◌≡◌, ◌++◌, ℕ, Bool, true, false, List, [], ◌∷◌, Option, IfSome, ⊤}
+use Rattle.std.specs.Io.KnownBytes.{Appends, Consumes, IsAtEnd}
+use Rattle.statement_syntax.specs.declared.statements.Step.{Step}
+use Rattle.answer.specs.declared.answers.Answer.{Answer}
+use Rattle.commit.specs.Events.{EngineState, IsAnswered, after}
+use Rattle.replay.specs.Lines.{ending}
+use Rattle.shell.specs.Cuts.{Piece, Rest, piece_of, pieces_of, rest_of}
+use Rattle.shell.specs.Outcomes.{AreOutcomes, IsLast, IsOutcome, Outcome, Blank, Reply, Fault, line_of, lines_in}
+use Rattle.shell.specs.Seats.{welcomed}
+
+-- an event is answered; its session has then got its seat, if there was one
+abbrev pub IsRun : EngineState → Outcome → Type 0
+IsRun now Blank = ⊤
+IsRun now (Reply step answer) = IsAnswered (welcomed now step.session) step answer
+IsRun now (Fault refusal) = ⊤
+
+abbrev pub left_by : EngineState → Outcome → EngineState
+left_by now Blank = now
+left_by now (Reply step answer) = after (welcomed now step.session) step answer
+left_by now (Fault refusal) = now
+
+abbrev pub AreRun : EngineState → List Outcome → Type 0
+AreRun now [] = ⊤
+AreRun now (outcome ∷ outcomes) = IsRun now outcome × AreRun (left_by now outcome) outcomes
+
+abbrev pub left_by_all : EngineState → List Outcome → EngineState
+left_by_all now [] = now
+left_by_all now (outcome ∷ outcomes) = left_by_all (left_by now outcome) outcomes
+
+-- an event is answered, and this is what it leaves
+pub record IsAnsweredNow (before : EngineState) (step : Step) (answer : Answer) (left : EngineState) : Type 0 where
+  pub answered : IsAnswered (welcomed before step.session) step answer
+  pub leaves : left ≡ after (welcomed before step.session) step answer
+
+-- what is left at the end of the input has its outcome, and the lines grow by its line
+pub record Breaks (piece : Piece) (old new : List ℕ) : Type 0 where
+  pub outcome : Outcome
+  pub is : IsLast piece outcome
+  pub grown : new ≡ old ++ line_of outcome
+
+-- a piece has its outcome, and the lines grow by its line
+pub record Responds (before : EngineState) (piece : Piece) (left : EngineState) (old new : List ℕ) : Type 0 where
+  pub outcome : Outcome
+  pub is : IsOutcome piece outcome
+  pub run : IsRun before outcome
+  pub leaves : left ≡ left_by before outcome
+  pub grown : new ≡ old ++ line_of outcome
+
+-- some bytes are read, each piece that they end has its outcome, and the writer gains the lines
+pub record Feeds (before : EngineState) (rest : Rest) (left : EngineState) (last : Rest)
+    (from to old new : Option (List ℕ)) : Type 0 where
+  pub bytes : List ℕ
+  pub read : Consumes from to bytes
+  pub outcomes : List Outcome
+  pub are : AreOutcomes (pieces_of rest bytes) outcomes
+  pub run : AreRun before outcomes
+  pub leaves : left ≡ left_by_all before outcomes
+  pub last_is : last ≡ rest_of rest bytes
+  pub written : Appends old new (lines_in outcomes)
+
+-- some bytes are read, the first pieces that they end have their outcomes, and the writer gains the lines
+pub record FeedsFirst (before : EngineState) (rest : Rest) (from to old new : Option (List ℕ)) : Type 0 where
+  pub bytes : List ℕ
+  pub read : Consumes from to bytes
+  pub first : List Piece
+  pub others : List Piece
+  pub split : first ++ others ≡ pieces_of rest bytes
+  pub outcomes : List Outcome
+  pub are : AreOutcomes first outcomes
+  pub run : AreRun before outcomes
+  pub written : Appends old new (lines_in outcomes)
+
+-- nothing was left to read, and nothing has changed
+pub record IsOver (before : EngineState) (rest : Rest) (left : EngineState) (last : Rest) (from old new : Option (List ℕ)) : Type 0 where
+  pub at_end : IsAtEnd from
+  pub left_is : left ≡ before
+  pub last_is : last ≡ rest
+  pub same : new ≡ old
+
+-- a turn reads more, or says that nothing is left
+abbrev pub Turns : (more : Bool) → EngineState → Rest → EngineState → Rest → (from to old new : Option (List ℕ)) → Type 0
+Turns true before rest left last from to old new = Feeds before rest left last from to old new
+Turns false before rest left last from to old new = IsOver before rest left last from old new
+
+-- all bytes that a reader has are read, each piece that they end has its outcome, and the writer gains the lines
+pub record FeedsAll (before : EngineState) (rest : Rest) (left : EngineState) (last : Rest) (from old new : Option (List ℕ)) : Type 0 where
+  pub bytes : List ℕ
+  pub all : IfSome from (λ known. bytes ≡ known)
+  pub outcomes : List Outcome
+  pub are : AreOutcomes (pieces_of rest bytes) outcomes
+  pub run : AreRun before outcomes
+  pub leaves : left ≡ left_by_all before outcomes
+  pub last_is : last ≡ rest_of rest bytes
+  pub written : Appends old new (lines_in outcomes)
+
+-- a piece has its outcome, and the writer gains its line
+pub record Answers (before : EngineState) (piece : Piece) (left : EngineState) (old new : Option (List ℕ)) : Type 0 where
+  pub outcome : Outcome
+  pub is : IsOutcome piece outcome
+  pub run : IsRun before outcome
+  pub leaves : left ≡ left_by before outcome
+  pub written : Appends old new (line_of outcome)
+
+-- what stands behind the lines, if it is asked for
+abbrev pub ending_if : Bool → EngineState → List ℕ
+ending_if false left = []
+ending_if true left = ending left
+
+-- what is left at the end of the input has its outcome, and behind its line stands the report, if it is asked for
+pub record Ends (rest : Rest) (left : EngineState) (reports : Bool) (old new : List ℕ) : Type 0 where
+  pub last : Outcome
+  pub last_is : IsLast (piece_of rest) last
+  pub grown : new ≡ (old ++ line_of last) ++ ending_if reports left
+
+-- and the writer gains both
+pub record Finishes (rest : Rest) (left : EngineState) (reports : Bool) (old new : Option (List ℕ)) : Type 0 where
+  pub last : Outcome
+  pub last_is : IsLast (piece_of rest) last
+  pub written : Appends old new (line_of last ++ ending_if reports left)

@@ -1,0 +1,164 @@
+//! A piece is answered.
+
+ghost use Rattle.std.specs.Prelude.{◌≡◌, ◌++◌, false, IfErr, IfOk, IsOkUnless, OnErr, OnOk};
+ghost use Rattle.value.specs.declared.refusals.Refusal.TheVariants.{NoMemory};
+ghost use Rattle.shell.specs.Cuts as cut;
+ghost use Rattle.shell.specs.Headings as heading;
+ghost use Rattle.shell.specs.Outcomes as spec;
+ghost use Rattle.shell.specs.Outcomes.{IsBreak, IsFaultOf, IsStepOf};
+ghost use Rattle.shell.specs.Seats.{welcomed};
+ghost use Rattle.shell.specs.Writing.{Breaks, IsAnsweredNow, Responds};
+
+use crate::headings::{is_blank, read_address};
+use answer::Answer;
+use commit::Engine;
+use parse::parse_statement;
+use report::Report;
+use running::MOST_SESSIONS;
+use statement_syntax::Step;
+use std::alloc::{AllocError, Global};
+use value::{Refusal, Text};
+
+/// The name of the input in the line of a piece that is no event.
+const NAME: &str = "SCRIPT";
+
+/// So many bytes further on. It stops at the largest place that there is.
+fn forward(at: usize, count: usize) -> usize
+    ensures { result ≡ cut.forward at count }
+{
+    at.saturating_add(count)
+}
+
+/// A refusal that names a place of the event, by the place in the input.
+fn moved(at: usize, refusal: Refusal) -> Refusal
+    ensures { result ≡ spec.moved at refusal }
+{
+    match refusal {
+        Refusal::Syntax { at: place } => Refusal::Syntax {
+            at: forward(at, place),
+        },
+        Refusal::TooDeep { at: place } => Refusal::TooDeep {
+            at: forward(at, place),
+        },
+        other => other,
+    }
+}
+
+/// The event of a piece that has a token.
+#[tactic(auto, using(crate::proofs::Refusals::fault_of_memory, crate::proofs::Refusals::fault_of_text, crate::proofs::Refusals::step_of_text))]
+fn read_step(alloc: Global, at: usize, bytes: &[u8]) -> Result<Step, Refusal>
+    requires some { heading.is_blank bytes.now ≡ false }
+    ensures read { IfOk result (IsStepOf bytes.now) }
+    ensures refused { IfErr result (IsFaultOf (record { at = at; bytes = bytes.now })) }
+{
+    let address = read_address(alloc, bytes)?;
+    match parse_statement(alloc, &bytes[address.from..]) {
+        Ok(event) => Ok(Step {
+            session: address.session,
+            event,
+        }),
+        Err(refusal) => Err(moved(forward(at, address.from), refusal)),
+    }
+}
+
+/// A seat for a session, if it has none and there is one.
+fn welcome(engine: &mut Engine, session: &Text) -> Result<(), Refusal>
+    ensures only_memory { IsOkUnless result NoMemory }
+    ensures seated { OnOk result (engine.new ≡ welcomed engine.old session.now) }
+    ensures same { OnErr result (engine.new ≡ engine.old) }
+{
+    if engine.seats().len() < MOST_SESSIONS {
+        engine.seat(session)
+    } else {
+        Ok(())
+    }
+}
+
+/// Answers the event of a piece that has a token.
+#[tactic(auto, using(crate::proofs::Refusals::fault_of_memory))]
+fn run_piece(
+    alloc: Global,
+    engine: &mut Engine,
+    at: usize,
+    bytes: &[u8],
+) -> Result<(Step, Answer), Refusal>
+    requires some { heading.is_blank bytes.now ≡ false }
+    ensures read { IfOk result (λ told. IsStepOf bytes.now told.0) }
+    ensures answered { IfOk result (λ told. IsAnsweredNow engine.old told.0 told.1 engine.new) }
+    ensures refused { IfErr result (IsFaultOf (record { at = at; bytes = bytes.now })) }
+    ensures same { OnErr result (engine.new ≡ engine.old) }
+{
+    let step = read_step(alloc, at, bytes)?;
+    welcome(engine, &step.session)?;
+    let answer = engine.answer(&step);
+    Ok((step, answer))
+}
+
+/// Lets a value go. Its type is a parameter here, so that the caller's proof does not go over its fields.
+fn let_go<T: Drop>(_value: T) {}
+
+/// Answers a piece, and adds its line.
+#[tactic(auto, using(crate::proofs::Refusals::responds_blank, crate::proofs::Refusals::responds_fault))]
+pub fn answer_piece(
+    alloc: Global,
+    engine: &mut Engine,
+    at: usize,
+    bytes: &[u8],
+    lines: &mut Report,
+) -> Result<(), AllocError>
+    ensures { OnOk result
+        (Responds engine.old (record { at = at; bytes = bytes.now }) engine.new lines.old lines.new) }
+{
+    if is_blank(bytes) {
+        return Ok(());
+    }
+    match run_piece(alloc, engine, at, bytes) {
+        Ok((step, answer)) => {
+            let added = lines.add_answer(&step, &answer);
+            let_go(answer);
+            let_go(step);
+            added
+        }
+        Err(refusal) => lines.add_refusal(NAME, &refusal),
+    }
+}
+
+/// Why what is left at the end of the input is no event, of a rest that has a token.
+#[tactic(auto, using(crate::proofs::Refusals::break_of_memory, crate::proofs::Refusals::break_of_text))]
+fn refuse_rest(alloc: Global, at: usize, bytes: &[u8]) -> Refusal
+    requires some { heading.is_blank bytes.now ≡ false }
+    ensures { IsBreak (record { at = at; bytes = bytes.now }) result }
+{
+    match read_address(alloc, bytes) {
+        Err(refusal) => refusal,
+        Ok(address) => {
+            let text = &bytes[address.from..];
+            let place = forward(at, address.from);
+            match parse_statement(alloc, text) {
+                Ok(event) => {
+                    let_go(event);
+                    // (its semicolon is missing)
+                    moved(place, Refusal::Syntax { at: text.len() })
+                }
+                Err(refusal) => moved(place, refusal),
+            }
+        }
+    }
+}
+
+/// Adds the line of what is left at the end of the input.
+#[tactic(auto, using(crate::proofs::Refusals::breaks_blank))]
+pub fn answer_rest(
+    alloc: Global,
+    at: usize,
+    bytes: &[u8],
+    lines: &mut Report,
+) -> Result<(), AllocError>
+    ensures { OnOk result (Breaks (record { at = at; bytes = bytes.now }) lines.old lines.new) }
+{
+    if is_blank(bytes) {
+        return Ok(());
+    }
+    let refusal = refuse_rest(alloc, at, bytes);
+    lines.add_refusal(NAME, &refusal)
+}
