@@ -39,6 +39,17 @@ each time.
 Example:
   $ skewguard threads defs.sql script.sql";
 
+const AFTER_SHELL: &str = "\
+An event may span lines and ends at `;`. Without `NAME:` it is one of ME. On a terminal `.help` lists what else may
+be asked for.
+
+Example:
+  $ printf 'BEGIN; A: BEGIN; INSERT INTO T VALUES (1); COMMIT;' | skewguard shell defs.sql
+  ME: BEGIN 0
+  A: BEGIN 0
+  ME: INSERT 1
+  ME: COMMIT 1";
+
 const AFTER_CHECK: &str = "\
 Nothing is run. A fault is shown with its line and what may stand there.
 
@@ -88,6 +99,7 @@ pub fn make_command<'a>(alloc: Global) -> Result<Command<'a>, AllocError> {
         .subcommand_required(true)
         .subcommand(replay_command(alloc)?)?
         .subcommand(threads_command(alloc)?)?
+        .subcommand(shell_command(alloc)?)?
         .subcommand(check_command(alloc)?)?
         .subcommand(explain_command(alloc)?)?
         .subcommand(picture_command(alloc)?)?
@@ -106,6 +118,20 @@ fn threads_command<'a>(alloc: Global) -> Result<Command<'a>, AllocError> {
         .about("Runs each session of a script on a thread and prints the replies by session")
         .after_help(AFTER_THREADS);
     add_texts(alloc, add_limit(alloc, command)?, true)
+}
+
+fn shell_command<'a>(alloc: Global) -> Result<Command<'a>, AllocError> {
+    let defs = Arg::new(alloc, "DEFS").required(true).help(
+        "A file of definitions: tables, assertions and the rows to begin with",
+    );
+    let report = Arg::new(alloc, "report")
+        .long("report")
+        .action(ArgAction::SetTrue)
+        .help("Prints at the end what replay prints there");
+    let command = Command::new(alloc, "shell")
+        .about("Answers events from standard input, each at once")
+        .after_help(AFTER_SHELL);
+    add_limit(alloc, command.arg(defs)?.arg(report)?)
 }
 
 fn check_command<'a>(alloc: Global) -> Result<Command<'a>, AllocError> {

@@ -22,11 +22,12 @@ pub const USAGE: u8 = 2;
 /// A file can't be read, or the output can't be written.
 pub const OUTSIDE: u8 = 3;
 
-/// Where the program writes.
+/// Where the program writes, and whether its three streams are terminals.
 #[derive(Drop)]
 pub struct Streams<'a, W, E> {
     pub out: &'a mut W,
     pub err: &'a mut E,
+    pub in_is_terminal: bool,
     pub out_is_terminal: bool,
     pub err_is_terminal: bool,
     /// What shows on a terminal that long work goes on.

@@ -14,6 +14,9 @@
 //! prints the same lines by session; what it promises stands at `threads::threads_into`. The texts, the faults and
 //! the closing part are the same for both (`running`).
 //!
+//! `skewguard shell` answers events from standard input, each at once; what it promises of a pipe, from bytes to bytes,
+//! stands at `shell::shell_into`. On a terminal it talks (`shell::converse_into`).
+//!
 //! `skewguard check` runs nothing. It shows what the definitions define and what their assertions cost, and of each
 //! text its first fault, with its line and what may stand there (`checkup`).
 //!
@@ -22,8 +25,8 @@
 //! engine (`postgresql`).
 //!
 //! The module `program` is the command line: which subcommand is meant, and the status to end with. `commands` has the
-//! words that are taken; `runs`, `checks`, `explanations` and `translations` what they do; `files` and `texts` what is
-//! read, `signs` the line that shows on a terminal that long work goes on, and `endings` what is said of a run that
+//! words that are taken; `runs`, `shells`, `checks`, `explanations` and `translations` what they do; `files` and `texts`
+//! what is read, `signs` the line that shows on a terminal that long work goes on, and `endings` what is said of a run that
 //! failed. A further subcommand is a function in `commands` and a line in `program::run_named`.
 #![tactic(auto)]
 
@@ -34,15 +37,18 @@ mod explanations;
 mod files;
 mod program;
 mod runs;
+mod shells;
 mod signs;
 mod texts;
 mod translations;
 
 use files::Streams;
 use signs::Sign;
+use std::io::IsTerminal;
 use std::process::ExitCode;
 
 fn main(rt: HostRuntime) -> ExitCode {
+    let in_is_terminal = rt.stdin().is_terminal();
     let sign = Sign::new();
     let mut out = sign.beside(&rt, rt.stdout());
     let mut err = sign.beside(&rt, rt.stderr());
@@ -50,6 +56,7 @@ fn main(rt: HostRuntime) -> ExitCode {
     let mut streams = Streams {
         out: &mut out,
         err: &mut err,
+        in_is_terminal,
         out_is_terminal,
         err_is_terminal,
         sign: &sign,

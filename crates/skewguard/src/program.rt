@@ -8,11 +8,12 @@ use crate::commands::make_command;
 use crate::explanations::{draw, explain};
 use crate::files::{OUTSIDE, Streams, USAGE, WELL, report_no_memory};
 use crate::runs::{Way, run};
+use crate::shells::serve;
 use crate::signs::Task;
 use crate::translations::translate;
 use clap::ArgMatches;
 use std::io::Write;
-use std::rt::{Env, Files};
+use std::rt::{Env, Files, Input};
 use std::sync::Wait;
 use std::thread::Threads;
 use std::time::Clock;
@@ -21,7 +22,7 @@ use std::{env, thread};
 /// Does what the words of the command line ask for, and gives the status to end with.
 pub fn command_line<R, W, E>(rt: &R, streams: &mut Streams<'_, W, E>) -> u8
 where
-    R: Env + Files + Print + Eprint + AllocGlobal + Clock + Threads + Wait + Sync,
+    R: Env + Files + Input + Print + Eprint + AllocGlobal + Clock + Threads + Wait + Sync,
     W: Write,
     E: Write,
     ensures { result ≤ 3 }
@@ -52,7 +53,7 @@ where
 /// Runs the subcommand that the words name, beside a sign of life where the second stream is a terminal.
 fn run_matches<R, W, E>(rt: &R, matches: &ArgMatches<'_>, streams: &mut Streams<'_, W, E>) -> u8
 where
-    R: Files + Eprint + AllocGlobal + Clock + Threads + Wait + Sync,
+    R: Files + Input + Eprint + AllocGlobal + Clock + Threads + Wait + Sync,
     W: Write,
     E: Write,
     ensures { result ≤ 3 }
@@ -75,7 +76,7 @@ fn run_in_sight<R, W, E>(
     streams: &mut Streams<'_, W, E>,
 ) -> u8
 where
-    R: Files + Eprint + AllocGlobal + Clock + Threads + Wait + Sync,
+    R: Files + Input + Eprint + AllocGlobal + Clock + Threads + Wait + Sync,
     W: Write,
     E: Write,
     ensures { result ≤ 3 }
@@ -103,6 +104,10 @@ fn task_of(name: &str) -> Task {
             before: "loading",
             after: "running",
         },
+        "shell" => Task {
+            before: "loading",
+            after: "answering",
+        },
         "check" | "postgresql" => Task {
             before: "loading",
             after: "printing",
@@ -122,7 +127,7 @@ fn run_named<R, W, E>(
     streams: &mut Streams<'_, W, E>,
 ) -> u8
 where
-    R: Files + AllocGlobal + Threads + Wait + Sync,
+    R: Files + Input + AllocGlobal + Threads + Wait + Sync,
     W: Write,
     E: Write,
     ensures { result ≤ 3 }
@@ -130,6 +135,7 @@ where
     match name {
         "replay" => run(rt, Way::InOrder, words, streams),
         "threads" => run(rt, Way::OnThreads, words, streams),
+        "shell" => serve(rt, words, streams),
         "check" => check(rt, words, streams),
         "explain" => explain(rt, words, streams),
         "picture" => draw(rt, words, streams),

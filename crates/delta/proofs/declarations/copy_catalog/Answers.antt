@@ -10,7 +10,7 @@ use Rattle.delta.proofs.declarations.copy_catalog.Goals.{in-Some+in-Some-at+in_o
 pub returns-in_err-add-clause-only_memory : goal.returns-in_err-add-clause-only_memory
 returns-in_err-add-clause-only_memory c =
     let fresh : is_some (layout_of c.in_ok-copy.field-0 c.loop-table.copy) ≡ false = rw (c.loop-table.invariant, c.in_ok-copy.ensures)
-        (ap is_some (new_name c.args.catalog.now c.loop-table.table c.in-Some.name.now c.in-Some-at.schema.now (table_at c.args.catalog.now c.loop-table.table c.in-Some.name.now c.in-Some-at.schema.now c.in-Some.ensures c.in-Some-at.ensures) c.len-table-end.ensures.unique)) in
+    (ap is_some (new_name c.args.catalog.now c.loop-table.table c.in-Some.name.now c.in-Some-at.schema.now (table_at c.args.catalog.now c.loop-table.table c.in-Some.name.now c.in-Some-at.schema.now c.in-Some.ensures c.in-Some-at.ensures) c.len-table-end.ensures.unique)) in
     let only = c.in_err-add.ensures.free fresh in
     search rules
 
