@@ -8,8 +8,8 @@ use crate::texts::{Texts, limit_of, read_texts};
 use clap::ArgMatches;
 use shell::{ShellFault, converse_into, shell_into};
 use std::alloc::Global;
-use std::io::{BufReader, Write};
-use std::rt::{Files, Input};
+use std::io::{BufReader, Input, Write};
+use std::rt::Files;
 
 /// Answers what comes on standard input, on the definitions that the words name.
 pub fn serve<R, W, E>(rt: &R, words: &ArgMatches<'_>, streams: &mut Streams<'_, W, E>) -> u8
