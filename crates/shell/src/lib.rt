@@ -29,8 +29,6 @@ mod faults;
 mod headings;
 mod laws;
 mod shells;
-#[cfg(test)]
-mod tests;
 
 pub use calls::shell_into;
 pub use conversations::converse_into;

@@ -1,8 +1,8 @@
 //! Conversations, by the bytes that are written.
 
-use crate::{ShellFault, converse_into, shell_into};
 use replay::replay_into;
 use running::ProgramFault;
+use shell::{ShellFault, converse_into, shell_into};
 use std::alloc::Global;
 use std::process::Abort;
 use std::test::Fail;
