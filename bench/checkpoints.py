@@ -3,8 +3,8 @@
 
     python3 bench/checkpoints.py [--commits 1000000] [--rows 10000] [--every 10000]
 
-The program is made in a copy of the repository, by `rt run`, which proves it: a transaction of one UPDATE by key each, key
-after key, under the rule that no sum of a group is below zero. What a checkpoint hands out is dropped.
+The program is made in a copy of the repository, by `rt run`, which proves it: a transaction of one UPDATE by key each,
+key after key, under the rule that no sum of a group is below zero. What a checkpoint hands out is dropped.
 The table that docs/PERFORMANCE.md holds is printed as it stands there. One process at a time runs.
 """
 

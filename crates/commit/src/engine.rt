@@ -95,8 +95,8 @@ impl Engine {
     ///
     /// # Errors
     ///
-    /// [`Refusal::TransactionOpen`] while a transaction is open; else those of [`Core::checkpoint`]. Nothing has changed
-    /// then.
+    /// [`Refusal::TransactionOpen`] while a transaction is open; else those of [`Core::checkpoint`]. Nothing has
+    /// changed then.
     pub fn checkpoint(
         &mut self,
         dropped: &[Text],

@@ -39,8 +39,8 @@ redeclaration dropped created now = and_then (without_names dropped now) (with_n
 abbrev pub IsCreated : Tables → NewAssertion → Assertion → Type 0
 IsCreated tables new assertion = IsWritten tables new.name new.condition new.attributes assertion
 
--- Behind the assertions that are left there is one for each that is created, in their order, which has its name and means
--- what is written. The tables and their rows are as before.
+-- Behind the assertions that are left there is one for each that is created, in their order, which has its name and
+-- means what is written. The tables and their rows are as before.
 pub record AreCreated (left : Shown) (created : List NewAssertion) (after : Shown) : Type 0 where
   pub more : List Assertion
   pub assertions : after.declared.assertions ≡ left.declared.assertions ++ more

@@ -22,8 +22,8 @@
 //! schema.
 //!
 //! Of tables that there are [`redeclare`] drops assertions and creates others (SQL-92: drop assertion statement,
-//! assertion definition; `specs/Redeclaration`), and [`Definitions::of`] is what a view shows, as if a schema had defined
-//! it.
+//! assertion definition; `specs/Redeclaration`), and [`Definitions::of`] is what a view shows, as if a schema had
+//! defined it.
 #![tactic(auto)]
 
 mod redeclaration;

@@ -25,9 +25,9 @@
 //! engine (`postgresql`).
 //!
 //! The module `program` is the command line: which subcommand is meant, and the status to end with. `commands` has the
-//! words that are taken; `runs`, `shells`, `checks`, `explanations` and `translations` what they do; `files` and `texts`
-//! what is read, `signs` the line that shows on a terminal that long work goes on, and `endings` what is said of a run that
-//! failed. A further subcommand is a function in `commands` and a line in `program::run_named`.
+//! words that are taken; `runs`, `shells`, `checks`, `explanations` and `translations` what they do; `files` and
+//! `texts` what is read, `signs` the line that shows on a terminal that long work goes on, and `endings` what is said of
+//! a run that failed. A further subcommand is a function in `commands` and a line in `program::run_named`.
 #![tactic(auto)]
 
 mod checks;

@@ -5,7 +5,7 @@ ghost use Rattle.alone.specs.Alone.{IsSound};
 
 use crate::texts::let_go;
 use commit::{Core, Engine, Epoch, Epochs, Outcome, admit, run_epochs};
-use definitions::{Definitions, NewAssertion};
+use definitions::{Definitions, NewAssertion, new_assertions};
 use delta::View;
 use parse::{parse_schema, parse_script};
 use report::Report;
@@ -15,7 +15,8 @@ use std::test::Fail;
 use value::{Refusal, Text};
 
 /// An account of KIM.
-const ACCOUNT: &str = "CREATE TABLE ACCT (ID INTEGER PRIMARY KEY, OWNER VARCHAR(8) NOT NULL, BAL INTEGER NOT NULL);
+const ACCOUNT: &str =
+    "CREATE TABLE ACCT (ID INTEGER PRIMARY KEY, OWNER VARCHAR(8) NOT NULL, BAL INTEGER NOT NULL);
     INSERT INTO ACCT VALUES (1, 'KIM', 5);";
 
 /// No owner's accounts sum below zero.
@@ -23,18 +24,12 @@ const FUNDS: &str = "CREATE ASSERTION FUNDS CHECK (NOT EXISTS (SELECT OWNER FROM
     HAVING SUM(BAL) < 0));";
 
 /// No account is below zero.
-const OWN_FUNDS: &str = "CREATE ASSERTION FUNDS CHECK (NOT EXISTS (SELECT * FROM ACCT WHERE BAL < 0));";
+const OWN_FUNDS: &str =
+    "CREATE ASSERTION FUNDS CHECK (NOT EXISTS (SELECT * FROM ACCT WHERE BAL < 0));";
 
 /// The new assertions that a text writes.
-fn new_assertions(alloc: Global, text: &str) -> Result<Vec<NewAssertion>, Refusal> {
-    let mut new = Vec::new(alloc);
-    let mut definitions = parse_schema(alloc, text.as_bytes())?;
-    while let Some(definition) = definitions.pop() {
-        if let Ok(assertion) = NewAssertion::of(definition) {
-            new.push(assertion)?;
-        }
-    }
-    Ok(new)
+fn read_new(alloc: Global, text: &str) -> Result<Vec<NewAssertion>, Refusal> {
+    new_assertions(alloc, parse_schema(alloc, text.as_bytes())?)
 }
 
 /// An epoch of these texts: the name that is dropped, if one is, the new assertions, and the events.
@@ -48,7 +43,7 @@ fn epoch_of(
     }
     Ok(Epoch {
         dropped: names,
-        created: new_assertions(alloc, created)?,
+        created: read_new(alloc, created)?,
         steps: parse_script(alloc, script.as_bytes())?,
     })
 }
@@ -108,13 +103,29 @@ fn checkpoint_with_funds(rt: HostRuntime) -> Result<(), Fail> {
     );
     let (report, refused) = printed(rt.alloc(), ACCOUNT, &[MEANWHILE, next])?;
     assert!(rt; refused.is_none());
-    assert_eq!(
-        rt;
+    assert_eq!(rt;
         report.as_bytes(),
         b"A: BEGIN 0\nA: INSERT 1\nA: COMMIT 1\nB: BEGIN 1\nB: UPDATE 1\nB: COMMIT 2\n\
-        C: BEGIN 0\nC: REFUSED 10 23000 FUNDS 'KIM'\n".as_slice(),
+        C: BEGIN 0\nC: REFUSED 10 23000 FUNDS 'KIM'\n"
+            .as_slice(),
     );
     Ok(())
+}
+
+/// Whether a new assertion of this name was false.
+fn is_false_at_creation(refused: &Option<Refusal>, name: &[u8]) -> bool {
+    match refused {
+        Some(Refusal::FalseAtCreation { assertion, .. }) => assertion.as_bytes() == name,
+        _ => false,
+    }
+}
+
+/// Whether a name was dropped that no assertion has.
+fn is_unknown(refused: &Option<Refusal>, dropped: &[u8]) -> bool {
+    match refused {
+        Some(Refusal::UnknownName { name }) => name.as_bytes() == dropped,
+        _ => false,
+    }
 }
 
 /// A new assertion that is false on the newest tables: it is true on those that were loaded.
@@ -130,8 +141,11 @@ fn a_false_assertion_begins_no_epoch(rt: HostRuntime) -> Result<(), Fail> {
         ACCOUNT,
         &[before, ("", FUNDS, "C: BEGIN;"), MEANWHILE],
     )?;
-    assert!(rt; matches!(&refused, Some(Refusal::FalseAtCreation { assertion, .. }) if assertion.as_bytes() == b"FUNDS".as_slice()));
-    assert_eq!(rt; report.as_bytes(), b"A: BEGIN 0\nA: INSERT 1\nA: COMMIT 1\n".as_slice());
+    assert!(rt; is_false_at_creation(&refused, b"FUNDS"));
+    assert_eq!(rt;
+        report.as_bytes(),
+        b"A: BEGIN 0\nA: INSERT 1\nA: COMMIT 1\n".as_slice()
+    );
     Ok(())
 }
 
@@ -149,12 +163,12 @@ fn an_assertion_is_replaced(rt: HostRuntime) -> Result<(), Fail> {
             ("FUNDS", "", insert),
         ],
     )?;
-    assert!(rt; matches!(&refused, Some(Refusal::UnknownName { name }) if name.as_bytes() == b"FUNDS".as_slice()));
-    assert_eq!(
-        rt;
+    assert!(rt; is_unknown(&refused, b"FUNDS"));
+    assert_eq!(rt;
         report.as_bytes(),
         b"A: BEGIN 0\nA: INSERT 1\nA: ROLLBACK\nA: BEGIN 0\nA: REFUSED 10 23000 FUNDS 2\nA: ROLLBACK\n\
-        A: BEGIN 0\nA: INSERT 1\nA: ROLLBACK\n".as_slice(),
+        A: BEGIN 0\nA: INSERT 1\nA: ROLLBACK\n"
+            .as_slice(),
     );
     Ok(())
 }
@@ -170,7 +184,10 @@ fn engine_with_open(alloc: Global, steps: &[Step]) -> Result<Engine, Refusal> {
 
 /// What an engine hands out once no transaction is open.
 fn hand_out(engine: &mut Engine, end: &Step, created: &[NewAssertion]) -> Result<Core, Refusal> {
-    if !matches!(engine.checkpoint(&[], created), Err(Refusal::TransactionOpen)) {
+    if !matches!(
+        engine.checkpoint(&[], created),
+        Err(Refusal::TransactionOpen)
+    ) {
         return Err(Refusal::NoTransaction);
     }
     let_go(engine.answer(end));
@@ -185,7 +202,7 @@ fn an_open_transaction_keeps_its_epoch(rt: HostRuntime) -> Result<(), Fail> {
         b"A: BEGIN; A: COMMIT; A: BEGIN; A: INSERT INTO ACCT VALUES (2, 'KIM', -7);",
     )?;
     let end = parse_script(alloc, b"A: ROLLBACK;")?;
-    let created = new_assertions(alloc, FUNDS)?;
+    let created = read_new(alloc, FUNDS)?;
     let mut engine = engine_with_open(alloc, steps.as_slice())?;
     let before = hand_out(&mut engine, &end.as_slice()[0], created.as_slice())?;
     assert_eq!(rt; before.records().len(), 1);
