@@ -1,13 +1,16 @@
 //! The manager.
 
-ghost use Rattle.std.specs.Prelude.{◌≡◌, ◌≢◌, ◌≤◌, ◌<◌, true, false, Ok, Err, Some, IfOk, IfErr, OnErr};
+ghost use Rattle.std.specs.Prelude.{◌≡◌, ◌≢◌, ◌≤◌, ◌<◌, ◌+◌, true, false, Ok, Err, Some, IfOk, IfErr, OnErr};
 ghost use Rattle.std.specs.Arc.{arc_value};
-ghost use Rattle.value.specs.declared.refusals.Refusal.TheVariants.{NoMemory, Stranger, TooManySessions};
+ghost use Rattle.value.specs.declared.refusals.Refusal.TheVariants.{EpochFull, NoMemory, Stranger, TooManySessions};
 ghost use Rattle.boxcar.specs.Table.{Shows};
 ghost use Rattle.modes.specs.Modes.{assertion_of};
 ghost use Rattle.commit.specs.Admission.{satisfied};
+ghost use Rattle.commit.specs.Cores.{newest_tables};
+ghost use Rattle.commit.specs.Epochs.{next_start};
 ghost use Rattle.session.specs.Books.{IsFresh, IsTicketed};
-ghost use Rattle.session.specs.Answers.{AreShownBy, IsReason, IsRefused, IsSatisfied, IsStanding, record_of};
+ghost use Rattle.session.specs.Answers.{AreShownBy, IsReason, IsRefused, IsRefusedOver, IsSatisfied, IsStanding};
+ghost use Rattle.session.specs.Answers.{record_of};
 
 use crate::book::Book;
 use crate::history::History;
@@ -18,8 +21,9 @@ use crate::sessions::Session;
 use crate::shelf::{Shelf, Token};
 use crate::tickets::{CommitFault, Txn, Unclosed};
 use commit::require_satisfied;
-use definitions::Definitions;
+use definitions::{Definitions, NewAssertion};
 use std::alloc::Global;
+use std::mem;
 use std::sync::{Arc, Mutex, Wait};
 use threeval::Truth;
 use value::{Refusal, Text};
@@ -30,7 +34,7 @@ pub struct Manager<N: Named> {
     shelf: Arc<Shelf>,
     id: u64,
     epoch: u64,
-    /// The token of the tables before the first commit.
+    /// The token of the tables before the first commit of the epoch.
     loaded: Token,
     book: Mutex<Book<N>>,
     ghost shelf_is: { arc_value shelf ≡ N.shelf id },
@@ -67,7 +71,8 @@ impl<N: Named> Manager<N> {
             Ok(shared) => shared,
             Err(_) => return Err(Refusal::NoMemory),
         };
-        let (book, loaded) = Book::open(rt, alloc, &shared, id, 0, view, &limits)?;
+        let (commits, sessions) = (limits.commits(), limits.sessions());
+        let (book, loaded) = Book::open(rt, alloc, &shared, id, 0, view, commits, sessions)?;
         Ok(Manager {
             shelf: shared,
             id,
@@ -189,6 +194,55 @@ impl<N: Named> Manager<N> {
         self.book
             .lock(rt)
             .standing(&self.shelf, self.id, self.epoch, &self.loaded, name)
+    }
+
+    /// Begins a new epoch on the newest tables: the assertions of some names are dropped, new ones are created behind
+    /// those that are left (a name that is dropped may be given anew), and every assertion has to be satisfied. The
+    /// commits so far are handed out, over the tables that their epoch began on: who drops them gives their memory back,
+    /// but for what stands on the shelf. Sessions, receipts and open transactions of the epoch before are strangers from
+    /// now on, and such a transaction is spent by [`Txn::abandon`]; as many sessions and commits as the limits say may
+    /// come anew. The manager is had alone, so a scope whose threads share it has to end first.
+    ///
+    /// # Errors
+    ///
+    /// [`Refusal::EpochFull`] at the epoch 18,446,744,073,709,551,615, behind which there is none. Then, on the newest
+    /// tables: [`Refusal::UnknownName`] of the first name that is dropped and that no assertion has, or has any more; of
+    /// the first new assertion that is refused, what CREATE ASSERTION answers; and [`Refusal::FalseAtCreation`] with the
+    /// first assertion that is false, and its least bad root. Or [`Refusal::NoMemory`]; or [`Refusal::Stranger`], as by
+    /// [`Manager::close`]. Nothing has changed then: the epoch goes on.
+    pub fn checkpoint<R: Wait>(
+        &mut self,
+        rt: &R,
+        dropped: &[Text],
+        created: &[NewAssertion],
+    ) -> Result<History<N>, Refusal>
+        ensures id { self.new.id ≡ self.old.id }
+        ensures epoch { IfOk result (λ _. self.new.epoch ≡ self.old.epoch + 1) }
+        ensures whose { IfOk result (λ history. (history.id ≡ self.old.id) × (history.epoch ≡ self.old.epoch)) }
+        ensures loaded { IfOk result (λ history. history.loaded ≡ self.old.loaded) }
+        ensures start { IfOk result (λ history.
+            next_start dropped.now created.now (newest_tables history.book.core) ≡ Ok self.new.loaded.value.view) }
+        ensures room { IfOk result (λ _. self.old.epoch < 18446744073709551615) }
+        ensures full { self.old.epoch ≡ 18446744073709551615 → IfErr result (λ refusal. refusal ≡ EpochFull) }
+        ensures refused { IfErr result (λ refusal. self.old.epoch < 18446744073709551615 → refusal ≢ NoMemory
+            → refusal ≢ Stranger → IsRefusedOver self.old.loaded.value.view dropped.now created.now refusal) }
+        ensures same { OnErr result ((self.new.epoch ≡ self.old.epoch) × (self.new.loaded ≡ self.old.loaded)) }
+    {
+        let epoch = self.epoch;
+        if epoch == u64::MAX {
+            return Err(Refusal::EpochFull);
+        }
+        let shelf = match Arc::try_clone(&self.shelf) {
+            Ok(shelf) => shelf,
+            Err(_) => return Err(Refusal::NoMemory),
+        };
+        let (before, start) = self
+            .book
+            .get_mut()
+            .checkpoint(rt, &shelf, self.id, epoch, &self.loaded, dropped, created)?;
+        self.epoch = epoch + 1;
+        let loaded = mem::replace(&mut self.loaded, start);
+        Ok(History::of(shelf, self.id, epoch, loaded, before))
     }
 
     /// Ends the manager. Its commits are left, over the tables that it was opened on. It takes no memory.
