@@ -28,7 +28,7 @@ use std::sync::{Arc, Mutex, Wait};
 use threeval::Truth;
 use value::{Refusal, Text};
 
-/// The manager: the Book under its lock, and the shelf beside it. Threads share it.
+/// The manager: the Book of its epoch under its lock, and the shelf beside it. Threads share it.
 #[derive(Drop)]
 pub struct Manager<N: Named> {
     shelf: Arc<Shelf>,
@@ -102,7 +102,8 @@ impl<N: Named> Manager<N> {
     ///
     /// # Errors
     ///
-    /// [`Refusal::Stranger`] for another manager's session; or [`Refusal::NoMemory`]. The session is then as it was.
+    /// [`Refusal::Stranger`] for a session of another manager or epoch; or [`Refusal::NoMemory`]. The session is then
+    /// as it was.
     pub fn begin<R: Wait>(&self, rt: &R, session: &mut Session<N>) -> Result<Txn<N>, Refusal>
         ensures fresh { IfOk result (λ txn. session.old.seen ≤ txn.inner.snapshot) }
         ensures seen { IfOk result (λ txn. session.new ≡ record session.old { seen = txn.inner.snapshot }) }
@@ -141,8 +142,9 @@ impl<N: Named> Manager<N> {
     ///
     /// # Errors
     ///
-    /// [`Refusal::NoMemory`], and [`Refusal::Stranger`] for another manager's session or transaction: the transaction
-    /// is then given back. Any other refusal has ended it, and receipts show why. The session is then as it was.
+    /// [`Refusal::NoMemory`], and [`Refusal::Stranger`] for a session or a transaction of another manager or epoch: the
+    /// transaction is then given back. Any other refusal has ended it, and receipts show why. The session is then as it
+    /// was.
     pub fn commit<R: Wait>(
         &self,
         rt: &R,
@@ -177,7 +179,7 @@ impl<N: Named> Manager<N> {
     ///
     /// # Errors
     ///
-    /// [`Refusal::Stranger`] for another manager's transaction, which is given back.
+    /// [`Refusal::Stranger`] for a transaction of another manager or epoch, which is given back.
     pub fn rollback<R: Wait>(&self, rt: &R, txn: Txn<N>) -> Result<(), (Refusal, Txn<N>)>
         ensures { IfErr result (λ fault. (fault.0 ≡ Stranger) × (fault.1 ≡ txn)) }
     {
@@ -245,7 +247,7 @@ impl<N: Named> Manager<N> {
         Ok(History::of(shelf, self.id, epoch, loaded, before))
     }
 
-    /// Ends the manager. Its commits are left, over the tables that it was opened on. It takes no memory.
+    /// Ends the manager. The commits of its epoch are left, over the tables that the epoch began on. It takes no memory.
     ///
     /// # Errors
     ///
