@@ -199,18 +199,20 @@ impl<N: Named> Manager<N> {
     }
 
     /// Begins a new epoch on the newest tables: the assertions of some names are dropped, new ones are created behind
-    /// those that are left (a name that is dropped may be given anew), and every assertion has to be satisfied. The
-    /// commits so far are handed out, over the tables that their epoch began on: who drops them gives their memory back,
-    /// but for what stands on the shelf. Sessions, receipts and open transactions of the epoch before are strangers from
-    /// now on, and such a transaction is spent by [`Txn::abandon`]; as many sessions and commits as the limits say may
-    /// come anew. The manager is had alone, so a scope whose threads share it has to end first.
+    /// those that are left, and every assertion has to be satisfied. A name that is dropped may be given anew. As many
+    /// commits and sessions may come as the limits say.
+    ///
+    /// The commits so far are handed out, over the tables that their epoch began on. Who drops them gives their memory
+    /// back, but for what stands on the shelf. The sessions, receipts and open transactions of their epoch are
+    /// strangers from now on; such a transaction is spent by [`Txn::abandon`]. No thread shares the manager here, so a
+    /// scope whose threads do has to end first.
     ///
     /// # Errors
     ///
     /// [`Refusal::EpochFull`] at the epoch 18,446,744,073,709,551,615, behind which there is none. Then, on the newest
-    /// tables: [`Refusal::UnknownName`] of the first name that is dropped and that no assertion has, or has any more; of
-    /// the first new assertion that is refused, what CREATE ASSERTION answers; and [`Refusal::FalseAtCreation`] with the
-    /// first assertion that is false, and its least bad root. Or [`Refusal::NoMemory`]; or [`Refusal::Stranger`], as by
+    /// tables: [`Refusal::UnknownName`] of the first name to drop that no assertion has, or has any more; of the first
+    /// new assertion that is refused, what CREATE ASSERTION answers; and [`Refusal::FalseAtCreation`] with the first
+    /// assertion that is false, and its least bad root. Or [`Refusal::NoMemory`]; or [`Refusal::Stranger`], as by
     /// [`Manager::close`]. Nothing has changed then: the epoch goes on.
     pub fn checkpoint<R: Wait>(
         &mut self,
@@ -247,7 +249,8 @@ impl<N: Named> Manager<N> {
         Ok(History::of(shelf, self.id, epoch, loaded, before))
     }
 
-    /// Ends the manager. The commits of its epoch are left, over the tables that the epoch began on. It takes no memory.
+    /// Ends the manager. The commits of its epoch are left, over the tables that the epoch began on. It takes no
+    /// memory.
     ///
     /// # Errors
     ///
