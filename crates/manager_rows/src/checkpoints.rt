@@ -7,9 +7,9 @@ use crate::driver::{Seat, Sessions, equal, let_go};
 use crate::printed::{Opening, make_opening, open, steps_of};
 use crate::rows::FUNDS_DEFERRABLE;
 use crate::strangers::{is_stranger, refused, unrolled};
-use definitions::{Definitions, NewAssertion};
+use definitions::{Definitions, NewAssertion, new_assertions};
 use parse::parse_schema;
-use session::{History, Limits, Manager, Named, Receipt, Shelf};
+use session::{History, Manager, Named, Receipt};
 use std::alloc::Global;
 use std::marker::Brand;
 use std::process::Abort;
@@ -93,7 +93,7 @@ fn begins<N: Named, R: Wait + Abort>(
     sessions: &mut Sessions<N>,
 ) -> Result<History<N>, Fail> {
     let funds = Text::from_str(alloc, "FUNDS")?;
-    let created = vec![in alloc; rule_of(alloc, FUNDS_DEFERRABLE)?]?;
+    let created = rules_of(alloc, FUNDS_DEFERRABLE)?;
     runs(rt, alloc, manager, sessions, BEFORE)?;
     match checkpoint(rt, alloc, manager, &mut sessions.seats, &[], &created)? {
         Ok(_history) => assert!(rt; false, "a rule that is broken"),
@@ -119,7 +119,7 @@ fn under_funds<N: Named, R: Wait + Abort>(
     are_strangers(rt, manager, seat)?;
     runs(rt, alloc, manager, sessions, UNDER_FUNDS)?;
     let dropped = vec![in alloc; Text::from_str(alloc, "FUNDS")?]?;
-    let created = vec![in alloc; rule_of(alloc, FUNDS_BY_ONE)?]?;
+    let created = rules_of(alloc, FUNDS_BY_ONE)?;
     let history = checkpoint(rt, alloc, manager, &mut sessions.seats, &dropped, &created)??;
     Ok(history)
 }
@@ -191,14 +191,9 @@ fn runs<N: Named, R: Wait>(
     sessions.run(rt, manager, steps.as_slice())
 }
 
-/// The last assertion that a text creates.
-fn rule_of(alloc: Global, text: &str) -> Result<NewAssertion, Fail> {
-    let mut definitions = parse_schema(alloc, text.as_bytes())?;
-    let definition = definitions.pop().ok_or("no definition")?;
-    match NewAssertion::of(definition) {
-        Ok(rule) => Ok(rule),
-        Err(_) => Err(Fail::from("no assertion")),
-    }
+/// The assertions that a text creates.
+fn rules_of(alloc: Global, text: &str) -> Result<Vec<NewAssertion>, Refusal> {
+    new_assertions(alloc, parse_schema(alloc, text.as_bytes())?)
 }
 
 /// A checkpoint. One that finds no memory has changed nothing that can be seen, and is made once more.

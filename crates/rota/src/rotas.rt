@@ -4,7 +4,7 @@ ghost use Rattle.std.specs.Prelude.{◌≡◌};
 ghost use denote.Param.Send.{IsSend, IsSync};
 
 use crate::doctors::{Ending, go_off_call, run_once, sum_of};
-use definitions::{Definitions, NewAssertion};
+use definitions::{Definitions, new_assertions};
 use parse::{parse_schema, parse_statement};
 use session::{History, Limits, Manager, Named, Session, Shelf};
 use statement_syntax::{Event, Statement};
@@ -70,30 +70,21 @@ fn run_on<N: Named + Send + Sync, R: Threads + Wait + Sync + Print + AllocGlobal
     let mut manager = Manager::<N>::open(rt, alloc, shelf, 1, definitions, limits)?;
     let mut doctors = doctors_of(rt, alloc, &manager)?;
     ask_all(rt, &manager, &mut doctors);
-    let history = create_rule(rt, alloc, &mut manager, RESTED)?;
+    let history = create_rules(rt, alloc, &mut manager, RESTED)?;
     tell(rt, doctors.as_slice(), &history)?;
     tell_rules(rt, alloc, &manager)
 }
 
-/// From now on the rule of a text holds too. What was committed until now is handed out.
-fn create_rule<N: Named, R: Wait>(
+/// From now on the rules of a text hold too. What was committed until now is handed out.
+fn create_rules<N: Named, R: Wait>(
     rt: &R,
     alloc: Global,
     manager: &mut Manager<N>,
     text: &str,
 ) -> anyhow::Result<History<N>> {
-    let created = vec![in alloc; rule_of(alloc, text)?]?;
+    let created = new_assertions(alloc, parse_schema(alloc, text.as_bytes())?)?;
     let history = manager.checkpoint(rt, &[], &created)?;
     Ok(history)
-}
-
-/// The rule that a text creates.
-fn rule_of(alloc: Global, text: &str) -> anyhow::Result<NewAssertion> {
-    let mut definitions = parse_schema(alloc, text.as_bytes())?;
-    match definitions.pop().map(NewAssertion::of) {
-        Some(Ok(rule)) => Ok(rule),
-        _ => anyhow::bail!("no assertion"),
-    }
 }
 
 /// How many are on call by the newest tables, which a clerk reads.
