@@ -228,25 +228,14 @@ impl<N: Named> Manager<N> {
             next_start dropped.now created.now (newest_tables history.book.core) ≡ Ok self.new.loaded.value.view) }
         ensures room { IfOk result (λ _. self.old.epoch < 18446744073709551615) }
         ensures full { self.old.epoch ≡ 18446744073709551615 → IfErr result (λ refusal. refusal ≡ EpochFull) }
-        ensures refused { IfErr result (λ refusal. self.old.epoch < 18446744073709551615 → refusal ≢ NoMemory
+        ensures refused { self.old.epoch < 18446744073709551615 → IfErr result (λ refusal. refusal ≢ NoMemory
             → refusal ≢ Stranger → IsRefusedOver self.old.loaded.value.view dropped.now created.now refusal) }
         ensures same { OnErr result ((self.new.epoch ≡ self.old.epoch) × (self.new.loaded ≡ self.old.loaded)) }
     {
-        let epoch = self.epoch;
-        if epoch == u64::MAX {
+        if self.epoch == u64::MAX {
             return Err(Refusal::EpochFull);
         }
-        let shelf = match Arc::try_clone(&self.shelf) {
-            Ok(shelf) => shelf,
-            Err(_) => return Err(Refusal::NoMemory),
-        };
-        let (before, start) = self
-            .book
-            .get_mut()
-            .checkpoint(rt, &shelf, self.id, epoch, &self.loaded, dropped, created)?;
-        self.epoch = epoch + 1;
-        let loaded = mem::replace(&mut self.loaded, start);
-        Ok(History::of(shelf, self.id, epoch, loaded, before))
+        self.begin_epoch(rt, dropped, created)
     }
 
     /// Ends the manager. The commits of its epoch are left, over the tables that the epoch began on. It takes no
@@ -269,5 +258,50 @@ impl<N: Named> Manager<N> {
             book,
         } = self;
         History::new(shelf, id, epoch, loaded, book.into_inner())
+    }
+}
+
+impl<N: Named> Manager<N> {
+    /// Begins the next epoch, for which there is a number.
+    fn begin_epoch<R: Wait>(
+        &mut self,
+        rt: &R,
+        dropped: &[Text],
+        created: &[NewAssertion],
+    ) -> Result<History<N>, Refusal>
+        requires room { self.old.epoch < 18446744073709551615 }
+        ensures id { self.new.id ≡ self.old.id }
+        ensures epoch { IfOk result (λ _. self.new.epoch ≡ self.old.epoch + 1) }
+        ensures whose { IfOk result (λ history. (history.id ≡ self.old.id) × (history.epoch ≡ self.old.epoch)) }
+        ensures loaded { IfOk result (λ history. history.loaded ≡ self.old.loaded) }
+        ensures start { IfOk result (λ history.
+            next_start dropped.now created.now (newest_tables history.book.core) ≡ Ok self.new.loaded.value.view) }
+        ensures refused { IfErr result (λ refusal. refusal ≢ NoMemory → refusal ≢ Stranger
+            → IsRefusedOver self.old.loaded.value.view dropped.now created.now refusal) }
+        ensures same { OnErr result ((self.new.epoch ≡ self.old.epoch) × (self.new.loaded ≡ self.old.loaded)) }
+    {
+        let shelf = match Arc::try_clone(&self.shelf) {
+            Ok(shelf) => shelf,
+            Err(_) => return Err(Refusal::NoMemory),
+        };
+        let epoch = self.epoch;
+        // (a `match` in place of `?`, whose conversion of the refusal a clause would have to see through)
+        let book = self.book.get_mut();
+        let (before, start) = match book.checkpoint(
+            rt,
+            &shelf,
+            self.id,
+            epoch,
+            &self.loaded,
+            dropped,
+            created,
+        ) {
+            Ok(made) => made,
+            Err(refusal) => return Err(refusal),
+        };
+        // (what is known of the manager speaks of its epoch and tables together: no call stands between the two)
+        self.epoch = epoch + 1;
+        let loaded = mem::replace(&mut self.loaded, start);
+        Ok(History::of(shelf, self.id, epoch, loaded, before))
     }
 }
