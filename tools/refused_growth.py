@@ -68,7 +68,7 @@ HISTORIES = {
 TESTS = ["rows::shift_write_skew", "rows::pivot_refused", "rows::same_key_inserted_twice",
     "rows::deferred_then_immediate", "rows::epoch_full", "given_back::by_a_manager", "given_back::rolled_back",
     "given_back::by_an_engine", "given_back::reader_before_writer", "given_back::deferred_row", "given_back::null_group",
-    "views::changed"]
+    "views::changed", "checkpoints::checkpoint_with_funds"]
 WITHOUT = ["without_memory::without_memory", *(f"lower_without_memory::{name}" for name in ("values", "tables", "pages",
     "locks", "snapshots", "judgment", "a_commit_is_made", "a_commit_is_given_up", "a_transaction_ends"))]
 # What a test ends with; an assertion that fails says something else, even where it shows a line with these words.

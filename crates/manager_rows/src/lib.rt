@@ -14,6 +14,8 @@
 #[cfg(test)]
 mod again;
 #[cfg(test)]
+mod checkpoints;
+#[cfg(test)]
 mod driver;
 #[cfg(test)]
 mod given_back;

@@ -74,7 +74,7 @@ fn meet<N: Named, R: Wait + Abort>(
     Ok(())
 }
 
-fn is_stranger<N: Named>(begun: Result<Txn<N>, Refusal>) -> bool {
+pub fn is_stranger<N: Named>(begun: Result<Txn<N>, Refusal>) -> bool {
     match begun {
         Ok(txn) => {
             let_go(txn.abandon());
@@ -85,7 +85,7 @@ fn is_stranger<N: Named>(begun: Result<Txn<N>, Refusal>) -> bool {
 }
 
 /// The transaction that a COMMIT gave back as a stranger's, with no receipt.
-fn refused<N: Named>(outcome: Result<Receipt<N>, CommitFault<N>>) -> Result<Txn<N>, Fail> {
+pub fn refused<N: Named>(outcome: Result<Receipt<N>, CommitFault<N>>) -> Result<Txn<N>, Fail> {
     let fault = outcome.err();
     given_back(fault.ok_or("a stranger's transaction was committed")?)
 }
@@ -98,16 +98,16 @@ fn given_back<N: Named>(fault: CommitFault<N>) -> Result<Txn<N>, Fail> {
     } = fault;
     let shows = shown.iter().any(|shown| shown.is_some());
     match txn {
-        Some(txn) => back(txn, matches!(refusal, Refusal::Stranger) && !shows),
+        Some(txn) => back(txn, refusal, shows),
         None => Err(Fail::from("a stranger's transaction was ended")),
     }
 }
 
 /// The transaction that a ROLLBACK gave back.
-fn unrolled<N: Named>(outcome: Result<(), (Refusal, Txn<N>)>) -> Result<Txn<N>, Fail> {
+pub fn unrolled<N: Named>(outcome: Result<(), (Refusal, Txn<N>)>) -> Result<Txn<N>, Fail> {
     match outcome {
         Ok(()) => Err(Fail::from("a stranger's transaction was rolled back")),
-        Err((refusal, txn)) => back(txn, matches!(refusal, Refusal::Stranger)),
+        Err((refusal, txn)) => back(txn, refusal, false),
     }
 }
 
@@ -121,12 +121,13 @@ pub fn is_ended<N: Named>(outcome: Result<(), (Refusal, Txn<N>)>) -> bool {
     }
 }
 
-fn back<N: Named>(txn: Txn<N>, as_stranger: bool) -> Result<Txn<N>, Fail> {
-    if as_stranger {
+/// The transaction that a call gave back as a stranger's, with no receipt.
+fn back<N: Named>(txn: Txn<N>, refusal: Refusal, shows: bool) -> Result<Txn<N>, Fail> {
+    if matches!(refusal, Refusal::Stranger) && !shows {
         return Ok(txn);
     }
     let_go(txn.abandon());
-    Err(Fail::from("another refusal than a stranger's"))
+    Err(Fail::from(refusal))
 }
 
 fn serve_shifts<N: Named, R: Wait + Abort>(

@@ -6,7 +6,7 @@
 //! told by the rule itself that nobody else is on call.
 //!
 //! It shows the whole way of such a program: definitions, a shelf and a manager, a session and transactions on each
-//! thread, what to do after each refusal, and the history that is left.
+//! thread, what to do after each refusal, a rule that comes later, and the history that is left.
 #![tactic(auto)]
 
 mod doctors;

@@ -4,7 +4,7 @@ ghost use Rattle.std.specs.Prelude.{◌≡◌};
 ghost use denote.Param.Send.{IsSend, IsSync};
 
 use crate::doctors::{Ending, go_off_call, run_once, sum_of};
-use definitions::Definitions;
+use definitions::{Definitions, new_assertions};
 use parse::{parse_schema, parse_statement};
 use session::{History, Limits, Manager, Named, Session, Shelf};
 use statement_syntax::{Event, Statement};
@@ -25,6 +25,10 @@ INSERT INTO DUTY VALUES (1, 7, 1);
 INSERT INTO DUTY VALUES (2, 7, 1);
 INSERT INTO DUTY VALUES (3, 7, 1);
 INSERT INTO DUTY VALUES (4, 7, 1);";
+
+/// A rule for later, which the rows to begin with would break: no more than two are on call in a shift.
+const RESTED: &str = "CREATE ASSERTION RESTED CHECK (NOT EXISTS (
+    SELECT SHIFT FROM DUTY WHERE ONCALL = 1 GROUP BY SHIFT HAVING COUNT(*) > 2));";
 
 /// The doctors, and what each wishes.
 const WISHES: [(&str, &str); 4] = [
@@ -63,16 +67,24 @@ fn run_on<N: Named + Send + Sync, R: Threads + Wait + Sync + Print + AllocGlobal
     let alloc = rt.alloc();
     let schema = parse_schema(alloc, DEFS.as_bytes())?;
     let definitions = Definitions::take(alloc, schema.as_slice())?;
-    let manager = Manager::<N>::open(rt, alloc, shelf, 1, definitions, limits)?;
+    let mut manager = Manager::<N>::open(rt, alloc, shelf, 1, definitions, limits)?;
     let mut doctors = doctors_of(rt, alloc, &manager)?;
     ask_all(rt, &manager, &mut doctors);
-    let left = count_on_call(rt, alloc, &manager)?;
-    let covered = manager.verdict(rt, &Text::from_str(alloc, "COVERED")?);
-    let history = manager.close()?;
+    let history = create_rules(rt, alloc, &mut manager, RESTED)?;
     tell(rt, doctors.as_slice(), &history)?;
-    println!(rt; "the table has {left} on call")?;
-    println!(rt; "COVERED {}", matches!(covered, Some(Truth::True)))?;
-    Ok(())
+    tell_rules(rt, alloc, &manager)
+}
+
+/// From now on the rules of a text hold too. What was committed until now is handed out.
+fn create_rules<N: Named, R: Wait>(
+    rt: &R,
+    alloc: Global,
+    manager: &mut Manager<N>,
+    text: &str,
+) -> anyhow::Result<History<N>> {
+    let created = new_assertions(alloc, parse_schema(alloc, text.as_bytes())?)?;
+    let history = manager.checkpoint(rt, &[], &created)?;
+    Ok(history)
 }
 
 /// How many are on call by the newest tables, which a clerk reads.
@@ -171,6 +183,23 @@ fn tell<N: Named, R: Print>(
         on_call(doctors)
     )?;
     println!(rt; "{} commits", history.core().records().len())?;
+    Ok(())
+}
+
+/// Prints how many are on call by the table, and how the rules stand.
+fn tell_rules<N: Named, R: Wait + Print>(
+    rt: &R,
+    alloc: Global,
+    manager: &Manager<N>,
+) -> anyhow::Result<()> {
+    println!(rt;
+        "the table has {} on call",
+        count_on_call(rt, alloc, manager)?
+    )?;
+    for name in ["COVERED", "RESTED"] {
+        let verdict = manager.verdict(rt, &Text::from_str(alloc, name)?);
+        println!(rt; "{name} {}", matches!(verdict, Some(Truth::True)))?;
+    }
     Ok(())
 }
 

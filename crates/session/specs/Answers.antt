@@ -20,7 +20,9 @@ use Rattle.siread.specs.Keys.{place_of}
 use Rattle.serial.specs.declared.records.Record.{Record}
 use Rattle.serial.specs.Commits.{IsDangerous}
 use Rattle.txn.specs.Transactions.{OpenTransaction, keys_of, outcome_of}
+use Rattle.definitions.specs.declared.redeclaration.NewAssertion.{NewAssertion}
 use Rattle.commit.specs.Cores.{IsCommitAnswer, ended, refused_to}
+use Rattle.commit.specs.Epochs.{next_start}
 use Rattle.session.specs.Books.{BookState, ReceiptState, TicketState, Ticketed, Token}
 
 -- a begin is refused a session that is not known; or there was no memory
@@ -206,3 +208,10 @@ IsUpheld (Single condition queries) (Some truth) = truth ≢ False
 abbrev pub IsStanding : Option Assertion → Option Truth → Type 0
 IsStanding None answer = answer ≡ None
 IsStanding (Some a) answer = IsUpheld a.form answer
+
+-- a checkpoint was refused on committed tables of an epoch that began on these: under what is declared in it
+pub record IsRefusedOver (loaded : Shown) (dropped : List (List ℕ)) (created : List NewAssertion) (refusal : Refusal) :
+    Type 0 where
+  pub newest : Shown
+  pub declared_is : newest.declared ≡ loaded.declared
+  pub refused : next_start dropped created newest ≡ Err refusal

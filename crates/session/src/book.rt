@@ -1,9 +1,10 @@
 //! What lies under the lock.
 
-ghost use Rattle.std.specs.Prelude.{◌≡◌, ◌≤◌, ◌<◌, ◌+◌, ◌-◌, ◌∷◌, [], ℕ, length, true, false};
-ghost use Rattle.std.specs.Prelude.{Ok, Some, None, Contains, IfOk, IfErr, IsOkUnless, OnOk, slice_get};
+ghost use Rattle.std.specs.Prelude.{◌≡◌, ◌≢◌, ◌≤◌, ◌<◌, ◌+◌, ◌-◌, ◌∷◌, [], ℕ, length, true, false};
+ghost use Rattle.std.specs.Prelude.{Ok, Err, Some, None, Contains, IfOk, IfErr, IsOkUnless, OnErr, OnOk, slice_get};
 ghost use Rattle.value.specs.declared.refusals.Refusal.TheVariants.{NoMemory, Stranger, TooManySessions};
 ghost use Rattle.value.specs.Ordered.{HoldsOf};
+ghost use Rattle.value.specs.Results.{provided};
 ghost use Rattle.boxcar.specs.Table.{Shows};
 ghost use Rattle.alone.specs.Alone.{IsSound};
 ghost use Rattle.modes.specs.Modes.{assertion_of};
@@ -11,29 +12,31 @@ ghost use Rattle.serial.specs.Commits.{IsLog};
 ghost use Rattle.serial.specs.Epoch.{state_of};
 ghost use Rattle.txn.specs.Transactions.{begun, truth_of};
 ghost use Rattle.commit.specs.Cores.{IsCommitAnswer, IsLive, IsSerializable, log_of, newest_tables, record_of};
+ghost use Rattle.commit.specs.Epochs.{IsNextEpoch, next_start, start_of};
 ghost use Rattle.commit.specs.Runs.{empty_core};
 ghost use Rattle.session.specs.Books.{AreReceipts, IsBook, IsFresh, IsFrom, IsKept, IsKnown, IsOf, IsOver, IsOwned};
 ghost use Rattle.session.specs.Books.{IsTicketed, IsToken};
 ghost use Rattle.session.specs.Books.{after_begin, after_commit, is_from, is_index, is_kept, is_of, is_own, knows};
 ghost use Rattle.session.specs.Books.{owns, owns_txn};
-ghost use Rattle.session.specs.Answers.{AreShownBy, IsNotCommitted, IsReason, IsSatisfied, IsStanding, IsUnbegun};
-ghost use Rattle.session.specs.Answers.{after_rollback, only, party_receipt, receipt_at, shown_among, shown_unless};
-ghost use Rattle.session.specs.Answers.{with_ticket};
+ghost use Rattle.session.specs.Answers.{AreShownBy, IsNotCommitted, IsReason, IsRefusedOver, IsSatisfied, IsStanding};
+ghost use Rattle.session.specs.Answers.{IsUnbegun, after_rollback, only, party_receipt, receipt_at, shown_among};
+ghost use Rattle.session.specs.Answers.{shown_unless, with_ticket};
 
 use crate::items::Item;
-use crate::limits::Limits;
 use crate::making::append;
 use crate::named::Named;
 use crate::receipts::Receipt;
 use crate::sessions::Session;
 use crate::shelf::{Shelf, Token};
 use crate::tickets::{Closed, CommitFault, Ticket, Txn};
-use commit::{Core, Uncommitted};
+use commit::{Core, Uncommitted, readmit};
+use definitions::NewAssertion;
 use delta::View;
 use live::LiveSnapshot;
 use serial::Record;
 use std::alloc::Global;
 use std::marker::{Model, PhantomData};
+use std::mem;
 use std::sync::Wait;
 use threeval::Truth;
 use txn::verdict_on;
@@ -82,8 +85,8 @@ impl<N: Named> Model for Book<N> {
 }
 
 impl<N: Named> Book<N> {
-    /// No commit yet, over tables on which no assertion is false, with the token of these tables. NoMemory is the
-    /// only error.
+    /// No commit yet, over tables on which no assertion is false, with the token of these tables; at most so many
+    /// commits and sessions. NoMemory is the only error.
     pub(crate) fn open<R: Wait>(
         rt: &R,
         alloc: Global,
@@ -91,21 +94,23 @@ impl<N: Named> Book<N> {
         id: u64,
         epoch: u64,
         loaded: View,
-        limits: &Limits,
+        commits: u64,
+        most: u64,
     ) -> Result<(Book<N>, Token), Refusal>
         requires shelf { shelf.now ≡ N.shelf id }
-        requires limits { limits.now ≡ N.limits id }
+        requires limits { record { commits = commits; sessions = most } ≡ N.limits id }
+        requires small { commits ≤ 4294967295 }
         requires sound { IsSound loaded.declared loaded.state }
         ensures only_memory { IsOkUnless result NoMemory }
         ensures whose { IfOk result (λ opened. (opened.0.id ≡ id) × (opened.0.epoch ≡ epoch)) }
-        ensures core { IfOk result (λ opened. opened.0.core ≡ empty_core limits.now.commits loaded) }
-        ensures handed { IfOk result (λ opened. (opened.0.handed ≡ 0) × (opened.0.most ≡ limits.now.sessions)) }
+        ensures core { IfOk result (λ opened. opened.0.core ≡ empty_core commits loaded) }
+        ensures handed { IfOk result (λ opened. (opened.0.handed ≡ 0) × (opened.0.most ≡ most)) }
         ensures token { IfOk result (λ opened. opened.0.tokens ≡ opened.1 ∷ []) }
         ensures shown { IfOk result (λ opened. Shows shelf.now opened.1) }
         ensures loaded { IfOk result (λ opened. opened.1.value.view ≡ loaded) }
     {
         let view = loaded.copy()?;
-        let core = Core::new(alloc, limits.commits(), loaded)?;
+        let core = Core::new(alloc, commits, loaded)?;
         let mut tokens = Vec::with_capacity(alloc, 1)?;
         let token = shelf.put(rt, first_item(epoch, view))?;
         tokens.push_reserved(token.again());
@@ -115,7 +120,7 @@ impl<N: Named> Book<N> {
             epoch,
             tokens,
             handed: 0,
-            most: limits.sessions(),
+            most,
             of: PhantomData,
         };
         Ok((book, token))
@@ -311,6 +316,47 @@ impl<N: Named> Book<N> {
         self.core.verdict(name)
     }
 
+    /// Begins the next epoch of a Book that is of this id and epoch, and was opened with this token: on its newest
+    /// tables, without the assertions of some names and with new ones, and with no commit and no session yet. The Book
+    /// as it was is handed out, with the token of the tables that the new epoch begins on. What it gave out is a
+    /// stranger's from now on.
+    ///
+    /// # Errors
+    ///
+    /// [`Refusal::Stranger`] exactly where it is another Book; then those of `commit::readmit`. All is then as it was.
+    pub fn checkpoint<R: Wait>(
+        &mut self,
+        rt: &R,
+        shelf: &Shelf,
+        id: u64,
+        epoch: u64,
+        loaded: &Token,
+        dropped: &[Text],
+        created: &[NewAssertion],
+    ) -> Result<(Book<N>, Token), Refusal>
+        requires shelf { shelf.now ≡ N.shelf id }
+        requires shown { Shows (N.shelf id) loaded.now }
+        requires room { epoch < 18446744073709551615 }
+        ensures before { IfOk result (λ made. made.0 ≡ self.old) }
+        ensures from { IfOk result (λ _. is_from self.old id epoch loaded.now ≡ true) }
+        ensures core { IfOk result (λ _. IsNextEpoch dropped.now created.now self.old.core self.new.core) }
+        ensures whose { IfOk result (λ _. (self.new.id ≡ id) × (self.new.epoch ≡ epoch + 1)) }
+        ensures handed { IfOk result (λ _. (self.new.handed ≡ 0) × (self.new.most ≡ self.old.most)) }
+        ensures token { IfOk result (λ made. self.new.tokens ≡ made.1 ∷ []) }
+        ensures shown { IfOk result (λ made. Shows (N.shelf id) made.1) }
+        ensures start { IfOk result (λ made. made.1.value.view ≡ start_of self.new.core) }
+        ensures good { IfOk result (λ made. IsSatisfied made.1.value.view) }
+        ensures refused { IfErr result (λ refusal. refusal ≢ NoMemory
+            → provided (is_from self.old id epoch loaded.now) Stranger
+            (next_start dropped.now created.now (newest_tables self.old.core)) ≡ Err refusal) }
+        ensures over { IfErr result (λ refusal. refusal ≢ NoMemory → refusal ≢ Stranger
+            → IsRefusedOver loaded.now.value.view dropped.now created.now refusal) }
+        ensures same { OnErr result (self.new ≡ self.old) }
+    {
+        let (next, token) = self.next(rt, shelf, id, epoch, loaded, dropped, created)?;
+        Ok((mem::replace(self, next), token))
+    }
+
     /// The commits, of which there are at most as many as the limit says.
     pub fn core(&self) -> &Core
         ensures core { result.now ≡ self.now.core }
@@ -424,6 +470,81 @@ impl<N: Named> Book<N> {
         ensures facts { result ≡ true → IsFrom self.now id epoch loaded.now.index }
     {
         self.id == id && (self.epoch == epoch && is_at(self.tokens.as_slice(), 0, loaded.index()))
+    }
+
+    /// The Book with which the next epoch begins, and the token of its tables.
+    fn next<R: Wait>(
+        &self,
+        rt: &R,
+        shelf: &Shelf,
+        id: u64,
+        epoch: u64,
+        loaded: &Token,
+        dropped: &[Text],
+        created: &[NewAssertion],
+    ) -> Result<(Book<N>, Token), Refusal>
+        requires shelf { shelf.now ≡ N.shelf id }
+        requires shown { Shows (N.shelf id) loaded.now }
+        requires room { epoch < 18446744073709551615 }
+        ensures from { IfOk result (λ _. is_from self.now id epoch loaded.now ≡ true) }
+        ensures core { IfOk result (λ made. IsNextEpoch dropped.now created.now self.now.core made.0.core) }
+        ensures whose { IfOk result (λ made. (made.0.id ≡ id) × (made.0.epoch ≡ epoch + 1)) }
+        ensures handed { IfOk result (λ made. (made.0.handed ≡ 0) × (made.0.most ≡ self.now.most)) }
+        ensures token { IfOk result (λ made. made.0.tokens ≡ made.1 ∷ []) }
+        ensures shown { IfOk result (λ made. Shows (N.shelf id) made.1) }
+        ensures start { IfOk result (λ made. made.1.value.view ≡ start_of made.0.core) }
+        ensures good { IfOk result (λ made. IsSatisfied made.1.value.view) }
+        ensures refused { IfErr result (λ refusal. refusal ≢ NoMemory
+            → provided (is_from self.now id epoch loaded.now) Stranger
+            (next_start dropped.now created.now (newest_tables self.now.core)) ≡ Err refusal) }
+        ensures over { IfErr result (λ refusal. refusal ≢ NoMemory → refusal ≢ Stranger
+            → IsRefusedOver loaded.now.value.view dropped.now created.now refusal) }
+    {
+        let start = self.next_start(shelf, id, epoch, loaded, dropped, created)?;
+        let alloc = *self.tokens.allocator();
+        let (commits, most) = self.limits();
+        Book::open(rt, alloc, shelf, id, epoch + 1, start, commits, most)
+    }
+
+    /// The tables with which the next epoch begins.
+    fn next_start(
+        &self,
+        shelf: &Shelf,
+        id: u64,
+        epoch: u64,
+        loaded: &Token,
+        dropped: &[Text],
+        created: &[NewAssertion],
+    ) -> Result<View, Refusal>
+        requires shelf { shelf.now ≡ N.shelf id }
+        requires shown { Shows (N.shelf id) loaded.now }
+        ensures from { IfOk result (λ _. is_from self.now id epoch loaded.now ≡ true) }
+        ensures id { IfOk result (λ _. self.now.id ≡ id) }
+        ensures start { IfOk result (λ start.
+            next_start dropped.now created.now (newest_tables self.now.core) ≡ Ok start) }
+        ensures sound { IfOk result (λ start. IsSound start.declared start.state) }
+        ensures refused { IfErr result (λ refusal. refusal ≢ NoMemory
+            → provided (is_from self.now id epoch loaded.now) Stranger
+            (next_start dropped.now created.now (newest_tables self.now.core)) ≡ Err refusal) }
+        ensures over { IfErr result (λ refusal. refusal ≢ NoMemory → refusal ≢ Stranger
+            → IsRefusedOver loaded.now.value.view dropped.now created.now refusal) }
+    {
+        if !self.is_from(id, epoch, loaded) {
+            return Err(Refusal::Stranger);
+        }
+        self.recall_loaded(shelf, id, epoch, loaded);
+        let alloc = *self.tokens.allocator();
+        readmit(alloc, self.core.newest(), dropped, created)
+    }
+
+    /// The most commits and the most sessions that there may be.
+    fn limits(&self) -> (u64, u64)
+        ensures commits { result.0 ≡ self.now.core.limit }
+        ensures most { result.1 ≡ self.now.most }
+        ensures of { record { commits = result.0; sessions = result.1 } ≡ N.limits self.now.id }
+        ensures small { result.0 ≤ 4294967295 }
+    {
+        (self.core.limit(), self.most)
     }
 
     /// How many commits there are.

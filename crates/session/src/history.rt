@@ -1,4 +1,4 @@
-//! What a manager leaves.
+//! What an epoch of a manager leaves.
 
 ghost use Rattle.std.specs.Prelude.{◌≡◌, ◌<◌, ◌-◌, true, false, Some, IfOk, IfErr, slice_get};
 ghost use Rattle.std.specs.Arc.{arc_value};
@@ -16,7 +16,7 @@ use serial::Record;
 use std::sync::Arc;
 use value::Refusal;
 
-/// The commits of a manager that has ended, with the tokens that were given for them.
+/// The commits of an epoch that has ended, with the tokens that were given for them.
 #[derive(Drop)]
 pub struct History<N: Named> {
     shelf: Arc<Shelf>,
@@ -53,17 +53,36 @@ impl<N: Named> History<N> {
         if !book.is_from(id, epoch, &loaded) {
             return Err(Refusal::Stranger);
         }
-        Ok(History {
+        Ok(History::of(shelf, id, epoch, loaded, book))
+    }
+
+    /// The same of a Book that is known to be of this id and epoch, and to have been opened with this token.
+    pub(crate) fn of(
+        shelf: Arc<Shelf>,
+        id: u64,
+        epoch: u64,
+        loaded: Token,
+        book: Book<N>,
+    ) -> History<N>
+        requires shelf { arc_value shelf ≡ N.shelf id }
+        requires loaded { Shows (N.shelf id) loaded }
+        requires from { is_from book id epoch loaded ≡ true }
+        ensures whose { (result.id ≡ id) × (result.epoch ≡ epoch) }
+        ensures loaded { result.loaded ≡ loaded }
+        ensures book { result.book ≡ book }
+    {
+        History {
             shelf,
             id,
             epoch,
             loaded,
             book,
-        })
+        }
     }
 
     /// The commits: their records, the tables before and after them, their serial order, and the commits that were
-    /// refused. They are over the tables that the manager was opened on, and no more than its limit.
+    /// refused. They are over the tables that the epoch began on, and no more than the manager's limit. A manager of
+    /// another shelf goes on where they end: `Manager::open` with `Definitions::of(alloc, history.core().newest())`.
     #[tactic(auto, using(crate::proofs::Known::from_facts))]
     pub fn core(&self) -> &Core
         ensures core { result.now ≡ self.now.book.core }

@@ -11,6 +11,10 @@
 //! the transaction ran, and a [`Receipt`] shows the very record that was committed. Which shelf, and which limits,
 //! belong to a manager's id is said by an `N: `[`Named`], which is chosen once, where the shelves are made.
 //!
+//! An epoch is the commits from the opening on. [`Manager::checkpoint`] ends it, and begins the next one on the newest
+//! tables, under other assertions: a new book takes the place of the old one, which is handed out as a [`History`]. The
+//! id stays and the epoch's number is one more, so what the old book gave out is not known to the new one.
+//!
 //! What the layer above may rest on: whenever the lock is free, the book's type keeps that its core is serializable
 //! (`commit::Core::is_serializable`) and that its tokens are those of its commits (`specs/Books`); each call of a
 //! [`Book`] is decided by it (`specs/Answers`). Nothing is claimed of who comes first, or that a call that waits

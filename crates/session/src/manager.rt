@@ -1,13 +1,16 @@
 //! The manager.
 
-ghost use Rattle.std.specs.Prelude.{◌≡◌, ◌≢◌, ◌≤◌, ◌<◌, true, false, Ok, Err, Some, IfOk, IfErr, OnErr};
+ghost use Rattle.std.specs.Prelude.{◌≡◌, ◌≢◌, ◌≤◌, ◌<◌, ◌+◌, true, false, Ok, Err, Some, IfOk, IfErr, OnErr};
 ghost use Rattle.std.specs.Arc.{arc_value};
-ghost use Rattle.value.specs.declared.refusals.Refusal.TheVariants.{NoMemory, Stranger, TooManySessions};
+ghost use Rattle.value.specs.declared.refusals.Refusal.TheVariants.{EpochFull, NoMemory, Stranger, TooManySessions};
 ghost use Rattle.boxcar.specs.Table.{Shows};
 ghost use Rattle.modes.specs.Modes.{assertion_of};
 ghost use Rattle.commit.specs.Admission.{satisfied};
+ghost use Rattle.commit.specs.Cores.{newest_tables};
+ghost use Rattle.commit.specs.Epochs.{next_start};
 ghost use Rattle.session.specs.Books.{IsFresh, IsTicketed};
-ghost use Rattle.session.specs.Answers.{AreShownBy, IsReason, IsRefused, IsSatisfied, IsStanding, record_of};
+ghost use Rattle.session.specs.Answers.{AreShownBy, IsReason, IsRefused, IsRefusedOver, IsSatisfied, IsStanding};
+ghost use Rattle.session.specs.Answers.{record_of};
 
 use crate::book::Book;
 use crate::history::History;
@@ -18,19 +21,20 @@ use crate::sessions::Session;
 use crate::shelf::{Shelf, Token};
 use crate::tickets::{CommitFault, Txn, Unclosed};
 use commit::require_satisfied;
-use definitions::Definitions;
+use definitions::{Definitions, NewAssertion};
 use std::alloc::Global;
+use std::mem;
 use std::sync::{Arc, Mutex, Wait};
 use threeval::Truth;
 use value::{Refusal, Text};
 
-/// The manager: the Book under its lock, and the shelf beside it. Threads share it.
+/// The manager: the Book of its epoch under its lock, and the shelf beside it. Threads share it.
 #[derive(Drop)]
 pub struct Manager<N: Named> {
     shelf: Arc<Shelf>,
     id: u64,
     epoch: u64,
-    /// The token of the tables before the first commit.
+    /// The token of the tables before the first commit of the epoch.
     loaded: Token,
     book: Mutex<Book<N>>,
     ghost shelf_is: { arc_value shelf ≡ N.shelf id },
@@ -67,7 +71,8 @@ impl<N: Named> Manager<N> {
             Ok(shared) => shared,
             Err(_) => return Err(Refusal::NoMemory),
         };
-        let (book, loaded) = Book::open(rt, alloc, &shared, id, 0, view, &limits)?;
+        let (commits, sessions) = (limits.commits(), limits.sessions());
+        let (book, loaded) = Book::open(rt, alloc, &shared, id, 0, view, commits, sessions)?;
         Ok(Manager {
             shelf: shared,
             id,
@@ -97,7 +102,8 @@ impl<N: Named> Manager<N> {
     ///
     /// # Errors
     ///
-    /// [`Refusal::Stranger`] for another manager's session; or [`Refusal::NoMemory`]. The session is then as it was.
+    /// [`Refusal::Stranger`] for a session of another manager or epoch; or [`Refusal::NoMemory`]. The session is then
+    /// as it was.
     pub fn begin<R: Wait>(&self, rt: &R, session: &mut Session<N>) -> Result<Txn<N>, Refusal>
         ensures fresh { IfOk result (λ txn. session.old.seen ≤ txn.inner.snapshot) }
         ensures seen { IfOk result (λ txn. session.new ≡ record session.old { seen = txn.inner.snapshot }) }
@@ -136,8 +142,9 @@ impl<N: Named> Manager<N> {
     ///
     /// # Errors
     ///
-    /// [`Refusal::NoMemory`], and [`Refusal::Stranger`] for another manager's session or transaction: the transaction
-    /// is then given back. Any other refusal has ended it, and receipts show why. The session is then as it was.
+    /// [`Refusal::NoMemory`], and [`Refusal::Stranger`] for a session or a transaction of another manager or epoch: the
+    /// transaction is then given back. Any other refusal has ended it, and receipts show why. The session is then as it
+    /// was.
     pub fn commit<R: Wait>(
         &self,
         rt: &R,
@@ -172,7 +179,7 @@ impl<N: Named> Manager<N> {
     ///
     /// # Errors
     ///
-    /// [`Refusal::Stranger`] for another manager's transaction, which is given back.
+    /// [`Refusal::Stranger`] for a transaction of another manager or epoch, which is given back.
     pub fn rollback<R: Wait>(&self, rt: &R, txn: Txn<N>) -> Result<(), (Refusal, Txn<N>)>
         ensures { IfErr result (λ fault. (fault.0 ≡ Stranger) × (fault.1 ≡ txn)) }
     {
@@ -191,7 +198,48 @@ impl<N: Named> Manager<N> {
             .standing(&self.shelf, self.id, self.epoch, &self.loaded, name)
     }
 
-    /// Ends the manager. Its commits are left, over the tables that it was opened on. It takes no memory.
+    /// Begins a new epoch on the newest tables: the assertions of some names are dropped, new ones are created behind
+    /// those that are left, and every assertion has to be satisfied. A name that is dropped may be given anew. As many
+    /// commits and sessions may come as the limits say.
+    ///
+    /// The commits so far are handed out, over the tables that their epoch began on. Who drops them gives their memory
+    /// back, but for what stands on the shelf. The sessions, receipts and open transactions of their epoch are
+    /// strangers from now on; such a transaction is spent by [`Txn::abandon`]. No thread shares the manager here, so a
+    /// scope whose threads do has to end first.
+    ///
+    /// # Errors
+    ///
+    /// [`Refusal::EpochFull`] at the epoch 18,446,744,073,709,551,615, behind which there is none. Then, on the newest
+    /// tables: [`Refusal::UnknownName`] of the first name to drop that no assertion has, or has any more; of the first
+    /// new assertion that is refused, what CREATE ASSERTION answers; and [`Refusal::FalseAtCreation`] with the first
+    /// assertion that is false, and its least bad root. Or [`Refusal::NoMemory`]; or [`Refusal::Stranger`], as by
+    /// [`Manager::close`]. Nothing has changed then: the epoch goes on.
+    pub fn checkpoint<R: Wait>(
+        &mut self,
+        rt: &R,
+        dropped: &[Text],
+        created: &[NewAssertion],
+    ) -> Result<History<N>, Refusal>
+        ensures id { self.new.id ≡ self.old.id }
+        ensures epoch { IfOk result (λ _. self.new.epoch ≡ self.old.epoch + 1) }
+        ensures whose { IfOk result (λ history. (history.id ≡ self.old.id) × (history.epoch ≡ self.old.epoch)) }
+        ensures loaded { IfOk result (λ history. history.loaded ≡ self.old.loaded) }
+        ensures start { IfOk result (λ history.
+            next_start dropped.now created.now (newest_tables history.book.core) ≡ Ok self.new.loaded.value.view) }
+        ensures room { IfOk result (λ _. self.old.epoch < 18446744073709551615) }
+        ensures full { self.old.epoch ≡ 18446744073709551615 → IfErr result (λ refusal. refusal ≡ EpochFull) }
+        ensures refused { self.old.epoch < 18446744073709551615 → IfErr result (λ refusal. refusal ≢ NoMemory
+            → refusal ≢ Stranger → IsRefusedOver self.old.loaded.value.view dropped.now created.now refusal) }
+        ensures same { OnErr result ((self.new.epoch ≡ self.old.epoch) × (self.new.loaded ≡ self.old.loaded)) }
+    {
+        if self.epoch == u64::MAX {
+            return Err(Refusal::EpochFull);
+        }
+        self.begin_epoch(rt, dropped, created)
+    }
+
+    /// Ends the manager. The commits of its epoch are left, over the tables that the epoch began on. It takes no
+    /// memory.
     ///
     /// # Errors
     ///
@@ -210,5 +258,50 @@ impl<N: Named> Manager<N> {
             book,
         } = self;
         History::new(shelf, id, epoch, loaded, book.into_inner())
+    }
+}
+
+impl<N: Named> Manager<N> {
+    /// Begins the next epoch, for which there is a number.
+    fn begin_epoch<R: Wait>(
+        &mut self,
+        rt: &R,
+        dropped: &[Text],
+        created: &[NewAssertion],
+    ) -> Result<History<N>, Refusal>
+        requires room { self.old.epoch < 18446744073709551615 }
+        ensures id { self.new.id ≡ self.old.id }
+        ensures epoch { IfOk result (λ _. self.new.epoch ≡ self.old.epoch + 1) }
+        ensures whose { IfOk result (λ history. (history.id ≡ self.old.id) × (history.epoch ≡ self.old.epoch)) }
+        ensures loaded { IfOk result (λ history. history.loaded ≡ self.old.loaded) }
+        ensures start { IfOk result (λ history.
+            next_start dropped.now created.now (newest_tables history.book.core) ≡ Ok self.new.loaded.value.view) }
+        ensures refused { IfErr result (λ refusal. refusal ≢ NoMemory → refusal ≢ Stranger
+            → IsRefusedOver self.old.loaded.value.view dropped.now created.now refusal) }
+        ensures same { OnErr result ((self.new.epoch ≡ self.old.epoch) × (self.new.loaded ≡ self.old.loaded)) }
+    {
+        let shelf = match Arc::try_clone(&self.shelf) {
+            Ok(shelf) => shelf,
+            Err(_) => return Err(Refusal::NoMemory),
+        };
+        let epoch = self.epoch;
+        // (a `match` in place of `?`, whose conversion of the refusal a clause would have to see through)
+        let book = self.book.get_mut();
+        let (before, start) = match book.checkpoint(
+            rt,
+            &shelf,
+            self.id,
+            epoch,
+            &self.loaded,
+            dropped,
+            created,
+        ) {
+            Ok(made) => made,
+            Err(refusal) => return Err(refusal),
+        };
+        // (what is known of the manager speaks of its epoch and tables together: no call stands between the two)
+        self.epoch = epoch + 1;
+        let loaded = mem::replace(&mut self.loaded, start);
+        Ok(History::of(shelf, self.id, epoch, loaded, before))
     }
 }
