@@ -1,5 +1,5 @@
 -- What is read, answered and written so far, and what comes behind it.
-use Rattle.std.proofs.Common.{◌≡◌, ◌≢◌, ℕ, Bool, true, false, List, [], ◌∷◌, ◌++◌, length, take, Option, Some, None, Result, Ok, Err, refl, sym, ap, ◌∙◌, subst, append-nil, append_assoc}
+use Rattle.std.proofs.Common.{◌≡◌, ◌≢◌, ℕ, true, false, List, [], ◌∷◌, ◌++◌, length, Option, Some, None, refl, sym, ap, ◌∙◌, subst, append-nil, append_assoc}
 use Rattle.std.specs.Prelude.{IfSome}
 use Rattle.std.specs.Io.KnownBytes.{Appends, Consumes, IsAtEnd}
 use Rattle.std.proofs.KnownBytes.{Appends-nil, Appends-trans, Consumes-nil, Consumes-trans}
@@ -7,7 +7,7 @@ use Rattle.commit.specs.Events.{EngineState}
 use Rattle.shell.specs.declared.cutting.Place.TheVariants.{End}
 use Rattle.shell.specs.Cuts.{Piece, Rest, forward, pieces_of, rest_of, scan, whole_of}
 use Rattle.shell.specs.Reading.{ReadsOn, ReadsSome}
-use Rattle.shell.specs.Outcomes.{AreOutcomes, IsOutcome, Outcome, line_of, lines_in}
+use Rattle.shell.specs.Outcomes.{AreOutcomes, Outcome, line_of, lines_in}
 use Rattle.shell.specs.Writing.{Answers, AreRun, Feeds, FeedsAll, FeedsFirst, IsOver, left_by, left_by_all}
 use Rattle.shell.proofs.Pieces.{IsQuietTurn, IsWholeTurn, pieces_append, quiet_turn, rest_append, rest_at, same_rests, whole_turn}
 

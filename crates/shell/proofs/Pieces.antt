@@ -1,13 +1,13 @@
 -- The pieces of an input that comes bit by bit.
-use Rattle.std.proofs.Common.{◌≡◌, ◌≢◌, ◌+◌, ◌-◌, ◌<◌, ◌≤◌, ◌^◌, ℕ, zero, suc, Bool, true, false, cond, List, [], ◌∷◌, ◌++◌, length, take, drop, get_or, min, refl, sym, ap, ◌∙◌, subst, append-nil, append_assoc, arith}
-use Rattle.std.specs.Prelude.{nat_eq, ◌==◌, All}
+use Rattle.std.proofs.Common.{◌≡◌, ◌≢◌, ◌+◌, ◌-◌, ◌<◌, ℕ, suc, Bool, true, false, cond, List, [], ◌∷◌, ◌++◌, length, take, get_or, refl, sym, ap, ◌∙◌, subst, append-nil, append_assoc, arith}
+use Rattle.std.specs.Prelude.{◌==◌}
 use Rattle.std.specs.Io.{StopsAt}
 use Rattle.std.proofs.lemmas.Bool.{eqb-true}
 use Rattle.std.proofs.lemmas.List.{length-append}
 use Rattle.std.proofs.Math.Seq.{take-append_seam}
 use Rattle.shell.specs.declared.cutting.Place.{Place}
 use Rattle.shell.specs.declared.cutting.Place.TheVariants.{Plain, Dash, Comment, Quote, End}
-use Rattle.shell.specs.Cuts.{Piece, Rest, after, behind, ended, forward, piece_of, pieces_of, rejoined, rest_of, scan, whole_of, with_byte}
+use Rattle.shell.specs.Cuts.{Piece, Rest, after, behind, ended, forward, pieces_of, rest_of, scan, whole_of, with_byte}
 
 abbrev pub piece_at : ℕ → List ℕ → Piece
 piece_at at bytes = record { at = at; bytes = bytes }

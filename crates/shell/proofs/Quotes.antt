@@ -1,9 +1,8 @@
 -- Pieces and the input, quoted texts and comments.
-use Rattle.std.proofs.Common.{◌≡◌, ◌≢◌, ℕ, Bool, true, false, not, cond, List, [], ◌∷◌, ◌++◌, refl, sym, ap, ◌∙◌, subst, append-nil, append_assoc}
+use Rattle.std.proofs.Common.{◌≡◌, ℕ, Bool, true, false, cond, List, [], ◌∷◌, ◌++◌, refl, sym, ap, ◌∙◌, subst, append-nil, append_assoc}
 use Rattle.std.specs.Prelude.{◌==◌}
 use Rattle.std.specs.List.{list_all}
 use Rattle.std.proofs.lemmas.Bool.{and_parts, eqb-true, not-true}
-use Rattle.token.specs.Bytes.{is_line_feed, is_quote}
 use Rattle.token.specs.Rules.{doubled, in_quotes, is_in_line}
 use Rattle.shell.specs.declared.cutting.Place.{Place}
 use Rattle.shell.specs.declared.cutting.Place.TheVariants.{Plain, Dash, Comment, Quote, End}

@@ -1,6 +1,6 @@
 -- Why a piece is no event, and why a shell ends early.
-use Rattle.std.proofs.Common.{◌≡◌, ◌≢◌, ℕ, Bool, true, false, List, [], ◌∷◌, ◌++◌, ◌-◌, length, take, drop, arith, Option, Some, None, Result, Ok, Err, inl, inr, refl, sym, ap, ◌∙◌, subst, append-nil}
-use Rattle.std.specs.Prelude.{IfErr, IfOk, OnOk, OnErr}
+use Rattle.std.proofs.Common.{◌≡◌, ℕ, true, false, List, ◌++◌, ◌-◌, length, take, drop, arith, Result, Ok, Err, inl, inr, refl, sym, ap, ◌∙◌, subst, append-nil}
+use Rattle.std.specs.Prelude.{OnOk}
 use Rattle.std.proofs.lemmas.List.{length-drop, take_all}
 use Rattle.value.specs.declared.refusals.Refusal.{Refusal}
 use Rattle.value.specs.declared.refusals.Refusal.TheVariants.{NoMemory, Syntax}
@@ -12,13 +12,12 @@ use Rattle.commit.specs.Events.{EngineState}
 use Rattle.report.specs.Report.{answer_line, refusal_line}
 use Rattle.std.specs.Prelude.{codes}
 use Rattle.running.specs.Texts.{IsRead, IsUnread}
-use Rattle.running.specs.declared.faults.ProgramFault.{ProgramFault}
 use Rattle.running.specs.declared.faults.ProgramFault.TheVariants.{Output}
 use Rattle.shell.specs.declared.faults.ShellFault.{ShellFault}
 use Rattle.shell.specs.declared.faults.ShellFault.TheVariants.{Run}
 use Rattle.shell.specs.Cuts.{Piece, forward}
 use Rattle.shell.specs.Headings.{address, event_text, is_blank}
-use Rattle.shell.specs.Outcomes.{Blank, Fault, IsBreak, IsFaultOf, IsOpen, IsStepOf, Outcome, Reply, moved}
+use Rattle.shell.specs.Outcomes.{Blank, Fault, IsBreak, IsFaultOf, IsStepOf, Reply, moved}
 use Rattle.shell.specs.Shell.{IsInTheTalk, is_stop}
 use Rattle.shell.specs.Writing.{Breaks, IsAnsweredNow, Responds}
 

@@ -1,20 +1,19 @@
 -- Sessions that get their seats as they come are answered as if all had had theirs from the start.
-use Rattle.std.proofs.Common.{◌≡◌, ◌+◌, ◌<◌, ℕ, zero, suc, Bool, true, false, cond, List, [], ◌∷◌, ◌++◌, length, map, Option, Some, None, inl, inr, refl, sym, ap, ◌∙◌, subst, append-nil, append_assoc, arith}
+use Rattle.std.proofs.Common.{◌≡◌, ◌+◌, ℕ, zero, suc, Bool, true, false, cond, List, [], ◌∷◌, ◌++◌, length, map, Option, Some, None, inl, inr, refl, sym, ap, ◌∙◌, subst, append-nil, append_assoc}
 use Rattle.std.specs.Prelude.{nat_lt, slice_get, slice_set, is_some}
-use Rattle.std.specs.List.{position, position_from}
+use Rattle.std.specs.List.{position_from}
 use Rattle.std.specs.Str.{bytes_eq}
 use Rattle.std.proofs.lemmas.Iterator.Adapters.{position_from-zero}
 use Rattle.std.proofs.lemmas.List.{length-map, map-append, set-append_left}
 use Rattle.std.proofs.lemmas.Option.{same_Some}
 use Rattle.std.proofs.lemmas.Slice.Eq.{bytes_eq-Decides}
 use Rattle.statement_syntax.specs.declared.statements.Step.{Step}
-use Rattle.statement_syntax.specs.declared.statements.Event.{Event}
 use Rattle.answer.specs.declared.answers.Answer.{Answer}
 use Rattle.commit.specs.Transactions.{OpenTransaction}
 use Rattle.commit.specs.declared.seats.Seat.{Seat}
 use Rattle.commit.specs.Cores.{CoreState}
-use Rattle.commit.specs.Events.{EngineState, FindsNoMemory, IsAnswered, IsAnsweredAt, IsReply, after, after_at, core_after, found_no_memory, seat_of, seats_set, seats_with, takes_memory, takes_memory_at, txn_after, txn_of}
-use Rattle.commit.specs.Runs.{all_seated, free_seat, seated, unless_seated}
+use Rattle.commit.specs.Events.{EngineState, IsAnswered, IsAnsweredAt, IsReply, after, after_at, core_after, found_no_memory, seat_of, seats_set, takes_memory, takes_memory_at, txn_after, txn_of}
+use Rattle.commit.specs.Runs.{all_seated, free_seat, unless_seated}
 use Rattle.commit.proofs.Running.{HasSeat, has_seat}
 use Rattle.running.specs.Texts.{most_sessions}
 use Rattle.shell.specs.Seats.{seated_steps, seated_within, welcomed}

@@ -5,7 +5,7 @@ use Rattle.std.specs.Io.KnownBytes.{Appends, Consumes}
 use Rattle.std.proofs.KnownBytes.{Appends-trans}
 use Rattle.statement_syntax.specs.declared.statements.Step.{Step}
 use Rattle.commit.specs.Cores.{IsSerializable}
-use Rattle.commit.specs.Events.{EngineState, IsAnswered, after}
+use Rattle.commit.specs.Events.{EngineState, after}
 use Rattle.commit.specs.Runs.{AreAnswers, InEachRun, beginning, led_to}
 use Rattle.commit.specs.Told.{WereToldAlone}
 use Rattle.delta.specs.Views.{Shown}
@@ -15,11 +15,11 @@ use Rattle.running.specs.declared.faults.ProgramFault.TheVariants.{Defs, Script,
 use Rattle.running.specs.Texts.{IsInTheRun, is_before_the_run}
 use Rattle.shell.specs.declared.faults.ShellFault.{ShellFault}
 use Rattle.shell.specs.declared.faults.ShellFault.TheVariants.{Run, Input}
-use Rattle.shell.specs.Cuts.{Piece, Rest, no_rest, piece_of, pieces_of, rest_of}
+use Rattle.shell.specs.Cuts.{Piece, Rest, no_rest, piece_of, pieces_of}
 use Rattle.shell.specs.Outcomes.{AreOutcomes, IsLast, Outcome, Blank, Reply, Fault, answers_in, line_of, lines_in, steps_in}
 use Rattle.shell.specs.Seats.{first_seated, seated_steps, welcomed}
-use Rattle.shell.specs.Shell.{IsBeginning, IsConversation, IsFirstFault, IsInTheTalk, IsRunFault, IsTalk, IsTaken, WritesConversation, WritesFirst, is_before_the_talk, is_run_stop, is_stop}
-use Rattle.shell.specs.Writing.{AreRun, FeedsAll, FeedsFirst, Finishes, ending_if, left_by, left_by_all}
+use Rattle.shell.specs.Shell.{IsBeginning, IsFirstFault, IsInTheTalk, IsRunFault, IsTalk, IsTaken, WritesConversation, WritesFirst, is_before_the_talk, is_run_stop, is_stop}
+use Rattle.shell.specs.Writing.{AreRun, FeedsAll, FeedsFirst, Finishes, ending_if, left_by_all}
 use Rattle.shell.proofs.Seating.{after_whole, answered_whole, seated_late, whole, whole_now, with_seats}
 
 -- the answers of an engine whose sessions come are those of one that has all from the start

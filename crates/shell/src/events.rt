@@ -74,6 +74,9 @@ fn welcome(engine: &mut Engine, session: &Text) -> Result<(), Refusal>
     }
 }
 
+/// Lets a value go. Its type is a parameter here, so that the caller's proof does not go over its fields.
+fn let_go<T: Drop>(_value: T) {}
+
 /// Answers the event of a piece that has a token.
 #[tactic(auto, using(crate::proofs::Refusals::fault_of_memory))]
 fn run_piece(
@@ -89,13 +92,13 @@ fn run_piece(
     ensures same { OnErr result (engine.new ≡ engine.old) }
 {
     let step = read_step(alloc, at, bytes)?;
-    welcome(engine, &step.session)?;
+    if let Err(refusal) = welcome(engine, &step.session) {
+        let_go(step);
+        return Err(refusal);
+    }
     let answer = engine.answer(&step);
     Ok((step, answer))
 }
-
-/// Lets a value go. Its type is a parameter here, so that the caller's proof does not go over its fields.
-fn let_go<T: Drop>(_value: T) {}
 
 /// Answers a piece, and adds its line.
 #[tactic(auto, using(crate::proofs::Refusals::responds_blank, crate::proofs::Refusals::responds_fault))]
