@@ -152,6 +152,8 @@ fn has<N: Named, R: Abort>(
 ) {
     for place in 0..receipts.len() {
         let receipt = &receipts[place];
+        let is_of = receipt.epoch() == history.epoch();
+        equal(rt, is_of, from <= place && place < to);
         match history.record(receipt) {
             Ok(record) => equal(rt, record.number, receipt.number()),
             Err(_) => equal(rt, from <= place && place < to, false),

@@ -80,6 +80,13 @@ impl<N: Named> History<N> {
         }
     }
 
+    /// The epoch of the manager that the commits are of.
+    pub fn epoch(&self) -> u64
+        ensures { result ≡ self.now.epoch }
+    {
+        self.epoch
+    }
+
     /// The commits: their records, the tables before and after them, their serial order, and the commits that were
     /// refused. They are over the tables that the epoch began on, and no more than the manager's limit. A manager of
     /// another shelf goes on where they end: `Manager::open` with `Definitions::of(alloc, history.core().newest())`.

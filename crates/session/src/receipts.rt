@@ -46,7 +46,14 @@ impl<N: Named> Receipt<N> {
         }
     }
 
-    /// The number of the commit.
+    /// The epoch of the manager that the commit is of: 0 from its opening on, and one more from each checkpoint on.
+    pub fn epoch(&self) -> u64
+        ensures { result ≡ self.now.epoch }
+    {
+        self.epoch
+    }
+
+    /// The number of the commit in its epoch.
     pub fn number(&self) -> u64
         ensures { result ≡ self.now.number }
     {
