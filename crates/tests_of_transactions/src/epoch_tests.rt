@@ -183,14 +183,16 @@ fn engine_with_open(alloc: Global, steps: &[Step]) -> Result<Engine, Refusal> {
 }
 
 /// What an engine hands out once no transaction is open.
-fn hand_out(engine: &mut Engine, end: &Step, created: &[NewAssertion]) -> Result<Core, Refusal> {
+fn hand_out(engine: &mut Engine, end: &[Step], created: &[NewAssertion]) -> Result<Core, Refusal> {
     if !matches!(
         engine.checkpoint(&[], created),
         Err(Refusal::TransactionOpen)
     ) {
         return Err(Refusal::NoTransaction);
     }
-    let_go(engine.answer(end));
+    for step in end {
+        let_go(engine.answer(step));
+    }
     engine.checkpoint(&[], created)
 }
 
@@ -204,7 +206,7 @@ fn an_open_transaction_keeps_its_epoch(rt: HostRuntime) -> Result<(), Fail> {
     let end = parse_script(alloc, b"A: ROLLBACK;")?;
     let created = read_new(alloc, FUNDS)?;
     let mut engine = engine_with_open(alloc, steps.as_slice())?;
-    let before = hand_out(&mut engine, &end.as_slice()[0], created.as_slice())?;
+    let before = hand_out(&mut engine, end.as_slice(), created.as_slice())?;
     assert_eq!(rt; before.records().len(), 1);
     assert_eq!(rt; engine.core().records().len(), 0);
     assert_eq!(rt; engine.seats().len(), 1);
