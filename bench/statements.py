@@ -239,6 +239,36 @@ FORMS = [
             ("DELETE FROM ACCT WHERE ID = ?", (1,), False),
         ],
     ),
+    Form(
+        "by parent",
+        [SHIFTS, DUTY],
+        "NOT EXISTS (SELECT * FROM DUTY D WHERE D.SHIFT IS NOT NULL AND NOT EXISTS"
+        " (SELECT * FROM SHIFTS S WHERE S.ID = D.SHIFT))",
+        "CREATE INDEX BEST ON DUTY (SHIFT)",
+        ["CREATE INDEX CHILDREN ON DUTY (SHIFT)"],
+        [
+            f"""CREATE TRIGGER DUTY_COMES AFTER INSERT ON DUTY BEGIN
+                {REFUSE} WHERE NOT EXISTS (SELECT 1 FROM SHIFTS WHERE ID = NEW.SHIFT);
+            END""",
+            f"""CREATE TRIGGER DUTY_CHANGES AFTER UPDATE OF SHIFT ON DUTY BEGIN
+                {REFUSE} WHERE NOT EXISTS (SELECT 1 FROM SHIFTS WHERE ID = NEW.SHIFT);
+            END""",
+            f"""CREATE TRIGGER SHIFT_GOES AFTER DELETE ON SHIFTS BEGIN
+                {REFUSE} WHERE EXISTS (SELECT 1 FROM DUTY WHERE SHIFT = OLD.ID);
+            END""",
+        ],
+        ("SELECT 0", "SELECT COUNT(*) FROM DUTY WHERE SHIFT NOT IN (SELECT ID FROM SHIFTS)"),
+        # Of 20 rows half are in shift 0, half in shift 1.
+        [
+            ("INSERT INTO DUTY VALUES (?, ?, ?)", (1, 2, 1), True),
+            (NEW_SHIFT, (2,), False),
+            ("INSERT INTO DUTY VALUES (?, ?, ?)", (1, 2, 1), False),
+            ("DELETE FROM SHIFTS WHERE ID = ?", (2,), True),
+            ("UPDATE DUTY SET SHIFT = ? WHERE ID = ?", (3, 1), True),
+            ("UPDATE DUTY SET SHIFT = ? WHERE ID = ?", (1, 1), False),
+            ("DELETE FROM SHIFTS WHERE ID = ?", (2,), False),
+        ],
+    ),
     Form("no assertion", [ACCT]),
 ]
 

@@ -59,7 +59,7 @@ TURNS = [
         ("both make left right leaves = and_then (left leaves) (λ l. then_made (make l.0) (right l.1))",
          "both make left right leaves = and_then (right leaves) (λ r. then_made (λ l. make l r.0) (left r.1))")]),
     ("the second of two links is dropped", "specs/Links", [
-        ("only_one (column ∷ other ∷ rest) = None", "only_one (column ∷ other ∷ rest) = Some column")]),
+        ("only_one (link ∷ other ∷ rest) = None", "only_one (link ∷ other ∷ rest) = Some link")]),
     ("a part about the root filters the child", "specs/Links", [
         ("each (row_condition child) (own_parts child root parts)",
          "each (row_condition root) (own_parts child root parts)")]),
@@ -81,8 +81,8 @@ TURNS = [
     ("GROUP BY without HAVING is forgotten", "specs/Forms", [
         ("by_clauses tables source query (Some column) None = Err OutsideClass",
          "by_clauses tables source query (Some column) None = by_row tables source query")]),
-    ("a link may be to any column of the root", "specs/Links", [
-        ("is_key root (Some column) = column == root.layout.key", "is_key root (Some column) = column == column")]),
+    ("the columns of a link are exchanged", "specs/Links", [
+        ("Some (record { inner = inner; outer = outer })", "Some (record { inner = outer; outer = inner })")]),
     ("a link may be by <=", "specs/Links", [
         ("link_in child root (Condition-F.Compare left Equal right) =",
          "link_in child root (Condition-F.Compare left AtMost right) ="),
@@ -133,7 +133,12 @@ TURNS = [
     ("a literal on the left is not seen", "specs/Reads", [
         ("sides (Expr-F.Literal v) (Expr-F.Column i) = Some (record { column = i; value = v })\n", "")]),
     ("a check by rows reads the whole of a linked table", "specs/Checks", [
-        ("link_key k q = InColumn q.table (link_column q.grouping) k", "link_key k q = WholeTable q.table")]),
+        ("InColumn q.table q.grouping.inner k ∷ []", "WholeTable q.table ∷ []")]),
+    ("the row under a value is read as rows of a column", "specs/Checks", [
+        ("then OneRow (record { table = q.table; key = v })", "then InColumn q.table q.grouping.inner v")]),
+    ("a changed child finds its roots unseen", "specs/Checks", [
+        ("then map (InColumn table q.grouping.outer) (linked_values q.grouping (touched change)) else []",
+         "then [] else []")]),
     ("a check by groups reads the whole table", "specs/Checks", [
         ("(Of v) = InColumn table group v ∷ []", "(Of v) = WholeTable table ∷ []")]),
     ("a single condition reads a row of each group too", "specs/Checks", [

@@ -1,11 +1,11 @@
 -- A check finds the same violation on two states that moved alike and hold the same rows under the keys that it reads.
 use Rattle.std.proofs.Common.{◌≡◌, ℕ, Bool, true, false, cond, List, [], ◌∷◌, ◌++◌, Option, Some, None, refl, sym, ap, ◌∙◌, subst, inl, inr, map, filter}
-use Rattle.std.specs.Prelude.{◌||◌}
+use Rattle.std.specs.Prelude.{flat_map}
 use Rattle.std.specs.Cmp.{IsTotalOrder}
 use Rattle.std.specs.Ordering.{is_gt, ordering_reverse}
 use Rattle.std.specs.declared.cmp.Ordering.{Ordering}
 use Rattle.std.specs.declared.cmp.Ordering.TheVariants.{Less, Equal, Greater}
-use Rattle.std.proofs.lemmas.Bool.{cases_Bool, both_ways, or_parts}
+use Rattle.std.proofs.lemmas.Bool.{cases_Bool}
 use Rattle.std.proofs.lemmas.Map.Lookups.{CmpEqualImpliesEq}
 use Rattle.value.specs.declared.values.Root.{Root}
 use Rattle.value.specs.declared.refusals.Refusal.{Refusal}
@@ -13,25 +13,27 @@ use Rattle.value.specs.ValueOrder.{root_cmp}
 use Rattle.value.specs.Ordered.{least, lesser}
 use Rattle.value.proofs.OrderedLists.{has, has-itself, has-least, least-below}
 use Rattle.value.proofs.ValueOrders.{root_cmp_total, root_exact}
-use Rattle.table.specs.Rows.{RowValues, Layout}
+use Rattle.table.specs.declared.rows.Change.{Change}
+use Rattle.table.specs.Rows.{Layout}
 use Rattle.assertion.specs.declared.assertions.Assertion.{Assertion}
 use Rattle.assertion.specs.declared.forms.Form.{Form}
 use Rattle.assertion.specs.Meaning.{State, bad_roots, least_bad_of}
-use Rattle.assertion.specs.Candidates.{candidates, candidates_of}
-use Rattle.assertion.specs.Roots.{is_bad_root, IsOrdered}
-use Rattle.assertion.proofs.ListLemmas.{has-contains, contains-has}
+use Rattle.assertion.specs.Candidates.{candidates_of}
+use Rattle.assertion.specs.Roots.{is_bad_root, IsOrdered, AreChangesOf, state_after_all}
+use Rattle.assertion.proofs.ListLemmas.{contains-has}
 use Rattle.assertion.proofs.BadRoots.{has-bad}
-use Rattle.siread.specs.declared.keys.Place.{Place}
+use Rattle.assertion.proofs.KeptTruth.{kept_truth-all}
 use Rattle.siread.specs.declared.keys.LockKey.{LockKey}
-use Rattle.siread.specs.Keys.{holds, touches, seen, AlikeUnder}
-use Rattle.alone.specs.States.{row_in, IsState, change_between, net_change}
-use Rattle.alone.specs.Checks.{keys_for, check_keys, refusal_at, violation, checks_read}
+use Rattle.siread.specs.Keys.{AlikeUnder}
+use Rattle.alone.specs.States.{row_in, IsState, IsPut, net_change}
+use Rattle.alone.specs.Checks.{keys_for, finding_keys, check_keys, refusal_at, violation, checks_read}
 use Rattle.std.specs.List.{zip}
 use Rattle.modes.specs.Modes.{Immediates, immediate_ones, is_named, modes_with}
-use Rattle.alone.proofs.Lists.{Each}
+use Rattle.alone.proofs.Lists.{Each, each_at}
 use Rattle.alone.proofs.Members.{in_left, in_right, in_flat}
-use Rattle.alone.proofs.Nets.{Alike, net_same, net_all}
-use Rattle.alone.proofs.Forms.{needs, root_same, touched_root, needs_read}
+use Rattle.alone.proofs.Nets.{Alike, net_same, net_exact, net_puts, put_net}
+use Rattle.alone.proofs.Orders.{due_changes, net_in_order}
+use Rattle.alone.proofs.Forms.{root_same, candidates_same, check_keys_same}
 
 -- neither is above the other
 level : (c d : Ordering) → d ≡ ordering_reverse c → is_gt c ≡ false → is_gt d ≡ false → c ≡ Equal
@@ -82,46 +84,62 @@ module _ (layouts : List Layout) where
   not_bad : (form : Form) (state : State) → IsOrdered layouts state → least_bad_of layouts form state ≡ None → (r : Root) → is_bad_root layouts form state r ≡ false
   not_bad form state f h r = sym (has-bad layouts form state f r) ∙ none_in (bad_roots layouts form state) h r
 
-  -- a place at which a change between two states doesn't touch a key
-  untouched : (key : LockKey) (place : Place) (old new : Option RowValues) → holds key place old || holds key place new ≡ false → seen key place old ≡ seen key place new
-  untouched key place old new h = ap (λ b. cond b old None) (or_parts (holds key place old) (holds key place new) h).0 ∙ sym (ap (λ b. cond b new None) (or_parts (holds key place old) (holds key place new) h).1)
+  -- the net change is put in one after the other
+  net_due : (before after : State) → IsState layouts before → AreChangesOf layouts (net_change layouts before after) before
+  net_due before after f = due_changes layouts before f (net_change layouts before after) (record {
+    in_order = net_in_order layouts before after;
+    exact = λ c m. sym (ap (λ (c : Change). c.old) (net_exact layouts before after c m).0);
+    puts = λ c m. each_at (IsPut layouts) (net_change layouts before after) (net_puts layouts before after) c m;
+  })
 
   -- a root that is no candidate of the net change stays as it was
-  pub others_stay : (form : Form) (before after : State) → IsState layouts before → IsState layouts after → (r : Root) → has root_cmp r (candidates_of (net_change layouts before after) form) ≡ false
+  pub others_stay : (form : Form) (before after : State) → IsState layouts before → IsState layouts after → (r : Root) → has root_cmp r (candidates_of layouts after (net_change layouts before after) form) ≡ false
       → is_bad_root layouts form before r ≡ is_bad_root layouts form after r
-  others_stay form before after f g r none = root_same layouts before after f.ordered g.ordered form r same
-    where
-      same : Under (needs form r) before after
-      same key m p = elim (net_all layouts before after f g p) [
-        | inl still ↦ ap (seen key p) still
-        | inr listed ↦ elim (cases_Bool (touches (change_between layouts before after p) key)) [
-          | inl hit ↦ absurd (both_ways (has root_cmp r (candidates_of (net_change layouts before after) form)) none (has-contains root_cmp_total (candidates_of (net_change layouts before after) form) r
-              (in_flat (λ change. candidates change form) (net_change layouts before after) (change_between layouts before after p) r listed (touched_root form (change_between layouts before after p) r key m hit))))
-          | inr miss ↦ untouched key p (row_in layouts before p) (row_in layouts after p) miss
-        ]
-      ]
+  others_stay form before after f g r none =
+      let changes : List Change = net_change layouts before after in
+      let led : state_after_all layouts changes before ≡ after = put_net layouts before after f g in
+      sym (kept_truth-all layouts changes before (net_due before after f) f.ordered form r (ap (λ state. has root_cmp r (candidates_of layouts state changes form)) led ∙ none))
+      ∙ ap (λ state. is_bad_root layouts form state r) led
 
   -- whether a root is bad, after two pairs of states moved alike
   bad_same : (form : Form) (b w b' w' : State) → IsState layouts b → IsState layouts w → IsState layouts b' → IsState layouts w' → Alike layouts b b' w w'
-      → least_bad_of layouts form b ≡ None → least_bad_of layouts form b' ≡ None → Under (check_keys form (net_change layouts b w)) w w' → (r : Root) → is_bad_root layouts form w r ≡ is_bad_root layouts form w' r
-  bad_same form b w b' w' fb fw fb' fw' alike q q' under r = elim (cases_Bool (has root_cmp r (candidates_of (net_change layouts b w) form))) [
-    | inl candidate ↦ root_same layouts w w' fw.ordered fw'.ordered form r (λ key m. under key (in_flat (keys_for form) (candidates_of (net_change layouts b w) form) r key (contains-has root_exact (candidates_of (net_change layouts b w) form) r candidate) (needs_read form r key m)))
-    | inr none ↦
-        sym (others_stay form b w fb fw r none)
-        ∙ not_bad form b fb.ordered q r ∙ sym (not_bad form b' fb'.ordered q' r)
-        ∙ others_stay form b' w' fb' fw' r (ap (λ changes. has root_cmp r (candidates_of changes form)) (sym (net_same layouts b b' w w' alike)) ∙ none)
-  ]
+      → least_bad_of layouts form b ≡ None → least_bad_of layouts form b' ≡ None → Under (check_keys layouts w form (net_change layouts b w)) w w' → (r : Root) → is_bad_root layouts form w r ≡ is_bad_root layouts form w' r
+  bad_same form b w b' w' fb fw fb' fw' alike q q' under r =
+      let changes : List Change = net_change layouts b w in
+      let finding : List LockKey = flat_map (finding_keys layouts form) changes in
+      let roots : List Root = candidates_of layouts w changes form in
+      let looks : List LockKey = flat_map (keys_for layouts w form) roots in
+      let alike_roots : candidates_of layouts w' (net_change layouts b' w') form ≡ roots =
+      sym (candidates_same layouts w w' fw.ordered fw'.ordered form changes (under_left finding looks w w' under) ∙ ap (λ changes. candidates_of layouts w' changes form) (net_same layouts b b' w w' alike)) in
+      elim (cases_Bool (has root_cmp r roots)) [
+        | inl candidate ↦ root_same layouts w w' fw.ordered fw'.ordered form r (λ key m. under key (in_right finding looks key (in_flat (keys_for layouts w form) roots r key (contains-has root_exact roots r candidate) m)))
+        | inr none ↦
+            sym (others_stay form b w fb fw r none)
+            ∙ not_bad form b fb.ordered q r ∙ sym (not_bad form b' fb'.ordered q' r)
+            ∙ others_stay form b' w' fb' fw' r (ap (has root_cmp r) alike_roots ∙ none)
+      ]
+
+  -- a check over the net change reads the same, after two pairs of states moved alike
+  pub reads_same : (assertions : List Assertion) (changes : List Change) (w w' : State) → IsState layouts w → IsState layouts w' → Under (checks_read layouts w assertions changes) w w'
+      → checks_read layouts w assertions changes ≡ checks_read layouts w' assertions changes
+  reads_same [] changes w w' f g under = refl
+  reads_same (a ∷ rest) changes w w' f g under =
+      let first : List LockKey = check_keys layouts w a.form changes in
+      let others : List LockKey = checks_read layouts w rest changes in
+      let e : first ≡ check_keys layouts w' a.form changes = check_keys_same layouts w w' f.ordered g.ordered a.form changes (under_left first others w w' under) in
+      let es : others ≡ checks_read layouts w' rest changes = reads_same rest changes w w' f g (under_right first others w w' under) in
+      λ i. e i ++ es i
 
   pub check_same : (assertions : List Assertion) (b w b' w' : State) → IsState layouts b → IsState layouts w → IsState layouts b' → IsState layouts w' → Alike layouts b b' w w'
-      → AreQuiet b assertions → AreQuiet b' assertions → Under (checks_read assertions (net_change layouts b w)) w w' → violation layouts assertions w ≡ violation layouts assertions w'
+      → AreQuiet b assertions → AreQuiet b' assertions → Under (checks_read layouts w assertions (net_change layouts b w)) w w' → violation layouts assertions w ≡ violation layouts assertions w'
   check_same [] b w b' w' fb fw fb' fw' alike q q' under = refl
   check_same (a ∷ rest) b w b' w' fb fw fb' fw' alike q q' under =
       let bad : (r : Root) → is_bad_root layouts a.form w r ≡ is_bad_root layouts a.form w' r
-      = bad_same a.form b w b' w' fb fw fb' fw' alike q.0 q'.0 (under_left (check_keys a.form (net_change layouts b w)) (checks_read rest (net_change layouts b w)) w w' under) in
+      = bad_same a.form b w b' w' fb fw fb' fw' alike q.0 q'.0 (under_left (check_keys layouts w a.form (net_change layouts b w)) (checks_read layouts w rest (net_change layouts b w)) w w' under) in
       let least : least_bad_of layouts a.form w ≡ least_bad_of layouts a.form w' =
       least_same root_cmp_total root_exact (bad_roots layouts a.form w) (bad_roots layouts a.form w') (λ r. has-bad layouts a.form w fw.ordered r ∙ bad r ∙ sym (has-bad layouts a.form w' fw'.ordered r)) in
       let more : violation layouts rest w ≡ violation layouts rest w' =
-      check_same rest b w b' w' fb fw fb' fw' alike q.1 q'.1 (under_right (check_keys a.form (net_change layouts b w)) (checks_read rest (net_change layouts b w)) w w' under) in
+      check_same rest b w b' w' fb fw fb' fw' alike q.1 q'.1 (under_right (check_keys layouts w a.form (net_change layouts b w)) (checks_read layouts w rest (net_change layouts b w)) w w' under) in
       λ i. refusal_at a.name (least i) (more i)
 
   -- those of a name among some are not false

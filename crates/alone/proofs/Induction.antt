@@ -36,7 +36,7 @@ use Rattle.alone.proofs.Stores.{one_same, all_fit}
 use Rattle.alone.proofs.Nets.{Alike, alike_start, alike_under, alike_put, net_same, net_exact, put_net}
 use Rattle.alone.proofs.Forms.{verdict_same}
 use Rattle.alone.proofs.Wheres.{found_same}
-use Rattle.alone.proofs.Checks.{Under, under_left, under_right, AreQuiet, quiet_from, check_same, AreQuietIn, quiet_of, quiet_ones, ones_quiet, quiet_in, quiet_deferred, quiet_immediate}
+use Rattle.alone.proofs.Checks.{Under, under_left, under_right, AreQuiet, quiet_from, check_same, reads_same, AreQuietIn, quiet_of, quiet_ones, ones_quiet, quiet_in, quiet_deferred, quiet_immediate}
 use Rattle.alone.proofs.Effects.{IsDoable, delete_doable, update_doable, insert_doable, insert_nothing}
 
 reads_are : (fault : Option Refusal) (reply : Reply) (before after : Standing) (reads : List LockKey) → (unless_violated fault reply before after reads).reads ≡ reads
@@ -94,7 +94,7 @@ module _ (declared : Declared) (s o : State) (sound : IsSound declared s) (sound
     same_refusal refusal reads = record { reply = refl; reads = refl; after = (refl, t) }
 
     does_same : (read : LockKey) (effect : Effect) → Moves u v effect.changes
-        → Under lays (read ∷ checks_read (immediate_ones m all) (net_change lays u (state_after_all lays effect.changes u))) s o
+        → Under lays (read ∷ checks_read lays (state_after_all lays effect.changes u) (immediate_ones m all) (net_change lays u (state_after_all lays effect.changes u))) s o
         → AreSame (effected declared at_u read (Ok effect)) (effected declared at_v read (Ok effect))
     does_same read effect moves under =
         let u' : State = state_after_all lays effect.changes u in
@@ -102,13 +102,14 @@ module _ (declared : Declared) (s o : State) (sound : IsSound declared s) (sound
         let moved : Alike lays s o u' v' = moves.alike s o t.alike in
         let stepwise : Alike lays u v u' v' = moves.alike u v (alike_start lays u v) in
         let net : net_change lays u u' ≡ net_change lays v v' = net_same lays u v u' v' stepwise in
+        let checks : List LockKey = checks_read lays u' (immediate_ones m all) (net_change lays u u') in
+        let checked : Under lays checks u' v' = λ key c. alike_under lays s o u' v' moved key (under key (in_tail read checks key c)) in
         let fault : violation lays (immediate_ones m all) u' ≡ violation lays (immediate_ones m all) v' =
-        check_same lays (immediate_ones m all) u u' v v' t.fit moves.fit t.fit' moves.fit' stepwise (quiet_ones lays m u all t.quiet) (quiet_ones lays m v all t.quiet')
-        (λ key c. alike_under lays s o u' v' moved key (under key (in_tail read (checks_read (immediate_ones m all) (net_change lays u u')) key c)))
+        check_same lays (immediate_ones m all) u u' v v' t.fit moves.fit t.fit' moves.fit' stepwise (quiet_ones lays m u all t.quiet) (quiet_ones lays m v all t.quiet') checked
         in
         same_unless (violation lays (immediate_ones m all) u') (violation lays (immediate_ones m all) v') effect.reply at_u at_v (record { view = u'; modes = m }) (record { view = v'; modes = m })
-        (read ∷ checks_read (immediate_ones m all) (net_change lays u u')) (read ∷ checks_read (immediate_ones m all) (net_change lays v v')) fault
-        (ap (λ changes. read ∷ checks_read (immediate_ones m all) changes) net) (refl, t)
+        (read ∷ checks) (read ∷ checks_read lays v' (immediate_ones m all) (net_change lays v v')) fault
+        (ap (λ reads. read ∷ reads) (reads_same lays (immediate_ones m all) (net_change lays u u') u' v' moves.fit moves.fit' checked ∙ ap (checks_read lays v' (immediate_ones m all)) net)) (refl, t)
         (λ none none'. (
           refl,
           record {
@@ -125,12 +126,12 @@ module _ (declared : Declared) (s o : State) (sound : IsSound declared s) (sound
     effect_same read (Err refusal) moves under = same_refusal refusal (read ∷ [])
     effect_same read (Ok effect) moves under =
         does_same read effect (moves effect refl)
-        (subst (λ keys. Under lays keys s o) (reads_are (violation lays (immediate_ones m all) (state_after_all lays effect.changes u)) effect.reply at_u (record { view = state_after_all lays effect.changes u; modes = m }) (read ∷ checks_read (immediate_ones m all) (net_change lays u (state_after_all lays effect.changes u)))) under)
+        (subst (λ keys. Under lays keys s o) (reads_are (violation lays (immediate_ones m all) (state_after_all lays effect.changes u)) effect.reply at_u (record { view = state_after_all lays effect.changes u; modes = m }) (read ∷ checks_read lays (state_after_all lays effect.changes u) (immediate_ones m all) (net_change lays u (state_after_all lays effect.changes u)))) under)
 
     has_read : (read : LockKey) (effect : Result Effect Refusal) → Contains (effected declared at_u read effect).reads read
     has_read read (Err refusal) = in_head read []
     has_read read (Ok effect) =
-        let checks : List LockKey = checks_read (immediate_ones m all) (net_change lays u (state_after_all lays effect.changes u)) in
+        let checks : List LockKey = checks_read lays (state_after_all lays effect.changes u) (immediate_ones m all) (net_change lays u (state_after_all lays effect.changes u)) in
         subst (λ keys. Contains keys read) (sym (reads_are (violation lays (immediate_ones m all) (state_after_all lays effect.changes u)) effect.reply at_u (record { view = state_after_all lays effect.changes u; modes = m }) (read ∷ checks)))
         (in_head read checks)
 
@@ -227,16 +228,15 @@ module _ (declared : Declared) (s o : State) (sound : IsSound declared s) (sound
     modes_same names true under =
         let net : net_change lays s u ≡ net_change lays o v = net_same lays s o u v t.alike in
         let now : Standing = record { view = u; modes = modes_with names true all m } in
-        let keys : Under lays (checks_read (named_ones names all) (net_change lays s u)) s o =
-        subst (λ keys. Under lays keys s o) (reads_are (violation lays (named_ones names all) u) ModesSet at_u now (checks_read (named_ones names all) (net_change lays s u))) under
-        in
+        let checks : List LockKey = checks_read lays u (named_ones names all) (net_change lays s u) in
+        let keys : Under lays checks s o = subst (λ keys. Under lays keys s o) (reads_are (violation lays (named_ones names all) u) ModesSet at_u now checks) under in
+        let checked : Under lays checks u v = λ key c. alike_under lays s o u v t.alike key (keys key c) in
         let fault : violation lays (named_ones names all) u ≡ violation lays (named_ones names all) v =
-        check_same lays (named_ones names all) s u o v sound.fit t.fit sound'.fit t.fit' t.alike (sound_quiet (is_named names) s sound) (sound_quiet (is_named names) o sound')
-        (λ key c. alike_under lays s o u v t.alike key (keys key c))
+        check_same lays (named_ones names all) s u o v sound.fit t.fit sound'.fit t.fit' t.alike (sound_quiet (is_named names) s sound) (sound_quiet (is_named names) o sound') checked
         in
         same_unless (violation lays (named_ones names all) u) (violation lays (named_ones names all) v) ModesSet at_u at_v now (record { view = v; modes = modes_with names true all m })
-        (checks_read (named_ones names all) (net_change lays s u)) (checks_read (named_ones names all) (net_change lays o v)) fault
-        (ap (checks_read (named_ones names all)) net) (refl, t)
+        checks (checks_read lays v (named_ones names all) (net_change lays o v)) fault
+        (reads_same lays (named_ones names all) (net_change lays s u) u v t.fit t.fit' checked ∙ ap (checks_read lays v (named_ones names all)) net) (refl, t)
         (λ none none'. (
           refl,
           record {
@@ -316,22 +316,30 @@ module _ (declared : Declared) (s o : State) (sound : IsSound declared s) (sound
 
     run_alike : RunAlike (run_on declared trace s) (run_on declared trace o)
     run_alike = ran_same trace (record { view = s; modes = initial_modes all }) (record { view = o; modes = initial_modes all }) begun
-        (under_left lays (run_on declared trace s).reads (checks_read all (net_change lays s (end s))) s o under)
+        (under_left lays (run_on declared trace s).reads (checks_read lays (end s) all (net_change lays s (end s))) s o under)
 
     net_alike : net_change lays s (end s) ≡ net_change lays o (end o)
     net_alike = net_same lays s o (end s) (end o) run_alike.final.1.alike
 
+    checked_alike : Under lays (checks_read lays (end s) all (net_change lays s (end s))) (end s) (end o)
+    checked_alike key c =
+        alike_under lays s o (end s) (end o) run_alike.final.1.alike key (under_right lays (run_on declared trace s).reads (checks_read lays (end s) all (net_change lays s (end s))) s o under key c)
+
+    checks_alike : checks_read lays (end s) all (net_change lays s (end s)) ≡ checks_read lays (end o) all (net_change lays o (end o))
+    checks_alike =
+        let ended = run_alike.final.1 in
+        reads_same lays all (net_change lays s (end s)) (end s) (end o) ended.fit ended.fit' checked_alike ∙ ap (checks_read lays (end o) all) net_alike
+
     refused_alike : violation lays all (end s) ≡ violation lays all (end o)
     refused_alike =
         let ended = run_alike.final.1 in
-        check_same lays all s (end s) o (end o) sound.fit ended.fit sound'.fit ended.fit' ended.alike (quiet_from lays all s sound.good) (quiet_from lays all o sound'.good)
-        (λ key c. alike_under lays s o (end s) (end o) ended.alike key (under_right lays (run_on declared trace s).reads (checks_read all (net_change lays s (end s))) s o under key c))
+        check_same lays all s (end s) o (end o) sound.fit ended.fit sound'.fit ended.fit' ended.alike (quiet_from lays all s sound.good) (quiet_from lays all o sound'.good) checked_alike
 
     pub outcome_same : transaction declared trace o ≡ transaction declared trace s
     outcome_same = sym (λ i. record { replies = run_alike.replies i; changes = net_alike i; refused = refused_alike i })
 
     pub keys_same : transaction_keys declared trace o ≡ transaction_keys declared trace s
-    keys_same = sym (λ i. run_alike.reads i ++ checks_read all (net_alike i))
+    keys_same = sym (λ i. run_alike.reads i ++ checks_alike i)
 
     pub final_fit : IsState lays (run_on declared trace s).final.view
     final_fit = run_alike.final.1.fit

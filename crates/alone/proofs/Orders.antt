@@ -27,7 +27,8 @@ use Rattle.alone.proofs.Effects.{IsDoable}
 use Rattle.siread.proofs.Members.{in_head, in_tail, in_cases, not_in_nil}
 use Rattle.alone.proofs.Lists.{Each, each_at, each_from}
 use Rattle.alone.proofs.Members.{from_map, in_filter, from_filter, from_flat, filter_passes}
-use Rattle.alone.proofs.InOrder.{same_list, IsAscending-filter, at-key}
+use Rattle.assertion.proofs.ListLemmas.{at-key}
+use Rattle.alone.proofs.InOrder.{same_list, IsAscending-filter}
 use Rattle.siread.proofs.KeyOrder.{same_place-true}
 use Rattle.alone.proofs.Stores.{same_there-true, same_there-refl, changed, Found, change_at_cases, listed_at, row_in-after, row_in-put, after_fits, all_fit}
 use Rattle.alone.proofs.Nets.{at_in, changes_ascend, net_exact, net_all}
@@ -72,7 +73,7 @@ module _ {X K : Type 0} {R : K → K → Ordering} (o : IsTotalOrder R) (exact :
     where
       moved : (k : K) (us vs : List X) → IsAscending R key vs → ((x : X) → Contains us x → Contains vs x) → (x : X) → at R key k us ≡ Some x → at R key k vs ≡ Some x
       moved k us vs v over x h =
-          ap (λ j. at R key j vs) (exact k (key x) (at-key o key k us x h)) ∙ at_member vs v x (over x (at_in R key k us x h))
+          ap (λ j. at R key j vs) (exact k (key x) (at-key R key k us x h)) ∙ at_member vs v x (over x (at_in R key k us x h))
 
       go : (k : K) (p : Option X) → at R key k xs ≡ p → (q : Option X) → at R key k ys ≡ q → at R key k xs ≡ at R key k ys
       go k (Some x) e q f = e ∙ sym (moved k xs ys t there x e)

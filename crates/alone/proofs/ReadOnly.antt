@@ -36,7 +36,7 @@ modes_leave declared start names false now = refl
 modes_leave declared start names true now =
     check_leaves (violation (layouts_in declared) (named_ones names declared.assertions) now.view) ModesSet now
     (record { view = now.view; modes = modes_with names true declared.assertions now.modes })
-    (checks_read (named_ones names declared.assertions) (net_change (layouts_in declared) start now.view)) refl
+    (checks_read (layouts_in declared) now.view (named_ones names declared.assertions) (net_change (layouts_in declared) start now.view)) refl
 
 verdict_leaves : (declared : Declared) (found : Option Assertion) (name : List ℕ) (now : Standing) → (verdict_step declared found name now).after.view ≡ now.view
 verdict_leaves declared None name now = refl

@@ -23,7 +23,8 @@ use Rattle.alone.specs.States.{row_in, IsState, same_row, same_there, IsPut}
 use Rattle.siread.proofs.KeyOrder.{same_value-true, same_value-refl, same_place-true, same_place-refl}
 use Rattle.siread.proofs.Members.{in_head, in_tail, in_cases, not_in_nil}
 use Rattle.alone.proofs.Lists.{Each}
-use Rattle.alone.proofs.InOrder.{only, same_list, at-key, filter_same}
+use Rattle.assertion.proofs.ListLemmas.{at-key}
+use Rattle.alone.proofs.InOrder.{only, same_list, filter_same}
 
 -- whether two values are the same, from either side
 pub same_value-turned : (a b : Value) → same_value a b ≡ same_value b a
@@ -130,7 +131,7 @@ all_seen table key (Some row) = ap (λ b. cond b (Some row) None) (eq-eqb table 
 module _ (layouts : List Layout) where
   -- a row that stands under a key has it
   pub at_own : (table : ℕ) (k : Value) (rows : List RowValues) (row : RowValues) → row_at (key_of table layouts) k rows ≡ Some row → value_in (key_of table layouts) row ≡ k
-  at_own table k rows row h = sym (value_exact k (value_in (key_of table layouts) row) (at-key value_cmp_total (value_in (key_of table layouts)) k rows row h))
+  at_own table k rows row h = sym (value_exact k (value_in (key_of table layouts) row) (at-key value_cmp (value_in (key_of table layouts)) k rows row h))
 
   module _ (state : State) (fit : IsState layouts state) (change : Change) (put : IsPut layouts change) where
     -- the change from what stands there

@@ -46,7 +46,8 @@ effected declared now read (Ok effect) =
     unless_violated (violation (layouts_in declared) (immediate_ones now.modes declared.assertions)
     (state_after_all (layouts_in declared) effect.changes now.view)) effect.reply
     now (record { view = state_after_all (layouts_in declared) effect.changes now.view; modes = now.modes })
-    (read ∷ checks_read (immediate_ones now.modes declared.assertions)
+    (read ∷ checks_read (layouts_in declared) (state_after_all (layouts_in declared) effect.changes now.view)
+    (immediate_ones now.modes declared.assertions)
     (net_change (layouts_in declared) now.view (state_after_all (layouts_in declared) effect.changes now.view)))
 
 abbrev pub verdict_step : Declared → Option Assertion → List ℕ → Standing → Step
@@ -67,7 +68,8 @@ modes_step declared start names false now = record {
 modes_step declared start names true now =
     unless_violated (violation (layouts_in declared) (named_ones names declared.assertions) now.view) ModesSet
     now (record { view = now.view; modes = modes_with names true declared.assertions now.modes })
-    (checks_read (named_ones names declared.assertions) (net_change (layouts_in declared) start now.view))
+    (checks_read (layouts_in declared) now.view (named_ones names declared.assertions)
+    (net_change (layouts_in declared) start now.view))
 
 -- an UPDATE that gives the key a value is refused, and reads nothing
 abbrev pub unless_key : Bool → Refusal → Standing → Step → Step
@@ -141,7 +143,8 @@ transaction declared trace start = record {
 -- what it reads, the check of COMMIT included
 abbrev pub transaction_keys : Declared → List Resolved → State → List LockKey
 transaction_keys declared trace start =
-    (run_on declared trace start).reads ++ checks_read declared.assertions
+    (run_on declared trace start).reads
+    ++ checks_read (layouts_in declared) (run_on declared trace start).final.view declared.assertions
     (net_change (layouts_in declared) start (run_on declared trace start).final.view)
 
 -- the states of which the theorems speak: tables in key order, on which no assertion is false

@@ -71,10 +71,11 @@ pub fn updates_leave_the_key()
 /// between two states is bad on the one exactly where it is on the other.
 pub fn roots_depend_on_their_keys()
     ensures by_keys { (layouts : List Layout) (one other : State) → IsOrdered layouts one → IsOrdered layouts other
-        → (form : Form) (root : Root) → AlikeUnder (row_in layouts) (keys_for form root) one other
+        → (form : Form) (root : Root) → AlikeUnder (row_in layouts) (keys_for layouts one form root) one other
         → is_bad_root layouts form one root ≡ is_bad_root layouts form other root }
     ensures others { (layouts : List Layout) (before after : State) → IsState layouts before → IsState layouts after
-        → (form : Form) (root : Root) → (Contains (candidates_of (net_change layouts before after) form) root → ⊥)
+        → (form : Form) (root : Root)
+        → (Contains (candidates_of layouts after (net_change layouts before after) form) root → ⊥)
         → is_bad_root layouts form before root ≡ is_bad_root layouts form after root }
 {}
 

@@ -23,36 +23,36 @@ use Rattle.assertion.specs.Meaning.{State, rows_of, key_of, filtered_rows, lists
 use Rattle.assertion.specs.Roots.{is_bad_row, is_bad_root, IsOrdered}
 
 -- whether a row, if there is one, passes
-abbrev passes : (RowValues → Bool) → Option RowValues → Bool
+abbrev pub passes : (RowValues → Bool) → Option RowValues → Bool
 passes p None = false
 passes p (Some row) = p row
 
-module _ (key : ℕ) (p : Value → RowValues → Bool) where
-  abbrev listed : List RowValues → List Root
-  listed rows = map (λ row. Of (value_in key row)) (filter (λ row. p (value_in key row) row) rows)
+module _ (key : ℕ) (p : RowValues → Bool) where
+  abbrev pub listed : List RowValues → List Root
+  listed rows = map (λ row. Of (value_in key row)) (filter p rows)
 
   -- no row has a key below all
   none_above : (v : Value) (rows : List RowValues) → ordered.AreAbove value_cmp (value_in key) v rows → has root_cmp (Of v) (listed rows) ≡ false
   none_above v [] a = refl
-  none_above v (row ∷ rows) a = elim (p (value_in key row) row) as (λ b. has root_cmp (Of v) (map (λ row. Of (value_in key row)) (cond b (row ∷ filter (λ row. p (value_in key row) row) rows) (filter (λ row. p (value_in key row) row) rows))) ≡ false) [
+  none_above v (row ∷ rows) a = elim (p row) as (λ b. has root_cmp (Of v) (map (λ row. Of (value_in key row)) (cond b (row ∷ filter p rows) (filter p rows))) ≡ false) [
     | true ↦ rw a.0 (none_above v rows a.1)
     | false ↦ none_above v rows a.1
   ]
 
   -- a key is listed where its row passes
-  pub has-row : (v : Value) (rows : List RowValues) → ordered.IsAscending value_cmp (value_in key) rows → has root_cmp (Of v) (listed rows) ≡ passes (p v) (row_at key v rows)
+  pub has-row : (v : Value) (rows : List RowValues) → ordered.IsAscending value_cmp (value_in key) rows → has root_cmp (Of v) (listed rows) ≡ passes p (row_at key v rows)
   has-row v [] s = refl
   has-row v (row ∷ rows) s =
       let w : Value = value_in key row in
-      let rest : List RowValues = filter (λ row. p (value_in key row) row) rows in
-      let cases : (c : Ordering) → value_cmp v w ≡ c → has root_cmp (Of v) (listed (row ∷ rows)) ≡ passes (p v) (ordered.by_order c None (Some row) (row_at key v rows))
-      = λ c. elim c as (λ c. value_cmp v w ≡ c → has root_cmp (Of v) (listed (row ∷ rows)) ≡ passes (p v) (ordered.by_order c None (Some row) (row_at key v rows))) [
+      let rest : List RowValues = filter p rows in
+      let cases : (c : Ordering) → value_cmp v w ≡ c → has root_cmp (Of v) (listed (row ∷ rows)) ≡ passes p (ordered.by_order c None (Some row) (row_at key v rows))
+      = λ c. elim c as (λ c. value_cmp v w ≡ c → has root_cmp (Of v) (listed (row ∷ rows)) ≡ passes p (ordered.by_order c None (Some row) (row_at key v rows))) [
         | Less ↦ λ e. none_above v (row ∷ rows) (e, AreAbove-below value_cmp_total (value_in key) v w rows e s.0)
-        | Equal ↦ λ e. (elim (p w row) as (λ b. has root_cmp (Of v) (map (λ row. Of (value_in key row)) (cond b (row ∷ rest) rest)) ≡ b) [
+        | Equal ↦ λ e. elim (p row) as (λ b. has root_cmp (Of v) (map (λ row. Of (value_in key row)) (cond b (row ∷ rest) rest)) ≡ b) [
           | true ↦ rw e refl
           | false ↦ none_above v rows (AreAbove-tied value_cmp_total (value_in key) w v rows e s.0)
-        ]) ∙ ap (λ u. p u row) (sym (value_exact v w e))
-        | Greater ↦ λ e. elim (p w row) as (λ b. has root_cmp (Of v) (map (λ row. Of (value_in key row)) (cond b (row ∷ rest) rest)) ≡ passes (p v) (row_at key v rows)) [
+        ]
+        | Greater ↦ λ e. elim (p row) as (λ b. has root_cmp (Of v) (map (λ row. Of (value_in key row)) (cond b (row ∷ rest) rest)) ≡ passes p (row_at key v rows)) [
           | true ↦ rw e (has-row v rows s.1)
           | false ↦ has-row v rows s.1
         ]
@@ -88,10 +88,10 @@ has-group p group v (row ∷ rows) = member p v (value_in group row) row (filter
 
 -- the list of bad roots has the roots that are bad
 pub has-bad : (layouts : List Layout) (form : Form) (state : State) → IsOrdered layouts state → (r : Root) → has root_cmp r (bad_roots layouts form state) ≡ is_bad_root layouts form state r
-has-bad layouts (ByRow table c queries) state asc All = none_all (value_in (key_of table layouts)) (filter (λ row. lists_row state c queries (value_in (key_of table layouts) row) row) (rows_of table state))
+has-bad layouts (ByRow table c queries) state asc All = none_all (value_in (key_of table layouts)) (filter (lists_row state c queries) (rows_of table state))
 has-bad layouts (ByRow table c queries) state asc (Of v) =
     has-row (key_of table layouts) (lists_row state c queries) v (rows_of table state) (asc table)
-    ∙ elim (row_at (key_of table layouts) v (rows_of table state)) as (λ o. passes (lists_row state c queries v) o ≡ is_bad_row state c queries v o) [ None ↦ refl | Some row ↦ refl ]
+    ∙ elim (row_at (key_of table layouts) v (rows_of table state)) as (λ o. passes (lists_row state c queries) o ≡ is_bad_row state c queries o) [ None ↦ refl | Some row ↦ refl ]
 has-bad layouts (ByGroup table restriction group having aggregates) state asc All = none_all_of (filter (lists_group (filtered_rows restriction (rows_of table state)) group having aggregates) (map (value_in group) (filtered_rows restriction (rows_of table state))))
 has-bad layouts (ByGroup table restriction group having aggregates) state asc (Of v) = has-group (lists_group (filtered_rows restriction (rows_of table state)) group having aggregates) group v (filtered_rows restriction (rows_of table state))
 has-bad layouts (Single c queries) state asc All = elim (is_of (single_truth state c queries) False) as (λ b. has root_cmp All (if b then All ∷ [] else []) ≡ b) [ true ↦ refl | false ↦ refl ]

@@ -1,10 +1,11 @@
 -- A root that is no candidate of a change keeps its truth.
 use Rattle.std.proofs.Common.{◌≡◌, ◌≢◌, ℕ, Bool, true, false, cond, List, [], ◌∷◌, Option, Some, None, map, length, refl, sym, ◌∙◌, ap, subst, arith}
-use Rattle.std.specs.Prelude.{◌==◌, ◌&&◌, filter, flat_map, nat_lt, if◌then◌else◌}
-use Rattle.std.specs.Ordering.{eq_by_cmp}
+use Rattle.std.specs.Prelude.{◌==◌, ◌&&◌, ◌||◌, filter, flat_map, nat_lt, if◌then◌else◌}
+use Rattle.std.specs.Ordering.{eq_by_cmp, is_eq}
 use Rattle.std.proofs.lemmas.List.{get_or-set_same, get_or-set_other}
 use Rattle.std.proofs.lemmas.Bool.Decides.{nat_tests}
 use Rattle.std.proofs.lemmas.Bool.{or_parts}
+use Rattle.std.proofs.lemmas.Cmp.{tied_itself}
 use Rattle.std.proofs.Math.Bool.{and-false}
 use Rattle.value.specs.declared.values.Value.{Value}
 use Rattle.value.specs.declared.values.Value.TheVariants.{Null, Int, Text}
@@ -13,8 +14,8 @@ use Rattle.value.specs.declared.values.Root.TheVariants.{All, Of}
 use Rattle.value.specs.declared.comparisons.Comparison.TheVariants.{Equal}
 use Rattle.value.specs.ValueOrder.{value_cmp, root_cmp}
 use Rattle.value.specs.Ordered as ordered
-use Rattle.value.proofs.OrderedLists.{has, at-put, IsAscending-put}
-use Rattle.value.proofs.ValueOrders.{value_cmp_total}
+use Rattle.value.proofs.OrderedLists.{has, at-put, equal_from, IsAscending-put}
+use Rattle.value.proofs.ValueOrders.{value_cmp_total, value_exact}
 use Rattle.threeval.specs.declared.Truth.TheVariants.{True, False}
 use Rattle.threeval.specs.Truths.{is_of, known}
 use Rattle.table.specs.declared.rows.Change.{Change}
@@ -28,10 +29,11 @@ use Rattle.assertion.specs.declared.queries.Link.{Link}
 use Rattle.assertion.specs.declared.queries.Whole.{Whole}
 use Rattle.assertion.specs.declared.forms.Form.{Form}
 use Rattle.assertion.specs.declared.forms.Form.TheVariants.{ByRow, ByGroup, Single}
-use Rattle.assertion.specs.Meaning.{State, rows_of, key_of, link_column, links, linked_answer, plain_answer, filtered_rows}
-use Rattle.assertion.specs.Candidates.{touched, link_candidates, group_candidates, query_candidates, is_named, candidates, candidates_of}
+use Rattle.assertion.specs.Meaning.{State, rows_of, key_of, links, linked_answer, plain_answer, filtered_rows}
+use Rattle.assertion.specs.Candidates.{touched, linked_values, linked_roots, group_candidates, query_candidates, is_named, candidates, candidates_of}
 use Rattle.assertion.specs.Roots.{is_bad_row, is_bad_root, IsOrdered, IsChangeOf, AreChangesOf, state_after, state_after_all}
-use Rattle.assertion.proofs.ListLemmas.{has-neither, filter-filter, Drops, DropsAll, DropsAll-two, filter-put}
+use Rattle.assertion.proofs.BadRoots.{passes, has-row}
+use Rattle.assertion.proofs.ListLemmas.{has-append, has-neither, filter-filter, Drops, DropsAll, DropsAll-two, filter-put, at-key}
 
 pub equal_of : (a b : ℕ) → (a == b) ≡ true → a ≡ b
 equal_of a b h = grind (arith, nat_tests)
@@ -54,25 +56,67 @@ equals-there (Text s) Null = refl
 equals-there (Text s) (Int n) = refl
 equals-there (Text s) (Text t) = is_of-known (eq_by_cmp value_cmp (Text s) (Text t))
 
--- a row is linked to the value of its column, if it isn't NULL, and to no other
-pub links-there : (link : Link) (key : Value) (row : RowValues) → links link key row ≡ is_there (value_in (link_column link) row) && eq_by_cmp value_cmp key (value_in (link_column link) row)
-links-there link key row = equals-there key (value_in (link_column link) row)
+-- a row links to those that have its value in their column, if it isn't NULL
+pub links-there : (link : Link) (row linked : RowValues) → links link row linked ≡ is_there (value_in link.inner linked) && eq_by_cmp value_cmp (value_in link.outer row) (value_in link.inner linked)
+links-there link row linked = equals-there (value_in link.outer row) (value_in link.inner linked)
 
--- where no linked column holds a key, the subquery's filter drops each row
-pub not_linked : (link : Link) (v : Value) (restriction : Cond) (rows : List RowValues) → has root_cmp (Of v) (link_candidates link rows) ≡ false → DropsAll (λ row. links link v row && keeps row [] restriction) rows
-not_linked link v restriction [] h = tt
-not_linked link v restriction (row ∷ rows) h =
-    let w : Value = value_in (link_column link) row in
-    let rest : List Value = filter is_there (map (value_in (link_column link)) rows) in
-    let unlinked : is_there w && eq_by_cmp value_cmp v w ≡ false → links link v row && keeps row [] restriction ≡ false = λ e. ap (λ b. b && keeps row [] restriction) (links-there link v row ∙ e) in
-    let case : (b : Bool) → is_there w ≡ b → has root_cmp (Of v) (map Of (cond b (w ∷ rest) rest)) ≡ false → DropsAll (λ row. links link v row && keeps row [] restriction) (row ∷ rows)
-    = λ b. elim b as (λ b. is_there w ≡ b → has root_cmp (Of v) (map Of (cond b (w ∷ rest) rest)) ≡ false → DropsAll (λ row. links link v row && keeps row [] restriction) (row ∷ rows)) [
-      | true ↦ λ e h.
-          let parts : (eq_by_cmp value_cmp v w ≡ false) × (has root_cmp (Of v) (map Of rest) ≡ false) = or_parts (eq_by_cmp value_cmp v w) (has root_cmp (Of v) (map Of rest)) h in
-          (unlinked (ap (λ b. is_there w && b) parts.0 ∙ and-false (is_there w)), not_linked link v restriction rows parts.1)
-      | false ↦ λ e h. (unlinked (ap (λ b. b && eq_by_cmp value_cmp v w) e), not_linked link v restriction rows h)
+-- values that are not the same are not from the other side either
+apart : (v w : Value) → eq_by_cmp value_cmp w v ≡ false → eq_by_cmp value_cmp v w ≡ false
+apart v w h =
+    let case : (b : Bool) → eq_by_cmp value_cmp v w ≡ b → b ≡ false = λ b. elim b as (λ b. eq_by_cmp value_cmp v w ≡ b → b ≡ false) [
+      | true ↦ λ e.
+          let same : v ≡ w = value_exact v w (equal_from (value_cmp v w) e) in
+          sym (ap is_eq (tied_itself value_cmp_total w)) ∙ subst (λ x. eq_by_cmp value_cmp w x ≡ false) same h
+      | false ↦ λ e. refl
     ]
-    in case (is_there w) refl h
+    in case (eq_by_cmp value_cmp v w) refl
+
+module _ (key : ℕ) (link : Link) (v : Value) (rows : List RowValues) (asc : ordered.IsAscending value_cmp (value_in key) rows) where
+  -- whether a value links to the root of a key, by the row under it
+  abbrev pub is_linked : Value → Option RowValues → Bool
+  is_linked w row = if link.outer == key then eq_by_cmp value_cmp v w else passes (λ row. eq_by_cmp value_cmp w (value_in link.outer row)) row
+
+  or-none : (b : Bool) → (b || false) ≡ b
+  or-none true = refl
+  or-none false = refl
+
+  pub linked-has : (w : Value) → has root_cmp (Of v) (linked_roots key link rows w) ≡ is_linked w (row_at key v rows)
+  linked-has w = elim (link.outer == key) as (λ b.
+      has root_cmp (Of v) (if b then Of w ∷ [] else map (λ row. Of (value_in key row)) (filter (λ row. eq_by_cmp value_cmp w (value_in link.outer row)) rows))
+      ≡ (if b then eq_by_cmp value_cmp v w else passes (λ row. eq_by_cmp value_cmp w (value_in link.outer row)) (row_at key v rows))) [
+        | true ↦ or-none (eq_by_cmp value_cmp v w)
+        | false ↦ has-row key (λ row. eq_by_cmp value_cmp w (value_in link.outer row)) v rows asc
+      ]
+
+  module _ (row : RowValues) (stands : row_at key v rows ≡ Some row) where
+    -- a value that doesn't link to the root isn't the one of its row
+    other_value : (w : Value) → has root_cmp (Of v) (linked_roots key link rows w) ≡ false → eq_by_cmp value_cmp (value_in link.outer row) w ≡ false
+    other_value w h =
+        let case : (b : Bool) → (link.outer == key) ≡ b → (if b then eq_by_cmp value_cmp v w else eq_by_cmp value_cmp w (value_in link.outer row)) ≡ false → eq_by_cmp value_cmp (value_in link.outer row) w ≡ false
+        = λ b. elim b as (λ b. (link.outer == key) ≡ b → (if b then eq_by_cmp value_cmp v w else eq_by_cmp value_cmp w (value_in link.outer row)) ≡ false → eq_by_cmp value_cmp (value_in link.outer row) w ≡ false) [
+          | true ↦ λ e f.
+              let own : value_in link.outer row ≡ v = ap (λ c. value_in c row) (equal_of link.outer key e) ∙ sym (value_exact v (value_in key row) (at-key value_cmp (value_in key) v rows row stands)) in
+              ap (λ x. eq_by_cmp value_cmp x w) own ∙ f
+          | false ↦ λ e f. apart (value_in link.outer row) w f
+        ]
+        in case (link.outer == key) refl (ap (is_linked w) (sym stands) ∙ sym (linked-has w) ∙ h)
+
+    -- where no linked column of some rows holds the value of the root's row, the subquery's filter drops each of them
+    pub not_linked : (restriction : Cond) (touched : List RowValues) → has root_cmp (Of v) (flat_map (linked_roots key link rows) (linked_values link touched)) ≡ false → DropsAll (λ linked. links link row linked && keeps linked [] restriction) touched
+    not_linked restriction [] h = tt
+    not_linked restriction (linked ∷ more) h =
+        let w : Value = value_in link.inner linked in
+        let rest : List Value = linked_values link more in
+        let unlinked : is_there w && eq_by_cmp value_cmp (value_in link.outer row) w ≡ false → links link row linked && keeps linked [] restriction ≡ false = λ e. ap (λ b. b && keeps linked [] restriction) (links-there link row linked ∙ e) in
+        let case : (b : Bool) → is_there w ≡ b → has root_cmp (Of v) (flat_map (linked_roots key link rows) (cond b (w ∷ rest) rest)) ≡ false → DropsAll (λ linked. links link row linked && keeps linked [] restriction) (linked ∷ more)
+        = λ b. elim b as (λ b. is_there w ≡ b → has root_cmp (Of v) (flat_map (linked_roots key link rows) (cond b (w ∷ rest) rest)) ≡ false → DropsAll (λ linked. links link row linked && keeps linked [] restriction) (linked ∷ more)) [
+          | true ↦ λ e h.
+              let parts : (has root_cmp (Of v) (linked_roots key link rows w) ≡ false) × (has root_cmp (Of v) (flat_map (linked_roots key link rows) rest) ≡ false)
+              = has-neither root_cmp (Of v) (linked_roots key link rows w) (flat_map (linked_roots key link rows) rest) h in
+              (unlinked (ap (λ b. is_there w && b) (other_value w parts.0) ∙ and-false (is_there w)), not_linked restriction more parts.1)
+          | false ↦ λ e h. (unlinked (ap (λ b. b && eq_by_cmp value_cmp (value_in link.outer row) w) e), not_linked restriction more h)
+        ]
+        in case (is_there w) refl h
 
 -- where none of some rows is of a group, the group's filter drops each
 pub not_of_group : (group : ℕ) (v : Value) (restriction : Cond) (rows : List RowValues) → has root_cmp (Of v) (group_candidates group rows) ≡ false → DropsAll (λ row. keeps row [] restriction && eq_by_cmp value_cmp v (value_in group row)) rows
@@ -121,19 +165,26 @@ module _ (layouts : List Layout) (change : Change) (state : State) where
       ]
       in case (t == change.table) refl
 
-  -- a subquery's answer for a key that no linked column of a touched row holds
-  pub linked-same : IsChangeOf layouts change state → (v : Value) (q : Query Link) → has root_cmp (Of v) (query_candidates change q) ≡ false → linked_answer (state_after layouts change state) v q ≡ linked_answer state v q
-  linked-same is v q h =
-      ap (aggregate q.aggregate) (filtered-same is q.table (λ row. links q.grouping v row && keeps row [] q.filter)
-      (λ e. not_linked q.grouping v q.filter (touched change) (under (Of v) (q.table == change.table) (link_candidates q.grouping (touched change)) h e)))
+  -- a subquery's answer for the row of a root to which no touched row is linked
+  module _ (table : ℕ) (v : Value) (row : RowValues) (asc : IsOrdered layouts (state_after layouts change state)) (stands : row_at (key_of table layouts) v (rows_of table (state_after layouts change state)) ≡ Some row) where
+    abbrev stored : List RowValues
+    stored = rows_of table (state_after layouts change state)
 
-  pub answers-same : IsChangeOf layouts change state → (v : Value) (qs : List (Query Link)) → has root_cmp (Of v) (flat_map (query_candidates change) qs) ≡ false
-      → map (linked_answer (state_after layouts change state) v) qs ≡ map (linked_answer state v) qs
-  answers-same is v [] h = refl
-  answers-same is v (q ∷ qs) h =
-      let parts : (has root_cmp (Of v) (query_candidates change q) ≡ false) × (has root_cmp (Of v) (flat_map (query_candidates change) qs) ≡ false) = has-neither root_cmp (Of v) (query_candidates change q) (flat_map (query_candidates change) qs) h in
-      ap (λ a. a ∷ map (linked_answer (state_after layouts change state) v) qs) (linked-same is v q parts.0)
-      ∙ ap (λ rest. linked_answer state v q ∷ rest) (answers-same is v qs parts.1)
+    linked-same : IsChangeOf layouts change state → (q : Query Link) → has root_cmp (Of v) (query_candidates (key_of table layouts) stored change q) ≡ false → linked_answer (state_after layouts change state) row q ≡ linked_answer state row q
+    linked-same is q h =
+        ap (aggregate q.aggregate) (filtered-same is q.table (λ linked. links q.grouping row linked && keeps linked [] q.filter)
+        (λ e. not_linked (key_of table layouts) q.grouping v stored (asc table) row stands q.filter (touched change)
+        (under (Of v) (q.table == change.table) (flat_map (linked_roots (key_of table layouts) q.grouping stored) (linked_values q.grouping (touched change))) h e)))
+
+    answers-same : IsChangeOf layouts change state → (qs : List (Query Link)) → has root_cmp (Of v) (flat_map (query_candidates (key_of table layouts) stored change) qs) ≡ false
+        → map (linked_answer (state_after layouts change state) row) qs ≡ map (linked_answer state row) qs
+    answers-same is [] h = refl
+    answers-same is (q ∷ qs) h =
+        let mine : List Root = query_candidates (key_of table layouts) stored change q in
+        let others : List Root = flat_map (query_candidates (key_of table layouts) stored change) qs in
+        let parts : (has root_cmp (Of v) mine ≡ false) × (has root_cmp (Of v) others ≡ false) = has-neither root_cmp (Of v) mine others h in
+        ap (λ a. a ∷ map (linked_answer (state_after layouts change state) row) qs) (linked-same is q parts.0)
+        ∙ ap (λ rest. linked_answer state row q ∷ rest) (answers-same is qs parts.1)
 
   -- the row under a key that isn't the changed one
   pub row-same : IsChangeOf layouts change state → IsOrdered layouts state → (t : ℕ) (v : Value) → has root_cmp (Of v) (if t == change.table then Of change.key ∷ [] else []) ≡ false
@@ -167,35 +218,120 @@ module _ (layouts : List Layout) (change : Change) (state : State) where
       ap (λ rows. aggregate q.aggregate (filter (λ row. keeps row [] q.filter) rows) ∷ map (plain_answer (state_after layouts change state)) qs) (rows-same q.table parts.0)
       ∙ ap (λ rest. plain_answer state q ∷ rest) (plain-same qs parts.1)
 
-  -- the truth of the row of a key, by its subqueries' answers
-  bad_row-same : (c : Cond) (qs : List (Query Link)) (v : Value) (row : Option RowValues) → map (linked_answer (state_after layouts change state) v) qs ≡ map (linked_answer state v) qs → is_bad_row (state_after layouts change state) c qs v row ≡ is_bad_row state c qs v row
-  bad_row-same c qs v None e = refl
-  bad_row-same c qs v (Some row) e = ap (λ slots. keeps row slots c) e
+  -- the truth of the row of a root to which no touched row is linked
+  bad_row-same : IsChangeOf layouts change state → IsOrdered layouts (state_after layouts change state) → (table : ℕ) (c : Cond) (qs : List (Query Link)) (v : Value)
+      → has root_cmp (Of v) (flat_map (query_candidates (key_of table layouts) (rows_of table (state_after layouts change state)) change) qs) ≡ false
+      → (row : Option RowValues) → row_at (key_of table layouts) v (rows_of table (state_after layouts change state)) ≡ row → is_bad_row (state_after layouts change state) c qs row ≡ is_bad_row state c qs row
+  bad_row-same is asc table c qs v h None e = refl
+  bad_row-same is asc table c qs v h (Some row) e = ap (λ slots. keeps row slots c) (answers-same table v row asc e is qs h)
 
   not_named : (b : Bool) → has root_cmp All (if b then All ∷ [] else []) ≡ false → b ≡ false
   not_named true h = cc
   not_named false h = refl
 
   -- a root that is no candidate keeps its truth
-  pub kept_truth : IsChangeOf layouts change state → IsOrdered layouts state → (form : Form) (r : Root) → has root_cmp r (candidates change form) ≡ false
+  pub kept_truth : IsChangeOf layouts change state → IsOrdered layouts state → (form : Form) (r : Root) → has root_cmp r (candidates layouts (state_after layouts change state) change form) ≡ false
       → is_bad_root layouts form (state_after layouts change state) r ≡ is_bad_root layouts form state r
   kept_truth is asc (ByRow table c queries) All h = refl
   kept_truth is asc (ByRow table c queries) (Of v) h =
+      let after : State = state_after layouts change state in
       let mine : List Root = if table == change.table then Of change.key ∷ [] else [] in
-      let parts : (has root_cmp (Of v) mine ≡ false) × (has root_cmp (Of v) (flat_map (query_candidates change) queries) ≡ false) = has-neither root_cmp (Of v) mine (flat_map (query_candidates change) queries) h in
-      ap (is_bad_row (state_after layouts change state) c queries v) (row-same is asc table v parts.0)
-      ∙ bad_row-same c queries v (row_at (key_of table layouts) v (rows_of table state)) (answers-same is v queries parts.1)
+      let others : List Root = flat_map (query_candidates (key_of table layouts) (rows_of table after) change) queries in
+      let parts : (has root_cmp (Of v) mine ≡ false) × (has root_cmp (Of v) others ≡ false) = has-neither root_cmp (Of v) mine others h in
+      bad_row-same is (IsOrdered-after is asc) table c queries v parts.1 (row_at (key_of table layouts) v (rows_of table after)) refl
+      ∙ ap (is_bad_row state c queries) (row-same is asc table v parts.0)
   kept_truth is asc (ByGroup table restriction group having aggregates) All h = refl
   kept_truth is asc (ByGroup table restriction group having aggregates) (Of v) h =
       ap (λ members. nat_lt 0 (length members) && keeps (v ∷ []) (map (λ a. aggregate a members) aggregates) having) (group-same is table group restriction v h)
   kept_truth is asc (Single c queries) All h = ap (λ slots. is_of (truth [] slots c) False) (plain-same queries (not_named (is_named change.table queries) h))
   kept_truth is asc (Single c queries) (Of v) h = refl
 
--- a root that is a candidate of none of some changes keeps its truth
-pub kept_truth-all : (layouts : List Layout) (changes : List Change) (state : State) → AreChangesOf layouts changes state → IsOrdered layouts state → (form : Form) (r : Root) → has root_cmp r (candidates_of changes form) ≡ false
-    → is_bad_root layouts form (state_after_all layouts changes state) r ≡ is_bad_root layouts form state r
-kept_truth-all layouts [] state are asc form r h = refl
-kept_truth-all layouts (change ∷ changes) state are asc form r h =
-    let parts : (has root_cmp r (candidates change form) ≡ false) × (has root_cmp r (candidates_of changes form) ≡ false) = has-neither root_cmp r (candidates change form) (candidates_of changes form) h in
-    kept_truth-all layouts changes (state_after layouts change state) are.1 (IsOrdered-after layouts change state are.0 asc) form r parts.1
-    ∙ kept_truth layouts change state are.0 asc form r parts.0
+-- ---- changes that are put in one after the other
+
+module _ (layouts : List Layout) where
+  IsOrdered-after_all : (changes : List Change) (state : State) → AreChangesOf layouts changes state → IsOrdered layouts state → IsOrdered layouts (state_after_all layouts changes state)
+  IsOrdered-after_all [] state are asc = asc
+  IsOrdered-after_all (change ∷ changes) state are asc = IsOrdered-after_all changes (state_after layouts change state) are.1 (IsOrdered-after layouts change state are.0 asc)
+
+  -- the row of a root that is a candidate of none of them stays
+  row-same_all : (table : ℕ) (c : Cond) (queries : List (Query Link)) (v : Value) (end : State) (changes : List Change) (state : State) → AreChangesOf layouts changes state → IsOrdered layouts state → has root_cmp (Of v) (candidates_of layouts end changes (ByRow table c queries)) ≡ false
+      → row_at (key_of table layouts) v (rows_of table (state_after_all layouts changes state)) ≡ row_at (key_of table layouts) v (rows_of table state)
+  row-same_all table c queries v end [] state are asc h = refl
+  row-same_all table c queries v end (change ∷ changes) state are asc h =
+      let form : Form = ByRow table c queries in
+      let parts : (has root_cmp (Of v) (candidates layouts end change form) ≡ false) × (has root_cmp (Of v) (candidates_of layouts end changes form) ≡ false) = has-neither root_cmp (Of v) (candidates layouts end change form) (candidates_of layouts end changes form) h in
+      let mine : List Root = if table == change.table then Of change.key ∷ [] else [] in
+      row-same_all table c queries v end changes (state_after layouts change state) are.1 (IsOrdered-after layouts change state are.0 asc) parts.1
+      ∙ row-same layouts change state are.0 asc table v (has-neither root_cmp (Of v) mine (flat_map (query_candidates (key_of table layouts) (rows_of table end) change) queries) parts.0).0
+
+  -- to which roots a value links depends on their rows alone
+  module _ (table : ℕ) (v : Value) (one other : State) (f : IsOrdered layouts one) (g : IsOrdered layouts other) (same : row_at (key_of table layouts) v (rows_of table one) ≡ row_at (key_of table layouts) v (rows_of table other)) where
+    roots-alike : (link : Link) (w : Value) → has root_cmp (Of v) (linked_roots (key_of table layouts) link (rows_of table one) w) ≡ has root_cmp (Of v) (linked_roots (key_of table layouts) link (rows_of table other) w)
+    roots-alike link w =
+        linked-has (key_of table layouts) link v (rows_of table one) (f table) w
+        ∙ ap (λ (row : Option RowValues). is_linked (key_of table layouts) link v (rows_of table one) (f table) w row) same
+        ∙ sym (linked-has (key_of table layouts) link v (rows_of table other) (g table) w)
+
+    flat-alike : {X : Type 0} (f g : X → List Root) (xs : List X) → ((x : X) → has root_cmp (Of v) (f x) ≡ has root_cmp (Of v) (g x)) → has root_cmp (Of v) (flat_map f xs) ≡ has root_cmp (Of v) (flat_map g xs)
+    flat-alike f g [] h = refl
+    flat-alike f g (x ∷ xs) h =
+        has-append root_cmp (Of v) (f x) (flat_map f xs) ∙ ap (λ b. b || has root_cmp (Of v) (flat_map f xs)) (h x) ∙ ap (λ b. has root_cmp (Of v) (g x) || b) (flat-alike f g xs h)
+        ∙ sym (has-append root_cmp (Of v) (g x) (flat_map g xs))
+
+    query-alike : (change : Change) (q : Query Link) → has root_cmp (Of v) (query_candidates (key_of table layouts) (rows_of table one) change q) ≡ has root_cmp (Of v) (query_candidates (key_of table layouts) (rows_of table other) change q)
+    query-alike change q =
+        let values : List Value = linked_values q.grouping (touched change) in
+        let these : List Root = flat_map (linked_roots (key_of table layouts) q.grouping (rows_of table one)) values in
+        let those : List Root = flat_map (linked_roots (key_of table layouts) q.grouping (rows_of table other)) values in
+        elim (q.table == change.table) as (λ b. has root_cmp (Of v) (if b then these else []) ≡ has root_cmp (Of v) (if b then those else [])) [
+          | true ↦ flat-alike (linked_roots (key_of table layouts) q.grouping (rows_of table one)) (linked_roots (key_of table layouts) q.grouping (rows_of table other)) values (roots-alike q.grouping)
+          | false ↦ refl
+        ]
+
+    pub candidates-alike : (change : Change) (c : Cond) (queries : List (Query Link)) → has root_cmp (Of v) (candidates layouts one change (ByRow table c queries)) ≡ has root_cmp (Of v) (candidates layouts other change (ByRow table c queries))
+    candidates-alike change c queries =
+        let mine : List Root = if table == change.table then Of change.key ∷ [] else [] in
+        let these : List Root = flat_map (query_candidates (key_of table layouts) (rows_of table one) change) queries in
+        let those : List Root = flat_map (query_candidates (key_of table layouts) (rows_of table other) change) queries in
+        has-append root_cmp (Of v) mine these
+        ∙ ap (λ b. has root_cmp (Of v) mine || b) (flat-alike (query_candidates (key_of table layouts) (rows_of table one) change) (query_candidates (key_of table layouts) (rows_of table other) change) queries (query-alike change))
+        ∙ sym (has-append root_cmp (Of v) mine those)
+
+  -- a row that is no candidate at the end of some changes is none behind the first of them
+  no_candidate : (change : Change) (changes : List Change) (state : State) → AreChangesOf layouts (change ∷ changes) state → IsOrdered layouts state → (table : ℕ) (c : Cond) (queries : List (Query Link)) (v : Value)
+      → has root_cmp (Of v) (candidates_of layouts (state_after_all layouts (change ∷ changes) state) (change ∷ changes) (ByRow table c queries)) ≡ false
+      → has root_cmp (Of v) (candidates layouts (state_after layouts change state) change (ByRow table c queries)) ≡ false
+  no_candidate change changes state are asc table c queries v h =
+      let form : Form = ByRow table c queries in
+      let next : State = state_after layouts change state in
+      let end : State = state_after_all layouts changes next in
+      let parts : (has root_cmp (Of v) (candidates layouts end change form) ≡ false) × (has root_cmp (Of v) (candidates_of layouts end changes form) ≡ false) = has-neither root_cmp (Of v) (candidates layouts end change form) (candidates_of layouts end changes form) h in
+      candidates-alike table v next end (IsOrdered-after layouts change state are.0 asc) (IsOrdered-after_all (change ∷ changes) state are asc)
+      (sym (row-same_all table c queries v end changes next are.1 (IsOrdered-after layouts change state are.0 asc) parts.1)) change c queries
+      ∙ parts.0
+
+  -- a root that is a candidate of none of some changes keeps its truth
+  pub kept_truth-all : (changes : List Change) (state : State) → AreChangesOf layouts changes state → IsOrdered layouts state → (form : Form) (r : Root) → has root_cmp r (candidates_of layouts (state_after_all layouts changes state) changes form) ≡ false
+      → is_bad_root layouts form (state_after_all layouts changes state) r ≡ is_bad_root layouts form state r
+  kept_truth-all [] state are asc form r h = refl
+  kept_truth-all (change ∷ changes) state are asc (ByRow table c queries) All h = refl
+  kept_truth-all (change ∷ changes) state are asc (ByRow table c queries) (Of v) h =
+      let form : Form = ByRow table c queries in
+      let next : State = state_after layouts change state in
+      let end : State = state_after_all layouts changes next in
+      kept_truth-all changes next are.1 (IsOrdered-after layouts change state are.0 asc) form (Of v) (has-neither root_cmp (Of v) (candidates layouts end change form) (candidates_of layouts end changes form) h).1
+      ∙ kept_truth layouts change state are.0 asc form (Of v) (no_candidate change changes state are asc table c queries v h)
+  kept_truth-all (change ∷ changes) state are asc (ByGroup table restriction group having aggregates) r h =
+      let form : Form = ByGroup table restriction group having aggregates in
+      let next : State = state_after layouts change state in
+      let end : State = state_after_all layouts changes next in
+      let parts : (has root_cmp r (candidates layouts end change form) ≡ false) × (has root_cmp r (candidates_of layouts end changes form) ≡ false) = has-neither root_cmp r (candidates layouts end change form) (candidates_of layouts end changes form) h in
+      kept_truth-all changes next are.1 (IsOrdered-after layouts change state are.0 asc) form r parts.1
+      ∙ kept_truth layouts change state are.0 asc form r parts.0
+  kept_truth-all (change ∷ changes) state are asc (Single c queries) r h =
+      let form : Form = Single c queries in
+      let next : State = state_after layouts change state in
+      let end : State = state_after_all layouts changes next in
+      let parts : (has root_cmp r (candidates layouts end change form) ≡ false) × (has root_cmp r (candidates_of layouts end changes form) ≡ false) = has-neither root_cmp r (candidates layouts end change form) (candidates_of layouts end changes form) h in
+      kept_truth-all changes next are.1 (IsOrdered-after layouts change state are.0 asc) form r parts.1
+      ∙ kept_truth layouts change state are.0 asc form r parts.0

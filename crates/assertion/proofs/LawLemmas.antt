@@ -16,7 +16,7 @@ use Rattle.assertion.specs.declared.forms.Form.{Form}
 use Rattle.assertion.specs.declared.forms.Form.TheVariants.{ByRow, ByGroup, Single}
 use Rattle.assertion.specs.Meaning.{State, bad_roots, single_truth, truth_of_roots, verdict_of, least_bad_of}
 use Rattle.assertion.specs.Candidates.{candidates, candidates_of}
-use Rattle.assertion.specs.Roots.{is_bad_root, AreBad, IsOrdered}
+use Rattle.assertion.specs.Roots.{is_bad_root, AreBad, IsOrdered, state_after, state_after_all}
 use Rattle.assertion.specs.Laws as law
 use Rattle.assertion.proofs.ListLemmas.{has-contains, contains-has, has-missing}
 use Rattle.assertion.proofs.KeptTruth.{kept_truth, kept_truth-all}
@@ -24,10 +24,10 @@ use Rattle.assertion.proofs.BadRoots.{has-bad}
 use Rattle.assertion.proofs.RootLists.{truth-has, has-truth, truth-known, truth-first, first-slice_get, has-least_of, least-lowest, least-only}
 
 pub KeepsTruthAfterChange-law : law.KeepsTruthAfterChange
-KeepsTruthAfterChange-law layouts form change state r asc is n = kept_truth layouts change state is asc form r (has-missing root_exact (candidates change form) r n)
+KeepsTruthAfterChange-law layouts form change state r asc is n = kept_truth layouts change state is asc form r (has-missing root_exact (candidates layouts (state_after layouts change state) change form) r n)
 
 pub KeepsTruthAfterChanges-law : law.KeepsTruthAfterChanges
-KeepsTruthAfterChanges-law layouts form changes state r asc are n = kept_truth-all layouts changes state are asc form r (has-missing root_exact (candidates_of changes form) r n)
+KeepsTruthAfterChanges-law layouts form changes state r asc are n = kept_truth-all layouts changes state are asc form r (has-missing root_exact (candidates_of layouts (state_after_all layouts changes state) changes form) r n)
 
 pub ListsBadRoots-law : law.ListsBadRoots
 ListsBadRoots-law layouts form state r asc = (

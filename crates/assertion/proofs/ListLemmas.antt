@@ -1,5 +1,5 @@
 -- What a filter keeps through a change at a key, and membership in lists.
-use Rattle.std.proofs.Common.{◌≡◌, ◌<◌, ℕ, zero, suc, Bool, true, false, cond, List, [], ◌∷◌, ◌++◌, Option, Some, None, refl, sym, ◌∙◌, ap, ⊎_elim, arith}
+use Rattle.std.proofs.Common.{◌≡◌, ◌<◌, ℕ, zero, suc, Bool, true, false, cond, List, [], ◌∷◌, ◌++◌, Option, Some, None, refl, sym, ◌∙◌, ap, subst, ⊎_elim, arith}
 use Rattle.std.specs.Prelude.{option_to_list, ◌||◌, ◌&&◌, filter, length, slice_index_or, Contains}
 use Rattle.std.proofs.lemmas.List.Elements.{filter-append}
 use Rattle.std.proofs.lemmas.Cmp.{tied_itself}
@@ -88,3 +88,17 @@ module _ {X K : Type 0} (R : K → K → Ordering) (key : X → K) (p : X → Bo
         | Greater ↦ λ d. ap (λ ys. cond (p x) (x ∷ ys) ys) (filter-put k new xs d n)
       ]
       in cases (R k (key x)) d
+
+module _ {X K : Type 0} (R : K → K → Ordering) (key : X → K) where
+  -- what stands at a key has that key
+  pub at-key : (k : K) (xs : List X) (x : X) → at R key k xs ≡ Some x → R k (key x) ≡ Equal
+  at-key k [] x h = cc
+  at-key k (y ∷ ys) x h = go (λ e. at-key k ys x e) (R k (key y)) refl
+    where
+      go : (at R key k ys ≡ Some x → R k (key x) ≡ Equal) → (c : Ordering) → R k (key y) ≡ c → R k (key x) ≡ Equal
+      go more Less c = let e : None ≡ Some x = sym (ap (λ d. by_order d None (Some y) (at R key k ys)) c) ∙ h in cc
+      go more Equal c =
+          let some : Some y ≡ Some x = sym (ap (λ d. by_order d None (Some y) (at R key k ys)) c) ∙ h in
+          let e : y ≡ x = cc in
+          subst (λ z. R k (key z) ≡ Equal) e c
+      go more Greater c = more (sym (ap (λ d. by_order d None (Some y) (at R key k ys)) c) ∙ h)

@@ -16,14 +16,15 @@ use Rattle.assertion.specs.Candidates.{candidates, candidates_of}
 abbrev pub KeepsTruthAfterChange : Type 0
 KeepsTruthAfterChange =
     (layouts : List Layout) (form : Form) (change : Change) (state : State) (r : Root) → IsOrdered layouts state
-    → IsChangeOf layouts change state → ¬ Contains (candidates change form) r
+    → IsChangeOf layouts change state → ¬ Contains (candidates layouts (state_after layouts change state) change form) r
     → is_bad_root layouts form (state_after layouts change state) r ≡ is_bad_root layouts form state r
 
 -- a root that is a candidate of none of some changes is bad after them exactly where it was bad before
 abbrev pub KeepsTruthAfterChanges : Type 0
 KeepsTruthAfterChanges =
     (layouts : List Layout) (form : Form) (changes : List Change) (state : State) (r : Root) → IsOrdered layouts state
-    → AreChangesOf layouts changes state → ¬ Contains (candidates_of changes form) r
+    → AreChangesOf layouts changes state
+    → ¬ Contains (candidates_of layouts (state_after_all layouts changes state) changes form) r
     → is_bad_root layouts form (state_after_all layouts changes state) r ≡ is_bad_root layouts form state r
 
 -- the bad roots from scratch are the roots that are bad of themselves

@@ -17,7 +17,6 @@ use Rattle.cond.specs.Eval.{truth, keeps}
 use Rattle.cond.specs.Values.{compared}
 use Rattle.assertion.specs.declared.queries.Query.{Query}
 use Rattle.assertion.specs.declared.queries.Link.{Link}
-use Rattle.assertion.specs.declared.queries.Link.TheVariants.{Column}
 use Rattle.assertion.specs.declared.queries.Whole.{Whole}
 use Rattle.assertion.specs.declared.forms.Form.{Form}
 use Rattle.assertion.specs.declared.forms.Form.TheVariants.{ByRow, ByGroup, Single}
@@ -33,32 +32,28 @@ rows_of table state = slice_index_or state table []
 abbrev pub key_of : ℕ → List Layout → ℕ
 key_of table layouts = (slice_index_or layouts table (record { columns = []; key = 0 })).key
 
--- the column that holds the key
-abbrev pub link_column : Link → ℕ
-link_column (Column column) = column
+-- the link of a subquery, outer = inner: whether it is true of a row and one of the subquery's table
+abbrev pub links : Link → RowValues → RowValues → Bool
+links link row linked = is_of (compared Equal (value_in link.outer row) (value_in link.inner linked)) True
 
--- the link of a subquery, key = link: whether it is true of a row
-abbrev pub links : Link → Value → RowValues → Bool
-links link key row = is_of (compared Equal key (value_in (link_column link) row)) True
-
--- what a subquery gives for the row of a key: SELECT aggregate FROM d WHERE key = link AND filter
-abbrev pub linked_answer : State → Value → Query Link → Value
-linked_answer state key q =
-    aggregate q.aggregate (filter (λ row. links q.grouping key row && keeps row [] q.filter) (rows_of q.table state))
+-- what a subquery gives for a row: SELECT aggregate FROM d WHERE outer = inner AND filter
+abbrev pub linked_answer : State → RowValues → Query Link → Value
+linked_answer state row q =
+    aggregate q.aggregate
+    (filter (λ linked. links q.grouping row linked && keeps linked [] q.filter) (rows_of q.table state))
 
 -- what a subquery of its own gives: SELECT aggregate FROM t WHERE filter
 abbrev pub plain_answer : State → Query Whole → Value
 plain_answer state q = aggregate q.aggregate (filter (λ row. keeps row [] q.filter) (rows_of q.table state))
 
--- whether the row of a key is listed: its condition is true, with its subqueries in the slots
-abbrev pub lists_row : State → Cond → List (Query Link) → Value → RowValues → Bool
-lists_row state condition queries key row = keeps row (map (linked_answer state key) queries) condition
+-- whether a row is listed: its condition is true, with its subqueries in the slots
+abbrev pub lists_row : State → Cond → List (Query Link) → RowValues → Bool
+lists_row state condition queries row = keeps row (map (linked_answer state row) queries) condition
 
 -- the keys of the listed rows of a table
 abbrev pub row_roots : State → ℕ → ℕ → Cond → List (Query Link) → List Root
 row_roots state table key condition queries =
-    map (λ row. Of (value_in key row))
-    (filter (λ row. lists_row state condition queries (value_in key row) row) (rows_of table state))
+    map (λ row. Of (value_in key row)) (filter (lists_row state condition queries) (rows_of table state))
 
 -- the rows that a WHERE keeps
 abbrev pub filtered_rows : Cond → List RowValues → List RowValues

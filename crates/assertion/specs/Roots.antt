@@ -18,10 +18,10 @@ use Rattle.assertion.specs.declared.forms.Form.{Form}
 use Rattle.assertion.specs.declared.forms.Form.TheVariants.{ByRow, ByGroup, Single}
 use Rattle.assertion.specs.Meaning.{State, rows_of, key_of, filtered_rows, lists_row, lists_group, single_truth}
 
--- whether there is a row under a key and it is listed
-abbrev pub is_bad_row : State → Cond → List (Query Link) → Value → Option RowValues → Bool
-is_bad_row state condition queries key None = false
-is_bad_row state condition queries key (Some row) = lists_row state condition queries key row
+-- whether there is a row and it is listed
+abbrev pub is_bad_row : State → Cond → List (Query Link) → Option RowValues → Bool
+is_bad_row state condition queries None = false
+is_bad_row state condition queries (Some row) = lists_row state condition queries row
 
 -- whether a group has a row and is listed
 abbrev pub is_bad_group : List RowValues → ℕ → Cond → List Aggregate → Value → Bool
@@ -32,7 +32,7 @@ is_bad_group rows group having aggregates v =
 abbrev pub is_bad_root : List Layout → Form → State → Root → Bool
 is_bad_root layouts (ByRow table condition queries) state All = false
 is_bad_root layouts (ByRow table condition queries) state (Of v) =
-    is_bad_row state condition queries v (row_at (key_of table layouts) v (rows_of table state))
+    is_bad_row state condition queries (row_at (key_of table layouts) v (rows_of table state))
 is_bad_root layouts (ByGroup table restriction group having aggregates) state All = false
 is_bad_root layouts (ByGroup table restriction group having aggregates) state (Of v) =
     is_bad_group (filtered_rows restriction (rows_of table state)) group having aggregates v

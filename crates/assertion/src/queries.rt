@@ -2,7 +2,6 @@
 
 ghost use Rattle.std.specs.Prelude.{◌≡◌, IfOk, IsOkUnless};
 ghost use Rattle.value.specs.declared.refusals.Refusal.TheVariants.{NoMemory};
-ghost use Rattle.assertion.specs.Meaning.{link_column};
 
 use cond::Cond;
 use sqlite_items::Items;
@@ -20,22 +19,14 @@ pub struct Query<G> {
     pub aggregate: Aggregate,
 }
 
-/// The rows that are linked to a row, `WHERE link = key`.
+/// The rows that are linked to a row, `WHERE inner = outer`: those that have in a column of the subquery's table what
+/// the row has in a column of its own.
 #[derive(Clone, Copy, Debug)]
-pub enum Link {
-    /// The column that holds the row's key.
-    Column(usize),
-}
-
-impl Link {
-    /// The column that holds the row's key.
-    pub fn column(self) -> usize
-        ensures { result ≡ link_column self }
-    {
-        match self {
-            Link::Column(column) => column,
-        }
-    }
+pub struct Link {
+    /// The column of the subquery's table.
+    pub inner: usize,
+    /// The column of the row.
+    pub outer: usize,
 }
 
 /// All rows, of a subquery of its own.

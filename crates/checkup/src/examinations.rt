@@ -132,14 +132,10 @@ fn bad_row(
     let (Form::ByRow { table, .. }, Root::Of(key)) = (form, root) else {
         return Ok(None);
     };
-    let table = *table;
-    let Some(name) = view.catalog().name(table) else {
+    let Some(name) = view.catalog().name(*table) else {
         return Ok(None);
     };
-    if table >= view.catalog().len() {
-        return Ok(None);
-    }
-    match view.rows(table).get(view.schema(table).key(), key) {
+    match view.row(*table, key) {
         Some(row) => Ok(Some(row_text(alloc, name, row)?)),
         None => Ok(None),
     }

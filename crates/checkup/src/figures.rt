@@ -21,7 +21,7 @@ pub enum Grouping {
     /// By a column; NULL is a group like another.
     By(usize),
     /// By a column that holds the key of a row; NULL is no group.
-    Linked(usize),
+    Linked(Link),
 }
 
 impl Grouping {
@@ -29,7 +29,8 @@ impl Grouping {
     pub fn column(self) -> Option<usize> {
         match self {
             Grouping::Whole => None,
-            Grouping::By(column) | Grouping::Linked(column) => Some(column),
+            Grouping::By(column) => Some(column),
+            Grouping::Linked(link) => Some(link.inner),
         }
     }
 }
@@ -115,7 +116,7 @@ fn by_row(
     let mut figures = no_figures(alloc);
     let rows = row_count(view, table);
     figures.counts = Counts { rows, groups: rows };
-    let key = key_of(view, table);
+    let key = view.key_column(table);
     let mut columns = Vec::new(alloc);
     add_column(&mut columns, key)?;
     add_condition(&mut columns, condition)?;
@@ -124,7 +125,7 @@ fn by_row(
         let rows = Selection {
             table: query.table,
             filter: &query.filter,
-            grouping: Grouping::Linked(query.grouping.column()),
+            grouping: Grouping::Linked(query.grouping),
         };
         let kept = kept_of(alloc, view, rows, query.aggregate)?;
         put_kept(alloc, &mut figures, kept)?;
@@ -251,14 +252,6 @@ pub fn row_count(view: &View, table: usize) -> usize {
         view.rows(table).len()
     } else {
         0
-    }
-}
-
-/// The place of a table's key.
-pub fn key_of(view: &View, table: usize) -> usize {
-    match view.catalog().at(table) {
-        Some(schema) => schema.key(),
-        None => 0,
     }
 }
 

@@ -1,7 +1,7 @@
 //! What was found, as JSON for editors.
 
 use crate::examinations::Examination;
-use crate::figures::{Figures, Kept, Reading, figures_of, key_of, row_count};
+use crate::figures::{Figures, Kept, Reading, figures_of, row_count};
 use crate::naming::{column_name, column_names, function_name, name_text, table_name};
 use crate::texts::Named;
 use assertion::{Assertion, Form};
@@ -104,7 +104,7 @@ fn tables(alloc: Global, view: &View) -> Result<Vec<Value>, AllocError> {
     let mut made = Vec::new(alloc);
     for table in 0..view.catalog().len() {
         let name = table_name(alloc, view.catalog(), table)?;
-        let key = column_name(alloc, view.catalog(), table, key_of(view, table))?;
+        let key = column_name(alloc, view.catalog(), table, view.key_column(table))?;
         let rows = row_count(view, table);
         let (name, key) = (name.as_str(), key.as_str());
         made.push(json!(in alloc; {"name": name, "key": key, "rows": rows})?)?;

@@ -1,7 +1,7 @@
 //! What was found, as a person reads it.
 
 use crate::examinations::{Examination, MOST_NOTES};
-use crate::figures::{Figures, Grouping, Kept, Reading, figures_of, key_of, row_count};
+use crate::figures::{Figures, Grouping, Kept, Reading, figures_of, row_count};
 use crate::naming::{column_name, column_names, function_name, table_name};
 use assertion::{Assertion, Form};
 use delta::View;
@@ -94,7 +94,7 @@ fn show_tables(
     let (bold, end) = (colour.bold(), colour.end());
     for table in 0..view.catalog().len() {
         let name = table_name(alloc, view.catalog(), table)?;
-        let key = column_name(alloc, view.catalog(), table, key_of(view, table))?;
+        let key = column_name(alloc, view.catalog(), table, view.key_column(table))?;
         let rows = row_count(view, table);
         let name = name.as_str();
         let key = key.as_str();
@@ -218,11 +218,11 @@ fn show_kept(
         let by = by.as_str();
         write!(shown, " by {by}")?;
     }
-    if let (Grouping::Linked(_), Form::ByRow { table, .. }) = (kept.grouping, form) {
+    if let (Grouping::Linked(link), Form::ByRow { table, .. }) = (kept.grouping, form) {
         let name = table_name(alloc, catalog, *table)?;
-        let key = column_name(alloc, catalog, *table, key_of(view, *table))?;
-        let (name, key) = (name.as_str(), key.as_str());
-        write!(shown, ", linked to {name}.{key}")?;
+        let outer = column_name(alloc, catalog, *table, link.outer)?;
+        let (name, outer) = (name.as_str(), outer.as_str());
+        write!(shown, ", linked to {name}.{outer}")?;
     }
     if !kept.filter.is_empty() {
         let names = column_names(alloc, catalog, kept.table, &kept.filter)?;
@@ -257,7 +257,7 @@ fn show_reading(
         Some(column) => {
             let by = column_name(alloc, catalog, reading.table, column)?;
             let by = by.as_str();
-            if is_root(form, reading) && column == key_of(view, reading.table) {
+            if is_root(form, reading) && column == view.key_column(reading.table) {
                 writeln!(
                     shown,
                     "  reads    one row of {table} by its key {by}: {names}"

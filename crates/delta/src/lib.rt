@@ -19,6 +19,10 @@
 //! what is changed (`pages`). The tables that there are and the assertions are the same for all views that come from
 //! one, and are shared.
 //!
+//! Where a subquery is linked to another column than the key, the table of the rows has an index by that column
+//! (`mvrows`), made when the view is loaded or the assertion is declared, and carried on with each change: a change of
+//! the subquery's table finds the rows that it is linked to without a look at the others.
+//!
 //! **Why each verdict is that from scratch.** Of a view, contracts show two things: what is declared (the tables and
 //! the assertions, which no change touches) and the state (the plain rows). They name no total, no bad root and no
 //! truth that is maintained. [`View::verdict`] and [`View::least_bad`] answer what `assertion`'s definitions say of

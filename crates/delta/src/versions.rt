@@ -9,7 +9,7 @@ ghost use Rattle.delta.specs.Maintained.{AreShort, AreWatched, IsGood, IsStep};
 ghost use Rattle.delta.specs.Views.{AreBounded, IsFitting};
 
 use crate::watches::{Watch, watch_after};
-use assertion::Assertion;
+use assertion::{Assertion, Form, Link, Query};
 use mvrows::Rows;
 use roots::key_column;
 use std::alloc::Global;
@@ -99,6 +99,53 @@ pub fn copy_tables(alloc: Global, tables: &[Rows]) -> Result<Vec<Rows>, Refusal>
         made.push(rows.copy()?)?;
     }
     Ok(made)
+}
+
+/// Tables equal to these, each of which can be counted. Where a subquery of an assertion by rows is linked to another
+/// column than the key, the rows that it is linked to are found by that column without a look at the others.
+pub fn index_tables(
+    alloc: Global,
+    schemas: &[Schema],
+    tables: &[Rows],
+    assertions: &[Assertion],
+) -> Result<Vec<Rows>, Refusal>
+    ensures only_memory { IsOkUnless result NoMemory }
+    ensures equal { IfOk result (λ made. made.items ≡ tables.now) }
+    ensures short { IfOk result (λ made. AreShort made.items) }
+{
+    let mut made = copy_tables(alloc, tables)?;
+    for assertion in assertions {
+        index_form(&mut made, schemas, &assertion.form)?;
+    }
+    Ok(made)
+}
+
+/// Indexes the rows of a form's table by each column that links a subquery to them.
+fn index_form(tables: &mut [Rows], schemas: &[Schema], form: &Form) -> Result<(), Refusal>
+    ensures only_memory { IsOkUnless result NoMemory }
+    ensures same { tables.new ≡ tables.old }
+{
+    if let Form::ByRow { table, queries, .. } = form {
+        if *table < tables.len() {
+            let key = key_column(schemas, *table);
+            index_links(&mut tables[*table], key, queries.as_slice())?;
+        }
+    }
+    Ok(())
+}
+
+/// Indexes rows by each column, other than that of their key, that links a subquery to them.
+fn index_links(rows: &mut Rows, key_column: usize, queries: &[Query<Link>]) -> Result<(), Refusal>
+    ensures only_memory { IsOkUnless result NoMemory }
+    ensures same { rows.new ≡ rows.old }
+{
+    for query in queries {
+        let column = query.grouping.outer;
+        if column != key_column {
+            *rows = rows.indexed(key_column, column)?;
+        }
+    }
+    Ok(())
 }
 
 /// The same watches, shared.

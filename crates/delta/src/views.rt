@@ -4,31 +4,32 @@ ghost use Rattle.std.specs.Prelude.{◌≡◌, ◌<◌, length, map, slice_index
 ghost use Rattle.std.specs.Arc.{arc_value};
 ghost use Rattle.std.specs.Option.{option_copied};
 ghost use Rattle.value.specs.declared.refusals.Refusal.TheVariants.{NoMemory};
-ghost use Rattle.table.specs.Rows.{IsTable, layouts_of};
+ghost use Rattle.table.specs.Rows.{IsTable, layouts_of, row_at};
 ghost use Rattle.cond.specs.Bounds.{IsSmallRow};
 ghost use Rattle.assertion.specs.Bounded.{IsBounded};
 ghost use Rattle.assertion.specs.declared.assertions.Assertion.{Assertion as AnyAssertion};
 ghost use Rattle.assertion.specs.Candidates.{candidates_of};
 ghost use Rattle.assertion.specs.Declarations.{layouts_in};
-ghost use Rattle.assertion.specs.Meaning.{least_bad_of, rows_of, verdict_of};
+ghost use Rattle.assertion.specs.Meaning.{key_of, least_bad_of, rows_of, verdict_of};
 ghost use Rattle.assertion.specs.Roots.{AreChangesOf, IsChangeOf, state_after, state_after_all};
 ghost use Rattle.delta.specs.Maintained.{AreWatched, IsGood};
 ghost use Rattle.delta.specs.Views.{AreBounded, AreTables, IsFitting, layout_at, with_assertion, without_assertion};
 
 use crate::declarations::{Declarations, copy_assertions, copy_catalog, schemas_of};
 use crate::versions::{
-    Watched, copy_tables, copy_watches, leave_out, tables_after, watches_after, watches_of,
+    Watched, copy_tables, copy_watches, index_tables, leave_out, tables_after, watches_after,
+    watches_of,
 };
 use crate::watches::Watch;
 use assertion::Assertion;
 use mvrows::Rows;
-use roots::candidates;
+use roots::{candidates, key_column, row_under};
 use std::alloc::Global;
 use std::marker::Model;
 use std::sync::Arc;
-use table::{Catalog, Change, Schema};
+use table::{Catalog, Change, Row, Schema};
 use threeval::Truth;
-use value::{Refusal, Root, Text};
+use value::{Refusal, Root, Text, Value};
 
 /// The rows of each table, with the maintained verdicts of the assertions on them. It never changes.
 #[derive(Drop)]
@@ -65,7 +66,8 @@ impl Model for View {
 }
 
 impl View {
-    /// The view of these tables, one for each of the catalog, in its order.
+    /// The view of these tables, one for each of the catalog, in its order. Where a subquery of an assertion by rows is
+    /// linked to another column than the key, one pass is made over the rows for an index by that column.
     pub fn load(
         alloc: Global,
         catalog: Catalog,
@@ -79,7 +81,7 @@ impl View {
             ≡ record { declared = record { tables = catalog; assertions = assertions.items }; state = rows.now }) }
     {
         let schemas = schemas_of(alloc, &catalog)?;
-        let tables = copy_tables(alloc, rows)?;
+        let tables = index_tables(alloc, &schemas, rows, &assertions)?;
         let watches = watches_of(alloc, &schemas, &tables, &assertions)?;
         let declarations = Declarations {
             catalog,
@@ -159,8 +161,9 @@ impl View {
         })
     }
 
-    /// The view of the same tables with an assertion behind the others. One pass is made over the tables for it; what
-    /// is maintained for the others is shared with this view, which stays as it is. Only memory can fail.
+    /// The view of the same tables with an assertion behind the others. One pass is made over the tables for it, and
+    /// one for each index that its links ask for; what is maintained for the others is shared with this view, which
+    /// stays as it is. Only memory can fail.
     pub fn with_assertion(&self, assertion: Assertion) -> Result<View, Refusal>
         requires bounded { IsBounded assertion.form }
         ensures only_memory { IsOkUnless result NoMemory }
@@ -184,7 +187,7 @@ impl View {
     }
 
     /// The view of the same tables without the assertions of a name. What is maintained for the others is shared with
-    /// this view, which stays as it is. Only memory can fail.
+    /// this view, which stays as it is; so are the indexes of the tables. Only memory can fail.
     pub fn without_assertion(&self, name: &Text) -> Result<View, Refusal>
         ensures only_memory { IsOkUnless result NoMemory }
         ensures declared { IfOk result (λ view. view
@@ -217,14 +220,16 @@ impl View {
             watches,
         } = watched;
         let catalog = copy_catalog(alloc, &self.declarations.catalog)?;
+        let schemas = schemas_of(alloc, &catalog)?;
+        let tables = index_tables(alloc, &schemas, &self.tables, &assertions)?;
         let declarations = Declarations {
-            schemas: schemas_of(alloc, &catalog)?,
             catalog,
+            schemas,
             assertions,
         };
         Ok(View {
             declarations: Arc::new(alloc, declarations)?,
-            tables: copy_tables(alloc, &self.tables)?,
+            tables,
             watches,
         })
     }
@@ -264,15 +269,33 @@ impl View {
         copy_tables(*self.tables.allocator(), &self.tables)
     }
 
-    /// The roots at which an assertion can be another after these changes than before.
+    /// The place of a table's key column; 0 where there is no such table.
+    pub fn key_column(&self, table: usize) -> usize
+        ensures { result ≡ key_of table (layouts_in self.now.declared) }
+    {
+        key_column(&self.declarations.schemas, table)
+    }
+
+    /// The row under a key of a table, if there is one.
+    pub fn row(&self, table: usize, key: &Value) -> Option<&Row>
+        ensures { option_copied result
+            ≡ row_at (key_of table (layouts_in self.now.declared)) key.now (rows_of table self.now.state) }
+    {
+        row_under(&self.declarations.schemas, &self.tables, table, key)
+    }
+
+    /// The roots at which an assertion can be another after the changes that led to this view than before them.
     pub fn candidates(&self, assertion: usize, changes: &[Change]) -> Result<Vec<Root>, Refusal>
         requires { assertion < length self.now.declared.assertions }
         ensures only_memory { IsOkUnless result NoMemory }
-        ensures candidates { IfOk result (λ roots. (a : AnyAssertion)
-            → roots.items ≡ candidates_of changes.now (slice_index_or self.now.declared.assertions assertion a).form) }
+        ensures candidates { IfOk result (λ roots. (a : AnyAssertion) → roots.items
+            ≡ candidates_of (layouts_in self.now.declared) self.now.state changes.now
+            (slice_index_or self.now.declared.assertions assertion a).form) }
     {
         candidates(
             *self.tables.allocator(),
+            &self.declarations.schemas,
+            &self.tables,
             &self.declarations.assertions[assertion].form,
             changes,
         )

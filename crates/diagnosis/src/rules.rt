@@ -23,8 +23,6 @@ pub enum Rule {
     ColumnInHaving,
     /// A subquery has no WHERE, or no part of it is a link.
     NoLink,
-    /// A subquery is linked to another column than the key of the row around it.
-    LinkToOther,
     /// A subquery has two links.
     TwoLinks,
     /// A part of a subquery's WHERE besides the link looks at the row around it.
@@ -52,7 +50,6 @@ pub fn wrong(rule: Rule) -> &'static str {
         Rule::QueryInHaving => "no query may stand in a HAVING",
         Rule::ColumnInHaving => "this column is not the one of GROUP BY",
         Rule::NoLink => "this query is not linked to the row around it",
-        Rule::LinkToOther => "this links to another column than the key",
         Rule::TwoLinks => "this is a second link",
         Rule::OuterColumn => "this looks at the row around the query",
         Rule::GroupInSubquery => "this query may have neither GROUP BY nor HAVING",
@@ -66,7 +63,7 @@ pub fn wrong(rule: Rule) -> &'static str {
 /// How to write it in the class.
 pub fn advice(alloc: Global, outside: &Outside) -> Result<String, AllocError> {
     match (outside.rule, outside.root) {
-        (Rule::NoLink | Rule::LinkToOther, Some(root)) => link_advice(alloc, root),
+        (Rule::NoLink, Some(root)) => link_advice(alloc, root),
         (rule, _) => String::from_str(alloc, form_of(rule)),
     }
 }
@@ -81,7 +78,7 @@ fn form_of(rule: Rule) -> &'static str {
         Rule::QueryInWhere => QUERY_IN_WHERE,
         Rule::QueryInHaving => QUERY_IN_HAVING,
         Rule::ColumnInHaving => COLUMN_IN_HAVING,
-        Rule::NoLink | Rule::LinkToOther => LINK,
+        Rule::NoLink => LINK,
         Rule::TwoLinks => TWO_LINKS,
         Rule::OuterColumn => OUTER_COLUMN,
         Rule::GroupInSubquery => GROUP_IN_SUBQUERY,
@@ -116,10 +113,10 @@ const QUERY_IN_HAVING: &str =
 const COLUMN_IN_HAVING: &str = "Of the other columns a group has many values: take MIN(..), \
      MAX(..), SUM(..) or COUNT(..) of it, or put the test into WHERE.";
 
-const LINK: &str = "A link is a part D.COLUMN = R.KEY of its WHERE.";
+const LINK: &str = "A link is a part D.X = R.Y of its WHERE.";
 
-const TWO_LINKS: &str = "A query in a rule is linked once: to the key of the row around it. Its \
-     other parts look at its own rows.";
+const TWO_LINKS: &str = "A query in a rule is linked once, by one equality with a column of the \
+     row around it. Its other parts look at its own rows.";
 
 const OUTER_COLUMN: &str = "Besides its one link a query looks at its own rows. Compare what it \
      gives outside: (SELECT MAX(D.X) FROM D WHERE D.COLUMN = R.KEY) > R.Y.";
@@ -149,7 +146,7 @@ fn link_advice(alloc: Global, root: Scope) -> Result<String, AllocError> {
     };
     let (row, key) = (root.exposed_name, &key.name);
     format!(in alloc;
-        "Its WHERE has one part, joined by AND, that sets a column of its own table equal to \
-         {row}.{key}, the key of the row around it."
+        "Its WHERE has one part, joined by AND, that sets a column of its own table equal to a \
+         column of the row around it, as {row}.{key}."
     )
 }

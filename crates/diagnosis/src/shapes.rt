@@ -241,22 +241,12 @@ fn grouped<'a>(query: &Query, at: usize) -> Option<Outside<'a>> {
     }
 }
 
-/// To what an equality leads from a column of a subquery's table.
-#[derive(Clone, Copy, PartialEq, Eq)]
-enum Link {
-    ToNothing,
-    /// To the key of the row around.
-    ToKey,
-    /// To another column of it.
-    ToOther,
-}
-
 /// A part that AND joins at the top of a subquery's WHERE.
 #[derive(Clone, Copy)]
 struct Conjunct<'a> {
     condition: &'a Condition,
     range: Range,
-    link: Link,
+    is_link: bool,
 }
 
 /// The parts that AND joins at the top of the WHERE of a query, whose leaves begin here.
@@ -276,42 +266,31 @@ fn conjuncts_of<'a>(
     let mut at = clauses_of(query, at).keeps;
     for condition in conditions {
         let range = Range::new(at, of_condition(condition));
-        let link = link_of(outer, inner, condition);
         found.push(Conjunct {
             condition,
             range,
-            link,
+            is_link: is_link(outer, inner, condition),
         })?;
         at = range.to;
     }
     Ok(found)
 }
 
-/// What a condition links.
-fn link_of(outer: Scope, inner: Scope, condition: &Condition) -> Link {
+/// Whether a condition is an equality of a column of the subquery's table and one of the row around.
+fn is_link(outer: Scope, inner: Scope, condition: &Condition) -> bool {
     match condition {
         Condition::Compare(
             Expression::Column(left),
             Comparison::Equal,
             Expression::Column(right),
-        ) => match link_from(outer, inner, left, right) {
-            Link::ToNothing => link_from(outer, inner, right, left),
-            link => link,
-        },
-        _ => Link::ToNothing,
+        ) => joins(outer, inner, left, right) || joins(outer, inner, right, left),
+        _ => false,
     }
 }
 
-/// What a column of the subquery's table is linked to, if the first is one.
-fn link_from(outer: Scope, inner: Scope, from: &ColumnName, to: &ColumnName) -> Link {
-    if inner.is_named(to) || inner.own(from).is_none() {
-        return Link::ToNothing;
-    }
-    match outer.own(to) {
-        Some(column) if column == outer.schema.key() => Link::ToKey,
-        Some(_) => Link::ToOther,
-        None => Link::ToNothing,
-    }
+/// Whether the first name is of the subquery's table, and the other one of the row around.
+fn joins(outer: Scope, inner: Scope, from: &ColumnName, to: &ColumnName) -> bool {
+    inner.own(from).is_some() && !inner.is_named(to) && outer.own(to).is_some()
 }
 
 /// A query that is to be linked to the row around it.
@@ -341,23 +320,18 @@ fn linked<'a>(
     }
 }
 
-/// No link, one to another column than the key, or two links.
+/// No link, or two.
 fn amiss<'a>(conjuncts: &[Conjunct], outer: Scope<'a>, query: Range) -> Option<Outside<'a>> {
-    let mut links = conjuncts.iter().filter(|part| part.link == Link::ToKey);
-    if links.next().is_some() {
-        let second = links.next()?;
-        return broken(Rule::TwoLinks, second.range);
+    let mut links = conjuncts.iter().filter(|part| part.is_link);
+    if links.next().is_none() {
+        return Some(Outside {
+            rule: Rule::NoLink,
+            range: query,
+            root: Some(outer),
+        });
     }
-    let mut others = conjuncts.iter().filter(|part| part.link == Link::ToOther);
-    let (rule, range) = match others.next() {
-        Some(other) => (Rule::LinkToOther, other.range),
-        None => (Rule::NoLink, query),
-    };
-    Some(Outside {
-        rule,
-        range,
-        root: Some(outer),
-    })
+    let second = links.next()?;
+    broken(Rule::TwoLinks, second.range)
 }
 
 /// The first part besides the link that looks at the row around.
@@ -367,7 +341,7 @@ fn outer_column<'a>(
     conjuncts: &[Conjunct],
 ) -> Result<Option<Outside<'a>>, AllocError> {
     for conjunct in conjuncts {
-        if conjunct.link != Link::ToKey && looks_outside(alloc, inner, conjunct)? {
+        if !conjunct.is_link && looks_outside(alloc, inner, conjunct)? {
             return Ok(broken(Rule::OuterColumn, conjunct.range));
         }
     }

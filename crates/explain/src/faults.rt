@@ -2,7 +2,6 @@
 
 use crate::conflicts::{add_triple, add_write_conflict};
 use crate::figures::add_violation;
-use crate::parts::row_under;
 use crate::stories::{Story, number_of};
 use delta::View;
 use history::{Happening, Transaction, add_row};
@@ -89,7 +88,7 @@ fn add_row_under(view: &View, table: &Text, key: &Value, out: &mut String) -> Re
     let Some(table) = view.catalog().position(table) else {
         return Ok(());
     };
-    if let Some(row) = row_under(view, table, key)? {
+    if let Some(row) = view.row(table, key) {
         out.push_str("    ")?;
         add_row(row, out)?;
         out.push_str("\n")?;

@@ -1,7 +1,7 @@
 //! The figures of an assertion that would be false.
 
 use crate::conditions::add_condition;
-use crate::parts::{Part, figure_of, lists_of, parts_of, row_under, rows_at};
+use crate::parts::{Part, Share, figure_of, lists_of, parts_of, rows_at};
 use crate::stories::{MOST_LINES, Story, add_left_out};
 use assertion::{Assertion, Form};
 use cond::{Cond, Expr, SlotValue};
@@ -28,12 +28,12 @@ pub fn add_violation(
         return Ok(());
     };
     add_root_line(view, &assertion.form, root, out)?;
-    let parts = parts_of(alloc, &assertion.form)?;
+    let parts = parts_of(alloc, view, &assertion.form, root)?;
     for (slot, part) in parts.iter().enumerate() {
-        add_figure(alloc, view, assertion, slot, *part, root, out)?;
+        add_figure(alloc, view, assertion, slot, *part, out)?;
     }
-    for part in lists_of(alloc, &assertion.form)? {
-        add_rows(alloc, view, part, root, out)?;
+    for part in lists_of(alloc, view, &assertion.form, root)? {
+        add_rows(alloc, view, part, out)?;
     }
     Ok(())
 }
@@ -56,7 +56,7 @@ fn add_root_line(view: &View, form: &Form, root: &Root, out: &mut String) -> Res
             write!(out, "  would be false at row {key} of ")?;
             add_table(view, *table, out)?;
             out.push_str(": ")?;
-            if let Some(row) = row_under(view, *table, key)? {
+            if let Some(row) = view.row(*table, key) {
                 add_row(row, out)?;
             }
             out.push_str("\n")?;
@@ -92,14 +92,13 @@ fn add_figure(
     assertion: &Assertion,
     slot: usize,
     part: Part<'_>,
-    root: &Root,
     out: &mut String,
 ) -> Result<(), Refusal> {
-    let rows = rows_at(alloc, view, part, root)?;
+    let rows = rows_at(alloc, view, part)?;
     let figure = figure_of(alloc, part.aggregate, rows.as_slice())?;
     out.push_str("    ")?;
     add_function(view, part.table, part.aggregate, out)?;
-    add_scope(view, &assertion.form, part, root, out)?;
+    add_scope(view, &assertion.form, part, out)?;
     out.push_str(" would be ")?;
     add_slot_value(&figure, out)?;
     add_demand(&assertion.form, slot, out)?;
@@ -128,19 +127,13 @@ fn add_function(
 }
 
 /// Adds which rows a set function is of.
-fn add_scope(
-    view: &View,
-    form: &Form,
-    part: Part<'_>,
-    root: &Root,
-    out: &mut String,
-) -> Result<(), AllocError> {
+fn add_scope(view: &View, form: &Form, part: Part<'_>, out: &mut String) -> Result<(), AllocError> {
     out.push_str(" of ")?;
-    match (form, part.column, root) {
-        (Form::ByGroup { .. }, Some(column), Root::Of(value)) => {
+    match (form, part.share) {
+        (Form::ByGroup { .. }, Share::With { column, value }) => {
             add_group(view, part.table, column, value, out)?;
         }
-        _ => add_linked(view, part, root, out)?,
+        _ => add_linked(view, part, out)?,
     }
     if matches!(part.filter, Cond::And(parts) if parts.is_empty()) {
         return Ok(());
@@ -150,19 +143,15 @@ fn add_scope(
 }
 
 /// Adds a table, and the value that its rows have in the column that links them.
-fn add_linked(
-    view: &View,
-    part: Part<'_>,
-    root: &Root,
-    out: &mut String,
-) -> Result<(), AllocError> {
+fn add_linked(view: &View, part: Part<'_>, out: &mut String) -> Result<(), AllocError> {
     add_table(view, part.table, out)?;
-    match (part.column, root) {
-        (Some(column), Root::Of(value)) => match column_name(view, part.table, column) {
+    match part.share {
+        Share::All => Ok(()),
+        Share::With { column, value } => match column_name(view, part.table, column) {
             Some(name) => write!(out, " with {name} = {value}"),
             None => Ok(()),
         },
-        _ => Ok(()),
+        Share::None => out.push_str(" linked to NULL"),
     }
 }
 
@@ -256,13 +245,12 @@ fn add_rows(
     alloc: Global,
     view: &View,
     part: Part<'_>,
-    root: &Root,
     out: &mut String,
 ) -> Result<(), AllocError> {
-    let rows = rows_at(alloc, view, part, root)?;
+    let rows = rows_at(alloc, view, part)?;
     let count = rows.len();
     write!(out, "    rows of ")?;
-    add_linked(view, part, root, out)?;
+    add_linked(view, part, out)?;
     write!(out, " that count: {count}\n")?;
     for row in rows.as_slice().iter().take(MOST_LINES) {
         out.push_str("      ")?;

@@ -3,47 +3,61 @@
 ghost use Rattle.std.specs.Prelude.{[], All, IsTrue};
 ghost use Rattle.cond.specs.Bounds.{IsSmallRow, is_bounded};
 
-use assertion::{Form, Query};
+use assertion::{Form, Link, Query};
 use cond::{Cond, SlotValue, is_bounded, passes};
 use delta::View;
 use groups::{Member, Totals};
 use mvrows::Rows;
-use net::row_in;
 use roots::value_at;
-use siread::{Place, is_same};
+use siread::is_same;
 use std::alloc::{AllocError, Global};
 use table::{Aggregate, Row};
 use value::{Refusal, Root, Value};
 
-/// A set function of an assertion: over the rows of a table that a condition keeps, or over those of them that have a
-/// root's value in a column.
+/// Which rows of a table go to a root.
+#[derive(Clone, Copy)]
+pub enum Share<'a> {
+    All,
+    /// Those that have a value in a column.
+    With { column: usize, value: &'a Value },
+    /// None: NULL is linked to nothing.
+    None,
+}
+
+/// A set function of an assertion at a root: over the rows of a table that a condition keeps and that go to the root.
 #[derive(Clone, Copy)]
 pub struct Part<'a> {
     pub aggregate: Aggregate,
     pub table: usize,
     pub filter: &'a Cond,
-    pub column: Option<usize>,
+    pub share: Share<'a>,
 }
 
 impl<'a> Part<'a> {
-    /// The set function of a subquery, over the rows with the root's value in this column, if there is one.
-    fn of_query<G>(query: &'a Query<G>, column: Option<usize>) -> Part<'a> {
+    /// The set function of a subquery, over these of its rows.
+    fn of_query<G>(query: &'a Query<G>, share: Share<'a>) -> Part<'a> {
         Part {
             aggregate: query.aggregate,
             table: query.table,
             filter: &query.filter,
-            column,
+            share,
         }
     }
 }
 
-/// The set functions of an assertion, in the order of the slots of its condition.
-pub fn parts_of<'a>(alloc: Global, form: &'a Form) -> Result<Vec<Part<'a>>, AllocError> {
+/// The set functions of an assertion at a root, in the order of the slots of its condition.
+pub fn parts_of<'a>(
+    alloc: Global,
+    view: &'a View,
+    form: &'a Form,
+    root: &'a Root,
+) -> Result<Vec<Part<'a>>, AllocError> {
     let mut parts = Vec::new(alloc);
     match form {
-        Form::ByRow { queries, .. } => {
+        Form::ByRow { table, queries, .. } => {
             for query in queries.as_slice() {
-                parts.push(Part::of_query(query, Some(query.grouping.column())))?;
+                let share = linked_share(view, *table, query.grouping, root);
+                parts.push(Part::of_query(query, share))?;
             }
         }
         Form::ByGroup {
@@ -58,21 +72,54 @@ pub fn parts_of<'a>(alloc: Global, form: &'a Form) -> Result<Vec<Part<'a>>, Allo
                     aggregate: *aggregate,
                     table: *table,
                     filter,
-                    column: Some(*group),
+                    share: group_share(*group, root),
                 })?;
             }
         }
         Form::Single { queries, .. } => {
             for query in queries.as_slice() {
-                parts.push(Part::of_query(query, None))?;
+                parts.push(Part::of_query(query, Share::All))?;
             }
         }
     }
     Ok(parts)
 }
 
-/// The lists of rows that an assertion looks at: of a group one, however many set functions it has, else one for each.
-pub fn lists_of<'a>(alloc: Global, form: &'a Form) -> Result<Vec<Part<'a>>, AllocError> {
+/// The rows that are linked to the row of a root: by what stands there in the column of the link, or by the key itself
+/// where no row stands.
+fn linked_share<'a>(view: &'a View, table: usize, link: Link, root: &'a Root) -> Share<'a> {
+    let Root::Of(key) = root else {
+        return Share::All;
+    };
+    let column = link.inner;
+    if link.outer == view.key_column(table) {
+        return Share::With { column, value: key };
+    }
+    match view
+        .row(table, key)
+        .and_then(|row| row.values().get(link.outer))
+    {
+        Some(Value::Null) | None => Share::None,
+        Some(value) => Share::With { column, value },
+    }
+}
+
+/// The rows of a group.
+fn group_share(column: usize, root: &Root) -> Share<'_> {
+    match root {
+        Root::Of(value) => Share::With { column, value },
+        Root::All => Share::All,
+    }
+}
+
+/// The lists of rows that an assertion looks at, at a root: of a group one, however many set functions it has, else one
+/// for each.
+pub fn lists_of<'a>(
+    alloc: Global,
+    view: &'a View,
+    form: &'a Form,
+    root: &'a Root,
+) -> Result<Vec<Part<'a>>, AllocError> {
     let Form::ByGroup {
         table,
         filter,
@@ -80,73 +127,55 @@ pub fn lists_of<'a>(alloc: Global, form: &'a Form) -> Result<Vec<Part<'a>>, Allo
         ..
     } = form
     else {
-        return parts_of(alloc, form);
+        return parts_of(alloc, view, form, root);
     };
     let mut lists = Vec::new(alloc);
     lists.push(Part {
         aggregate: Aggregate::CountRows,
         table: *table,
         filter,
-        column: Some(*group),
+        share: group_share(*group, root),
     })?;
     Ok(lists)
 }
 
-/// The rows of a table that a condition keeps and that have the root's value in the column, if there is one.
+/// The rows of a table that a condition keeps and that go to the root.
 pub fn rows_at<'a>(
     alloc: Global,
     view: &'a View,
     part: Part<'_>,
-    root: &Root,
 ) -> Result<Vec<&'a Row>, AllocError> {
     if part.table < view.catalog().len() && is_bounded(part.filter, &[]) {
-        kept_rows(alloc, view.rows(part.table), part, root)
+        kept_rows(alloc, view.rows(part.table), part)
     } else {
         Ok(Vec::new(alloc))
     }
 }
 
 /// The same, of these rows.
-fn kept_rows<'a>(
-    alloc: Global,
-    rows: &'a Rows,
-    part: Part<'_>,
-    root: &Root,
-) -> Result<Vec<&'a Row>, AllocError>
+fn kept_rows<'a>(alloc: Global, rows: &'a Rows, part: Part<'_>) -> Result<Vec<&'a Row>, AllocError>
     requires bounded { IsTrue (is_bounded [] part.filter.now) }
     requires small { All IsSmallRow rows.now }
 {
     let mut found = Vec::new(alloc);
     for row in rows.iter() {
-        if passes(alloc, part.filter, row) && is_at(row, part.column, root) {
+        if passes(alloc, part.filter, row) && is_among(row, part.share) {
             found.push(row)?;
         }
     }
     Ok(found)
 }
 
-/// Whether a row has the root's value in a column. Of a root that is the whole every row has.
-fn is_at(row: &Row, column: Option<usize>, root: &Root) -> bool {
-    match (column, root) {
-        (Some(column), Root::Of(value)) => match row.values().get(column) {
+/// Whether a row is one of those that go to a root.
+fn is_among(row: &Row, share: Share<'_>) -> bool {
+    match share {
+        Share::All => true,
+        Share::With { column, value } => match row.values().get(column) {
             Some(found) => is_same(found, value),
             None => false,
         },
-        _ => true,
+        Share::None => false,
     }
-}
-
-/// The row that stands under a key.
-pub fn row_under<'a>(
-    view: &'a View,
-    table: usize,
-    key: &Value,
-) -> Result<Option<&'a Row>, Refusal> {
-    let place = Place {
-        table,
-        key: key.copy()?,
-    };
-    Ok(row_in(view, &place))
 }
 
 /// What a set function gives of some rows.

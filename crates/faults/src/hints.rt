@@ -106,8 +106,8 @@ const ELSEWHERE: [(&str, &str); 45] = [
     ),
     (
         "FOREIGN",
-        "A foreign key is an assertion: NOT EXISTS (SELECT * FROM CHILD C WHERE NOT EXISTS \
-         (SELECT * FROM PARENT P WHERE ..)), where the link is to a key.",
+        "A foreign key is an assertion: NOT EXISTS (SELECT * FROM CHILD C WHERE C.X IS NOT NULL \
+         AND NOT EXISTS (SELECT * FROM PARENT P WHERE P.KEY = C.X)).",
     ),
     (
         "IF",
@@ -152,8 +152,8 @@ const ELSEWHERE: [(&str, &str); 45] = [
     ),
     (
         "REFERENCES",
-        "A foreign key is an assertion: NOT EXISTS (SELECT * FROM CHILD C WHERE NOT EXISTS \
-         (SELECT * FROM PARENT P WHERE ..)), where the link is to a key.",
+        "A foreign key is an assertion: NOT EXISTS (SELECT * FROM CHILD C WHERE C.X IS NOT NULL \
+         AND NOT EXISTS (SELECT * FROM PARENT P WHERE P.KEY = C.X)).",
     ),
     (
         "RETURNING",

@@ -15,7 +15,6 @@ use Rattle.syntax.specs.declared.trees.SelectList.{SelectList}
 use Rattle.syntax.specs.declared.trees.Query.{Query, out-Query}
 use Rattle.assertion.specs.declared.queries.Query.{Query as Subquery}
 use Rattle.assertion.specs.declared.queries.Link.{Link}
-use Rattle.assertion.specs.declared.queries.Link.TheVariants.{Column}
 use Rattle.assertion.specs.declared.queries.Whole.{Whole}
 use Rattle.assertion.specs.declared.forms.Form.{Form}
 use Rattle.assertion.specs.declared.forms.Form.TheVariants.{ByRow, ByGroup, Single}
@@ -37,7 +36,7 @@ abbrev pub linked_by : Source → Scope → Aggregate → Condition → Result (
 linked_by child root aggregate condition =
     in_class (only_one (links_in child.scope root (top_parts condition))) (λ link.
     and_then (filter_parts child.scope root (top_parts condition)) (λ filters.
-    Ok (record { table = child.table; filter = cond_of.And filters; grouping = Column link; aggregate = aggregate })))
+    Ok (record { table = child.table; filter = cond_of.And filters; grouping = link; aggregate = aggregate })))
 
 -- a query of a row has WHERE, and neither GROUP BY nor HAVING
 abbrev pub linked_where : Source → Scope → Aggregate → Option Condition → Option ColumnName → Option Condition

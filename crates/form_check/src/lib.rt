@@ -15,8 +15,8 @@
 //!
 //! - **By rows**: `NOT EXISTS (SELECT .. FROM t r WHERE c)`, without GROUP BY and HAVING. `c` is over the columns of
 //!   `r`, and may hold queries of the row, under EXISTS or as values of one set function. Such a query has one part
-//!   in its WHERE, among those that AND joins at its top, that links it to the row: `d.column = r.key`, either way
-//!   round. Its other parts are row conditions of its own table.
+//!   in its WHERE, among those that AND joins at its top, that links it to the row: an equality of one of its columns
+//!   and one of the row's, either way round. Its other parts are row conditions of its own table.
 //! - **By groups**: `NOT EXISTS (SELECT .. FROM t WHERE f GROUP BY k HAVING h)`. `f` is a row condition, and `h` is
 //!   over `k` and set functions of `t`.
 //! - **Single**: any other condition without EXISTS, column or set function of its own, over queries `(SELECT

@@ -141,14 +141,14 @@ fn linked_by(
         root,
     };
     let parts = top_parts(condition);
-    let Some(column) = tables.only_column(parts) else {
+    let Some(link) = tables.only_link(parts) else {
         return Err(Refusal::OutsideClass);
     };
     let filters = tables.filter_parts(alloc, parts)?;
     Ok(Query {
         table: child.table,
         filter: Cond::And(Items::from_vec(filters)),
-        grouping: Link::Column(column),
+        grouping: link,
         aggregate,
     })
 }

@@ -3,9 +3,10 @@
 ghost use Rattle.std.specs.Prelude.{◌≡◌, ◌≢◌, ◌++◌, IfOk, IfErr, Ok, Err, List};
 ghost use Rattle.value.specs.declared.refusals.Refusal.TheVariants.{NoMemory};
 ghost use Rattle.name_check.specs.Shown.{shown};
-ghost use Rattle.form_check.specs.Links.{linked_column, outer_column, link_of, links_in, only_one, filter_parts};
+ghost use Rattle.form_check.specs.Links.{link_of_names, outer_column, link_of, links_in, only_one, filter_parts};
 
 use crate::queries::row_condition;
+use assertion::Link;
 use cond::Cond;
 use name_check::Scope;
 use std::alloc::Global;
@@ -20,17 +21,17 @@ pub struct LinkedTables<'a> {
 }
 
 impl<'a> LinkedTables<'a> {
-    /// The child's column that one of these parts links to the root's key, if exactly one is a link.
-    pub fn only_column(&self, parts: &[Condition]) -> Option<usize>
+    /// The link that is one of these parts, if exactly one is a link.
+    pub fn only_link(&self, parts: &[Condition]) -> Option<Link>
         ensures { result ≡ only_one (links_in (shown self.now.child) (shown self.now.root) parts.now) }
     {
         let mut only = None;
         for part in parts {
-            if let Some(column) = self.column(part) {
+            if let Some(link) = self.link(part) {
                 if only.is_some() {
                     return None;
                 }
-                only = Some(column);
+                only = Some(link);
             }
         }
         only
@@ -46,16 +47,16 @@ impl<'a> LinkedTables<'a> {
     {
         let mut made = Vec::new(alloc);
         for part in parts {
-            if self.column(part).is_none() {
+            if self.link(part).is_none() {
                 made.push(row_condition(alloc, self.child, part)?)?;
             }
         }
         Ok(made)
     }
 
-    /// The child's column that a part links to the root's key, if it is a link: an equality of the two, either way
+    /// The columns of the child and of the root that a part joins, if it is a link: an equality of the two, either way
     /// round.
-    fn column(&self, part: &Condition) -> Option<usize>
+    fn link(&self, part: &Condition) -> Option<Link>
         ensures { result ≡ link_of (shown self.now.child) (shown self.now.root) part.now }
     {
         match part {
@@ -63,21 +64,21 @@ impl<'a> LinkedTables<'a> {
                 Expression::Column(left),
                 Comparison::Equal,
                 Expression::Column(right),
-            ) => match self.linked(left, right) {
-                Some(column) => Some(column),
-                None => self.linked(right, left),
+            ) => match self.link_of_names(left, right) {
+                Some(link) => Some(link),
+                None => self.link_of_names(right, left),
             },
             _ => None,
         }
     }
 
-    /// The child's column of this name, if the other means the root's key.
-    fn linked(&self, inner: &ColumnName, outer: &ColumnName) -> Option<usize>
-        ensures { result ≡ linked_column (shown self.now.child) (shown self.now.root) inner.now outer.now }
+    /// The link of the child's column of one name and the root's of the other, if that is what they mean.
+    fn link_of_names(&self, inner: &ColumnName, outer: &ColumnName) -> Option<Link>
+        ensures { result ≡ link_of_names (shown self.now.child) (shown self.now.root) inner.now outer.now }
     {
-        match self.outer(outer) {
-            Some(column) if column == self.root.schema.key() => self.child.own(inner),
-            Some(_) | None => None,
+        match (self.child.own(inner), self.outer(outer)) {
+            (Some(inner), Some(outer)) => Some(Link { inner, outer }),
+            (None, _) | (Some(_), None) => None,
         }
     }
 

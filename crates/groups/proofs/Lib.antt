@@ -3,7 +3,10 @@ pub mod Carried
 pub mod CountLemmas
 pub mod EntryLemmas
 pub mod ExtremeLemmas
+pub mod FilteredKeys
 pub mod Greatest
+pub mod IndexExact
+pub mod IndexLemmas
 pub mod MemberLemmas
 pub mod RowLemmas
 pub mod TotalLemmas

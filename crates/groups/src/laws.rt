@@ -7,6 +7,7 @@ ghost use Rattle.table.specs.Aggregates.{rows_of_group};
 ghost use Rattle.table.specs.Rows.{RowValues, row_at, put_row, value_in};
 ghost use Rattle.cond.specs.Bounds.{IsSmallRow};
 ghost use Rattle.groups.specs.Answers.{value_for};
+ghost use Rattle.groups.specs.Indexes.{IsIndexOf, ValueKeys};
 ghost use Rattle.groups.specs.Members.{member_of, members_of, rows_in};
 ghost use Rattle.groups.specs.Totals.{AreWithin, IsChange};
 
@@ -25,4 +26,10 @@ pub fn members_follow_rows()
 pub fn column_makes_groups()
     ensures { (column : ℕ) (rows : List RowValues) (group : Value)
         → rows_in (λ row. Some (value_in column row)) rows group ≡ rows_of_group column group rows }
+{}
+
+/// The rows of a table have one index by a column.
+pub fn rows_have_one_index()
+    ensures { (key column : ℕ) (rows : List RowValues) (index other : ValueKeys)
+        → IsIndexOf key column rows index → IsIndexOf key column rows other → index ≡ other }
 {}

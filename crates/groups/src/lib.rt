@@ -1,4 +1,5 @@
-//! What set functions need of the rows of groups, maintained as rows come and go.
+//! What set functions need of the rows of groups, and which rows have a value in a column, maintained as rows come and
+//! go.
 //!
 //! A *set function* (ISO/IEC 9075:1992, set function specification) gives one value of the rows of a group: COUNT(*)
 //! how many rows there are; COUNT, SUM, MIN and MAX of a column look only at its values that are not NULL, and of
@@ -36,15 +37,37 @@
 //!
 //! Totals stand under their groups in `pages::Pages`, and so do the values of a multiset, each with its number: a
 //! change makes the path to one group anew, and for MIN and MAX that to one value, and shares the rest.
+//!
+//! Beside totals, which say how many rows a group has, an [`Index`] says which ones: for each value in a column the
+//! keys of the rows that have it there, in order. It is a *secondary index* (Comer, "The Ubiquitous B-Tree", 1979):
+//! where a column is to be equal to a value, the rows of which this holds are found without reading the others. NULL is
+//! equal to nothing, so rows that have it there are under no value.
+//!
+//! - `Index::with` makes the index after the row under a key becomes another; where its value stays as it is, all is
+//!   shared. `Index::with_row` puts one row more behind the others, so that an index is made in one pass over a table.
+//! - `Index::keys` lends the keys of a value, one after the other ([`Keys`]). It takes no memory.
+//!
+//! What the layer above may rest on: the index of a table's rows is, after `with`, that of the rows with that change
+//! (`specs/Indexes`, `IsIndexOf`), wherever the rows are in key order, the old row is the one under the key and the new
+//! row has that key; its keys of a value are those of the rows that have it, in the order of the rows; a copy is equal
+//! to its original; and rows have one index, which is the law [`rows_have_one_index`]. NoMemory is the only error, and
+//! no call has a premise.
+//!
+//! Values with keys stand in `pages::Pages`, and the keys of each in one more: a change makes the path to one value and
+//! the path to one key anew, or two of each, and shares the rest. The steps are in `specs/IndexSteps`.
 #![tactic(auto)]
 
 mod counts;
 mod entries;
+mod indexes;
+mod key_sets;
 mod laws;
 mod members;
 mod totals;
 
 pub use entries::Totals;
-pub use laws::{column_makes_groups, members_follow_rows};
+pub use indexes::Index;
+pub use key_sets::Keys;
+pub use laws::{column_makes_groups, members_follow_rows, rows_have_one_index};
 pub use members::Member;
 pub use totals::Total;

@@ -144,7 +144,7 @@ fn follow_statement(
         Some(Trial { changes, view }) => {
             let meant = mirror.modes.as_slice();
             let reads = &mut transaction.reads;
-            push_checks(alloc, reads, &own, meant, changes.as_slice(), event)?;
+            push_checks(alloc, reads, &view, meant, changes.as_slice(), event)?;
             happening.changes = changes;
             note_view(happening, view);
             Ok(())

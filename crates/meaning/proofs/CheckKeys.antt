@@ -1,9 +1,11 @@
 -- A check at a root reads under the keys of the assertion's text.
-use Rattle.std.proofs.Common.{◌≡◌, ℕ, map, Option, Some, None, Result, Ok, List, [], ◌∷◌, refl, ap, sym, ◌∙◌, subst, ⊎_elim, inl, inr}
-use Rattle.std.specs.Prelude.{is_some, unwrap_or}
+use Rattle.std.proofs.Common.{◌≡◌, ℕ, map, Option, Some, None, Result, Ok, List, [], ◌∷◌, ◌++◌, refl, ap, sym, ◌∙◌, subst, ⊎_elim, inl, inr}
+use Rattle.std.specs.Prelude.{◌==◌, is_some, unwrap_or, filter, flat_map, if◌then◌else◌}
 use Rattle.value.specs.declared.values.Value.{Value}
 use Rattle.value.specs.declared.refusals.Refusal.{Refusal}
-use Rattle.table.specs.Rows.{Tables, layout_of, position_of}
+use Rattle.table.specs.declared.rows.Change.{Change}
+use Rattle.table.specs.Rows.{RowValues, Layout, Tables, layout_of, layouts_of, position_of, row_at, value_in}
+use Rattle.table.specs.Aggregates.{is_there}
 use Rattle.table.specs.declared.aggregates.Aggregate.{Aggregate}
 use Rattle.table.specs.declared.aggregates.Aggregate.TheVariants.{CountRows}
 use Rattle.cond.specs.declared.conds.Cond.{Cond}
@@ -13,6 +15,8 @@ use Rattle.assertion.specs.declared.queries.Link.{Link}
 use Rattle.assertion.specs.declared.queries.Whole.{Whole}
 use Rattle.assertion.specs.declared.forms.Form.{Form}
 use Rattle.assertion.specs.declared.forms.Form.TheVariants.{ByRow, ByGroup}
+use Rattle.assertion.specs.Meaning.{State, key_of, rows_of}
+use Rattle.assertion.specs.Candidates.{touched, linked_values}
 use Rattle.syntax.specs.declared.trees.ColumnName.{ColumnName}
 use Rattle.syntax.specs.declared.trees.Condition.{Condition}
 use Rattle.syntax.specs.declared.trees.Query.{Query, out-Query}
@@ -25,16 +29,17 @@ use Rattle.form_check.specs.Queries.{Source, source_of, selected_aggregate, may_
 use Rattle.form_check.specs.Forms.{form_of, plain, plain_by, row_where, by_row, by_group, by_clauses, not_exists, single, linked, linked_where}
 use Rattle.siread.specs.declared.keys.LockKey.TheVariants as key
 use Rattle.siread.specs.declared.keys.LockKey.{LockKey}
-use Rattle.alone.specs.Checks.{keys_for, link_key, tables_in}
+use Rattle.alone.specs.States.{row_in}
+use Rattle.alone.specs.Checks.{row_keys, query_keys, outer_keys, tables_in}
 use Rattle.meaning.specs.Class as class
 use Rattle.meaning.specs.Class.{Piece, Pieces, pieces_in, IfWritten, IsOverRows, IsDenied}
 use Rattle.meaning.specs.Laws.{Pairs}
 use Rattle.meaning.specs.Keys as written
-use Rattle.meaning.specs.Keys.{IsTable, IsLinkKey, IsTableKey, InWhere, InSingle, where_pieces, ReadsRow, ReadsGroup, ReadsAsWritten, ReadsWhole}
+use Rattle.meaning.specs.Keys.{IsTable, IsOfLink, joined_keys, link_keys, found_keys, looks_of, IsTableKey, InWhere, InSingle, where_pieces, ReadsRow, ReadsGroup, ReadsAsWritten, ReadsWhole}
 use Rattle.meaning.proofs.Steps.{in_class_ok, only_if_ok, ok_pair}
 use Rattle.meaning.proofs.Queries.{plain_by_ok}
 use Rattle.meaning.proofs.Links.{linked_where_ok}
-use Rattle.meaning.proofs.Rooted.{sourced_parts}
+use Rattle.meaning.proofs.Rooted.{sourced_parts, layout_at}
 use Rattle.meaning.proofs.Made.{single_made, row_made, group_made}
 use Rattle.meaning.proofs.Whole.{by_clauses_ok}
 use Rattle.meaning.proofs.Standing.{leaf_of, condition_numbers}
@@ -48,7 +53,7 @@ table_is tables name correlation_name source found =
 
 -- what a check and VERDICT read
 abbrev Reads : Tables → Condition → Form → Type 0
-Reads tables c form = ReadsAsWritten tables c (keys_for form) × ReadsWhole tables c (map key.Table (tables_in form))
+Reads tables c form = ReadsAsWritten tables c (looks_of tables form) × ReadsWhole tables c (map key.Table (tables_in form))
 
 -- ---- slots one after the other
 
@@ -81,24 +86,59 @@ single_reads tables c form e =
     let (columns, leaves) = (condition_numbers no_column c).says [] m.made m.leaves m.numbers in
     let places : List ℕ = map (λ (q : Subquery Whole). q.table) m.queries in
     let queried = pairs_mapped (InSingle (IsTableKey tables)) key.Table (pieces_in c) places (pieces_made (plain tables) (λ p t. InSingle (IsTableKey tables) p (key.Table t)) (λ (q : Subquery Whole). q.table) (whole_read tables) m.leaves (pieces_in c) m.queries leaves m.are) in
-    subst (Reads tables c) m.is (inr (inr (record { queried = queried; none = λ v. refl })), inr queried)
+    subst (Reads tables c) m.is (inr (inr (record { queried = λ state. queried; none = λ state v. refl; finding = λ change. refl })), inr queried)
 
 -- ---- by rows
 
-link_read : (tables : Tables) (root : Scope) (k : Value) (query : Query) (child : Source) (a : Aggregate) (q : Subquery Link) → source_of tables (out-Query query).table (out-Query query).correlation_name ≡ Some child
-    → linked_where child root a (out-Query query).keeps (out-Query query).group (out-Query query).having ≡ Ok q → IsLinkKey tables root k query (link_key k q)
-link_read tables root k query child a q found e =
+-- the key of a table that is read
+key_is : (tables : Tables) (name : List ℕ) (correlation_name : Option (List ℕ)) (source : Source) → source_of tables name correlation_name ≡ Some source → key_of source.table (layouts_of tables) ≡ source.scope.layout.key
+key_is tables name correlation_name source found =
+    let parts = sourced_parts (unwrap_or correlation_name name) (position_of name tables) (layout_of name tables) source found in
+    ap (λ (l : Layout). l.key) (layout_at name (record { columns = []; key = 0 }) tables source.table source.scope.layout parts.0 parts.1)
+
+-- what is read for the link of a query, where that is said by its columns and the two tables
+link_read : (tables : Tables) (root : Scope) (reads : ℕ → Scope → Link → List LockKey) (read : Subquery Link → List LockKey)
+    → ((child : Source) (q : Subquery Link) → key_of child.table (layouts_of tables) ≡ child.scope.layout.key → q.table ≡ child.table → read q ≡ reads child.table child.scope q.grouping)
+    → (query : Query) (child : Source) (a : Aggregate) (q : Subquery Link) → source_of tables (out-Query query).table (out-Query query).correlation_name ≡ Some child
+    → linked_where child root a (out-Query query).keeps (out-Query query).group (out-Query query).having ≡ Ok q → IsOfLink tables root reads query (read q)
+link_read tables root reads read same query child a q found e =
     let c = out-Query query in
     let (no_group, (no_having, (condition, (keeps, (link, (one, (restriction, (are, makes)))))))) = linked_where_ok child root a c.keeps c.group c.having q e in record {
       table = child.table;
       scope = child.scope;
-      reads = table_is tables c.table c.correlation_name child found;
+      of_table = table_is tables c.table c.correlation_name child found;
       condition = condition;
       filter = keeps;
-      column = link;
+      link = link;
       linked = where_class child.scope root condition link one (restriction, are);
-      is = ap (link_key k) (sym makes);
+      is =
+          same child q (key_is tables c.table c.correlation_name child found) (ap (λ (q : Subquery Link). q.table) (sym makes))
+          ∙ ap (λ (q : Subquery Link). reads child.table child.scope q.grouping) (sym makes);
     }
+
+-- the keys of a link at a root, by the scopes of its tables
+module _ (tables : Tables) (root : Scope) (table : ℕ) (is_key : key_of table (layouts_of tables) ≡ root.layout.key) where
+  row_read : (child : Source) (q : Subquery Link) → key_of child.table (layouts_of tables) ≡ child.scope.layout.key → q.table ≡ child.table → (row : Option RowValues)
+      → row_keys (layouts_of tables) q row ≡ joined_keys child.table child.scope q.grouping row
+  row_read child q own same None = refl
+  row_read child q own same (Some row) =
+      ap (λ f. map f (filter is_there (value_in q.grouping.outer row ∷ [])))
+      (λ i v. if q.grouping.inner == (ap (λ t. key_of t (layouts_of tables)) same ∙ own) i then key.Row (record { table = same i; key = v }) else key.Column (same i) q.grouping.inner v)
+
+  root_read : (k : Value) (row : Option RowValues) (child : Source) (q : Subquery Link) → key_of child.table (layouts_of tables) ≡ child.scope.layout.key → q.table ≡ child.table
+      → query_keys (layouts_of tables) (key_of table (layouts_of tables)) k row q ≡ link_keys root k row child.table child.scope q.grouping
+  root_read k row child q own same =
+      λ i. if q.grouping.outer == is_key i then key.Column (same i) q.grouping.inner k ∷ [] else row_read child q own same row i
+
+  change_read : (change : Change) (child : Source) (q : Subquery Link) → key_of child.table (layouts_of tables) ≡ child.scope.layout.key → q.table ≡ child.table
+      → outer_keys table (key_of table (layouts_of tables)) change q ≡ found_keys root table change child.table q.grouping
+  change_read change child q own same =
+      λ i. if q.grouping.outer == is_key i then []
+      else if same i == change.table then map (key.Column table q.grouping.outer) (linked_values q.grouping (touched change)) else []
+
+flattened : {X Y : Type 0} (f : X → List Y) (xs : List X) → flat_map f xs ≡ flat_map (λ ys. ys) (map f xs)
+flattened f [] = refl
+flattened f (x ∷ xs) = ap (λ ys. f x ++ ys) (flattened f xs)
 
 link_table : (tables : Tables) (root : Scope) (query : Query) (child : Source) (a : Aggregate) (q : Subquery Link) → source_of tables (out-Query query).table (out-Query query).correlation_name ≡ Some child
     → linked_where child root a (out-Query query).keeps (out-Query query).group (out-Query query).having ≡ Ok q → IsTableKey tables query (key.Table q.table)
@@ -112,7 +152,7 @@ mapped_tables [] = refl
 mapped_tables (q ∷ queries) = ap (λ rest. key.Table q.table ∷ rest) (mapped_tables queries)
 
 -- what is read for a linked query
-module _ (tables : Tables) (root : Scope) (P : Query → LockKey → Type 0) (read : Subquery Link → LockKey)
+module _ {Read : Type 0} (tables : Tables) (root : Scope) (P : Query → Read → Type 0) (read : Subquery Link → Read)
     (one : (query : Query) (child : Source) (a : Aggregate) (q : Subquery Link) → source_of tables (out-Query query).table (out-Query query).correlation_name ≡ Some child
     → linked_where child root a (out-Query query).keeps (out-Query query).group (out-Query query).having ≡ Ok q → P query (read q)) where
   linked_read : (p : Piece) (q : Subquery Link) → linked tables root (leaf_of p) ≡ Ok q → InWhere P p (read q)
@@ -144,17 +184,32 @@ row_reads tables c query denied source found no_group form e =
     let of_table = table_is tables q.table q.correlation_name source found in
     let m = row_made tables source q form e in
     let places : List ℕ = map (λ (q : Subquery Link). q.table) m.queries in
-    let checks : ReadsRow tables c (keys_for (ByRow source.table m.made m.queries)) = record {
+    let is_key = key_is tables q.table q.correlation_name source found in
+    let layouts = layouts_of tables in
+    let at : State → Value → Subquery Link → List LockKey = λ state k. query_keys layouts (key_of source.table layouts) k (row_in layouts state (record { table = source.table; key = k })) in
+    let finds : Change → Subquery Link → List LockKey = outer_keys source.table (key_of source.table layouts) in
+    let stands : State → Value → Option RowValues = λ state k. row_at scope.layout.key k (rows_of source.table state) in
+    let by_row : State → Value → ℕ → Scope → Link → List LockKey = λ state k. link_keys scope k (stands state k) in
+    let by_change : Change → ℕ → Scope → Link → List LockKey = λ change t child. found_keys scope source.table change t in
+    let checks : ReadsRow tables c (looks_of tables (ByRow source.table m.made m.queries)) = record {
       query = query;
       denied = denied;
       ungrouped = ap is_some no_group;
       table = source.table;
       scope = scope;
       of_table = of_table;
-      others = λ k. map (link_key k) m.queries;
-      row = λ k. refl;
-      linked = λ k. where_reads tables scope (IsLinkKey tables scope k) (link_key k) (link_read tables scope k) q.keeps m.made m.leaves m.queries m.keeps m.are;
-      whole = refl;
+      others = λ state k. map (at state k) m.queries;
+      row = λ state k. ap (λ reads. key.Row (record { table = source.table; key = k }) ∷ reads) (flattened (at state k) m.queries);
+      linked = λ state k. where_reads tables scope (IsOfLink tables scope (by_row state k)) (at state k)
+          (link_read tables scope (by_row state k) (at state k) (λ child q own same.
+          root_read tables scope source.table is_key k (row_in layouts state (record { table = source.table; key = k })) child q own same
+          ∙ ap (λ key. link_keys scope k (row_at key k (rows_of source.table state)) child.table child.scope q.grouping) is_key))
+          q.keeps m.made m.leaves m.queries m.keeps m.are;
+      whole = λ state. refl;
+      found = λ change. map (finds change) m.queries;
+      finding = λ change. flattened (finds change) m.queries;
+      joins = λ change. where_reads tables scope (IsOfLink tables scope (by_change change)) (finds change)
+          (link_read tables scope (by_change change) (finds change) (change_read tables scope source.table is_key change)) q.keeps m.made m.leaves m.queries m.keeps m.are;
     } in
     let named = where_reads tables scope (IsTableKey tables) (λ q. key.Table q.table) (link_table tables scope) q.keeps m.made m.leaves m.queries m.keeps m.are in
     let verdict : Pairs (InWhere (IsTableKey tables)) (class.Exists query ∷ where_pieces q.keeps) (key.Table source.table ∷ map key.Table places) =
@@ -175,7 +230,7 @@ group_reads tables c query denied source found column having grouped form e =
     let scope = source.scope in
     let of_table = table_is tables q.table q.correlation_name source found in
     let m = group_made source q column having form e in
-    let checks : ReadsGroup tables c (keys_for (ByGroup source.table m.restriction m.group m.made m.aggregates)) = record {
+    let checks : ReadsGroup tables c (looks_of tables (ByGroup source.table m.restriction m.group m.made m.aggregates)) = record {
       query = query;
       denied = denied;
       name = column;
@@ -185,8 +240,9 @@ group_reads tables c query denied source found column having grouped form e =
       of_table = of_table;
       column = m.group;
       is_own = m.own;
-      group = λ v. refl;
-      whole = refl;
+      group = λ state v. refl;
+      whole = λ state. refl;
+      finding = λ change. refl;
     } in
     let none : List LockKey = [] in
     let verdict : Pairs (InWhere (IsTableKey tables)) (class.Exists query ∷ where_pieces q.keeps) (key.Table source.table ∷ []) =

@@ -12,7 +12,6 @@ use Rattle.cond.specs.declared.conds.Cond.{Cond}
 use Rattle.cond.specs.declared.conds.Cond.TheViews as cond_of
 use Rattle.assertion.specs.declared.queries.Query.{Query as Subquery}
 use Rattle.assertion.specs.declared.queries.Link.{Link}
-use Rattle.assertion.specs.declared.queries.Link.TheVariants.{Column}
 use Rattle.assertion.specs.declared.queries.Whole.{Whole}
 use Rattle.assertion.specs.declared.forms.Form.{Form}
 use Rattle.assertion.specs.declared.forms.Form.TheVariants.{ByRow, ByGroup, Single}
@@ -31,13 +30,13 @@ use Rattle.form_check.specs.Queries.{Source, sourced, source_of, alone, aggregat
 use Rattle.form_check.specs.Forms.{Clauses, plain, plain_by, plain_value, aggregate_of, row_where, by_row, having_over, by_group, by_clauses, not_exists, single, denied, form_in, form_of, linked}
 use Rattle.meaning.specs.Class as class
 use Rattle.meaning.specs.Class.{Piece, Pieces, Each, IfWritten, columns_in, pieces_in, read_by, named_as, IsColumnAt, IsSimple, IsSimpleList, IsSet, IsSetList, condition_pieces, condition_columns, expression_columns, IsOwn, IsOverRows, IsPlainQuery, IsPlainPiece, IsSingle, IsSetFunction, IsGroupQuery, IsLink, IsLinkedWhere, IsLinkedPiece, IsRowWhere, IsRowQuery, IsDenied, IsByRows, IsByGroups, IsInClass}
-use Rattle.form_check.specs.Links.{top_parts, name_in, is_key, linked_column, either, link_between, link_in, link_of, links_in, only_one, own_parts, filter_parts}
+use Rattle.form_check.specs.Links.{top_parts, name_in, link_by, link_of_names, either, link_between, link_in, link_of, links_in, only_one, own_parts, filter_parts}
 use Rattle.form_check.specs.Forms.{linked_where}
 use Rattle.syntax.specs.declared.trees.Condition.TheFolds.{map-Condition, map-Expression, fold_out-Condition, fold_out-Expression}
 use Rattle.std.proofs.Common.{arith}
 use Rattle.std.proofs.lemmas.Bool.Decides.{nat_tests}
 use Rattle.std.proofs.lemmas.Option.{same_Some}
-use Rattle.meaning.proofs.Links.{one_test, linked_column_is, either_is, linked_where_ok, only_one_is}
+use Rattle.meaning.proofs.Links.{one_test, link_names_are, either_is, linked_where_ok, only_one_is}
 use Rattle.meaning.specs.Laws as law
 use Rattle.meaning.specs.Laws.{Pairs}
 use Rattle.meaning.proofs.Steps.{and_then_ok, in_class_ok, only_if_ok, ok_same}
@@ -372,7 +371,7 @@ named (Expression-F.Sum parts) column e = cc
 named (Expression-F.Product parts) column e = cc
 
 module _ (child root : Scope) where
-  link_names : (part : Condition) (left right : Expression) → out-Condition part ≡ Condition-F.Compare left Equal right → (l r : Option ColumnName) → name_in (out-Expression left) ≡ l → name_in (out-Expression right) ≡ r → (c : ℕ) → link_between child root l r ≡ Some c → IsLink child root c part
+  link_names : (part : Condition) (left right : Expression) → out-Condition part ≡ Condition-F.Compare left Equal right → (l r : Option ColumnName) → name_in (out-Expression left) ≡ l → name_in (out-Expression right) ≡ r → (c : Link) → link_between child root l r ≡ Some c → IsLink child root c part
   link_names part left right out None r e f c is = cc
   link_names part left right out (Some l) None e f c is = cc
   link_names part left right out (Some l) (Some r) e f c is = record {
@@ -381,12 +380,12 @@ module _ (child root : Scope) where
     equality = out;
     sides =
         ⊎_elim
-        (λ one. let (none, (key, own)) = linked_column_is child root l r c one in inl ((l, named (out-Expression left) l e, own), (r, named (out-Expression right) r f, (none, key))))
-        (λ two. let (none, (key, own)) = linked_column_is child root r l c two in inr ((r, named (out-Expression right) r f, own), (l, named (out-Expression left) l e, (none, key))))
-        (either_is (linked_column child root l r) (linked_column child root r l) c is);
+        (λ one. let (none, (key, own)) = link_names_are child root l r c one in inl ((l, named (out-Expression left) l e, own), (r, named (out-Expression right) r f, (none, key))))
+        (λ two. let (none, (key, own)) = link_names_are child root r l c two in inr ((r, named (out-Expression right) r f, own), (l, named (out-Expression left) l e, (none, key))))
+        (either_is (link_of_names child root l r) (link_of_names child root r l) c is);
   }
 
-  link_layer : (part : Condition) (layer : Condition-F Condition Expression SelectList Query) → out-Condition part ≡ layer → (c : ℕ) → link_in child root layer ≡ Some c → IsLink child root c part
+  link_layer : (part : Condition) (layer : Condition-F Condition Expression SelectList Query) → out-Condition part ≡ layer → (c : Link) → link_in child root layer ≡ Some c → IsLink child root c part
   link_layer part (Condition-F.Or parts) out c e = cc
   link_layer part (Condition-F.And parts) out c e = cc
   link_layer part (Condition-F.Not inner) out c e = cc
@@ -402,28 +401,33 @@ module _ (child root : Scope) where
   link_layer part (Condition-F.Between x low high) out c e = cc
   link_layer part (Condition-F.In x list) out c e = cc
 
-  link_is : (part : Condition) (c : ℕ) → link_of child root part ≡ Some c → IsLink child root c part
+  link_is : (part : Condition) (c : Link) → link_of child root part ≡ Some c → IsLink child root c part
   link_is part c e = link_layer part (out-Condition part) refl c e
 
-  inner_first : (l r : ColumnName) (c : ℕ) → own_column child l ≡ Some c → is_name_of r.qualifier r.name child ≡ false → own_column root r ≡ Some root.layout.key → linked_column child root l r ≡ Some c
-  inner_first l r c own none key =
-      ap (λ b. if is_key root (if b then None else own_column root r) then own_column child l else None) none
-      ∙ ap (λ o. if is_key root o then own_column child l else None) key ∙ ap (λ b. if b then own_column child l else None) (equal_itself root.layout.key) ∙ own
+  inner_first : (l r : ColumnName) (c : Link) → own_column child l ≡ Some c.inner → is_name_of r.qualifier r.name child ≡ false → own_column root r ≡ Some c.outer → link_of_names child root l r ≡ Some c
+  inner_first l r c own none around =
+      ap (λ o. link_by o (if is_name_of r.qualifier r.name child then None else own_column root r)) own
+      ∙ ap (λ b. link_by (Some c.inner) (if b then None else own_column root r)) none ∙ ap (link_by (Some c.inner)) around
 
-  inner_hidden : (l r : ColumnName) (c : ℕ) → own_column child r ≡ Some c → linked_column child root l r ≡ None
-  inner_hidden l r c own = ap (λ b. if is_key root (if b then None else own_column root r) then own_column child l else None) (one_test (is_name_of r.qualifier r.name child) (named_in r.name child) c own).0
+  no_outer : (o : Option ℕ) → link_by o None ≡ None
+  no_outer None = refl
+  no_outer (Some inner) = refl
 
-  is_link : (part : Condition) (c : ℕ) → IsLink child root c part → link_of child root part ≡ Some c
+  inner_hidden : (l r : ColumnName) (c : ℕ) → own_column child r ≡ Some c → link_of_names child root l r ≡ None
+  inner_hidden l r c own =
+      ap (λ b. link_by (own_column child l) (if b then None else own_column root r)) (one_test (is_name_of r.qualifier r.name child) (named_in r.name child) c own).0 ∙ no_outer (own_column child l)
+
+  is_link : (part : Condition) (c : Link) → IsLink child root c part → link_of child root part ≡ Some c
   is_link part c h =
       ⊎_elim
       (λ one.
       let l = one.0.0 in let r = one.1.0 in
       ap (link_in child root) h.equality ∙ ap (λ x. link_between child root (name_in x) (name_in (out-Expression h.right))) one.0.1 ∙ ap (λ x. link_between child root (Some l) (name_in x)) one.1.1
-      ∙ ap (λ o. either o (linked_column child root r l)) (inner_first l r c one.0.2 one.1.2.0 one.1.2.1))
+      ∙ ap (λ o. either o (link_of_names child root r l)) (inner_first l r c one.0.2 one.1.2.0 one.1.2.1))
       (λ two.
       let r = two.0.0 in let l = two.1.0 in
       ap (link_in child root) h.equality ∙ ap (λ x. link_between child root (name_in x) (name_in (out-Expression h.right))) two.1.1 ∙ ap (λ x. link_between child root (Some l) (name_in x)) two.0.1
-      ∙ ap (λ o. either o (linked_column child root r l)) (inner_hidden l r c two.0.2) ∙ inner_first r l c two.0.2 two.1.2.0 two.1.2.1)
+      ∙ ap (λ o. either o (link_of_names child root r l)) (inner_hidden l r c.inner two.0.2) ∙ inner_first r l c two.0.2 two.1.2.0 two.1.2.1)
       h.sides
 
   -- a link names a column that is not the child's, so it is not over the child's rows
@@ -440,7 +444,7 @@ module _ (child root : Scope) where
   hidden : (name : ColumnName) → IsOwn child name → is_name_of name.qualifier name.name child ≡ false → ⊥
   hidden name own none = let e : is_some (own_column child name) ≡ false = ap (λ b. is_some (if b then named_in name.name child else None)) none in let k : true ≡ false = sym own ∙ e in cc
 
-  not_both : (part : Condition) (c : ℕ) → IsOverRows child part → IsLink child root c part → ⊥
+  not_both : (part : Condition) (c : Link) → IsOverRows child part → IsLink child root c part → ⊥
   not_both part c over h =
       let (on_left, on_right) = (each_append (IsOwn child) (columns_of h.left) (columns_of h.right)).0 (subst (Each (IsOwn child)) (sides_columns part h.left h.right h.equality) over.columns) in
       ⊎_elim
@@ -450,7 +454,7 @@ module _ (child root : Scope) where
 
   no_link : (part : Condition) → IsOverRows child part → link_of child root part ≡ None
   no_link part over =
-      let case : (o : Option ℕ) → link_of child root part ≡ o → o ≡ None = λ o. elim o as (λ o. link_of child root part ≡ o → o ≡ None) [ None ↦ λ e. refl | Some c ↦ λ e. absurd (not_both part c over (link_is part c e)) ]
+      let case : (o : Option Link) → link_of child root part ≡ o → o ≡ None = λ o. elim o as (λ o. link_of child root part ≡ o → o ≡ None) [ None ↦ λ e. refl | Some c ↦ λ e. absurd (not_both part c over (link_is part c e)) ]
       in case (link_of child root part) refl
 
   -- ---- the parts of a linked WHERE
@@ -458,22 +462,22 @@ module _ (child root : Scope) where
   none_left : (parts : List Condition) → links_in child root parts ≡ [] → own_parts child root parts ≡ parts
   none_left [] e = refl
   none_left (part ∷ parts) e =
-      let case : (o : Option ℕ) → option_to_list o ++ links_in child root parts ≡ [] → cond (is_none o) (part ∷ own_parts child root parts) (own_parts child root parts) ≡ part ∷ parts = λ o. elim o as (λ o. option_to_list o ++ links_in child root parts ≡ [] → cond (is_none o) (part ∷ own_parts child root parts) (own_parts child root parts) ≡ part ∷ parts) [
+      let case : (o : Option Link) → option_to_list o ++ links_in child root parts ≡ [] → cond (is_none o) (part ∷ own_parts child root parts) (own_parts child root parts) ≡ part ∷ parts = λ o. elim o as (λ o. option_to_list o ++ links_in child root parts ≡ [] → cond (is_none o) (part ∷ own_parts child root parts) (own_parts child root parts) ≡ part ∷ parts) [
         | None ↦ λ e. ap (λ ps. part ∷ ps) (none_left parts e)
         | Some c ↦ λ e. cc
       ] in case (link_of child root part) e
 
-  abbrev Split : ℕ → List Condition → Type 0
+  abbrev Split : Link → List Condition → Type 0
   Split c parts = (before : List Condition) × ((link : Condition) × ((behind : List Condition) × ((parts ≡ before ++ link ∷ behind) × (IsLink child root c link × Each (IsOverRows child) (before ++ behind)))))
 
-  split : (parts : List Condition) (c : ℕ) → links_in child root parts ≡ c ∷ [] → Each (IsOverRows child) (own_parts child root parts) → Split c parts
+  split : (parts : List Condition) (c : Link) → links_in child root parts ≡ c ∷ [] → Each (IsOverRows child) (own_parts child root parts) → Split c parts
   split [] c e h = cc
   split (part ∷ parts) c e h =
-      let case : (o : Option ℕ) → link_of child root part ≡ o → option_to_list o ++ links_in child root parts ≡ c ∷ [] → Each (IsOverRows child) (cond (is_none o) (part ∷ own_parts child root parts) (own_parts child root parts)) → Split c (part ∷ parts) = λ o. elim o as (λ o. link_of child root part ≡ o → option_to_list o ++ links_in child root parts ≡ c ∷ [] → Each (IsOverRows child) (cond (is_none o) (part ∷ own_parts child root parts) (own_parts child root parts)) → Split c (part ∷ parts)) [
+      let case : (o : Option Link) → link_of child root part ≡ o → option_to_list o ++ links_in child root parts ≡ c ∷ [] → Each (IsOverRows child) (cond (is_none o) (part ∷ own_parts child root parts) (own_parts child root parts)) → Split c (part ∷ parts) = λ o. elim o as (λ o. link_of child root part ≡ o → option_to_list o ++ links_in child root parts ≡ c ∷ [] → Each (IsOverRows child) (cond (is_none o) (part ∷ own_parts child root parts) (own_parts child root parts)) → Split c (part ∷ parts)) [
         | None ↦ λ n e h. let (before, (link, (behind, (is, (links, others))))) = split parts c e h.1 in (part ∷ before, (link, (behind, (ap (λ ps. part ∷ ps) is, (links, (h.0, others))))))
         | Some d ↦ λ s e h.
-            let rest : links_in child root parts ≡ [] = ap (λ (cs : List ℕ). elim cs [ [] ↦ [] | x ∷ xs ↦ xs ]) e in
-            let same : d ≡ c = ap (λ (cs : List ℕ). elim cs [ [] ↦ c | x ∷ xs ↦ x ]) e in
+            let rest : links_in child root parts ≡ [] = ap (λ (cs : List Link). elim cs [ [] ↦ [] | x ∷ xs ↦ xs ]) e in
+            let same : d ≡ c = ap (λ (cs : List Link). elim cs [ [] ↦ c | x ∷ xs ↦ x ]) e in
             let nothing : List Condition = [] in
             (nothing, (part, (parts, (refl, (subst (λ c. IsLink child root c part) same (link_is part d s), subst (Each (IsOverRows child)) (none_left parts rest) h)))))
       ] in case (link_of child root part) refl e h
@@ -485,7 +489,7 @@ module _ (child root : Scope) where
       let none = no_link part h.0 in
       (ap (λ o. option_to_list o ++ links_in child root parts) none ∙ links, ap (λ o. cond (is_none o) (part ∷ own_parts child root parts) (own_parts child root parts)) none ∙ ap (λ ps. part ∷ ps) own)
 
-  join : (before behind : List Condition) (link : Condition) (c : ℕ) → link_of child root link ≡ Some c → Each (IsOverRows child) (before ++ behind) → (links_in child root (before ++ link ∷ behind) ≡ c ∷ []) × (own_parts child root (before ++ link ∷ behind) ≡ before ++ behind)
+  join : (before behind : List Condition) (link : Condition) (c : Link) → link_of child root link ≡ Some c → Each (IsOverRows child) (before ++ behind) → (links_in child root (before ++ link ∷ behind) ≡ c ∷ []) × (own_parts child root (before ++ link ∷ behind) ≡ before ++ behind)
   join [] behind link c is h =
       let (links, own) = own_lists behind h in
       (ap (λ o. option_to_list o ++ links_in child root behind) is ∙ ap (λ cs. c ∷ cs) links, ap (λ o. cond (is_none o) (link ∷ own_parts child root behind) (own_parts child root behind)) is ∙ own)
@@ -495,12 +499,12 @@ module _ (child root : Scope) where
       let rest = before ++ link ∷ behind in
       (ap (λ o. option_to_list o ++ links_in child root rest) none ∙ links, ap (λ o. cond (is_none o) (part ∷ own_parts child root rest) (own_parts child root rest)) none ∙ ap (λ ps. part ∷ ps) own)
 
-  pub where_class : (condition : Condition) (c : ℕ) → only_one (links_in child root (top_parts condition)) ≡ Some c → Answers (filter_parts child root (top_parts condition)) → IsLinkedWhere child root c condition
+  pub where_class : (condition : Condition) (c : Link) → only_one (links_in child root (top_parts condition)) ≡ Some c → Answers (filter_parts child root (top_parts condition)) → IsLinkedWhere child root c condition
   where_class condition c one restriction =
       let (before, (link, (behind, (is, (links, others))))) = split (top_parts condition) c (only_one_is (links_in child root (top_parts condition)) c one) (each_of (row_condition child) (IsOverRows child) (over_rows child) (own_parts child root (top_parts condition)) restriction) in
       record { before = before; link = link; behind = behind; parts = is; links = links; others = others }
 
-  class_where : (condition : Condition) (c : ℕ) → IsLinkedWhere child root c condition → (only_one (links_in child root (top_parts condition)) ≡ Some c) × Answers (filter_parts child root (top_parts condition))
+  class_where : (condition : Condition) (c : Link) → IsLinkedWhere child root c condition → (only_one (links_in child root (top_parts condition)) ≡ Some c) × Answers (filter_parts child root (top_parts condition))
   class_where condition c h =
       let (links, own) = join h.before h.behind h.link c (is_link h.link c h.links) h.others in (
         ap (λ ps. only_one (links_in child root ps)) h.parts ∙ ap only_one links,
@@ -510,7 +514,7 @@ module _ (child root : Scope) where
 -- ---- by rows
 
 abbrev Made : Source → Scope → Option Condition → Option ColumnName → Option Condition → Type 0
-Made child root keeps g h = (condition : Condition) × ((keeps ≡ Some condition) × ((column : ℕ) × (IsLinkedWhere child.scope root column condition × (IsNone g × IsNone h))))
+Made child root keeps g h = (condition : Condition) × ((keeps ≡ Some condition) × ((link : Link) × (IsLinkedWhere child.scope root link condition × (IsNone g × IsNone h))))
 
 linked_where_class : (child : Source) (root : Scope) (a : Aggregate) (keeps : Option Condition) (g : Option ColumnName) (h : Option Condition) → Answers (linked_where child root a keeps g h) → Made child root keeps g h
 linked_where_class child root a keeps g h (q, e) =
@@ -520,7 +524,7 @@ linked_where_class child root a keeps g h (q, e) =
 class_linked_where : (child : Source) (root : Scope) (a : Aggregate) (keeps : Option Condition) (g : Option ColumnName) (h : Option Condition) → Made child root keeps g h → Answers (linked_where child root a keeps g h)
 class_linked_where child root a keeps g h (condition, (is, (link, (linked, (no_group, no_having))))) =
     let (one, (restriction, are)) = class_where child.scope root condition link linked in
-    let make : ℕ → List Cond → Subquery Link = λ link restriction. record { table = child.table; filter = cond_of.And restriction; grouping = Column link; aggregate = a } in (
+    let make : Link → List Cond → Subquery Link = λ link restriction. record { table = child.table; filter = cond_of.And restriction; grouping = link; aggregate = a } in (
       make link restriction,
       ap (λ k. linked_where child root a k g h) is ∙ ap (λ g. linked_where child root a (Some condition) g h) (none_is g no_group) ∙ ap (λ h. linked_where child root a (Some condition) None h) (none_is h no_having)
           ∙ ap (λ o. in_class o (λ link. and_then (filter_parts child.scope root (top_parts condition)) (λ restriction. let r : Result (Subquery Link) Refusal = Ok (make link restriction) in r))) one
@@ -534,14 +538,14 @@ linked_leaf_class tables root (class.Exists query) (q, e) =
     let c = out-Query query in
     let (child, (found, more)) = in_class_ok (source_of tables c.table c.correlation_name) (λ child. only_if (may_be_selected (own_column child.scope) c.select_list) (linked_where child root CountRows c.keeps c.group c.having)) q e in
     let (lists, rest) = only_if_ok (may_be_selected (own_column child.scope) c.select_list) (linked_where child root CountRows c.keeps c.group c.having) q more in
-    let (condition, (is, (column, (where_is, (g, h))))) = linked_where_class child root CountRows c.keeps c.group c.having (q, rest) in
-    record { scope = child.scope; condition = condition; reads = reads_scope tables query child found; lists = own_list child.scope c.select_list lists; filter = is; column = column; linked = where_is; ungrouped = g; whole = h }
+    let (condition, (is, (link, (where_is, (g, h))))) = linked_where_class child root CountRows c.keeps c.group c.having (q, rest) in
+    record { scope = child.scope; condition = condition; reads = reads_scope tables query child found; lists = own_list child.scope c.select_list lists; filter = is; link = link; linked = where_is; ungrouped = g; whole = h }
 linked_leaf_class tables root (class.Value query) (q, e) =
     let c = out-Query query in
     let (child, (found, more)) = in_class_ok (source_of tables c.table c.correlation_name) (λ child. in_class (selected_aggregate child.scope c.select_list) (λ a. linked_where child root a c.keeps c.group c.having)) q e in
     let (a, (lists, rest)) = in_class_ok (selected_aggregate child.scope c.select_list) (λ a. linked_where child root a c.keeps c.group c.having) q more in
-    let (condition, (is, (column, (where_is, (g, h))))) = linked_where_class child root a c.keeps c.group c.having (q, rest) in
-    record { scope = child.scope; condition = condition; reads = reads_scope tables query child found; lists = set_list child.scope c.select_list (ap is_some lists); filter = is; column = column; linked = where_is; ungrouped = g; whole = h }
+    let (condition, (is, (link, (where_is, (g, h))))) = linked_where_class child root a c.keeps c.group c.having (q, rest) in
+    record { scope = child.scope; condition = condition; reads = reads_scope tables query child found; lists = set_list child.scope c.select_list (ap is_some lists); filter = is; link = link; linked = where_is; ungrouped = g; whole = h }
 
 class_linked_leaf : (tables : Tables) (root : Scope) (p : Piece) → IsLinkedPiece tables root p → Answers (linked tables root (leaf_of p))
 class_linked_leaf tables root class.Rows h = absurd h
@@ -550,7 +554,7 @@ class_linked_leaf tables root (class.Exists query) h =
     let c = out-Query query in
     let (t, reads) = scope_reads tables query h.scope h.reads in
     let child : Source = record { table = t; scope = h.scope } in
-    let (q, is) = class_linked_where child root CountRows c.keeps c.group c.having (h.condition, (h.filter, (h.column, (h.linked, (h.ungrouped, h.whole))))) in (
+    let (q, is) = class_linked_where child root CountRows c.keeps c.group c.having (h.condition, (h.filter, (h.link, (h.linked, (h.ungrouped, h.whole))))) in (
       q,
       ap (λ o. in_class o (λ child. only_if (may_be_selected (own_column child.scope) c.select_list) (linked_where child root CountRows c.keeps c.group c.having))) reads
           ∙ ap (λ b. only_if b (linked_where child root CountRows c.keeps c.group c.having)) (list_own h.scope c.select_list h.lists) ∙ is,
@@ -560,7 +564,7 @@ class_linked_leaf tables root (class.Value query) h =
     let (t, reads) = scope_reads tables query h.scope h.reads in
     let child : Source = record { table = t; scope = h.scope } in
     let (a, lists) = some_is no_column (selected_aggregate h.scope c.select_list) (list_set h.scope c.select_list h.lists) in
-    let (q, is) = class_linked_where child root a c.keeps c.group c.having (h.condition, (h.filter, (h.column, (h.linked, (h.ungrouped, h.whole))))) in (
+    let (q, is) = class_linked_where child root a c.keeps c.group c.having (h.condition, (h.filter, (h.link, (h.linked, (h.ungrouped, h.whole))))) in (
       q,
       ap (λ o. in_class o (λ child. in_class (selected_aggregate child.scope c.select_list) (λ a. linked_where child root a c.keeps c.group c.having))) reads
           ∙ ap (λ o. in_class o (λ a. linked_where child root a c.keeps c.group c.having)) lists ∙ is,

@@ -24,7 +24,6 @@ use Rattle.cond.specs.Values as sql
 use Rattle.cond.specs.Eval as resolved
 use Rattle.assertion.specs.declared.queries.Query.{Query as Subquery}
 use Rattle.assertion.specs.declared.queries.Link.{Link}
-use Rattle.assertion.specs.declared.queries.Link.TheVariants.{Column}
 use Rattle.assertion.specs.Meaning.{State, rows_of, links, linked_answer}
 use Rattle.syntax.specs.declared.trees.ColumnName.{ColumnName}
 use Rattle.syntax.specs.declared.trees.Condition.{Condition, out-Condition}
@@ -39,7 +38,7 @@ use Rattle.value.specs.Results.{and_then, each}
 use Rattle.numbering.specs.Results.{in_class, only_if}
 use Rattle.numbering.specs.Leaves.{Leaf, Rows, Of, Exists, Value as Worth}
 use Rattle.form_check.specs.Queries.{Source, source_of, row_condition, selected_aggregate, may_be_selected, selection_may_stand, expression_may_stand}
-use Rattle.form_check.specs.Links.{parts_in, top_parts, name_in, is_key, outer_column, linked_column, either, link_between, link_in, link_of, links_in, only_one, own_parts, filter_parts}
+use Rattle.form_check.specs.Links.{parts_in, top_parts, name_in, outer_column, link_by, link_of_names, either, link_between, link_in, link_of, links_in, only_one, own_parts, filter_parts}
 use Rattle.form_check.specs.Forms.{linked_where, linked_exists, linked_value, linked}
 use Rattle.meaning.specs.Meaning as written
 use Rattle.meaning.specs.Meaning.{References, Valued, Answer, column_values, first_value, only_value, with_rows, passes, truth, valued, select_list, answers}
@@ -95,10 +94,6 @@ none_of : {A : Type 0} (o : Option A) → is_none o ≡ true → o ≡ None
 none_of None e = refl
 none_of (Some a) e = cc
 
-key_of_root : (root : names.Scope) (o : Option ℕ) → is_key root o ≡ true → o ≡ Some root.layout.key
-key_of_root root None e = cc
-key_of_root root (Some column) e = let same : column ≡ root.layout.key = grind (arith, nat_tests) in ap (λ (n : ℕ). let o : Option ℕ = Some n in o) same
-
 pub one_test : (a : Bool) (o : Option ℕ) (c : ℕ) → (if a then o else None) ≡ Some c → (a ≡ true) × (o ≡ Some c)
 one_test true o c e = (refl, e)
 one_test false o c e = cc
@@ -107,22 +102,30 @@ other_test : (a : Bool) (o : Option ℕ) (c : ℕ) → (if a then None else o) �
 other_test true o c e = cc
 other_test false o c e = (refl, e)
 
-pub linked_column_is : (child root : names.Scope) (inner outer : ColumnName) (c : ℕ) → linked_column child root inner outer ≡ Some c
-    → (is_name_of outer.qualifier outer.name child ≡ false) × ((own_column root outer ≡ Some root.layout.key) × (own_column child inner ≡ Some c))
-linked_column_is child root inner outer c e =
-    let (is_key, own) = one_test (is_key root (outer_column child root outer)) (own_column child inner) c e in
-    let (none, key) = other_test (is_name_of outer.qualifier outer.name child) (own_column root outer) root.layout.key (key_of_root root (outer_column child root outer) is_key) in
-    (none, (key, own))
+link_by_is : (inner outer : Option ℕ) (link : Link) → link_by inner outer ≡ Some link → (inner ≡ Some link.inner) × (outer ≡ Some link.outer)
+link_by_is None outer link e = cc
+link_by_is (Some i) None link e = cc
+link_by_is (Some i) (Some o) link e =
+    let made : Link = record { inner = i; outer = o } in
+    let same : made ≡ link = same_Some made link e in
+    (ap (λ (l : Link). let p : Option ℕ = Some l.inner in p) same, ap (λ (l : Link). let p : Option ℕ = Some l.outer in p) same)
 
-pub either_is : (a b : Option ℕ) (c : ℕ) → either a b ≡ Some c → (a ≡ Some c) ⊎ (b ≡ Some c)
-either_is None b c e = inr e
-either_is (Some x) b c e = inl e
+pub link_names_are : (child root : names.Scope) (inner outer : ColumnName) (link : Link) → link_of_names child root inner outer ≡ Some link
+    → (is_name_of outer.qualifier outer.name child ≡ false) × ((own_column root outer ≡ Some link.outer) × (own_column child inner ≡ Some link.inner))
+link_names_are child root inner outer link e =
+    let (own, around) = link_by_is (own_column child inner) (outer_column child root outer) link e in
+    let (none, is) = other_test (is_name_of outer.qualifier outer.name child) (own_column root outer) link.outer around in
+    (none, (is, own))
+
+pub either_is : (a b : Option Link) (link : Link) → either a b ≡ Some link → (a ≡ Some link) ⊎ (b ≡ Some link)
+either_is None b link e = inr e
+either_is (Some x) b link e = inl e
 
 -- ---- a query's WHERE
 
-pub only_one_is : (cs : List ℕ) (c : ℕ) → only_one cs ≡ Some c → cs ≡ c ∷ []
+pub only_one_is : (cs : List Link) (c : Link) → only_one cs ≡ Some c → cs ≡ c ∷ []
 only_one_is [] c e = cc
-only_one_is (x ∷ []) c e = ap (λ (n : ℕ). n ∷ []) (same_Some x c e)
+only_one_is (x ∷ []) c e = ap (λ (l : Link). l ∷ []) (same_Some x c e)
 only_one_is (x ∷ y ∷ cs) c e = cc
 
 module _ (tables : Tables) (state : State) where
@@ -164,17 +167,14 @@ module _ (tables : Tables) (state : State) where
     abbrev around : References
     around = seen child (drow ∷ []) ∷ seen root (row ∷ []) ∷ []
 
-    abbrev key : Value
-    key = value_in root.layout.key row
-
     -- the two sides of a link
-    sides : (inner outer : ColumnName) (c : ℕ) → linked_column child root inner outer ≡ Some c → (first_value (column_values inner around) ≡ value_in c drow) × (first_value (column_values outer around) ≡ key)
+    sides : (inner outer : ColumnName) (c : Link) → link_of_names child root inner outer ≡ Some c → (first_value (column_values inner around) ≡ value_in c.inner drow) × (first_value (column_values outer around) ≡ value_in c.outer row)
     sides inner outer c e =
-        let (none, (is, own)) = linked_column_is child root inner outer c e in
-        (own_value child drow (seen root (row ∷ []) ∷ []) inner c own, ap first_value (outer_values child (drow ∷ []) (seen root (row ∷ []) ∷ []) outer none) ∙ own_value root row [] outer root.layout.key is)
+        let (none, (is, own)) = link_names_are child root inner outer c e in
+        (own_value child drow (seen root (row ∷ []) ∷ []) inner c.inner own, ap first_value (outer_values child (drow ∷ []) (seen root (row ∷ []) ∷ []) outer none) ∙ own_value root row [] outer c.outer is)
 
-    link_names : (left right : Expression) (l r : Option ColumnName) → name_in (out-Expression left) ≡ l → name_in (out-Expression right) ≡ r → (c : ℕ) → link_between child root l r ≡ Some c
-        → sql.compared Equal ((valued tables state left).value around) ((valued tables state right).value around) ≡ sql.compared Equal key (value_in c drow)
+    link_names : (left right : Expression) (l r : Option ColumnName) → name_in (out-Expression left) ≡ l → name_in (out-Expression right) ≡ r → (c : Link) → link_between child root l r ≡ Some c
+        → sql.compared Equal ((valued tables state left).value around) ((valued tables state right).value around) ≡ sql.compared Equal (value_in c.outer row) (value_in c.inner drow)
     link_names left right None r e f c is = cc
     link_names left right (Some l) None e f c is = cc
     link_names left right (Some l) (Some r) e f c is =
@@ -182,12 +182,12 @@ module _ (tables : Tables) (state : State) where
         let rv = name_value right r around f in
         ap (λ v. sql.compared Equal v ((valued tables state right).value around)) lv ∙ ap (sql.compared Equal (first_value (column_values l around))) rv
         ∙ ⊎_elim
-        (λ one. let (inner, outer) = sides l r c one in equal_either (first_value (column_values l around)) (first_value (column_values r around)) ∙ ap (λ v. sql.compared Equal v (first_value (column_values l around))) outer ∙ ap (sql.compared Equal key) inner)
-        (λ two. let (inner, outer) = sides r l c two in ap (λ v. sql.compared Equal v (first_value (column_values r around))) outer ∙ ap (sql.compared Equal key) inner)
-        (either_is (linked_column child root l r) (linked_column child root r l) c is)
+        (λ one. let (inner, outer) = sides l r c one in equal_either (first_value (column_values l around)) (first_value (column_values r around)) ∙ ap (λ v. sql.compared Equal v (first_value (column_values l around))) outer ∙ ap (sql.compared Equal (value_in c.outer row)) inner)
+        (λ two. let (inner, outer) = sides r l c two in ap (λ v. sql.compared Equal v (first_value (column_values r around))) outer ∙ ap (sql.compared Equal (value_in c.outer row)) inner)
+        (either_is (link_of_names child root l r) (link_of_names child root r l) c is)
 
-    link_layer : (layer : Condition-F Condition Expression SelectList Query) (c : ℕ) → link_in child root layer ≡ Some c
-        → written.condition_step (map-Condition Condition Expression SelectList Query (References → Truth) Valued Valued (References → List Answer) (truth tables state) (valued tables state) (select_list tables state) (answers tables state) layer) around ≡ sql.compared Equal key (value_in c drow)
+    link_layer : (layer : Condition-F Condition Expression SelectList Query) (c : Link) → link_in child root layer ≡ Some c
+        → written.condition_step (map-Condition Condition Expression SelectList Query (References → Truth) Valued Valued (References → List Answer) (truth tables state) (valued tables state) (select_list tables state) (answers tables state) layer) around ≡ sql.compared Equal (value_in c.outer row) (value_in c.inner drow)
     link_layer (Condition-F.Or parts) c e = cc
     link_layer (Condition-F.And parts) c e = cc
     link_layer (Condition-F.Not part) c e = cc
@@ -203,7 +203,7 @@ module _ (tables : Tables) (state : State) where
     link_layer (Condition-F.Between x low high) c e = cc
     link_layer (Condition-F.In x list) c e = cc
 
-    link_true : (part : Condition) (c : ℕ) → link_of child root part ≡ Some c → is_of (truth tables state part around) True ≡ links (Column c) key drow
+    link_true : (part : Condition) (c : Link) → link_of child root part ≡ Some c → is_of (truth tables state part around) True ≡ links c row drow
     link_true part c e = ap (λ t. is_of t True) (ap (λ t. t around) (condition_out part) ∙ link_layer (out-Condition part) c e)
 
     abbrev is_true : Condition → Bool
@@ -221,14 +221,14 @@ module _ (tables : Tables) (state : State) where
 
     -- all parts are true where the links are, and what is restriction
     parts_true : (parts : List Condition) (restriction : List Cond) → each (row_condition child) (own_parts child root parts) ≡ Ok restriction
-        → list_all is_true parts ≡ list_all (λ c. links (Column c) key drow) (links_in child root parts) && list_all (resolved.keeps drow []) restriction
+        → list_all is_true parts ≡ list_all (λ c. links c row drow) (links_in child root parts) && list_all (resolved.keeps drow []) restriction
     parts_true [] restriction e = let none : List Cond = [] in ap (list_all (resolved.keeps drow [])) (ok_same none restriction e)
     parts_true (part ∷ parts) restriction e =
-        let l = list_all (λ c. links (Column c) key drow) (links_in child root parts) in
-        let case : (o : Option ℕ) → link_of child root part ≡ o → each (row_condition child) (cond (is_none o) (part ∷ own_parts child root parts) (own_parts child root parts)) ≡ Ok restriction
-        → is_true part && list_all is_true parts ≡ list_all (λ c. links (Column c) key drow) (option_to_list o ++ links_in child root parts) && list_all (resolved.keeps drow []) restriction
+        let l = list_all (λ c. links c row drow) (links_in child root parts) in
+        let case : (o : Option Link) → link_of child root part ≡ o → each (row_condition child) (cond (is_none o) (part ∷ own_parts child root parts) (own_parts child root parts)) ≡ Ok restriction
+        → is_true part && list_all is_true parts ≡ list_all (λ c. links c row drow) (option_to_list o ++ links_in child root parts) && list_all (resolved.keeps drow []) restriction
         = λ o. elim o as (λ o. link_of child root part ≡ o → each (row_condition child) (cond (is_none o) (part ∷ own_parts child root parts) (own_parts child root parts)) ≡ Ok restriction
-        → is_true part && list_all is_true parts ≡ list_all (λ c. links (Column c) key drow) (option_to_list o ++ links_in child root parts) && list_all (resolved.keeps drow []) restriction) [
+        → is_true part && list_all is_true parts ≡ list_all (λ c. links c row drow) (option_to_list o ++ links_in child root parts) && list_all (resolved.keeps drow []) restriction) [
           | None ↦ λ n e.
               let (made, (is, more)) = and_then_ok (row_condition child part) (λ first_value. and_then (each (row_condition child) (own_parts child root parts)) (λ others. let r : Result (List Cond) Refusal = Ok (first_value ∷ others) in r)) restriction e in
               let (others, (are, makes)) = and_then_ok (each (row_condition child) (own_parts child root parts)) (λ others. let r : Result (List Cond) Refusal = Ok (made ∷ others) in r) restriction more in
@@ -237,7 +237,7 @@ module _ (tables : Tables) (state : State) where
               ∙ and_swap (resolved.keeps drow [] made) l (list_all (resolved.keeps drow []) others)
               ∙ ap (λ ks. l && list_all (resolved.keeps drow []) ks) (ok_same (made ∷ others) restriction makes)
           | Some c ↦ λ s e.
-              ap (λ b. b && list_all is_true parts) (link_true part c s) ∙ ap (λ b. links (Column c) key drow && b) (parts_true parts restriction e) ∙ and_join (links (Column c) key drow) l (list_all (resolved.keeps drow []) restriction)
+              ap (λ b. b && list_all is_true parts) (link_true part c s) ∙ ap (λ b. links c row drow && b) (parts_true parts restriction e) ∙ and_join (links c row drow) l (list_all (resolved.keeps drow []) restriction)
         ] in case (link_of child root part) refl e
 
     and_one : (a b : Bool) → (a && true) && b ≡ a && b
@@ -245,15 +245,15 @@ module _ (tables : Tables) (state : State) where
     and_one false b = refl
 
     -- WHERE is true of a row where the link is, and what is restriction
-    where_true : (condition : Condition) (link : ℕ) (restriction : List Cond) → only_one (links_in child root (top_parts condition)) ≡ Some link → filter_parts child root (top_parts condition) ≡ Ok restriction
-        → is_true condition ≡ links (Column link) key drow && resolved.keeps drow [] (cond_of.And restriction)
+    where_true : (condition : Condition) (link : Link) (restriction : List Cond) → only_one (links_in child root (top_parts condition)) ≡ Some link → filter_parts child root (top_parts condition) ≡ Ok restriction
+        → is_true condition ≡ links link row drow && resolved.keeps drow [] (cond_of.And restriction)
     where_true condition link restriction one are =
         ap (λ t. is_of t True) (parts_layer condition around (out-Condition condition) refl)
         ∙ all_true (λ part. truth tables state part around) (top_parts condition)
         ∙ parts_true (top_parts condition) restriction are
-        ∙ ap (λ cs. list_all (λ c. links (Column c) key drow) cs && list_all (resolved.keeps drow []) restriction) (only_one_is (links_in child root (top_parts condition)) link one)
-        ∙ and_one (links (Column link) key drow) (list_all (resolved.keeps drow []) restriction)
-        ∙ ap (λ b. links (Column link) key drow && b) (sym (all_true (resolved.truth drow []) restriction) ∙ sym (ap (λ t. is_of t True) (truth-And tables state around drow [] restriction)))
+        ∙ ap (λ cs. list_all (λ c. links c row drow) cs && list_all (resolved.keeps drow []) restriction) (only_one_is (links_in child root (top_parts condition)) link one)
+        ∙ and_one (links link row drow) (list_all (resolved.keeps drow []) restriction)
+        ∙ ap (λ b. links link row drow && b) (sym (all_true (resolved.truth drow []) restriction) ∙ sym (ap (λ t. is_of t True) (truth-And tables state around drow [] restriction)))
 
 -- ---- what a row's queries give
 
@@ -290,10 +290,10 @@ plain_list tables state place list e =
 
 -- what a linked query is made of
 pub linked_where_ok : (child : Source) (root : names.Scope) (a : Aggregate) (keeps : Option Condition) (g : Option ColumnName) (h : Option Condition) (q : Subquery Link) → linked_where child root a keeps g h ≡ Ok q
-    → (g ≡ None) × ((h ≡ None) × ((condition : Condition) × ((keeps ≡ Some condition) × ((link : ℕ) × ((only_one (links_in child.scope root (top_parts condition)) ≡ Some link) × ((restriction : List Cond) × ((filter_parts child.scope root (top_parts condition) ≡ Ok restriction)
-    × (◌≡◌ {A = Subquery Link} (record { table = child.table; filter = cond_of.And restriction; grouping = Column link; aggregate = a }) q))))))))
+    → (g ≡ None) × ((h ≡ None) × ((condition : Condition) × ((keeps ≡ Some condition) × ((link : Link) × ((only_one (links_in child.scope root (top_parts condition)) ≡ Some link) × ((restriction : List Cond) × ((filter_parts child.scope root (top_parts condition) ≡ Ok restriction)
+    × (◌≡◌ {A = Subquery Link} (record { table = child.table; filter = cond_of.And restriction; grouping = link; aggregate = a }) q))))))))
 linked_where_ok child root a (Some condition) None None q e =
-    let make : ℕ → List Cond → Subquery Link = λ link restriction. record { table = child.table; filter = cond_of.And restriction; grouping = Column link; aggregate = a } in
+    let make : Link → List Cond → Subquery Link = λ link restriction. record { table = child.table; filter = cond_of.And restriction; grouping = link; aggregate = a } in
     let (link, (one, more)) = in_class_ok (only_one (links_in child.scope root (top_parts condition))) (λ link. and_then (filter_parts child.scope root (top_parts condition)) (λ restriction. let r : Result (Subquery Link) Refusal = Ok (make link restriction) in r)) q e in
     let (restriction, (are, makes)) = and_then_ok (filter_parts child.scope root (top_parts condition)) (λ restriction. let r : Result (Subquery Link) Refusal = Ok (make link restriction) in r) q more in
     (refl, (refl, (condition, (refl, (link, (one, (restriction, (are, ok_same (make link restriction) q makes))))))))
@@ -305,15 +305,12 @@ module _ (tables : Tables) (state : State) (root : names.Scope) (row : RowValues
   abbrev outer_row : References
   outer_row = seen root (row ∷ []) ∷ []
 
-  abbrev root_key : Value
-  root_key = value_in root.layout.key row
-
   -- the rows that a linked query keeps
-  filtered_rows_are : (child : Source) (condition : Condition) (link : ℕ) (restriction : List Cond) → only_one (links_in child.scope root (top_parts condition)) ≡ Some link → filter_parts child.scope root (top_parts condition) ≡ Ok restriction
+  filtered_rows_are : (child : Source) (condition : Condition) (link : Link) (restriction : List Cond) → only_one (links_in child.scope root (top_parts condition)) ≡ Some link → filter_parts child.scope root (top_parts condition) ≡ Ok restriction
       → filter (λ drow. passes (Some (truth tables state condition)) (with_rows (seen child.scope (rows_of child.table state)) (drow ∷ []) outer_row)) (rows_of child.table state)
-      ≡ filter (λ drow. links (Column link) root_key drow && resolved.keeps drow [] (cond_of.And restriction)) (rows_of child.table state)
+      ≡ filter (λ drow. links link row drow && resolved.keeps drow [] (cond_of.And restriction)) (rows_of child.table state)
   filtered_rows_are child condition link restriction one are =
-      filter_agree (λ drow. passes (Some (truth tables state condition)) (with_rows (seen child.scope (rows_of child.table state)) (drow ∷ []) outer_row)) (λ drow. links (Column link) root_key drow && resolved.keeps drow [] (cond_of.And restriction)) (λ drow. where_true tables state child.scope root drow row condition link restriction one are) (rows_of child.table state)
+      filter_agree (λ drow. passes (Some (truth tables state condition)) (with_rows (seen child.scope (rows_of child.table state)) (drow ∷ []) outer_row)) (λ drow. links link row drow && resolved.keeps drow [] (cond_of.And restriction)) (λ drow. where_true tables state child.scope root drow row condition link restriction one are) (rows_of child.table state)
 
   -- a query of these clauses, without GROUP BY and HAVING
   clauses_are : (query : Query) (child : Source) (condition : Condition) → source_of tables (out-Query query).table (out-Query query).correlation_name ≡ Some child → (out-Query query).group ≡ None → (out-Query query).having ≡ None → (out-Query query).keeps ≡ Some condition
@@ -327,7 +324,7 @@ module _ (tables : Tables) (state : State) (root : names.Scope) (row : RowValues
       ∙ ap (λ h. answers_by table list (option_map (truth tables state) q.keeps) None (option_map (truth tables state) h) outer_row) no_having
       ∙ ap (λ k. answers_by table list (option_map (truth tables state) k) None None outer_row) keeps
 
-  exists_is : (query : Query) (q : Subquery Link) → linked_exists tables root (out-Query query) ≡ Ok q → ◌≡◌ {A = Value} (Int (pos (length (answers tables state query outer_row)))) (linked_answer state root_key q)
+  exists_is : (query : Query) (q : Subquery Link) → linked_exists tables root (out-Query query) ≡ Ok q → ◌≡◌ {A = Value} (Int (pos (length (answers tables state query outer_row)))) (linked_answer state row q)
   exists_is query q e =
       let c = out-Query query in
       let (child, (found, more)) = in_class_ok (source_of tables c.table c.correlation_name) (λ child. only_if (may_be_selected (own_column child.scope) c.select_list) (linked_where child root CountRows c.keeps c.group c.having)) q e in
@@ -340,9 +337,9 @@ module _ (tables : Tables) (state : State) (root : names.Scope) (row : RowValues
       ap length (clauses_are query child condition found no_group no_having keeps ∙ is_plain table list (Some (truth tables state condition)) outer_row (plain_list tables state (own_column child.scope) c.select_list lists))
       ∙ ones f (filter (λ drow. passes (Some (truth tables state condition)) (with_rows table (drow ∷ []) outer_row)) (rows_of child.table state))
       ∙ ap length (filtered_rows_are child condition link restriction one are))
-      ∙ ap (linked_answer state root_key) makes
+      ∙ ap (linked_answer state row) makes
 
-  value_is : (query : Query) (q : Subquery Link) → linked_value tables root (out-Query query) ≡ Ok q → only_value (answers tables state query outer_row) ≡ linked_answer state root_key q
+  value_is : (query : Query) (q : Subquery Link) → linked_value tables root (out-Query query) ≡ Ok q → only_value (answers tables state query outer_row) ≡ linked_answer state row q
   value_is query q e =
       let c = out-Query query in
       let (child, (found, more)) = in_class_ok (source_of tables c.table c.correlation_name) (λ child. in_class (selected_aggregate child.scope c.select_list) (λ a. linked_where child root a c.keeps c.group c.having)) q e in
@@ -355,10 +352,10 @@ module _ (tables : Tables) (state : State) (root : names.Scope) (row : RowValues
       ∙ only_set table list (Some (truth tables state condition)) outer_row sets
       ∙ gives (filter (λ drow. passes (Some (truth tables state condition)) (with_rows table (drow ∷ []) outer_row)) (rows_of child.table state)) outer_row
       ∙ ap (aggregate a) (filtered_rows_are child condition link restriction one are)
-      ∙ ap (linked_answer state root_key) makes
+      ∙ ap (linked_answer state row) makes
 
   -- what stands in a slot of a condition over a row
-  pub linked_leaf : (leaf : Leaf) (q : Subquery Link) → linked tables root leaf ≡ Ok q → leaf_value tables state outer_row leaf ≡ linked_answer state root_key q
+  pub linked_leaf : (leaf : Leaf) (q : Subquery Link) → linked tables root leaf ≡ Ok q → leaf_value tables state outer_row leaf ≡ linked_answer state row q
   linked_leaf Rows q e = cc
   linked_leaf (Of f column) q e = cc
   linked_leaf (Exists query) q e = exists_is query q e

@@ -63,16 +63,16 @@ sourced_parts name (Some t) (Some l) source e =
 -- ---- WHERE of the outer query
 
 row_filtered : (tables : Tables) (state : State) (root : names.Scope) (keeps : Option Condition) (made : Cond) (leaves : Leaves) (queries : List (Subquery Link)) → row_where root keeps ≡ Ok (made, leaves) → each (linked tables root) leaves ≡ Ok queries → (row : RowValues)
-    → passes (option_map (truth tables state) keeps) (seen root (row ∷ []) ∷ []) ≡ lists_row state made queries (value_in root.layout.key row) row
+    → passes (option_map (truth tables state) keeps) (seen root (row ∷ []) ∷ []) ≡ lists_row state made queries row
 row_filtered tables state root None made leaves queries is are row =
     let none : Leaves = [] in
-    let slots = map (linked_answer state (value_in root.layout.key row)) queries in
+    let slots = map (linked_answer state row) queries in
     let (same, nothing) = ok_pair (cond_of.And []) made none leaves is in
     ap (λ t. is_of t True) (sym (truth-And tables state [] row slots [])) ∙ ap (resolved.keeps row slots) same
 row_filtered tables state root (Some condition) made leaves queries is are row =
     let scopes : References = seen root (row ∷ []) ∷ [] in
-    let slots = map (linked_answer state (value_in root.layout.key row)) queries in
-    let fits = each_leaf tables state scopes (linked tables root) (linked_answer state (value_in root.layout.key row)) (linked_leaf tables state root row) leaves queries are ∙ sym (append-nil (map (leaf_value tables state scopes) leaves)) in
+    let slots = map (linked_answer state row) queries in
+    let fits = each_leaf tables state scopes (linked tables root) (linked_answer state row) (linked_leaf tables state root row) leaves queries are ∙ sym (append-nil (map (leaf_value tables state scopes) leaves)) in
     ap (λ t. is_of t True) (condition_faithful tables state scopes row slots (own_column root) (own_value root row []) condition [] made leaves is ([], fits)).0
 
 one_row : (f : List RowValues → Answer) (key : RowValues → Value) (g : Answer → Root) → ((row : RowValues) → g (f (row ∷ [])) ≡ Of (key row)) → (rows : List RowValues) → map g (map f (filter (λ rows. true) (map (λ row. row ∷ []) rows))) ≡ map (λ row. Of (key row)) rows
@@ -88,4 +88,4 @@ row_roots_are tables state root table list keeps made leaves queries none is are
     let f : List RowValues → Answer = λ rows. record { rows = rows; value = list.value (with_rows scope rows []) } in
     ap (map (root_of None root.layout.key)) (is_plain scope list (option_map (truth tables state) keeps) [] none)
     ∙ one_row f (value_in root.layout.key) (root_of None root.layout.key) (λ row. refl) (filter (λ row. passes (option_map (truth tables state) keeps) (with_rows scope (row ∷ []) [])) rows)
-    ∙ ap (map (λ row. Of (value_in root.layout.key row))) (filter_agree (λ row. passes (option_map (truth tables state) keeps) (with_rows scope (row ∷ []) [])) (λ row. lists_row state made queries (value_in root.layout.key row) row) (row_filtered tables state root keeps made leaves queries is are) rows)
+    ∙ ap (map (λ row. Of (value_in root.layout.key row))) (filter_agree (λ row. passes (option_map (truth tables state) keeps) (with_rows scope (row ∷ []) [])) (lists_row state made queries) (row_filtered tables state root keeps made leaves queries is are) rows)

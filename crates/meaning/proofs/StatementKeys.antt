@@ -45,7 +45,7 @@ effect_reads declared now read (Err refusal) = let none : List LockKey = [] in (
 effect_reads declared now read (Ok effect) =
     let view = state_after_all (layouts_in declared) effect.changes now.view in
     let ones = immediate_ones now.modes declared.assertions in
-    let checks = checks_read ones (net_change (layouts_in declared) now.view view) in
+    let checks = checks_read (layouts_in declared) view ones (net_change (layouts_in declared) now.view view) in
     (checks, checks_read_same (violation (layouts_in declared) ones view) effect now (record { view = view; modes = now.modes }) (read ∷ checks))
 
 pub SelectReads-law : SelectReads

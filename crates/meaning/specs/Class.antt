@@ -5,6 +5,7 @@ use Rattle.std.specs.Prelude.{Option, Some, None, option_map, unwrap_or}
 use Rattle.std.specs.Bool.{IsFalse}
 use Rattle.value.specs.declared.comparisons.Comparison.TheVariants.{Equal}
 use Rattle.table.specs.Rows.{Layout, Tables, layout_of}
+use Rattle.assertion.specs.declared.queries.Link.{Link}
 use Rattle.syntax.specs.declared.trees.Aggregate.{Aggregate}
 use Rattle.syntax.specs.declared.trees.ColumnName.{ColumnName}
 use Rattle.syntax.specs.declared.trees.Condition.{Condition, out-Condition}
@@ -195,45 +196,45 @@ pub record IsGroupQuery (tables : Tables) (query : Query) : Type 0 where
 abbrev pub IsColumn : (ColumnName → Type 0) → Expression → Type 0
 IsColumn P expression = (name : ColumnName) × (out-Expression expression ≡ Expression-F.Column name) × P name
 
--- the key of the row around, by a name that is not of the child
-abbrev pub IsOuterKey : Scope → Scope → ColumnName → Type 0
-IsOuterKey child root name =
-    IsFalse (is_name_of name.qualifier name.name child) × (own_column root name ≡ Some root.layout.key)
+-- a column of the row around, by a name that is not of the child
+abbrev pub IsOuterColumn : Scope → Scope → ℕ → ColumnName → Type 0
+IsOuterColumn child root column name =
+    IsFalse (is_name_of name.qualifier name.name child) × (own_column root name ≡ Some column)
 
--- a column of the child on one side, and the key of the row around on the other
-abbrev pub JoinsKey : Scope → Scope → ℕ → Expression → Expression → Type 0
-JoinsKey child root column inner outer =
-    IsColumn (IsColumnAt child column) inner × IsColumn (IsOuterKey child root) outer
+-- a column of the child on one side, and one of the row around on the other
+abbrev pub Joins : Scope → Scope → Link → Expression → Expression → Type 0
+Joins child root link inner outer =
+    IsColumn (IsColumnAt child link.inner) inner × IsColumn (IsOuterColumn child root link.outer) outer
 
--- d.column = r.key, either way round
-pub record IsLink (child root : Scope) (column : ℕ) (part : Condition) : Type 0 where
+-- d.x = r.y, either way round
+pub record IsLink (child root : Scope) (link : Link) (part : Condition) : Type 0 where
   pub left : Expression
   pub right : Expression
   pub equality : out-Condition part ≡ Condition-F.Compare left Equal right
-  pub sides : JoinsKey child root column left right ⊎ JoinsKey child root column right left
+  pub sides : Joins child root link left right ⊎ Joins child root link right left
 
--- a WHERE of which AND joins one link, by this column, and conditions over the child's rows
-pub record IsLinkedWhere (child root : Scope) (column : ℕ) (condition : Condition) : Type 0 where
+-- a WHERE of which AND joins one link, of these columns, and conditions over the child's rows
+pub record IsLinkedWhere (child root : Scope) (columns : Link) (condition : Condition) : Type 0 where
   pub before : List Condition
   pub link : Condition
   pub behind : List Condition
   pub parts : and_layer condition (out-Condition condition) ≡ before ++ link ∷ behind
-  pub links : IsLink child root column link
+  pub links : IsLink child root columns link
   pub others : Each (IsOverRows child) (before ++ behind)
 
 -- what a query over a table may list
 abbrev pub MayList : Type 1
 MayList = Scope → SelectList-F Condition Expression SelectList Query → Type 0
 
--- SELECT .. FROM d WHERE d.column = r.key AND f
+-- SELECT .. FROM d WHERE d.x = r.y AND f
 pub record IsLinkedQuery (tables : Tables) (root : Scope) (Lists : MayList) (query : Query) : Type 0 where
   pub scope : Scope
   pub condition : Condition
   pub reads : read_by tables (out-Query query).table (out-Query query).correlation_name ≡ Some scope
   pub lists : Lists scope (out-SelectList (out-Query query).select_list)
   pub filter : (out-Query query).keeps ≡ Some condition
-  pub column : ℕ
-  pub linked : IsLinkedWhere scope root column condition
+  pub link : Link
+  pub linked : IsLinkedWhere scope root link condition
   pub ungrouped : IsNone (out-Query query).group
   pub whole : IsNone (out-Query query).having
 

@@ -1,12 +1,15 @@
 -- Under which keys a WHERE and a check of an assertion read, over the written tree.
-use Rattle.std.specs.Prelude.{◌≡◌, ◌⊎◌, ℕ, Bool, false, ◌==◌, IsNone, List, [], ◌∷◌, map, filter_map, find, Option, Some, None, Ok}
+use Rattle.std.specs.Prelude.{◌≡◌, ◌⊎◌, ℕ, Bool, false, ◌==◌, IsNone, List, [], ◌∷◌, ◌++◌, map, filter, filter_map, flat_map, find}
+use Rattle.std.specs.Prelude.{Option, Some, None, option_to_list, Ok, if◌then◌else◌}
 use Rattle.std.specs.Option.{option_or}
 use Rattle.value.specs.declared.values.Value.{Value}
 use Rattle.value.specs.declared.values.Value.TheVariants.{Int, Text}
 use Rattle.value.specs.declared.values.Root.{Root}
 use Rattle.value.specs.declared.values.Root.TheVariants as root
 use Rattle.value.specs.declared.comparisons.Comparison.TheVariants.{Equal}
-use Rattle.table.specs.Rows.{Tables, position_of}
+use Rattle.table.specs.declared.rows.Change.{Change}
+use Rattle.table.specs.Rows.{RowValues, Tables, layouts_of, position_of, row_at, value_in}
+use Rattle.table.specs.Aggregates.{is_there}
 use Rattle.cond.specs.declared.conds.Cond.{Cond}
 use Rattle.syntax.specs.declared.trees.ColumnName.{ColumnName}
 use Rattle.syntax.specs.declared.trees.Condition.{Condition, out-Condition}
@@ -20,7 +23,8 @@ use Rattle.statement_syntax.specs.declared.statements.Statement.TheVariants as s
 use Rattle.statement_syntax.specs.declared.statements.Which.{Which}
 use Rattle.assertion.specs.declared.forms.Form.{Form}
 use Rattle.assertion.specs.Declarations.{Declared}
-use Rattle.assertion.specs.Meaning.{State}
+use Rattle.assertion.specs.Meaning.{State, rows_of}
+use Rattle.assertion.specs.declared.queries.Link.{Link}
 use Rattle.name_check.specs.Scopes.{Scope, own_column}
 use Rattle.form_check.specs.Forms.{form_of}
 use Rattle.form_check.specs.Queries.{row_filter}
@@ -32,7 +36,7 @@ use Rattle.assertcheck.specs.Updates.{update_of}
 use Rattle.siread.specs.declared.keys.LockKey.{LockKey}
 use Rattle.siread.specs.declared.keys.LockKey.TheVariants as key
 use Rattle.alone.specs.Alone.{Standing, Step, stepped}
-use Rattle.alone.specs.Checks.{keys_for, tables_in}
+use Rattle.alone.specs.Checks.{keys_for, finding_keys, tables_in}
 use Rattle.alone.specs.Reads.{Equality, where_key}
 use Rattle.alone.specs.Resolve.{resolved}
 use Rattle.meaning.specs.Class.{Piece, Pieces, Exists, Value as Worth, pieces_in, read_by}
@@ -94,16 +98,43 @@ IsWrittenKey tables name condition read =
 
 -- ---- checks of assertions
 
--- the rows of a query's table that its link joins to a key
-pub record IsLinkKey (tables : Tables) (root : Scope) (k : Value) (query : Query) (read : LockKey) : Type 0 where
+-- the rows of a table with a value in a column: the row under it, where that is the key
+abbrev pub rows_with : ℕ → Scope → ℕ → Value → LockKey
+rows_with table scope place v =
+    if place == scope.layout.key then key.Row (record { table = table; key = v }) else key.Column table place v
+
+-- those with x = y, where y is what the row has there, if there is a row and y is not NULL
+abbrev pub joined_keys : ℕ → Scope → Link → Option RowValues → List LockKey
+joined_keys table scope link None = []
+joined_keys table scope link (Some row) =
+    map (rows_with table scope link.inner) (filter is_there (value_in link.outer row ∷ []))
+
+-- by d.x = r.y, for the root k of r and the row that stands there: where y is the key of r, the rows of d with x = k,
+-- and else those with x = y
+abbrev pub link_keys : Scope → Value → Option RowValues → ℕ → Scope → Link → List LockKey
+link_keys root k row table scope link =
+    if link.outer == root.layout.key then key.Column table link.inner k ∷ [] else joined_keys table scope link row
+
+-- by d.x = r.y, for a change of d: where y is not the key of r, the rows of r with y = x, for x of the old and of the
+-- new row, if it is not NULL
+abbrev pub found_keys : Scope → ℕ → Change → ℕ → Link → List LockKey
+found_keys root of_root change table link =
+    if link.outer == root.layout.key then []
+    else if table == change.table
+    then map (key.Column of_root link.outer)
+    (filter is_there (map (value_in link.inner) (option_to_list change.old ++ option_to_list change.new))) else []
+
+-- what is read for the link of a query
+pub record IsOfLink (tables : Tables) (root : Scope) (reads : ℕ → Scope → Link → List LockKey) (query : Query)
+    (read : List LockKey) : Type 0 where
   pub table : ℕ
   pub scope : Scope
-  pub reads : IsTable tables (out-Query query).table (out-Query query).correlation_name table scope
+  pub of_table : IsTable tables (out-Query query).table (out-Query query).correlation_name table scope
   pub condition : Condition
   pub filter : (out-Query query).keeps ≡ Some condition
-  pub column : ℕ
-  pub linked : IsLinkedWhere scope root column condition
-  pub is : read ≡ key.Column table column k
+  pub link : Link
+  pub linked : IsLinkedWhere scope root link condition
+  pub is : read ≡ reads table scope link
 
 -- its whole table
 abbrev pub IsTableKey : Tables → Query → LockKey → Type 0
@@ -111,7 +142,7 @@ IsTableKey tables query read =
     (table : ℕ) × (position_of (out-Query query).table tables ≡ Some table) × (read ≡ key.Table table)
 
 -- what is read for a query in a WHERE, and for one in a single condition, where it stands for its value
-abbrev pub InWhere : (Query → LockKey → Type 0) → Piece → LockKey → Type 0
+abbrev pub InWhere : {Read : Type 0} → (Query → Read → Type 0) → Piece → Read → Type 0
 InWhere P (Exists query) read = P query read
 InWhere P (Worth query) read = P query read
 InWhere P other read = ⊥
@@ -125,22 +156,33 @@ abbrev pub where_pieces : Option Condition → Pieces
 where_pieces None = []
 where_pieces (Some condition) = pieces_in condition
 
+-- what a check reads: at each root by the row that stands there, and to find the candidates of a change
+pub record Looks : Type 0 where
+  pub at : State → Root → List LockKey
+  pub finds : Change → List LockKey
+
 -- NOT EXISTS (SELECT .. FROM t WHERE c): the row of t at the root, and what each query in c reads, from the left
-pub record ReadsRow (tables : Tables) (condition : Condition) (reads : Root → List LockKey) : Type 0 where
+pub record ReadsRow (tables : Tables) (condition : Condition) (looks : Looks) : Type 0 where
   pub query : Query
   pub denied : IsDenied condition query
   pub ungrouped : IsNone (out-Query query).group
   pub table : ℕ
   pub scope : Scope
   pub of_table : IsTable tables (out-Query query).table (out-Query query).correlation_name table scope
-  pub others : Value → List LockKey
-  pub row : (k : Value) → reads (root.Of k) ≡ key.Row (record { table = table; key = k }) ∷ others k
-  pub linked : (k : Value)
-      → Pairs (InWhere (IsLinkKey tables scope k)) (where_pieces (out-Query query).keeps) (others k)
-  pub whole : reads root.All ≡ []
+  pub others : State → Value → List (List LockKey)
+  pub row : (state : State) (k : Value) → looks.at state (root.Of k)
+      ≡ key.Row (record { table = table; key = k }) ∷ flat_map (λ reads. reads) (others state k)
+  pub linked : (state : State) (k : Value)
+      → Pairs (InWhere (IsOfLink tables scope (link_keys scope k (row_at scope.layout.key k (rows_of table state)))))
+      (where_pieces (out-Query query).keeps) (others state k)
+  pub whole : (state : State) → looks.at state root.All ≡ []
+  pub found : Change → List (List LockKey)
+  pub finding : (change : Change) → looks.finds change ≡ flat_map (λ reads. reads) (found change)
+  pub joins : (change : Change) → Pairs (InWhere (IsOfLink tables scope (λ t child. found_keys scope table change t)))
+      (where_pieces (out-Query query).keeps) (found change)
 
 -- with GROUP BY: the rows of the group
-pub record ReadsGroup (tables : Tables) (condition : Condition) (reads : Root → List LockKey) : Type 0 where
+pub record ReadsGroup (tables : Tables) (condition : Condition) (looks : Looks) : Type 0 where
   pub query : Query
   pub denied : IsDenied condition query
   pub name : ColumnName
@@ -150,17 +192,19 @@ pub record ReadsGroup (tables : Tables) (condition : Condition) (reads : Root �
   pub of_table : IsTable tables (out-Query query).table (out-Query query).correlation_name table scope
   pub column : ℕ
   pub is_own : IsColumnAt scope column name
-  pub group : (v : Value) → reads (root.Of v) ≡ key.Column table column v ∷ []
-  pub whole : reads root.All ≡ []
+  pub group : (state : State) (v : Value) → looks.at state (root.Of v) ≡ key.Column table column v ∷ []
+  pub whole : (state : State) → looks.at state root.All ≡ []
+  pub finding : (change : Change) → looks.finds change ≡ []
 
 -- a single condition: what each query in it reads, from the left
-pub record ReadsTables (tables : Tables) (condition : Condition) (reads : Root → List LockKey) : Type 0 where
-  pub queried : Pairs (InSingle (IsTableKey tables)) (pieces_in condition) (reads root.All)
-  pub none : (v : Value) → reads (root.Of v) ≡ []
+pub record ReadsTables (tables : Tables) (condition : Condition) (looks : Looks) : Type 0 where
+  pub queried : (state : State) → Pairs (InSingle (IsTableKey tables)) (pieces_in condition) (looks.at state root.All)
+  pub none : (state : State) (v : Value) → looks.at state (root.Of v) ≡ []
+  pub finding : (change : Change) → looks.finds change ≡ []
 
-abbrev pub ReadsAsWritten : Tables → Condition → (Root → List LockKey) → Type 0
-ReadsAsWritten tables condition reads =
-    ReadsRow tables condition reads ⊎ (ReadsGroup tables condition reads ⊎ ReadsTables tables condition reads)
+abbrev pub ReadsAsWritten : Tables → Condition → Looks → Type 0
+ReadsAsWritten tables condition looks =
+    ReadsRow tables condition looks ⊎ (ReadsGroup tables condition looks ⊎ ReadsTables tables condition looks)
 
 -- VERDICT reads whole tables: of the query under NOT EXISTS and of those in its WHERE, or of those in a single
 -- condition
@@ -205,10 +249,17 @@ UpdateReads = (declared : Declared) (start : State) (now : Standing)
     → StepReads declared.tables name condition
     (stepped declared start now (resolved declared false (statement.Update name sets condition)))
 
--- a check at a root reads under the keys of the assertion's text, and VERDICT the tables of its text
+-- a check reads under the keys of the assertion's text, at a root and to find its candidates, and VERDICT the tables
+-- of its text
+abbrev pub looks_of : Tables → Form → Looks
+looks_of tables form = record {
+  at = λ state. keys_for (layouts_of tables) state form;
+  finds = finding_keys (layouts_of tables) form;
+}
+
 abbrev pub CheckReads : Type 0
 CheckReads = (tables : Tables) (condition : Condition) (form : Form) → form_of tables condition ≡ Ok form
-    → ReadsAsWritten tables condition (keys_for form)
+    → ReadsAsWritten tables condition (looks_of tables form)
 
 abbrev pub VerdictReads : Type 0
 VerdictReads = (tables : Tables) (condition : Condition) (form : Form) → form_of tables condition ≡ Ok form

@@ -1,3 +1,4 @@
+mod IndexedRows
 mod KeyedRows
 pub mod LastRows
 pub mod Walked

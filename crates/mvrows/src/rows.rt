@@ -1,16 +1,23 @@
 //! Versions of a table's rows.
 
-ghost use Rattle.std.specs.Prelude.{◌≡◌, ◌<◌, ◌^◌, ◌+◌, [], ◌∷◌, drop, length, Some, IfOk, IsOkUnless, if◌then◌else◌};
+ghost use Rattle.std.specs.Prelude.{◌≡◌, ◌<◌, ◌^◌, ◌+◌, ◌⊎◌, [], ◌∷◌, drop, length, not, Some, IfOk, IfSome, IsOkUnless, IsTrue, if◌then◌else◌};
 ghost use Rattle.std.specs.Option.{option_copied};
 ghost use Rattle.std.specs.Ordering.{eq_by_cmp};
 ghost use Rattle.table.specs.Rows.{value_in, row_at, put_row};
+ghost use Rattle.table.specs.Aggregates.{is_there};
+ghost use Rattle.groups.specs.Indexes.{IsIndexOf, keys_at};
+ghost use Rattle.pages.specs.Reach.{AreInOrder};
+ghost use Rattle.mvrows.specs.Indexed.{AreIndexesOf};
 ghost use Rattle.mvrows.specs.Keyed.{rows_of, AreKeyed};
+ghost use Rattle.mvrows.specs.Looked.{keys_with};
 ghost use Rattle.value.specs.Ordered.{HasKey, IsAscending};
 ghost use Rattle.value.specs.ValueOrder.{value_cmp};
 ghost use Rattle.value.specs.declared.refusals.Refusal.TheVariants.{NoMemory};
 ghost use Rattle.value.specs.declared.values.Value.{Value as values};
 
+use crate::indexes::Indexes;
 use crate::iterators::RowIter;
+use groups::{Index, Keys};
 use pages::Pages;
 use std::alloc::Global;
 use std::cmp::Ordering;
@@ -24,6 +31,7 @@ use value::{Refusal, Value, order};
 pub struct Rows {
     column: usize,
     pages: Pages<Row>,
+    indexes: Indexes,
 }
 
 impl Model for Rows {
@@ -32,11 +40,12 @@ impl Model for Rows {
 
     ghost Value = { List RowValues };
 
-    ghost use Rattle.mvrows.specs.Keyed.{rows_of, AreKeyed};
+    ghost use Rattle.mvrows.specs.Keyed.{rows_of};
+    ghost use Rattle.mvrows.specs.Indexed.{IsVersion};
 
     ghost view = { λ version. rows_of version.pages };
 
-    ghost invariant = { λ version. AreKeyed version.column version.pages };
+    ghost invariant = { λ version. IsVersion version.column version.pages version.indexes };
 }
 
 impl Rows {
@@ -47,6 +56,7 @@ impl Rows {
         Rows {
             column: 0,
             pages: Pages::new(alloc),
+            indexes: Indexes::new(alloc),
         }
     }
 
@@ -77,6 +87,75 @@ impl Rows {
         }
     }
 
+    /// The keys of the rows that have a value in a column, in the order of the rows. Their own column is the one at
+    /// `key_column`.
+    pub fn keys_with(
+        &self,
+        alloc: Global,
+        key_column: usize,
+        column: usize,
+        value: &Value,
+    ) -> Result<Vec<Value>, Refusal>
+        ensures only_memory { IsOkUnless result NoMemory }
+        ensures keys { IfOk result (λ keys. keys.items ≡ keys_with key_column column value.now self.now) }
+    {
+        match self.index_for(key_column, column, value) {
+            Some(index) => copy_keys(alloc, index.keys(value)),
+            None => self.scan_keys(alloc, key_column, column, value),
+        }
+    }
+
+    /// The index that has the keys of the rows with a value in a column, if there is one. NULL is in no index.
+    fn index_for(&self, key_column: usize, column: usize, value: &Value) -> Option<&Index>
+        ensures { IfSome result (λ index.
+            keys_at value.now index.now ≡ keys_with key_column column value.now self.now) }
+    {
+        if key_column != self.column || is_null(value) {
+            return None;
+        }
+        self.indexes.get(column)
+    }
+
+    /// The same keys, found among all rows.
+    fn scan_keys(
+        &self,
+        alloc: Global,
+        key_column: usize,
+        column: usize,
+        value: &Value,
+    ) -> Result<Vec<Value>, Refusal>
+        ensures only_memory { IsOkUnless result NoMemory }
+        ensures keys { IfOk result (λ keys. keys.items ≡ keys_with key_column column value.now self.now) }
+    {
+        let mut keys = Vec::new(alloc);
+        for row in self.iter() {
+            if order_key(value, row, column) == Ordering::Equal {
+                keys.push(key_of(row, key_column)?)?;
+            }
+        }
+        Ok(keys)
+    }
+
+    /// A version equal to this one, in which rows are found by their value in a column without a look at the others. It
+    /// takes one pass over the rows, and none where they are found so already, or where the key stands in another
+    /// column than that of this version. Only memory can fail.
+    pub fn indexed(&self, key_column: usize, column: usize) -> Result<Rows, Refusal>
+        ensures only_memory { IsOkUnless result NoMemory }
+        ensures equal { IfOk result (λ rows. rows ≡ self.now) }
+        ensures short { IfOk result (λ rows. length rows < 2 ^ 63) }
+    {
+        if !is_keyed(&self.pages, self.column, key_column) || self.indexes.get(column).is_some() {
+            return self.copy();
+        }
+        let index = index_of(&self.pages, key_column, column)?;
+        let indexes = self.indexes.copy()?.with_index(column, index)?;
+        Ok(Rows {
+            column: key_column,
+            pages: self.pages.copy()?,
+            indexes,
+        })
+    }
+
     /// The version after a change: under its key, which stands in the column at `key_column`, its new row or none, and
     /// nothing else is another than before. The keys in that column have to ascend, and the new row has to have the
     /// change's key there. This version stays as it is, also where the answer is NoMemory.
@@ -90,13 +169,30 @@ impl Rows {
             ≡ if eq_by_cmp value_cmp other change.now.key then change.now.new else row_at key_column other self.now) }
         ensures short { IfOk result (λ rows. length rows < 2 ^ 63) }
     {
+        let indexes = self.indexes_after(key_column, change)?;
         let new = copy_of(&change.new)?;
         let keyed = by_column(&self.pages, self.column, key_column)?;
         let pages = keyed.with(&change.key, new)?;
         Ok(Rows {
             column: key_column,
             pages,
+            indexes,
         })
+    }
+
+    /// The indexes of the version after a change; none where the key stands in another column than before.
+    fn indexes_after(&self, key_column: usize, change: &Change) -> Result<Indexes, Refusal>
+        requires keyed { HasKey value_cmp (value_in key_column) change.now.key change.now.new }
+        requires ordered { IsAscending value_cmp (value_in key_column) self.now }
+        ensures only_memory { IsOkUnless result NoMemory }
+        ensures indexes { IfOk result (λ indexes. AreIndexesOf key_column
+            (put_row key_column change.now.key change.now.new self.now) indexes) }
+    {
+        if key_column != self.column || self.indexes.is_empty() {
+            return Ok(Indexes::new(self.pages.allocator()));
+        }
+        let old = self.get(key_column, &change.key);
+        self.indexes.with(&change.key, old, change.new.as_ref())
     }
 
     /// A version equal to this one, which shares all rows with it.
@@ -107,8 +203,52 @@ impl Rows {
         Ok(Rows {
             column: self.column,
             pages: self.pages.copy()?,
+            indexes: self.indexes.copy()?,
         })
     }
+}
+
+/// Whether the key of each row stands in a column: it is the one that it stands in, or there are no rows.
+fn is_keyed(pages: &Pages<Row>, column: usize, key_column: usize) -> bool
+    ensures keyed { IsTrue result → (key_column ≡ column) ⊎ (length pages.now ≡ 0) }
+    ensures order { AreInOrder pages.now }
+    ensures short { length pages.now < 2 ^ 63 }
+{
+    let count = pages.len();
+    key_column == column || count == 0
+}
+
+/// The index of rows by a column, made in one pass. Each stands under its key.
+fn index_of(pages: &Pages<Row>, key_column: usize, column: usize) -> Result<Index, Refusal>
+    requires keyed { AreKeyed key_column pages.now }
+    requires order { AreInOrder pages.now }
+    ensures only_memory { IsOkUnless result NoMemory }
+    ensures index { IfOk result (λ index. IsIndexOf key_column column (rows_of pages.now) index) }
+{
+    let mut index = Index::new(pages.allocator());
+    for entry in pages.iter() {
+        index = index.with_row(column, &entry.0, &entry.1)?;
+    }
+    Ok(index)
+}
+
+/// Keys equal to these.
+fn copy_keys(alloc: Global, keys: Keys<'_>) -> Result<Vec<Value>, Refusal>
+    ensures only_memory { IsOkUnless result NoMemory }
+    ensures equal { IfOk result (λ copy. copy.items ≡ keys.entry) }
+{
+    let mut copy = Vec::new(alloc);
+    for key in keys {
+        copy.push(key.copy()?)?;
+    }
+    Ok(copy)
+}
+
+/// Whether a value is NULL.
+fn is_null(value: &Value) -> bool
+    ensures { result ≡ not (is_there value.now) }
+{
+    matches!(value, Value::Null)
 }
 
 /// A row equal to this one, if there is one.

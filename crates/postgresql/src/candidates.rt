@@ -1,11 +1,11 @@
 //! The roots at which changed rows can turn an assertion.
 //!
-//! They are those of the law of candidates: by rows the key of a changed row of the table, and what a subquery's link
-//! holds in a changed row of its own table; by groups the group of a changed row; the whole of a single condition. A
-//! changed row that the filter of a subquery or of the groups does not keep turns nothing there, before as after, so
-//! its root is left out.
+//! They are those of the law of candidates: by rows the key of a changed row of the table, and the rows to which a
+//! subquery's link leads from a changed row of its own table; by groups the group of a changed row; the whole of a
+//! single condition. A changed row that the filter of a subquery or of the groups does not keep turns nothing there,
+//! before as after, so its root is left out.
 
-use crate::forms::{add_filter, column_name, key_of};
+use crate::forms::{add_filter, add_source, column_name, key_name};
 use assertion::{Form, Link, Query, Whole};
 use cond::Cond;
 use delta::View;
@@ -59,11 +59,11 @@ fn add_row_candidates(
 ) -> Result<(), AllocError> {
     let mut is_first = own != table;
     if own == table {
-        let key = column_name(view, table, key_of(view, table));
+        let key = column_name(view, table, view.key_column(table));
         write!(sql, "SELECT c.{key} AS root FROM {changed} AS c")?;
     }
     for query in queries {
-        is_first = add_part(sql, view, query, table, changed, is_first)?;
+        is_first = add_part(sql, view, own, query, table, changed, is_first)?;
     }
     Ok(())
 }
@@ -72,6 +72,7 @@ fn add_row_candidates(
 fn add_part(
     sql: &mut String,
     view: &View,
+    own: usize,
     query: &Query<Link>,
     table: usize,
     changed: &str,
@@ -83,22 +84,43 @@ fn add_part(
     if !is_first {
         sql.push_str("\n        UNION ALL ")?;
     }
-    add_link_candidates(sql, view, query, changed)?;
+    if query.grouping.outer == view.key_column(own) {
+        add_key_candidates(sql, view, query, changed)?;
+    } else {
+        add_column_candidates(sql, view, own, query, changed)?;
+    }
     Ok(false)
 }
 
-/// NULL is linked to no key.
-fn add_link_candidates(
+/// Where the link is to the key, the changed row has it. NULL is linked to no key.
+fn add_key_candidates(
     sql: &mut String,
     view: &View,
     query: &Query<Link>,
     changed: &str,
 ) -> Result<(), AllocError> {
-    let link = column_name(view, query.table, query.grouping.column());
+    let inner = column_name(view, query.table, query.grouping.inner);
     write!(
         sql,
-        "SELECT c.{link} AS root FROM {changed} AS c WHERE c.{link} IS NOT NULL AND "
+        "SELECT c.{inner} AS root FROM {changed} AS c WHERE c.{inner} IS NOT NULL AND "
     )?;
+    add_filter(sql, view, query.table, "c", &query.filter)
+}
+
+/// Where it is to another column, the rows that have the value there.
+fn add_column_candidates(
+    sql: &mut String,
+    view: &View,
+    own: usize,
+    query: &Query<Link>,
+    changed: &str,
+) -> Result<(), AllocError> {
+    let key = key_name(view, own);
+    let inner = column_name(view, query.table, query.grouping.inner);
+    let outer = column_name(view, own, query.grouping.outer);
+    write!(sql, "SELECT r.{key} AS root ")?;
+    add_source(sql, view, own, "r")?;
+    write!(sql, ", {changed} AS c WHERE r.{outer} = c.{inner} AND ")?;
     add_filter(sql, view, query.table, "c", &query.filter)
 }
 

@@ -56,14 +56,6 @@ pub fn columns_of(view: &View, table: usize) -> &[Column] {
     }
 }
 
-/// The place of a table's key.
-pub fn key_of(view: &View, table: usize) -> usize {
-    match view.catalog().at(table) {
-        Some(schema) => schema.key(),
-        None => 0,
-    }
-}
-
 /// The name of a column of a table.
 pub fn column_name(view: &View, table: usize, place: usize) -> ColumnName<'_> {
     ColumnName {
@@ -76,7 +68,7 @@ pub fn column_name(view: &View, table: usize, place: usize) -> ColumnName<'_> {
 pub fn key_name(view: &View, table: usize) -> ColumnName<'_> {
     ColumnName {
         columns: columns_of(view, table),
-        place: key_of(view, table),
+        place: view.key_column(table),
     }
 }
 
@@ -94,7 +86,7 @@ pub fn add_table_name(sql: &mut String, view: &View, table: usize) -> Result<(),
 /// Of what the roots of a form are.
 pub fn root_kind(view: &View, form: &Form) -> RootKind {
     match form {
-        Form::ByRow { table, .. } => kind_of(columns_of(view, *table), key_of(view, *table)),
+        Form::ByRow { table, .. } => kind_of(columns_of(view, *table), view.key_column(*table)),
         Form::ByGroup { table, group, .. } => kind_of(columns_of(view, *table), *group),
         Form::Single { .. } => RootKind::Whole,
     }
@@ -179,9 +171,9 @@ fn linked_slot(
 ) -> Result<Slot, AllocError> {
     let mut source = String::new(alloc);
     add_source(&mut source, view, query.table, "s")?;
-    let link = column_name(view, query.table, query.grouping.column());
-    let key = key_name(view, table);
-    write!(source, " WHERE s.{link} = r.{key} AND ")?;
+    let inner = column_name(view, query.table, query.grouping.inner);
+    let outer = column_name(view, table, query.grouping.outer);
+    write!(source, " WHERE s.{inner} = r.{outer} AND ")?;
     add_filter(&mut source, view, query.table, "s", &query.filter)?;
     slot_of(alloc, view, query.table, query.aggregate, source.as_str())
 }

@@ -1,7 +1,7 @@
 //! Tables, their rows and their indexes.
 
 use crate::faults::PrintFault;
-use crate::forms::{add_table_name, key_of};
+use crate::forms::add_table_name;
 use crate::words::{Constant, Name};
 use assertion::{Assertion, Form};
 use delta::View;
@@ -14,7 +14,7 @@ pub fn add_table(sql: &mut String, view: &View, table: usize) -> Result<(), Allo
     sql.push_str("\nCREATE TABLE ")?;
     add_table_name(sql, view, table)?;
     sql.push_str(" (")?;
-    let key = key_of(view, table);
+    let key = view.key_column(table);
     let mut before = "\n    ";
     for (place, column) in crate::forms::columns_of(view, table).iter().enumerate() {
         sql.push_str(before)?;
@@ -58,7 +58,7 @@ pub fn add_row(sql: &mut String, view: &View, table: usize, row: &Row) -> Result
 
 /// Adds an index on each column of a table by which an assertion looks for rows. A key has one already.
 pub fn add_indexes(sql: &mut String, view: &View, table: usize) -> Result<(), AllocError> {
-    let key = key_of(view, table);
+    let key = view.key_column(table);
     for (place, column) in crate::forms::columns_of(view, table).iter().enumerate() {
         if place != key && is_looked_up(view.assertions(), table, place) {
             sql.push_str("CREATE INDEX ON ")?;
@@ -79,8 +79,14 @@ fn is_looked_up(assertions: &[Assertion], table: usize, place: usize) -> bool {
 
 fn is_looked_up_by(form: &Form, table: usize, place: usize) -> bool {
     match form {
-        Form::ByRow { queries, .. } => queries.as_slice().iter().any(|query| query.table == table
-            && query.grouping.column() == place),
+        Form::ByRow {
+            table: own,
+            queries,
+            ..
+        } => queries.as_slice().iter().any(|query| {
+            query.table == table && query.grouping.inner == place
+                || *own == table && query.grouping.outer == place
+        }),
         Form::ByGroup {
             table: own,
             group,

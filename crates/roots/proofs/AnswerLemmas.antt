@@ -17,7 +17,7 @@ use Rattle.assertion.specs.declared.forms.Form.TheVariants.{ByRow, ByGroup, Sing
 use Rattle.groups.specs.Answers.{value_for}
 use Rattle.groups.specs.Totals.{Entries, Members, AreTotalsOf, IsWithin}
 use Rattle.roots.specs.Answers.{kinds_in, query_answer}
-use Rattle.roots.specs.Bad.{answers}
+use Rattle.roots.specs.Bad.{answers, asked}
 use Rattle.roots.specs.declared.grouped.Grouping.{Grouping}
 use Rattle.roots.specs.Summaries.{summed_up, group_query, queries_of, summaries_of, group_rows, members}
 use Rattle.roots.proofs.MaintainedLemmas.{members-within, totals-at}
@@ -75,11 +75,12 @@ module _ (form : Form) (i : ℕ) (s : Query Grouping) (v : SlotValue) (h : i < l
       ∙ sym (ap kinds_in (take_more queries i s h) ∙ map-append (λ (q : Query Grouping). kind_of_aggregate q.aggregate) (take i queries) (get_or queries i s ∷ []))
 
   -- the values of the slots, with one more
-  pub values-more : (state : State) (totals : List Entries) (es : Entries) (group : Value) (slots more : SlotValues) → AreMaintained state form totals → es ≡ get_or totals i es
+  pub values-more : (state : State) (totals : List Entries) (es : Entries) (row : RowValues) (group : Value) (slots more : SlotValues) → group ≡ asked s.grouping row → AreMaintained state form totals → es ≡ get_or totals i es
       → ((rows : Value → List RowValues) → AreTotalsOf s.aggregate (λ g. map (value_for s.aggregate) (rows g)) es → value_of v ≡ aggregate s.aggregate (rows group))
-      → more ≡ slots ++ v ∷ [] → values_of slots ≡ answers state (take i (queries_of form)) group → values_of more ≡ answers state (take (i + 1) (queries_of form)) group
-  values-more state totals es group slots more k e f g so_far =
+      → more ≡ slots ++ v ∷ [] → values_of slots ≡ answers state (take i (queries_of form)) row → values_of more ≡ answers state (take (i + 1) (queries_of form)) row
+  values-more state totals es row group slots more a k e f g so_far =
       let queries : List (Query Grouping) = queries_of form in
+      let given : Query Grouping → Value = λ q. query_answer state (asked q.grouping row) q in
       ap values_of g ∙ map-append value_of slots (v ∷ []) ∙ ap (λ vs. vs ++ value_of v ∷ []) so_far
-      ∙ ap (λ x. answers state (take i queries) group ++ x ∷ []) (f (group_rows state s) (right state totals es k e) ∙ ap (query_answer state group) (slot-query form i s h is))
-      ∙ sym (ap (λ qs. answers state qs group) (take_more queries i s h) ∙ map-append (query_answer state group) (take i queries) (get_or queries i s ∷ []))
+      ∙ ap (λ x. answers state (take i queries) row ++ x ∷ []) (f (group_rows state s) (right state totals es k e) ∙ ap (λ g. query_answer state g s) a ∙ ap given (slot-query form i s h is))
+      ∙ sym (ap (λ qs. answers state qs row) (take_more queries i s h) ∙ map-append given (take i queries) (get_or queries i s ∷ []))

@@ -23,7 +23,7 @@ use Rattle.assertion.specs.declared.queries.Link.{Link}
 use Rattle.assertion.specs.declared.queries.Whole.{Whole as AnyWhole}
 use Rattle.assertion.specs.declared.forms.Form.{Form}
 use Rattle.assertion.specs.declared.forms.Form.TheVariants.{ByRow, ByGroup, Single}
-use Rattle.assertion.specs.Meaning.{State, rows_of, link_column, links, linked_answer, plain_answer, filtered_rows, single_truth, verdict_of}
+use Rattle.assertion.specs.Meaning.{State, rows_of, links, linked_answer, plain_answer, filtered_rows, single_truth, verdict_of}
 use Rattle.assertion.specs.Roots.{is_bad_row, is_bad_root}
 use Rattle.assertion.proofs.KeptTruth.{links-there}
 use Rattle.assertion.proofs.ListLemmas.{filter-filter}
@@ -40,26 +40,27 @@ linked_by false true v w = sym (and-false (eq_by_cmp value_cmp v w))
 linked_by true false v w = refl
 linked_by false false v w = refl
 
-linked_rows : (state : State) (v : Value) (q : Query Link) → group_rows state (linked_query q) v ≡ filter (λ row. links q.grouping v row && keeps row [] q.filter) (rows_of q.table state)
-linked_rows state v q =
-    filter_agree (λ row. is_placed v (place (linked_query q) row)) (λ row. links q.grouping v row && keeps row [] q.filter)
-    (λ row. linked_by (keeps row [] q.filter) (is_there (value_in (link_column q.grouping) row)) v (value_in (link_column q.grouping) row) ∙ ap (λ b. b && keeps row [] q.filter) (sym (links-there q.grouping v row)))
+linked_rows : (state : State) (row : RowValues) (q : Query Link) → group_rows state (linked_query q) (value_in q.grouping.outer row) ≡ filter (λ linked. links q.grouping row linked && keeps linked [] q.filter) (rows_of q.table state)
+linked_rows state row q =
+    let v : Value = value_in q.grouping.outer row in
+    filter_agree (λ linked. is_placed v (place (linked_query q) linked)) (λ linked. links q.grouping row linked && keeps linked [] q.filter)
+    (λ linked. linked_by (keeps linked [] q.filter) (is_there (value_in q.grouping.inner linked)) v (value_in q.grouping.inner linked) ∙ ap (λ b. b && keeps linked [] q.filter) (sym (links-there q.grouping row linked)))
     (rows_of q.table state)
 
-linked_are : (state : State) (v : Value) (qs : List (Query Link)) → answers state (map linked_query qs) v ≡ map (linked_answer state v) qs
-linked_are state v [] = refl
-linked_are state v (q ∷ qs) =
-    ap (λ rows. aggregate q.aggregate rows ∷ answers state (map linked_query qs) v) (linked_rows state v q)
-    ∙ ap (λ rest. linked_answer state v q ∷ rest) (linked_are state v qs)
+linked_are : (state : State) (row : RowValues) (qs : List (Query Link)) → answers state (map linked_query qs) row ≡ map (linked_answer state row) qs
+linked_are state row [] = refl
+linked_are state row (q ∷ qs) =
+    ap (λ rows. aggregate q.aggregate rows ∷ answers state (map linked_query qs) row) (linked_rows state row q)
+    ∙ ap (λ rest. linked_answer state row q ∷ rest) (linked_are state row qs)
 
 plain_by : (k : Bool) → is_placed Null (if k then Some Null else None) ≡ k
 plain_by true = refl
 plain_by false = refl
 
-plain_are : (state : State) (qs : List (Query AnyWhole)) → answers state (map whole_query qs) Null ≡ map (plain_answer state) qs
+plain_are : (state : State) (qs : List (Query AnyWhole)) → answers state (map whole_query qs) [] ≡ map (plain_answer state) qs
 plain_are state [] = refl
 plain_are state (q ∷ qs) =
-    ap (λ rows. aggregate q.aggregate rows ∷ answers state (map whole_query qs) Null)
+    ap (λ rows. aggregate q.aggregate rows ∷ answers state (map whole_query qs) [])
     (filter_agree (λ row. is_placed Null (place (whole_query q) row)) (λ row. keeps row [] q.filter) (λ row. plain_by (keeps row [] q.filter)) (rows_of q.table state))
     ∙ ap (λ rest. plain_answer state q ∷ rest) (plain_are state qs)
 
@@ -72,20 +73,20 @@ group_are-rows state v table restriction group a =
     filter_agree (λ row. is_placed v (place (group_query table restriction group a) row)) (λ row. keeps row [] restriction && eq_by_cmp value_cmp v (value_in group row)) (λ row. group_by (keeps row [] restriction) v (value_in group row)) (rows_of table state)
     ∙ sym (filter-filter (λ row. eq_by_cmp value_cmp v (value_in group row)) (λ row. keeps row [] restriction) (rows_of table state))
 
-group_are : (state : State) (v : Value) (table : ℕ) (restriction : Cond) (group : ℕ) (sets : List Aggregate) → answers state (map (group_query table restriction group) sets) v ≡ map (λ a. aggregate a (rows_of_group group v (filtered_rows restriction (rows_of table state)))) sets
+group_are : (state : State) (v : Value) (table : ℕ) (restriction : Cond) (group : ℕ) (sets : List Aggregate) → answers state (map (group_query table restriction group) sets) (v ∷ []) ≡ map (λ a. aggregate a (rows_of_group group v (filtered_rows restriction (rows_of table state)))) sets
 group_are state v table restriction group [] = refl
 group_are state v table restriction group (a ∷ sets) =
-    ap (λ rows. aggregate a rows ∷ answers state (map (group_query table restriction group) sets) v) (group_are-rows state v table restriction group a)
+    ap (λ rows. aggregate a rows ∷ answers state (map (group_query table restriction group) sets) (v ∷ [])) (group_are-rows state v table restriction group a)
     ∙ ap (λ rest. aggregate a (rows_of_group group v (filtered_rows restriction (rows_of table state))) ∷ rest) (group_are state v table restriction group sets)
 
 -- a form by rows
-row_passes-is : (state : State) (c : Cond) (qs : List (Query Link)) (v : Value) (o : Option RowValues) → row_passes state (map linked_query qs) c v o ≡ is_bad_row state c qs v o
-row_passes-is state c qs v None = refl
-row_passes-is state c qs v (Some row) = ap (λ slots. keeps row slots c) (linked_are state v qs)
+row_passes-is : (state : State) (c : Cond) (qs : List (Query Link)) (o : Option RowValues) → row_passes state (map linked_query qs) c o ≡ is_bad_row state c qs o
+row_passes-is state c qs None = refl
+row_passes-is state c qs (Some row) = ap (λ slots. keeps row slots c) (linked_are state row qs)
 
 pub row-bad : (layouts : List Layout) (state : State) (form : Form) (root : Root) (row : Option RowValues) (t : ℕ) (c : Cond) (qs : List (Query Link)) (v : Value) → form ≡ ByRow t c qs → root ≡ Of v → IsRowOf layouts form state root row
-    → row_passes state (queries_of form) c v row ≡ is_bad_root layouts form state root
-row-bad layouts state form root row t c qs v e r = rw (e, r) (λ is. row_passes-is state c qs v row ∙ ap (is_bad_row state c qs v) is)
+    → row_passes state (queries_of form) c row ≡ is_bad_root layouts form state root
+row-bad layouts state form root row t c qs v e r = rw (e, r) (λ is. row_passes-is state c qs row ∙ ap (is_bad_row state c qs) is)
 
 -- a form by groups
 group_members : (state : State) (v : Value) (table : ℕ) (restriction : Cond) (group : ℕ) (sets : List Aggregate) (d : Query Grouping) → 0 < length sets
@@ -96,7 +97,7 @@ group_members state v table restriction group (a ∷ sets) d h = length-map (gro
 pub group-bad : (layouts : List Layout) (state : State) (form : Form) (root : Root) (t : ℕ) (restriction : Cond) (group : ℕ) (having : Cond) (sets : List Aggregate) (v : Value) (d : Query Grouping) → form ≡ ByGroup t restriction group having sets → root ≡ Of v
     → group_passes state (get_or (summaries_of form) 0 d) (queries_of form) having v ≡ is_bad_root layouts form state root
 group-bad layouts state form root t restriction group having sets v d e r = rw (e, r)
-    (ap (λ n. nat_lt 0 n && keeps (v ∷ []) (answers state (map (group_query t restriction group) sets) v) having) (group_members state v t restriction group (summed_up sets) d (summed-some sets))
+    (ap (λ n. nat_lt 0 n && keeps (v ∷ []) (answers state (map (group_query t restriction group) sets) (v ∷ [])) having) (group_members state v t restriction group (summed_up sets) d (summed-some sets))
     ∙ ap (λ slots. nat_lt 0 (length (rows_of_group group v (filtered_rows restriction (rows_of t state)))) && keeps (v ∷ []) slots having) (group_are state v t restriction group sets))
 
 pub group-some : (form : Form) (t : ℕ) (restriction : Cond) (group : ℕ) (having : Cond) (sets : List Aggregate) → form ≡ ByGroup t restriction group having sets → 0 < length (summaries_of form)

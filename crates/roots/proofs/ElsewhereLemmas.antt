@@ -9,15 +9,15 @@ use Rattle.value.specs.ValueOrder.{root_cmp}
 use Rattle.value.proofs.OrderedLists.{has}
 use Rattle.table.specs.declared.rows.Change.{Change}
 use Rattle.table.specs.declared.aggregates.Aggregate.{Aggregate}
-use Rattle.table.specs.Rows.{Layout}
+use Rattle.table.specs.Rows.{RowValues, Layout}
 use Rattle.cond.specs.declared.conds.Cond.{Cond}
 use Rattle.cond.specs.Eval.{truth}
 use Rattle.assertion.specs.declared.queries.Query.{Query}
 use Rattle.assertion.specs.declared.queries.Link.{Link}
 use Rattle.assertion.specs.declared.forms.Form.{Form}
 use Rattle.assertion.specs.declared.forms.Form.TheVariants.{ByRow, ByGroup, Single}
-use Rattle.assertion.specs.Candidates.{candidates, query_candidates, link_candidates, group_candidates, touched, is_named}
-use Rattle.assertion.specs.Meaning.{State, verdict_of}
+use Rattle.assertion.specs.Candidates.{candidates, query_candidates, linked_roots, linked_values, group_candidates, touched, is_named}
+use Rattle.assertion.specs.Meaning.{State, key_of, rows_of, verdict_of}
 use Rattle.assertion.specs.Roots.{AreBad, IsOrdered, IsChangeOf, state_after}
 use Rattle.assertion.proofs.KeptTruth.{kept_truth, plain-same, unequal_of}
 use Rattle.assertion.proofs.LawLemmas.{AnswersVerdict-law}
@@ -30,18 +30,20 @@ use Rattle.roots.specs.Summaries.{regrouped, group_query, summed_up, summaries_o
 use Rattle.roots.proofs.MaintainedLemmas.{totals-same}
 
 -- such a change has no candidates
-linked-none : (change : Change) (qs : List (Query Link)) → is_named change.table qs ≡ false → flat_map (query_candidates change) qs ≡ []
-linked-none change [] h = refl
-linked-none change (q ∷ qs) h =
+linked-none : (key : ℕ) (rows : List RowValues) (change : Change) (qs : List (Query Link)) → is_named change.table qs ≡ false → flat_map (query_candidates key rows change) qs ≡ []
+linked-none key rows change [] h = refl
+linked-none key rows change (q ∷ qs) h =
     let parts : ((q.table == change.table) ≡ false) × (is_named change.table qs ≡ false) = or_parts (q.table == change.table) (is_named change.table qs) h in
-    ap (λ b. (if b then link_candidates q.grouping (touched change) else []) ++ flat_map (query_candidates change) qs) parts.0 ∙ linked-none change qs parts.1
+    ap (λ b. (if b then flat_map (linked_roots key q.grouping rows) (linked_values q.grouping (touched change)) else []) ++ flat_map (query_candidates key rows change) qs) parts.0
+    ∙ linked-none key rows change qs parts.1
 
-pub no-candidates : (change : Change) (form : Form) → is_over change.table form ≡ false → candidates change form ≡ []
-no-candidates change (ByRow table c queries) h =
+pub no-candidates : (layouts : List Layout) (after : State) (change : Change) (form : Form) → is_over change.table form ≡ false → candidates layouts after change form ≡ []
+no-candidates layouts after change (ByRow table c queries) h =
     let parts : ((table == change.table) ≡ false) × (is_named change.table queries ≡ false) = or_parts (table == change.table) (is_named change.table queries) h in
-    ap (λ b. (if b then Of change.key ∷ [] else []) ++ flat_map (query_candidates change) queries) parts.0 ∙ linked-none change queries parts.1
-no-candidates change (ByGroup table restriction group having aggregates) h = ap (λ b. if b then group_candidates group (touched change) else []) h
-no-candidates change (Single c queries) h = rw h refl
+    ap (λ b. (if b then Of change.key ∷ [] else []) ++ flat_map (query_candidates (key_of table layouts) (rows_of table after) change) queries) parts.0
+    ∙ linked-none (key_of table layouts) (rows_of table after) change queries parts.1
+no-candidates layouts after change (ByGroup table restriction group having aggregates) h = ap (λ b. if b then group_candidates group (touched change) else []) h
+no-candidates layouts after change (Single c queries) h = rw h refl
 
 -- no summary is of the table
 abbrev IsElsewhere : ℕ → Query Grouping → Type 0
@@ -73,7 +75,7 @@ module _ (layouts : List Layout) (change : Change) (state : State) (is : IsChang
   pub bad-elsewhere : (form : Form) (bad : List Root) → IsOrdered layouts state → is_over change.table form ≡ false → AreBad layouts form state bad → AreBad layouts form (state_after layouts change state) bad
   bad-elsewhere form bad asc h k = record {
     in_order = k.in_order;
-    exact = λ r. k.exact r ∙ sym (kept_truth layouts change state is asc form r (ap (has root_cmp r) (no-candidates change form h)));
+    exact = λ r. k.exact r ∙ sym (kept_truth layouts change state is asc form r (ap (has root_cmp r) (no-candidates layouts (state_after layouts change state) change form h)));
   }
 
   pub verdict-elsewhere : (form : Form) (bad : List Root) → IsOrdered layouts state → IsOrdered layouts (state_after layouts change state) → is_over change.table form ≡ false → AreBad layouts form state bad

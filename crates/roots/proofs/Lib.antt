@@ -4,6 +4,7 @@ pub mod BoundLemmas
 pub mod ElsewhereLemmas
 pub mod FirstRowLemmas
 pub mod ItemLemmas
+pub mod LinkedLemmas
 pub mod MaintainedLemmas
 pub mod ListedLemmas
 pub mod LoadedLemmas

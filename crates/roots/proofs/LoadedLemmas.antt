@@ -84,7 +84,7 @@ no-group-of group v restriction rows h =
 -- a root that no row names isn't bad
 unnamed-good : (layouts : List Layout) (form : Form) (state : State) (r : Root) → has root_cmp r (named_roots layouts form state) ≡ false → is_bad_root layouts form state r ≡ false
 unnamed-good layouts (ByRow table c queries) state Whole h = refl
-unnamed-good layouts (ByRow table c queries) state (Of v) h = ap (is_bad_row state c queries v) (no-row-at (key_of table layouts) v (rows_of table state) h)
+unnamed-good layouts (ByRow table c queries) state (Of v) h = ap (is_bad_row state c queries) (no-row-at (key_of table layouts) v (rows_of table state) h)
 unnamed-good layouts (ByGroup table restriction group having aggregates) state Whole h = refl
 unnamed-good layouts (ByGroup table restriction group having aggregates) state (Of v) h = rw (no-group-of group v restriction (rows_of table state) h) refl
 unnamed-good layouts (Single c queries) state Whole h = cc

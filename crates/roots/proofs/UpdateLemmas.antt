@@ -105,15 +105,15 @@ touched-before ts i p q ne h before here same d =
 
 -- the bad roots after a change, where all its candidates were looked at
 pub AreBad-after : (layouts : List Layout) (change : Change) (state after : State) (form : Form) (bad made : List Root) → IsChangeOf layouts change state → IsOrdered layouts state → after ≡ state_after layouts change state
-    → AreBad layouts form state bad → AreUpdated layouts form after (candidates change form) bad made → AreBad layouts form after made
+    → AreBad layouts form state bad → AreUpdated layouts form after (candidates layouts after change form) bad made → AreBad layouts form after made
 AreBad-after layouts change state after form bad made is asc now old u = record {
   in_order = u.in_order;
-  exact = λ r. u.right r ∙ case r (is_touched r (candidates change form)) refl;
+  exact = λ r. u.right r ∙ case r (is_touched r (candidates layouts after change form)) refl;
 }
   where
-    case : (r : Root) (t : Bool) → is_touched r (candidates change form) ≡ t → (if t then is_bad_root layouts form after r else is_among r bad) ≡ is_bad_root layouts form after r
+    case : (r : Root) (t : Bool) → is_touched r (candidates layouts after change form) ≡ t → (if t then is_bad_root layouts form after r else is_among r bad) ≡ is_bad_root layouts form after r
     case r true e = refl
-    case r false e = old.exact r ∙ sym (ap (λ s. is_bad_root layouts form s r) now ∙ kept_truth layouts change state is asc form r (sym (is_touched-has r (candidates change form)) ∙ e))
+    case r false e = old.exact r ∙ sym (ap (λ s. is_bad_root layouts form s r) now ∙ kept_truth layouts change state is asc form r (ap (λ s. has root_cmp r (candidates layouts s change form)) (sym now) ∙ sym (is_touched-has r (candidates layouts after change form)) ∙ e))
 
 -- the candidates by groups are values of the rows
 pub column_small : (row : RowValues) (c : ℕ) → IsSmallRow row → magnitude (value_in c row) ≤ 10 ^ 15
@@ -131,10 +131,10 @@ touched_small None (Some n) h k = All-cons IsSmallRow n [] k (All-nil IsSmallRow
 touched_small (Some o) None h k = All-cons IsSmallRow o [] h (All-nil IsSmallRow)
 touched_small (Some o) (Some n) h k = All-cons IsSmallRow o (n ∷ []) h (All-cons IsSmallRow n [] k (All-nil IsSmallRow))
 
-pub candidates_small : (change : Change) (form : Form) → HoldsOf IsSmallRow change.old → HoldsOf IsSmallRow change.new → All (IsSmallRoot form) (candidates change form)
-candidates_small change (ByRow table c queries) old new = λ k d h. tt
-candidates_small change (Single c queries) old new = λ k d h. tt
-candidates_small change (ByGroup table restriction group having aggregates) old new =
+pub candidates_small : (layouts : List Layout) (after : State) (change : Change) (form : Form) → HoldsOf IsSmallRow change.old → HoldsOf IsSmallRow change.new → All (IsSmallRoot form) (candidates layouts after change form)
+candidates_small layouts after change (ByRow table c queries) old new = λ k d h. tt
+candidates_small layouts after change (Single c queries) old new = λ k d h. tt
+candidates_small layouts after change (ByGroup table restriction group having aggregates) old new =
     elim (table == change.table) as (λ b. All (IsSmallRoot (ByGroup table restriction group having aggregates)) (if b then group_candidates group (touched change) else [])) [
       | true ↦ groups_small group (ByGroup table restriction group having aggregates) (touched change) (λ row h. column_small row group h) (touched_small change.old change.new old new)
       | false ↦ All-nil (IsSmallRoot (ByGroup table restriction group having aggregates))

@@ -8,7 +8,7 @@ use Rattle.value.specs.declared.values.Root.TheVariants.{All, Of}
 use Rattle.value.specs.ValueOrder.{root_cmp}
 use Rattle.value.specs.Ordered as ordered
 use Rattle.threeval.specs.declared.Truth.{Truth}
-use Rattle.table.specs.Rows.{RowValues, Layout, row_at}
+use Rattle.table.specs.Rows.{RowValues, Layout, row_at, value_in}
 use Rattle.cond.specs.declared.conds.Cond.{Cond}
 use Rattle.cond.specs.Eval.{truth, keeps}
 use Rattle.assertion.specs.declared.queries.Query.{Query}
@@ -18,6 +18,7 @@ use Rattle.assertion.specs.Candidates.{group_candidates}
 use Rattle.assertion.specs.Meaning.{State, rows_of, key_of}
 use Rattle.assertion.specs.Roots.{is_bad_root, is_among}
 use Rattle.roots.specs.declared.grouped.Grouping.{Grouping}
+use Rattle.roots.specs.declared.grouped.Grouping.TheVariants.{Whole, By, Linked}
 use Rattle.roots.specs.Summaries.{members}
 use Rattle.roots.specs.Answers.{query_answer}
 
@@ -29,23 +30,30 @@ IsRowOf layouts (ByRow table condition queries) state (Of key) row =
 IsRowOf layouts (ByGroup table restriction group having aggregates) state root row = Unit {0}
 IsRowOf layouts (Single condition queries) state root row = Unit {0}
 
--- what the queries give for a group
-abbrev pub answers : State → List (Query Grouping) → Value → List Value
-answers state queries v = map (query_answer state v) queries
+-- the group that a query is asked for by the row that its condition sees: what the row has in the column of the link,
+-- or where that row is a group's value alone, the group
+abbrev pub asked : Grouping → RowValues → Value
+asked Whole row = Null
+asked (By column) row = value_in 0 row
+asked (Linked link) row = value_in link.outer row
 
--- whether a condition is true of a row, if there is one, with what the queries give for its key
-abbrev pub row_passes : State → List (Query Grouping) → Cond → Value → Option RowValues → Bool
-row_passes state queries condition key None = false
-row_passes state queries condition key (Some row) = keeps row (answers state queries key) condition
+-- what the queries give for the row that their condition sees
+abbrev pub answers : State → List (Query Grouping) → RowValues → List Value
+answers state queries row = map (λ q. query_answer state (asked q.grouping row) q) queries
+
+-- whether a condition is true of a row, if there is one
+abbrev pub row_passes : State → List (Query Grouping) → Cond → Option RowValues → Bool
+row_passes state queries condition None = false
+row_passes state queries condition (Some row) = keeps row (answers state queries row) condition
 
 -- whether a group has a row, and HAVING is true of it
 abbrev pub group_passes : State → Query Grouping → List (Query Grouping) → Cond → Value → Bool
 group_passes state summary queries having v =
-    nat_lt 0 (length (members state summary v)) && keeps (v ∷ []) (answers state queries v) having
+    nat_lt 0 (length (members state summary v)) && keeps (v ∷ []) (answers state queries (v ∷ [])) having
 
 -- the truth of a condition that sees no row
 abbrev pub whole_truth : State → List (Query Grouping) → Cond → Truth
-whole_truth state queries condition = truth [] (answers state queries Null) condition
+whole_truth state queries condition = truth [] (answers state queries []) condition
 
 -- the roots with this one in or out
 abbrev pub put_root : Root → Bool → List Root → List Root

@@ -13,7 +13,7 @@ use Rattle.assertion.specs.declared.queries.Query.{Query}
 use Rattle.assertion.specs.declared.queries.Whole.{Whole as AnyWhole}
 use Rattle.assertion.specs.declared.forms.Form.{Form}
 use Rattle.assertion.specs.declared.forms.Form.TheVariants.{ByRow, ByGroup, Single}
-use Rattle.assertion.specs.Meaning.{State, link_column, rows_of}
+use Rattle.assertion.specs.Meaning.{State, rows_of}
 use Rattle.groups.specs.Answers.{value_for}
 use Rattle.groups.specs.Members.{rows_in, members_of}
 use Rattle.groups.specs.Totals.{Members}
@@ -26,7 +26,7 @@ abbrev pub group_of : Grouping → RowValues → Option Value
 group_of Whole row = Some Null
 group_of (By column) row = Some (value_in column row)
 group_of (Linked link) row =
-    if is_there (value_in (link_column link) row) then Some (value_in (link_column link) row) else None
+    if is_there (value_in link.inner row) then Some (value_in link.inner row) else None
 
 -- the group to which a row goes, if WHERE keeps it
 abbrev pub place : Query Grouping → RowValues → Option Value

@@ -48,8 +48,8 @@ pub fn is_bad(
         → bad ≡ is_bad_root layouts form.now state root.now) }
 {
     match (form, root) {
-        (Form::ByRow { condition, .. }, Root::Of(key)) => {
-            row_passes(alloc, form, totals, condition, row, key)
+        (Form::ByRow { condition, .. }, Root::Of(_)) => {
+            row_passes(alloc, form, totals, condition, row)
         }
         (Form::ByGroup { having, .. }, Root::Of(group)) => {
             group_passes(alloc, form, totals, having, group)
@@ -100,17 +100,16 @@ fn row_passes(
     totals: &[Totals],
     condition: &Cond,
     row: Option<&Row>,
-    key: &Value,
 ) -> Result<bool, Refusal>
     requires bounded { IsBoundedOver (kinds_in (queries_of form.now)) condition.now }
     requires totals { AreOfTables form.now totals.now }
     requires row_small { HoldsOf IsSmallRow (option_copied row) }
     ensures only_memory { IsOkUnless result NoMemory }
     ensures bad { IfOk result (λ bad. (state : State) → AreMaintained state form.now totals.now
-        → bad ≡ row_passes_by state (queries_of form.now) condition.now key.now (option_copied row.entry)) }
+        → bad ≡ row_passes_by state (queries_of form.now) condition.now (option_copied row.entry)) }
 {
     match row {
-        Some(row) => Ok(keeps(condition, row, &slots(alloc, form, totals, key)?)),
+        Some(row) => Ok(keeps(condition, row, &slots(alloc, form, totals, row)?)),
         None => Ok(false),
     }
 }
@@ -129,14 +128,15 @@ fn group_passes(
     requires group_small { magnitude group.now ≤ 10 ^ 15 }
     ensures only_memory { IsOkUnless result NoMemory }
     ensures bad { IfOk result (λ bad. (state : State) (summary : Query Grouping)
-        → AreMaintained state form.now totals.now → bad ≡ group_passes_by state (slice_index_or (summaries_of form.now) 0 summary)
+        → AreMaintained state form.now totals.now
+        → bad ≡ group_passes_by state (slice_index_or (summaries_of form.now) 0 summary)
         (queries_of form.now) having.now group.now) }
 {
     if count_of(&totals[0], group) == 0 {
         return Ok(false);
     }
-    let slots = slots(alloc, form, totals, group)?;
     let row = row_with(alloc, group)?;
+    let slots = slots(alloc, form, totals, &row)?;
     Ok(keeps(having, &row, &slots))
 }
 
@@ -179,6 +179,7 @@ fn truth_of_whole(
     ensures truth { IfOk result (λ truth. (state : State) → AreMaintained state form.now totals.now
         → truth ≡ whole_truth state (queries_of form.now) condition.now) }
 {
-    let slots = slots(alloc, form, totals, &Value::Null)?;
-    Ok(eval(condition, &Row::new(Vec::new(alloc)), &slots))
+    let row = Row::new(Vec::new(alloc));
+    let slots = slots(alloc, form, totals, &row)?;
+    Ok(eval(condition, &row, &slots))
 }

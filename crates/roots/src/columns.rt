@@ -1,10 +1,11 @@
-//! A row's value in a column.
+//! A row's value in a column, and a table's key column.
 
 ghost use Rattle.std.specs.Prelude.{◌≡◌, IfOk, IsOkUnless};
 ghost use Rattle.value.specs.declared.refusals.Refusal.TheVariants.{NoMemory};
 ghost use Rattle.table.specs.Rows.{value_in};
+ghost use Rattle.assertion.specs.Meaning.{key_of};
 
-use table::Row;
+use table::{Row, Schema};
 use value::{Refusal, Value};
 
 /// A copy of a row's value in a column; NULL past its end. NoMemory is the only error.
@@ -15,5 +16,15 @@ pub fn value_at(row: &Row, column: usize) -> Result<Value, Refusal>
     match row.values().get(column) {
         Some(value) => value.copy(),
         None => Ok(Value::Null),
+    }
+}
+
+/// The place of a table's key column; 0 where there is no such table. It takes no memory.
+pub fn key_column(schemas: &[Schema], table: usize) -> usize
+    ensures { result ≡ key_of table schemas.now }
+{
+    match schemas.get(table) {
+        Some(schema) => schema.key(),
+        None => 0,
     }
 }

@@ -105,7 +105,7 @@ fn group(grouping: Grouping, row: &Row) -> Result<Option<Value>, Refusal>
     match grouping {
         Grouping::Whole => Ok(Some(Value::Null)),
         Grouping::By(column) => Ok(Some(value_at(row, column)?)),
-        Grouping::Linked(link) => match value_at(row, link.column())? {
+        Grouping::Linked(link) => match value_at(row, link.inner)? {
             Value::Null => Ok(None),
             Value::Int(number) => Ok(Some(Value::Int(number))),
             Value::Text(text) => Ok(Some(Value::Text(text))),

@@ -13,7 +13,8 @@
 //!   summary all the same, that of COUNT(*), since a group is listed only where it has a row;
 //! - of a single condition, a subquery, in which all rows are one group.
 //!
-//! - [`candidates`] are the roots that changes can turn, in order; every other root keeps its truth.
+//! - [`candidates`] are the roots that changes can turn, in order, by the tables after them; every other root keeps its
+//!   truth.
 //! - [`totals_of`] and [`totals_after`] are the maintained totals of tables, made in one pass, and after a change. A
 //!   row that moves leaves its old group, and a group without rows has no entry. The tables are not handed in:
 //!   whatever tables the old totals are of, the new ones are of those with the change.
@@ -27,8 +28,8 @@
 //!   maintained stays right as it is.
 //! - [`truth_of`] is the assertion's truth: by rows and by groups whether there is a bad root, of a single condition
 //!   its truth, which can be unknown and is then not bad.
-//! - [`key_column`] is the place of a table's key column, and [`value_at`] a copy of what a row has in a column, for
-//!   whoever makes changes.
+//! - [`key_column`] is the place of a table's key column, [`row_under`] the row under a key, and [`value_at`] a copy of
+//!   what a row has in a column, for whoever makes changes.
 //!
 //! What the layer above may rest on: each of these is what `assertion`'s definitions say from scratch of the tables
 //! that the maintained totals are of; NoMemory is the only error, and it changes nothing, since the calls only read
@@ -53,7 +54,7 @@ mod updates;
 
 pub use bad_roots::{is_bad, truth_of};
 pub use candidate_roots::{candidates, is_over};
-pub use columns::value_at;
+pub use columns::{key_column, value_at};
 pub use lists::BadRoots;
 pub use maintained::{totals_after, totals_of};
-pub use updates::{bad_after, bad_of, key_column};
+pub use updates::{bad_after, bad_of, row_under};

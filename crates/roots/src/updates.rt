@@ -17,7 +17,7 @@ ghost use Rattle.roots.specs.Maintained.{AreMaintained, IsSmallRoot, IsSmallStat
 
 use crate::bad_roots::is_bad;
 use crate::candidate_roots::push_candidates;
-use crate::columns::value_at;
+use crate::columns::{key_column, value_at};
 use crate::lists::BadRoots;
 use assertion::Form;
 use groups::Totals;
@@ -99,16 +99,6 @@ fn roots_in_rows(alloc: Global, rows: &Rows, column: usize) -> Result<Vec<Root>,
     Ok(roots)
 }
 
-/// The place of a table's key column; 0 where there is no such table. It takes no memory.
-pub fn key_column(schemas: &[Schema], table: usize) -> usize
-    ensures { result ≡ key_of table schemas.now }
-{
-    match schemas.get(table) {
-        Some(schema) => schema.key(),
-        None => 0,
-    }
-}
-
 /// The bad roots after a change, in order: `tables` and `totals` are those after it, `bad` the bad roots before. Only
 /// the candidates of the change are looked at, and each other root is bad where it was.
 pub fn bad_after(
@@ -132,7 +122,7 @@ pub fn bad_after(
         → AreBad schemas.now form.now tables.now made) }
 {
     let mut touched = Vec::new(alloc);
-    push_candidates(&mut touched, form, change)?;
+    push_candidates(&mut touched, schemas, tables, form, change)?;
     updated(alloc, schemas, tables, form, totals, bad, &touched)
 }
 
@@ -217,8 +207,8 @@ fn row_of<'a>(schemas: &[Schema], tables: &'a [Rows], form: &Form, root: &Root) 
     }
 }
 
-/// The row under a key of a table.
-fn row_under<'a>(
+/// The row under a key of a table, if there is one. It takes no memory.
+pub fn row_under<'a>(
     schemas: &[Schema],
     tables: &'a [Rows],
     table: usize,

@@ -31,6 +31,9 @@ use Rattle.cond.proofs.exprs.Expr.TheLaws.TheKnot as exprs
 use Rattle.cond.specs.contracts.conds.Cond as Cond
 use Rattle.cond.specs.contracts.exprs.Expr as Expr
 use Rattle.delta.specs.contracts.views.View as View
+use Rattle.groups.specs.contracts.indexes.Index as Index
+use Rattle.groups.specs.contracts.key_sets.KeySet as KeySet
+use Rattle.mvrows.specs.contracts.rows.Rows as Rows
 use Rattle.delta.specs.contracts.watches.Watch as Watch
 use Rattle.pages.proofs.nodes.Node.TheLaws.TheKnot as nodes
 use Rattle.pages.specs.contracts.pages.Pages as Pages
@@ -79,11 +82,29 @@ Watch-send = search (Pages-send, Pages-sync, crosses, sendable) depth 60 fits 20
 Watch-sync : IsSync Watch.the_row
 Watch-sync = search (Pages-send, Pages-sync, crosses, sendable) depth 60 fits 20000
 
+KeySet-send : IsSend KeySet.the_row
+KeySet-send = search (Pages-send, crosses, sendable) depth 60 fits 20000
+
+KeySet-sync : IsSync KeySet.the_row
+KeySet-sync = search (Pages-sync, crosses, sendable) depth 60 fits 20000
+
+Index-send : IsSend Index.the_row
+Index-send = search (Pages-send, KeySet-send, KeySet-sync, crosses, sendable) depth 60 fits 20000
+
+Index-sync : IsSync Index.the_row
+Index-sync = search (Pages-sync, KeySet-send, KeySet-sync, crosses, sendable) depth 60 fits 20000
+
+Rows-send : IsSend Rows.the_row
+Rows-send = search (Pages-send, Index-send, crosses, sendable) depth 60 fits 20000
+
+Rows-sync : IsSync Rows.the_row
+Rows-sync = search (Pages-sync, Index-sync, crosses, sendable) depth 60 fits 20000
+
 pub View-send : IsSend View.the_row
-View-send = search (Pages-send, Assertion-send, Assertion-sync, Watch-send, Watch-sync, Catalog.the_send, Catalog.the_sync, Schema.the_send, Schema.the_sync, crosses, sendable) depth 60 fits 20000
+View-send = search (Rows-send, Assertion-send, Assertion-sync, Watch-send, Watch-sync, Catalog.the_send, Catalog.the_sync, Schema.the_send, Schema.the_sync, crosses, sendable) depth 60 fits 20000
 
 pub View-sync : IsSync View.the_row
-View-sync = search (Pages-sync, Assertion-send, Assertion-sync, Watch-send, Watch-sync, Catalog.the_send, Catalog.the_sync, Schema.the_send, Schema.the_sync, crosses, sendable) depth 60 fits 20000
+View-sync = search (Rows-sync, Assertion-send, Assertion-sync, Watch-send, Watch-sync, Catalog.the_send, Catalog.the_sync, Schema.the_send, Schema.the_sync, crosses, sendable) depth 60 fits 20000
 
 Setting-send : IsSend Setting.the_row
 Setting-send = search (Expr-send, crosses, sendable) depth 60 fits 20000

@@ -96,7 +96,7 @@ CREATE ASSERTION RULE CHECK (NOT EXISTS (SELECT * FROM T R WHERE EXISTS (SELECT 
         Style::Json,
         Health::Faulty,
         "{\"assertions\":[],\"events\":0,\"faults\":[{\"advice\":[\"Its WHERE has one part, joined by AND, that \
-         sets a column of its own table equal to R.ID, the key of the row around it.\"],\"column\":74,\"end\":152,\
+         sets a column of its own table equal to a column of the row around it, as R.ID.\"],\"column\":74,\"end\":152,\
          \"end_column\":101,\"end_line\":2,\"exact\":true,\"fault\":20,\"file\":\"defs.sql\",\"line\":2,\
          \"start\":125,\"what\":\"this query is not linked to the row around it\"}],\"notes\":[],\"ok\":false,\
          \"sessions\":0,\"tables\":[]}\n",

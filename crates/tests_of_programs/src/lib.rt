@@ -13,6 +13,8 @@ mod files;
 #[cfg(test)]
 mod gates;
 #[cfg(test)]
+mod links;
+#[cfg(test)]
 mod replays;
 #[cfg(test)]
 mod sessions;

@@ -26,7 +26,7 @@ fn written(alloc: Global, defs: &str, script: &str, most: u64) -> Result<Vec<u8>
     }
 }
 
-fn prints(
+pub fn prints(
     rt: &(impl Abort + Alloc<A = Global>),
     defs: &str,
     script: &str,

@@ -36,7 +36,10 @@ fn linked(alloc: Global, table: usize, column: usize) -> Query<Link>
     Query {
         table,
         filter: Cond::And(Items::new(alloc)),
-        grouping: Link::Column(column),
+        grouping: Link {
+            inner: column,
+            outer: 0,
+        },
         aggregate: Aggregate::CountRows,
     }
 }

@@ -16,6 +16,10 @@ mod forms;
 #[cfg(test)]
 mod groups_tests;
 #[cfg(test)]
+mod index_tests;
+#[cfg(test)]
+mod indexed_rows_tests;
+#[cfg(test)]
 mod mvrows_tests;
 #[cfg(test)]
 mod pages_tests;

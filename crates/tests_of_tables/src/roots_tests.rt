@@ -165,7 +165,7 @@ fn listed(alloc: Global, roots: &[Root]) -> Result<String, AllocError> {
 /// The roots at which an assertion of this form can turn by the insertion.
 fn candidate_roots(alloc: Global, form: &Form) -> Result<String, Refusal> {
     let change = insertion(alloc)?;
-    let roots = candidates(alloc, form, &[change])?;
+    let roots = candidates(alloc, &[], &[], form, &[change])?;
     Ok(listed(alloc, &roots)?)
 }
 

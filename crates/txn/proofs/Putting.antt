@@ -67,7 +67,7 @@ module _ (own : Shown) (modes : Immediates) where
   -- rows that are left unless an assertion is violated are those of the step
   pub rows_done : (read : LockKey) (effect : Effect) (after : Shown) (found violated : Option Refusal) (done : Done) → after.state ≡ state_after_all layouts effect.changes own.state
       → found ≡ violation layouts checked (state_after_all layouts effect.changes own.state) → violated ≡ found
-      → done.reads.items ≡ read ∷ checks_read checked (net_change layouts own.state (state_after_all layouts effect.changes own.state))
+      → done.reads.items ≡ read ∷ checks_read layouts (state_after_all layouts effect.changes own.state) checked (net_change layouts own.state (state_after_all layouts effect.changes own.state))
       → IsLeft violated effect.reply (Some after) None done
       → IsDone (standing own modes) (effected own.declared (standing own modes) read (Ok effect)) done
   rows_done read effect after found None done e f g r left =
@@ -81,7 +81,7 @@ module _ (own : Shown) (modes : Immediates) where
       new = record { view = state_after_all (layouts_in own.declared) effect.changes own.state; modes = modes }
 
       reads : List LockKey
-      reads = read ∷ checks_read (immediate_ones modes own.declared.assertions) (net_change (layouts_in own.declared) own.state (state_after_all (layouts_in own.declared) effect.changes own.state))
+      reads = read ∷ checks_read (layouts_in own.declared) (state_after_all (layouts_in own.declared) effect.changes own.state) (immediate_ones modes own.declared.assertions) (net_change (layouts_in own.declared) own.state (state_after_all (layouts_in own.declared) effect.changes own.state))
   rows_done read effect after found (Some refusal) done e f g r left =
       subst (λ o. IsDone (standing own modes) (unless_violated o effect.reply (standing own modes) new reads) done) (g ∙ f) (record {
         reply = sym left.0;
@@ -93,7 +93,7 @@ module _ (own : Shown) (modes : Immediates) where
       new = record { view = state_after_all (layouts_in own.declared) effect.changes own.state; modes = modes }
 
       reads : List LockKey
-      reads = read ∷ checks_read (immediate_ones modes own.declared.assertions) (net_change (layouts_in own.declared) own.state (state_after_all (layouts_in own.declared) effect.changes own.state))
+      reads = read ∷ checks_read (layouts_in own.declared) (state_after_all (layouts_in own.declared) effect.changes own.state) (immediate_ones modes own.declared.assertions) (net_change (layouts_in own.declared) own.state (state_after_all (layouts_in own.declared) effect.changes own.state))
 
   -- and they differ at the changed places alone
   pub rows_differ : (real put : List Change) (after : Shown) (reply : Reply) (violated : Option Refusal) (done : Done)
@@ -109,18 +109,18 @@ module _ (own : Shown) (modes : Immediates) where
   pub modes_done : (start : State) (names : List (List ℕ)) (new : Immediates) (net : List Change) (found violated : Option Refusal) (done : Done)
       → net ≡ net_change layouts start own.state → new ≡ modes_with names true own.declared.assertions modes
       → found ≡ violation layouts (named_ones names own.declared.assertions) own.state → violated ≡ found
-      → done.reads.items ≡ checks_read (named_ones names own.declared.assertions) net
+      → done.reads.items ≡ checks_read layouts own.state (named_ones names own.declared.assertions) net
       → IsLeft violated ModesSet None (Some new) done
       → IsDone (standing own modes) (modes_step own.declared start names true (standing own modes)) done
   modes_done start names new net found None done n e f g r left =
-      subst (λ o. IsDone (standing own modes) (unless_violated o ModesSet (standing own modes) (record { view = own.state; modes = modes_with names true own.declared.assertions modes }) (checks_read (named_ones names own.declared.assertions) (net_change (layouts_in own.declared) start own.state))) done) (g ∙ f) (record {
+      subst (λ o. IsDone (standing own modes) (unless_violated o ModesSet (standing own modes) (record { view = own.state; modes = modes_with names true own.declared.assertions modes }) (checks_read (layouts_in own.declared) own.state (named_ones names own.declared.assertions) (net_change (layouts_in own.declared) start own.state))) done) (g ∙ f) (record {
         reply = sym left.0;
         after = λ i. record { view = sym (ap (rows_left own.state) left.1) i; modes = sym (ap (λ o. unwrap_or o modes) left.2 ∙ e) i };
-        reads = sym (r ∙ ap (checks_read (named_ones names own.declared.assertions)) n);
+        reads = sym (r ∙ ap (checks_read (layouts_in own.declared) own.state (named_ones names own.declared.assertions)) n);
       })
   modes_done start names new net found (Some refusal) done n e f g r left =
-      subst (λ o. IsDone (standing own modes) (unless_violated o ModesSet (standing own modes) (record { view = own.state; modes = modes_with names true own.declared.assertions modes }) (checks_read (named_ones names own.declared.assertions) (net_change (layouts_in own.declared) start own.state))) done) (g ∙ f) (record {
+      subst (λ o. IsDone (standing own modes) (unless_violated o ModesSet (standing own modes) (record { view = own.state; modes = modes_with names true own.declared.assertions modes }) (checks_read (layouts_in own.declared) own.state (named_ones names own.declared.assertions) (net_change (layouts_in own.declared) start own.state))) done) (g ∙ f) (record {
         reply = sym left.0;
         after = left_none own modes done left.1 left.2;
-        reads = sym (r ∙ ap (checks_read (named_ones names own.declared.assertions)) n);
+        reads = sym (r ∙ ap (checks_read (layouts_in own.declared) own.state (named_ones names own.declared.assertions)) n);
       })

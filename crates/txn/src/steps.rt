@@ -247,7 +247,7 @@ fn put_in(own: &View, modes: &Modes, reads: Vec<LockKey>, effect: Effect) -> Res
     recall_order(own);
     let after = own.after(changes.as_slice())?;
     let real = real_changes(changes);
-    let checked = checks_read(alloc, own, modes.as_slice(), real.as_slice())?;
+    let checked = checks_read(alloc, &after, modes.as_slice(), real.as_slice())?;
     append(&mut reads, checked)?;
     let violated = find_violation(&after, modes.as_slice())?;
     Ok(leave_rows_unless(violated, reply, after, real, reads))

@@ -1,6 +1,6 @@
 -- Which forms of assertions are typed: each condition over what it sees.
 use Rattle.std.specs.Prelude.{ℕ, Bool, false, ◌&&◌, List, [], ◌∷◌, map, Option, Some, None, slice_get, if◌then◌else◌}
-use Rattle.std.specs.Option.{option_map, option_and_then, option_to_list}
+use Rattle.std.specs.Option.{option_map, option_to_list}
 use Rattle.table.specs.declared.schemas.Column.{Column}
 use Rattle.table.specs.Rows.{Layout}
 use Rattle.cond.specs.declared.conds.Cond.{Cond}
@@ -8,7 +8,6 @@ use Rattle.assertion.specs.declared.queries.Query.{Query}
 use Rattle.assertion.specs.declared.queries.Link.{Link}
 use Rattle.assertion.specs.declared.forms.Form.{Form}
 use Rattle.assertion.specs.declared.forms.Form.TheVariants.{ByRow, ByGroup, Single}
-use Rattle.assertion.specs.Meaning.{link_column}
 use Rattle.type_check.specs.declared.data_types.DataType.{DataType}
 use Rattle.type_check.specs.Types.{column_type, are_comparable, aggregate_type, is_typed_condition}
 
@@ -21,11 +20,6 @@ columns_in (Some layout) = layout.columns
 abbrev pub columns_of : List Layout → ℕ → List Column
 columns_of layouts table = columns_in (slice_get layouts table)
 
--- the type of a table's key
-abbrev pub key_type : List Layout → ℕ → Option DataType
-key_type layouts table =
-    option_and_then (λ (layout : Layout). column_type layout.columns layout.key) (slice_get layouts table)
-
 -- the grouping column as the only one, if there is one
 abbrev pub group_columns : List Column → ℕ → List Column
 group_columns columns group = option_to_list (slice_get columns group)
@@ -37,10 +31,11 @@ query_type layouts q =
     then aggregate_type (columns_of layouts q.table) q.aggregate
     else None
 
--- what a subquery of a row gives, if its link compares the key with a column of the key's type
-abbrev pub linked_type : List Layout → Option DataType → Query Link → Option DataType
-linked_type layouts key q =
-    if are_comparable key (column_type (columns_of layouts q.table) (link_column q.grouping))
+-- what a subquery of a row with these columns gives, if its link compares columns of one type
+abbrev pub linked_type : List Layout → List Column → Query Link → Option DataType
+linked_type layouts columns q =
+    if are_comparable (column_type columns q.grouping.outer)
+    (column_type (columns_of layouts q.table) q.grouping.inner)
     then query_type layouts q
     else None
 
@@ -58,8 +53,8 @@ is_typed_over columns (Some slots) condition = is_typed_condition columns slots 
 -- whether each condition of a form is typed over what it sees, with each of its subqueries or aggregates
 abbrev pub is_typed_form : List Layout → Form → Bool
 is_typed_form layouts (ByRow table condition queries) =
-    is_typed_over (columns_of layouts table) (all_types (map (linked_type layouts (key_type layouts table)) queries))
-    condition
+    is_typed_over (columns_of layouts table)
+    (all_types (map (linked_type layouts (columns_of layouts table)) queries)) condition
 is_typed_form layouts (ByGroup table restriction group having aggregates) =
     is_typed_condition (columns_of layouts table) [] restriction
     && is_typed_over (group_columns (columns_of layouts table) group)

@@ -8,7 +8,7 @@
 //! - A literal is of its own type, a column of the declared one. COUNT and SUM give numbers, MIN and MAX what their
 //!   column holds. A negation, a sum and a product are numbers where each part is one.
 //! - A *mismatch* is a comparison of a number with a text (BETWEEN and IN are comparisons already), arithmetic or a
-//!   negation on a text, SUM of a text column, and a link between a row's key and a column of the other type. IS NULL
+//!   negation on a text, SUM of a text column, and a link between columns of two types. IS NULL
 //!   takes either type, and the slot of EXISTS holds a count.
 //! - What can't stand in a resolved condition has no type, and so is a mismatch wherever its type is asked for: NULL
 //!   as a literal, and a column or a slot that is not there. A table past the end of the catalog has no columns.

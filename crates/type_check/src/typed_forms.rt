@@ -4,7 +4,7 @@ ghost use Rattle.std.specs.Prelude.{◌≡◌, map, IfOk, IsOkUnless};
 ghost use Rattle.value.specs.declared.refusals.Refusal.TheVariants.{NoMemory};
 ghost use Rattle.table.specs.Rows.{layouts_of};
 ghost use Rattle.type_check.specs.Types.{aggregate_type as aggregate_type_of};
-ghost use Rattle.type_check.specs.Forms.{all_types, columns_of as columns_of_layouts, group_columns as group_columns_of, is_typed_form, is_typed_over as is_typed_over_types, key_type as key_type_of, linked_type, query_type as query_type_of};
+ghost use Rattle.type_check.specs.Forms.{all_types, columns_of as columns_of_layouts, group_columns as group_columns_of, is_typed_form, is_typed_over as is_typed_over_types, linked_type, query_type as query_type_of};
 
 use crate::data_types::{DataType, aggregate_type, are_comparable, column_type};
 use crate::typed_trees::is_well_typed;
@@ -32,9 +32,10 @@ pub fn form_is_typed(alloc: Global, catalog: &Catalog, form: &Form) -> Result<bo
             condition,
             queries,
         } => {
-            let key = key_type(catalog, *table);
-            let slots = slot_types(alloc, &LinkedQueries { catalog, key }, queries.as_slice())?;
-            Ok(is_typed_over(condition, columns_of(catalog, *table), &slots))
+            let columns = columns_of(catalog, *table);
+            let of = LinkedQueries { catalog, columns };
+            let slots = slot_types(alloc, &of, queries.as_slice())?;
+            Ok(is_typed_over(condition, columns, &slots))
         }
         Form::ByGroup {
             table,
@@ -74,16 +75,6 @@ fn columns_of(catalog: &Catalog, table: usize) -> &[Column]
     match catalog.at(table) {
         Some(schema) => schema.columns(),
         None => &[],
-    }
-}
-
-/// The type of a table's key.
-fn key_type(catalog: &Catalog, table: usize) -> Option<DataType>
-    ensures { result ≡ key_type_of (layouts_of catalog.now) table }
-{
-    match catalog.at(table) {
-        Some(schema) => column_type(schema.columns(), schema.key()),
-        None => None,
     }
 }
 
@@ -130,22 +121,23 @@ fn slot_types<T: SlotTypes>(
     Ok(Some(Items::from_vec(types)))
 }
 
-/// The subqueries of a row with a key of this type.
+/// The subqueries of a row with these columns.
 #[derive(Clone, Copy)]
 struct LinkedQueries<'a> {
     catalog: &'a Catalog,
-    key: Option<DataType>,
+    columns: &'a [Column],
 }
 
 impl<'a> SlotTypes for LinkedQueries<'a> {
     type Slot = Query<Link>;
 
-    ghost slot_type = { λ s. linked_type (layouts_of s.catalog.now) s.key };
+    ghost slot_type = { λ s. linked_type (layouts_of s.catalog.now) s.columns.now };
 
     fn slot_type(&self, query: &Query<Link>) -> Option<DataType> {
         let columns = columns_of(self.catalog, query.table);
-        let link = column_type(columns, query.grouping.column());
-        if are_comparable(self.key, link) {
+        let inner = column_type(columns, query.grouping.inner);
+        let outer = column_type(self.columns, query.grouping.outer);
+        if are_comparable(outer, inner) {
             query_type(self.catalog, query)
         } else {
             None

@@ -9,4 +9,4 @@ use Rattle.roots.proofs.answers.slots.Given as goal
 
 -- the slots so far hold what the first queries give
 abbrev pub invariant-loop-index : goal.invariant-loop-index
-invariant-loop-index l = (kinds_of l.slots ≡ kinds_in (take l.index (queries_of l.form))) × ((state : State) → AreMaintained state l.form l.totals → values_of l.slots ≡ answers state (take l.index (queries_of l.form)) l.group)
+invariant-loop-index l = (kinds_of l.slots ≡ kinds_in (take l.index (queries_of l.form))) × ((state : State) → AreMaintained state l.form l.totals → values_of l.slots ≡ answers state (take l.index (queries_of l.form)) l.row)

@@ -1,4 +1,11 @@
+use Rattle.std.proofs.Common.{◌∙◌, ap}
+use Rattle.cond.specs.Eval.{truth}
+use Rattle.roots.specs.Bad.{answers}
+use Rattle.roots.specs.Summaries.{queries_of}
 use Rattle.roots.proofs.bad_roots.truth_of_whole.Goals as goal
 
 pub returns-clause-truth : goal.returns-clause-truth
-returns-clause-truth c = λ state totals. rw (← c.in_ok-slots.ensures.values state totals, ← c.new.ensures.items, ← c.new-2.ensures) c.eval-2.ensures
+returns-clause-truth c = λ state totals.
+    let empty = c.new-row.ensures ∙ c.new.ensures.items in
+    c.eval.ensures ∙ ap (λ vs. truth c.new-row.result vs c.args.condition.now) (c.in_ok-slots.ensures.values state totals)
+    ∙ ap (λ row. truth row (answers state (queries_of c.args.form.now) row) c.args.condition.now) empty

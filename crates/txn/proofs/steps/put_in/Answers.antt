@@ -35,8 +35,8 @@ returns-clause-done c = λ read is.
     refl
     (rw (c.as_slice-4.ensures, c.in_ok-after.ensures.changed, c.as_slice.ensures.value) at c.in_ok-violated.ensures.first)
     (c.leave_rows_unless.ensures.reads ∙ c.in_ok-append.ensures.both ∙ ap (λ xs. xs ++ c.in_ok-checked.checked.items) is
-    ∙ ap (λ ks. read ∷ ks) ((rw (c.as_slice-2.ensures, c.as_slice-3.ensures.value) at c.in_ok-checked.ensures.keys)
-    ∙ ap (checks_read (immediate_ones c.args.modes.now c.args.own.now.declared.assertions)) (net_is c)))
+    ∙ ap (λ ks. read ∷ ks) ((rw (c.as_slice-2.ensures, c.as_slice-3.ensures.value, c.in_ok-after.ensures.changed, c.as_slice.ensures.value) at c.in_ok-checked.ensures.keys)
+    ∙ ap (checks_read (layouts_in c.args.own.now.declared) (state_after_all (layouts_in c.args.own.now.declared) c.args.effect.changes.items c.args.own.now.state) (immediate_ones c.args.modes.now c.args.own.now.declared.assertions)) (net_is c)))
     c.leave_rows_unless.ensures.left
 
 pub returns-clause-changes : goal.returns-clause-changes

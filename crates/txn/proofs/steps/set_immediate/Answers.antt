@@ -13,5 +13,5 @@ returns-clause-done c = λ start n.
     ∙ ap (λ ones. violation (layouts_in c.args.own.now.declared) ones c.args.own.now.state) (named_are c.args.names.now c.args.own.now.declared.assertions))
     (c.leave_modes_unless.ensures.reads
     ∙ (rw (c.as_slice.ensures, c.in_ok-meant.ensures.modes, c.assertions.ensures.value) at c.in_ok-reads.ensures.keys)
-    ∙ ap (λ ones. checks_read ones c.args.net.now) (named_are c.args.names.now c.args.own.now.declared.assertions))
+    ∙ ap (λ ones. checks_read (layouts_in c.args.own.now.declared) c.args.own.now.state ones c.args.net.now) (named_are c.args.names.now c.args.own.now.declared.assertions))
     c.leave_modes_unless.ensures.left

@@ -7,6 +7,7 @@ use Rattle.value.proofs.OrderedLists.{IsAscending-put, at-put}
 use Rattle.table.specs.Rows.{RowValues, value_in, row_at, put_row}
 use Rattle.pages.specs.Reach.{key_of, entry_of}
 use Rattle.mvrows.specs.Keyed.{rows_of, AreKeyed}
+use Rattle.mvrows.specs.Indexed.{AreIndexesOf}
 use Rattle.mvrows.proofs.KeyedRows.{keyed-put, put-rows, length-rows_of}
 use Rattle.mvrows.proofs.rows.Rows.with.Goals as goal
 
@@ -18,7 +19,12 @@ invariant_of-result c =
     let keyed : List (Value × RowValues) = c.in_ok-keyed.keyed in
     let made : c.in_ok-pages.pages ≡ put value_cmp key_of k (entry_of k new) keyed =
     c.in_ok-pages.ensures.changed ∙ ap (λ (r : Option RowValues). put value_cmp key_of k (entry_of k r) keyed) c.in_ok-new.ensures.equal in
-    subst (AreKeyed column) (sym made) (keyed-put column k new keyed c.requires.keyed c.in_ok-keyed.ensures.keyed)
+    let rows : rows_of c.in_ok-pages.pages ≡ put_row column k new c.args.self.now =
+    ap rows_of made ∙ put-rows column k new keyed c.in_ok-keyed.ensures.keyed ∙ ap (put_row column k new) (c.in_ok-keyed.ensures.rows ∙ c.self.view_is) in
+    record {
+      keyed = subst (AreKeyed column) (sym made) (keyed-put column k new keyed c.requires.keyed c.in_ok-keyed.ensures.keyed);
+      indexed = subst (λ (rs : List RowValues). AreIndexesOf column rs c.in_ok-indexes.indexes) (sym rows) c.in_ok-indexes.ensures.indexes;
+    }
 
 pub returns : goal.returns
 returns c =

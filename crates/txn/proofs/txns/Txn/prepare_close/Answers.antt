@@ -20,7 +20,7 @@ returns-clause-closed c =
           ∙ ap (λ (s : Shown). violation (layouts_in s.declared) s.declared.assertions s.state) c.self.invariant.own_is;
       reads_are = ap (λ ks. (run_of (txn.the_view c.self.inside)).reads ++ ks) (
           (rw (c.as_slice.ensures, c.in_ok-meant.ensures.modes, c.assertions.ensures.value, c.as_slice-2.ensures.value) at c.in_ok-checked.ensures.keys)
-          ∙ ap (λ ones. checks_read ones c.in_ok-changes.changes.items) (all_ones c.self.inside.own.declared.assertions)
-          ∙ ap (λ (s : Shown). checks_read s.declared.assertions c.in_ok-changes.changes.items) c.self.invariant.own_is
-          ∙ ap (checks_read c.self.inside.start.declared.assertions) net);
+          ∙ ap (λ ones. checks_read (layouts_in c.self.inside.own.declared) c.self.inside.own.state ones c.in_ok-changes.changes.items) (all_ones c.self.inside.own.declared.assertions)
+          ∙ ap (λ (s : Shown). checks_read (layouts_in s.declared) s.state s.declared.assertions c.in_ok-changes.changes.items) c.self.invariant.own_is
+          ∙ ap (checks_read (layouts_in c.self.inside.start.declared) (run_of (txn.the_view c.self.inside)).final.view c.self.inside.start.declared.assertions) net);
     })

@@ -1,7 +1,7 @@
 use Rattle.std.proofs.Common.{◌≡◌, ◌++◌, drop, option_to_list}
 use Rattle.name_check.specs.Shown.{shown}
 use Rattle.form_check.specs.Links.{links_in}
-use Rattle.form_check.proofs.links.LinkedTables.only_column.Given as goal
+use Rattle.form_check.proofs.links.LinkedTables.only_link.Given as goal
 
 -- the link found so far and those of the rest are all
 abbrev pub invariant-loop-part : goal.invariant-loop-part

@@ -1,0 +1,10 @@
+use Rattle.std.proofs.Common.{◌∙◌, ap, map, None, refl}
+use Rattle.value.specs.declared.values.Value.{Value}
+use Rattle.pages.specs.Reach.{key_of}
+use Rattle.groups.proofs.Carried.{put-made}
+use Rattle.groups.proofs.key_sets.KeySet.less.Goals as goal
+
+pub returns-clause-less : goal.returns-clause-less
+returns-clause-less c =
+    rw (← c.self.view_is)
+    (ap (map key_of) c.in_ok-with.ensures.changed ∙ put-made key_of (λ (j : Value). j) (λ e. refl) c.args.key.now None c.self.inside.pages)
