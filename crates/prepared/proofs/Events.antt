@@ -1,0 +1,147 @@
+-- Each rule of statements and events keeps the numbers of its text.
+use Rattle.std.proofs.Common.{◌≡◌, Bool, true, false, [], ◌∷◌, ◌++◌, map, Option, Some, None, refl, sym, ap, append_assoc}
+use Rattle.token.specs.declared.kinds.Kind.TheVariants as k
+use Rattle.value.specs.declared.values.Value.TheVariants as v
+use Rattle.syntax.specs.Grammar as grammar
+use Rattle.statement_syntax.specs.declared.statements.Assigned.TheVariants as to
+use Rattle.statement_syntax.specs.declared.statements.Which.TheVariants as which
+use Rattle.statement_syntax.specs.declared.statements.Mode.TheVariants as mode
+use Rattle.statement_syntax.specs.declared.statements.Statement.TheVariants as s
+use Rattle.statement_syntax.specs.declared.statements.Event.{Event}
+use Rattle.statement_syntax.specs.declared.statements.Event.TheVariants as event
+use Rattle.statement_syntax.specs.Grammar as g
+use Rattle.syntax.specs.declared.wants.Found.{Found}
+use Rattle.reading.specs.Language.{Lexeme, Lexemes, Language}
+use Rattle.reading.specs.Language as lang
+use Rattle.prepared.specs.Numerals.{numerals, joined, condition_numerals, expression_numerals, value_numerals, insert_numerals, assigned_numerals, assignment_numerals, where_numerals, statement_numerals, event_numerals}
+use Rattle.prepared.proofs.Yields.{Adds, Silent, yields_token, yields_number, yields_map, yields_then, yields_list, silent_pure, silent_or, silent_seq, silent_map, silent_optional, silent_parens, silent_list, adds_pure, adds_or, adds_seq, adds_parens, adds_map, adds_none, adds_behind}
+use Rattle.prepared.proofs.Rules.{abs_signed, silent_name, found_numerals, inner_expr, inner_cond, nested}
+
+-- ---- parts without a number
+
+silent_columns : Silent g.columns
+unfolding g.columns
+silent_columns = silent_optional _ (silent_parens _ (silent_list grammar.name silent_name))
+
+silent_check_time : Silent g.check_time
+unfolding g.check_time
+silent_check_time = silent_or _ _ (silent_seq k.Deferred _ refl (silent_pure mode.Deferred)) (silent_seq k.Immediate _ refl (silent_pure mode.Immediate))
+
+silent_constraints : Silent g.constraints
+unfolding g.constraints
+silent_constraints = silent_or _ _ (silent_seq k.All _ refl (silent_pure which.All)) (silent_map which.Names (lang.list grammar.name) (silent_list grammar.name silent_name))
+
+silent_selected : Silent g.selected
+unfolding g.selected
+silent_selected = silent_or _ _ (silent_seq k.Star _ refl (silent_pure which.All)) (silent_map which.Names (lang.list grammar.name) (silent_list grammar.name silent_name))
+
+silent_work : Silent (lang.optional (lang.token k.Work))
+silent_work = silent_optional (lang.token k.Work) (λ before. yields_token k.Work before refl)
+
+adds_set_constraints : Adds g.set_constraints statement_numerals
+unfolding g.set_constraints
+adds_set_constraints =
+    adds_seq k.Set _ statement_numerals refl (adds_seq k.Constraints _ statement_numerals refl
+    (adds_behind g.constraints _ statement_numerals silent_constraints (λ which. adds_none (s.SetConstraints which) g.check_time statement_numerals (λ mode. refl) silent_check_time)))
+
+adds_verdict : Adds g.verdict statement_numerals
+unfolding g.verdict
+adds_verdict = adds_seq k.Verdict _ statement_numerals refl (adds_none s.Verdict grammar.name statement_numerals (λ name. refl) silent_name)
+
+begins : (only : Option Lexeme) → event_numerals (g.begin_of only) ≡ []
+begins None = refl
+begins (Some x) = refl
+
+adds_access : Adds g.access event_numerals
+unfolding g.access
+adds_access = adds_none g.begin_of _ event_numerals begins (silent_optional _ (silent_seq k.Read (lang.token k.Only) refl (λ before. yields_token k.Only before refl)))
+
+-- ---- INSERT
+
+adds_int : (is_negative : Bool) → Adds (lang.◌<$>◌ (g.number_of is_negative) (lang.token k.Number)) value_numerals
+adds_int is_negative before =
+    yields_map (g.number_of is_negative) (lang.token k.Number) before (λ x. before ++ grammar.digits_value x ∷ []) (λ x. before ++ value_numerals x) (yields_number before)
+    (λ x. ap (λ n. before ++ n ∷ []) (abs_signed is_negative (grammar.digits_value x)))
+
+adds_constant : Adds g.constant value_numerals
+unfolding g.constant
+adds_constant =
+    adds_or _ _ value_numerals (adds_or _ _ value_numerals (adds_or _ _ value_numerals (adds_or _ _ value_numerals
+    (adds_seq k.Null _ value_numerals refl (adds_pure v.Null value_numerals refl))
+    (adds_none g.text_of (lang.token k.Text) value_numerals (λ x. refl) (λ before. yields_token k.Text before refl)))
+    (adds_int false))
+    (adds_seq k.Plus _ value_numerals refl (adds_int false)))
+    (adds_seq k.Minus _ value_numerals refl (adds_int true))
+
+adds_insert : Adds g.insert insert_numerals
+unfolding g.insert
+adds_insert =
+    adds_seq k.Insert _ insert_numerals refl (adds_seq k.Into _ insert_numerals refl
+    (adds_behind grammar.name _ insert_numerals silent_name (λ table. adds_behind g.columns _ insert_numerals silent_columns
+    (λ columns. adds_seq k.Values _ insert_numerals refl
+    (adds_map (g.insert_of table columns) (lang.parens (lang.list g.constant)) (λ xs. joined (map value_numerals xs)) insert_numerals (λ xs. refl)
+    (adds_parens _ (λ xs. joined (map value_numerals xs)) (yields_list g.constant value_numerals adds_constant)))))))
+
+-- ---- what may have parentheses in it
+
+module _ (inner : Language Found) (adds : Adds inner found_numerals) where
+  where_clause : Adds (g.where_clause inner) where_numerals
+  unfolding g.where_clause
+  where_clause =
+      adds_or _ _ where_numerals (adds_pure None where_numerals refl)
+      (adds_map Some _ condition_numerals where_numerals (λ c. refl) (adds_seq k.Where _ condition_numerals refl (inner_cond inner adds)))
+
+  assigned : Adds (g.assigned inner) assigned_numerals
+  unfolding g.assigned
+  assigned =
+      adds_or _ _ assigned_numerals (adds_seq k.Null _ assigned_numerals refl (adds_pure to.Null assigned_numerals refl))
+      (adds_map to.To (grammar.inner_expr inner) expression_numerals assigned_numerals (λ x. refl) (inner_expr inner adds))
+
+  assignment : Adds (g.assignment inner) assignment_numerals
+  unfolding g.assignment
+  assignment =
+      adds_behind grammar.name _ assignment_numerals silent_name (λ column. adds_seq k.Equal _ assignment_numerals refl
+      (adds_map (g.assignment_of column) (g.assigned inner) assigned_numerals assignment_numerals (λ x. refl) assigned))
+
+  update : Adds (g.update inner) statement_numerals
+  unfolding g.update
+  update =
+      adds_seq k.Update _ statement_numerals refl (adds_behind grammar.name _ statement_numerals silent_name
+      (λ table. adds_seq k.Set _ statement_numerals refl (λ before.
+      yields_then (lang.list (g.assignment inner)) _ before (λ sets. before ++ joined (map assignment_numerals sets)) (λ x. before ++ statement_numerals x)
+      (yields_list (g.assignment inner) assignment_numerals assignment before)
+      (λ sets. yields_map (s.Update table sets) (g.where_clause inner) (before ++ joined (map assignment_numerals sets)) (λ keeps. (before ++ joined (map assignment_numerals sets)) ++ where_numerals keeps) (λ x. before ++ statement_numerals x)
+      (where_clause (before ++ joined (map assignment_numerals sets)))
+      (λ keeps. sym (append_assoc before (joined (map assignment_numerals sets)) (where_numerals keeps)))))))
+
+  delete : Adds (g.delete inner) statement_numerals
+  unfolding g.delete
+  delete =
+      adds_seq k.Delete _ statement_numerals refl (adds_seq k.From _ statement_numerals refl (adds_behind grammar.name _ statement_numerals silent_name
+      (λ table. adds_map (s.Delete table) (g.where_clause inner) where_numerals statement_numerals (λ keeps. refl) where_clause)))
+
+  select : Adds (g.select inner) statement_numerals
+  unfolding g.select
+  select =
+      adds_seq k.Select _ statement_numerals refl (adds_behind g.selected _ statement_numerals silent_selected
+      (λ which. adds_seq k.From _ statement_numerals refl (adds_behind grammar.name _ statement_numerals silent_name
+      (λ table. adds_map (s.Select which table) (g.where_clause inner) where_numerals statement_numerals (λ keeps. refl) where_clause))))
+
+  statement : Adds (g.statement inner) statement_numerals
+  unfolding g.statement
+  statement =
+      adds_or _ _ statement_numerals (adds_or _ _ statement_numerals (adds_or _ _ statement_numerals (adds_or _ _ statement_numerals (adds_or _ _ statement_numerals
+      (adds_map s.Insert g.insert insert_numerals statement_numerals (λ x. refl) adds_insert) update) delete) select) adds_set_constraints) adds_verdict
+
+  one_event : Adds (g.one_event inner) event_numerals
+  unfolding g.one_event
+  one_event =
+      adds_or _ _ event_numerals (adds_or _ _ event_numerals (adds_or _ _ event_numerals
+      (adds_seq k.Begin _ event_numerals refl adds_access)
+      (adds_seq k.Commit _ event_numerals refl (adds_none (λ _. event.Commit) _ event_numerals (λ x. refl) silent_work)))
+      (adds_seq k.Rollback _ event_numerals refl (adds_none (λ _. event.Rollback) _ event_numerals (λ x. refl) silent_work)))
+      (adds_map event.Run (g.statement inner) statement_numerals event_numerals (λ x. refl) statement)
+
+-- the numbers of an event are those of its text
+pub event_numbers : (ts : Lexemes) (x : Event) → g.IsEvent ts x → event_numerals x ≡ numerals ts
+event_numbers ts x h = (one_event (grammar.nested h.0) (nested h.0) []).gives ts x h.1

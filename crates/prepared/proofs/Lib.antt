@@ -1,0 +1,12 @@
+mod Parts
+mod Places
+mod Yields
+mod Numerals
+mod Rules
+mod Events
+mod Keeps
+mod Fills
+mod WrittenRules
+mod WrittenEvents
+mod Clear
+mod Filling

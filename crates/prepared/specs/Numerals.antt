@@ -1,0 +1,119 @@
+-- The numbers of a tree and those of its text, in reading order, without their signs.
+use Rattle.std.specs.Prelude.{ℕ, if◌then◌else◌, unsigned_abs, List, [], ◌∷◌, ◌++◌, map, Option, Some, None}
+use Rattle.std.specs.List.{flat_map}
+use Rattle.value.specs.declared.values.Value.{Value}
+use Rattle.value.specs.declared.values.Value.TheVariants as v
+use Rattle.syntax.specs.declared.trees.Condition.{Condition}
+use Rattle.syntax.specs.declared.trees.Condition.TheOpen.{Condition-F, Expression-F, SelectList-F, Query-F}
+use Rattle.syntax.specs.declared.trees.Condition.TheFolds.{fold-Condition, fold-Expression, fold-SelectList, fold-Query}
+use Rattle.syntax.specs.declared.trees.Expression.{Expression}
+use Rattle.syntax.specs.declared.trees.SelectList.{SelectList}
+use Rattle.syntax.specs.declared.trees.Query.{Query}
+use Rattle.syntax.specs.Grammar.{digits_value}
+use Rattle.statement_syntax.specs.declared.statements.Insert.{Insert}
+use Rattle.statement_syntax.specs.declared.statements.Assigned.{Assigned}
+use Rattle.statement_syntax.specs.declared.statements.Assigned.TheVariants as to
+use Rattle.statement_syntax.specs.declared.statements.Assignment.{Assignment}
+use Rattle.statement_syntax.specs.declared.statements.Statement.{Statement}
+use Rattle.statement_syntax.specs.declared.statements.Statement.TheVariants as s
+use Rattle.statement_syntax.specs.declared.statements.Event.{Event}
+use Rattle.statement_syntax.specs.declared.statements.Event.TheVariants as event
+use Rattle.reading.specs.Language.{Lexeme, Lexemes}
+use Rattle.prepared.specs.Numbers.{is_number}
+
+abbrev pub Numerals : Type 0
+Numerals = List ℕ
+
+-- those of a text's tokens
+abbrev pub numeral : Lexeme → Numerals
+numeral x = if is_number x.kind then digits_value x ∷ [] else []
+
+abbrev pub numerals : Lexemes → Numerals
+numerals tokens = flat_map numeral tokens
+
+-- those of several parts, from the left
+abbrev pub joined : List Numerals → Numerals
+joined [] = []
+joined (part ∷ rest) = part ++ joined rest
+
+-- those of a part that may be missing
+abbrev pub of_optional : Option Numerals → Numerals
+of_optional None = []
+of_optional (Some part) = part
+
+-- those of an expression, with those of each part in its place
+abbrev pub expression_step : Expression-F Numerals Numerals Numerals Numerals → Numerals
+expression_step (Expression-F.Number n) = unsigned_abs n ∷ []
+expression_step (Expression-F.Text t) = []
+expression_step (Expression-F.Column column) = []
+expression_step Expression-F.CountRows = []
+expression_step (Expression-F.Aggregate function column) = []
+expression_step (Expression-F.Subquery query) = query
+expression_step (Expression-F.Negation part) = part
+expression_step (Expression-F.Sum parts) = joined parts
+expression_step (Expression-F.Product parts) = joined parts
+
+abbrev pub condition_step : Condition-F Numerals Numerals Numerals Numerals → Numerals
+condition_step (Condition-F.Or parts) = joined parts
+condition_step (Condition-F.And parts) = joined parts
+condition_step (Condition-F.Not part) = part
+condition_step (Condition-F.Is part truth) = part
+condition_step (Condition-F.Exists query) = query
+condition_step (Condition-F.Compare left comparison right) = left ++ right
+condition_step (Condition-F.IsNull part) = part
+condition_step (Condition-F.Between subject low high) = subject ++ (low ++ high)
+condition_step (Condition-F.In subject values) = subject ++ joined values
+
+abbrev pub select_list_step : SelectList-F Numerals Numerals Numerals Numerals → Numerals
+select_list_step SelectList-F.Star = []
+select_list_step (SelectList-F.One part) = part
+
+abbrev pub query_step : Query-F Numerals Numerals Numerals Numerals → Numerals
+query_step query = query.select_list ++ (of_optional query.keeps ++ of_optional query.having)
+
+unfoldable pub expression_numerals : Expression → Numerals
+expression_numerals =
+    fold-Expression Numerals Numerals Numerals Numerals condition_step expression_step select_list_step query_step
+
+unfoldable pub condition_numerals : Condition → Numerals
+condition_numerals =
+    fold-Condition Numerals Numerals Numerals Numerals condition_step expression_step select_list_step query_step
+
+unfoldable pub select_list_numerals : SelectList → Numerals
+select_list_numerals =
+    fold-SelectList Numerals Numerals Numerals Numerals condition_step expression_step select_list_step query_step
+
+unfoldable pub query_numerals : Query → Numerals
+query_numerals =
+    fold-Query Numerals Numerals Numerals Numerals condition_step expression_step select_list_step query_step
+
+-- those of a statement
+abbrev pub value_numerals : Value → Numerals
+value_numerals (v.Int n) = unsigned_abs n ∷ []
+value_numerals _ = []
+
+abbrev pub insert_numerals : Insert → Numerals
+insert_numerals insert = joined (map value_numerals insert.values)
+
+abbrev pub assigned_numerals : Assigned → Numerals
+assigned_numerals to.Null = []
+assigned_numerals (to.To x) = expression_numerals x
+
+abbrev pub assignment_numerals : Assignment → Numerals
+assignment_numerals set = assigned_numerals set.value
+
+abbrev pub where_numerals : Option Condition → Numerals
+where_numerals None = []
+where_numerals (Some condition) = condition_numerals condition
+
+abbrev pub statement_numerals : Statement → Numerals
+statement_numerals (s.Insert insert) = insert_numerals insert
+statement_numerals (s.Update table sets keeps) = joined (map assignment_numerals sets) ++ where_numerals keeps
+statement_numerals (s.Delete table keeps) = where_numerals keeps
+statement_numerals (s.Select which table keeps) = where_numerals keeps
+statement_numerals _ = []
+
+-- those of an event
+abbrev pub event_numerals : Event → Numerals
+event_numerals (event.Run statement) = statement_numerals statement
+event_numerals _ = []

@@ -1,0 +1,68 @@
+-- Statements and events with values in the places of their parameters.
+use Rattle.std.specs.Prelude.{List, map, Option}
+use Rattle.std.specs.Option.{option_map}
+use Rattle.value.specs.declared.values.Value.{Value}
+use Rattle.value.specs.declared.values.Value.TheVariants as v
+use Rattle.syntax.specs.declared.trees.Condition.{Condition}
+use Rattle.syntax.specs.declared.trees.Condition.TheOpen.{Expression-F}
+use Rattle.syntax.specs.declared.trees.Expression.{Expression, out-Expression}
+use Rattle.syntax.specs.declared.trees.Expression.TheVariants as e
+use Rattle.syntax.specs.declared.trees.SelectList.{SelectList}
+use Rattle.syntax.specs.declared.trees.Query.{Query}
+use Rattle.statement_syntax.specs.declared.statements.Insert.{Insert}
+use Rattle.statement_syntax.specs.declared.statements.Assigned.{Assigned}
+use Rattle.statement_syntax.specs.declared.statements.Assigned.TheVariants as to
+use Rattle.statement_syntax.specs.declared.statements.Assignment.{Assignment}
+use Rattle.statement_syntax.specs.declared.statements.Statement.{Statement}
+use Rattle.statement_syntax.specs.declared.statements.Statement.TheVariants as s
+use Rattle.statement_syntax.specs.declared.statements.Event.{Event}
+use Rattle.statement_syntax.specs.declared.statements.Event.TheVariants as event
+use Rattle.statement_syntax.specs.Grammar.{insert_of, assignment_of}
+use Rattle.prepared.specs.Constants.{Filled, then_made, same, both, all, if_there, next, constant_of, assigned_of}
+use Rattle.prepared.specs.Conditions.{filled_condition, filled_expression}
+
+-- a value of an INSERT
+abbrev pub filled_value : Value → Filled Value
+filled_value v.Null constants = same v.Null constants
+filled_value (v.Text t) constants = same (v.Text t) constants
+filled_value (v.Int n) constants = next constant_of (v.Int n) constants
+
+abbrev pub filled_values : List Value → Filled (List Value)
+filled_values values = all (map filled_value values)
+
+abbrev pub filled_insert : Insert → Filled Insert
+filled_insert insert constants =
+    then_made (insert_of insert.table insert.columns) (filled_values insert.values constants)
+
+-- what an UPDATE gives to a column: a number that is all of it may become NULL
+abbrev pub assigned_layer : Expression → Expression-F Condition Expression SelectList Query → Filled Assigned
+assigned_layer x (Expression-F.Number n) constants = next assigned_of (to.To (e.Number n)) constants
+assigned_layer x _ constants = then_made to.To (filled_expression x constants)
+
+abbrev pub filled_assigned : Assigned → Filled Assigned
+filled_assigned to.Null constants = same to.Null constants
+filled_assigned (to.To x) constants = assigned_layer x (out-Expression x) constants
+
+abbrev pub filled_assignment : Assignment → Filled Assignment
+filled_assignment set constants = then_made (assignment_of set.column) (filled_assigned set.value constants)
+
+abbrev pub filled_assignments : List Assignment → Filled (List Assignment)
+filled_assignments sets = all (map filled_assignment sets)
+
+-- a WHERE, if there is one
+abbrev pub filled_where : Option Condition → Filled (Option Condition)
+filled_where keeps = if_there (option_map filled_condition keeps)
+
+abbrev pub filled_statement : Statement → Filled Statement
+filled_statement (s.Insert insert) constants = then_made s.Insert (filled_insert insert constants)
+filled_statement (s.Update table sets keeps) constants =
+    both (s.Update table) (filled_assignments sets) (filled_where keeps) constants
+filled_statement (s.Delete table keeps) constants = then_made (s.Delete table) (filled_where keeps constants)
+filled_statement (s.Select which table keeps) constants =
+    then_made (s.Select which table) (filled_where keeps constants)
+filled_statement (s.SetConstraints which mode) constants = same (s.SetConstraints which mode) constants
+filled_statement (s.Verdict name) constants = same (s.Verdict name) constants
+
+abbrev pub filled_event : Event → Filled Event
+filled_event (event.Run statement) constants = then_made event.Run (filled_statement statement constants)
+filled_event other constants = same other constants

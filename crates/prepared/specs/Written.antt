@@ -1,0 +1,115 @@
+-- Texts with constants written in the places of their parameters.
+use Rattle.std.specs.Prelude.{◌≡◌, ℕ, suc, ℤ, pos, negsuc, Bool, true, false, nat_lt, unsigned_abs, List, [], ◌∷◌, ◌++◌, length, Option, Some, None, Ok}
+use Rattle.token.specs.declared.kinds.Kind.TheVariants as k
+use Rattle.token.specs.Bytes.{Text}
+use Rattle.value.specs.declared.values.Value.{Value}
+use Rattle.value.specs.declared.values.Value.TheVariants as v
+use Rattle.value.specs.Texts.{is_plain}
+use Rattle.syntax.specs.Grammar.{digits_value, quoted}
+use Rattle.statement_syntax.specs.declared.statements.Event.{Event}
+use Rattle.statement_syntax.specs.declared.statements.Event.TheVariants as event
+use Rattle.statement_syntax.specs.declared.statements.Statement.TheVariants as s
+use Rattle.statement_syntax.specs.Grammar.{IsEvent}
+use Rattle.reading.specs.Language.{Lexeme, Lexemes}
+use Rattle.reading.specs.Lexemes.{lexemes}
+use Rattle.prepared.specs.declared.prepared.Prepared.{Prepared}
+use Rattle.prepared.specs.Masks.{mask}
+use Rattle.prepared.specs.Numbers.{is_number, parameter_count}
+use Rattle.prepared.specs.Constants.{Given, Constants, constants_of, taken, largest_number}
+use Rattle.prepared.specs.Prepared.{IsPrepared, filled}
+
+-- these tokens write a number: its digits, behind a minus where it is negative
+pub record WritesNumber (n : ℕ) (x : Lexeme) : Type 0 where
+  pub kind : x.kind ≡ k.Number
+  pub digits : digits_value x ≡ n
+
+pub record WritesNegative (n : ℕ) (tokens : Lexemes) : Type 0 where
+  pub minus : Lexeme
+  pub number : Lexeme
+  pub are : tokens ≡ minus ∷ number ∷ []
+  pub sign : minus.kind ≡ k.Minus
+  pub digits : WritesNumber n number
+
+pub record WritesPositive (n : ℕ) (tokens : Lexemes) : Type 0 where
+  pub number : Lexeme
+  pub are : tokens ≡ number ∷ []
+  pub digits : WritesNumber n number
+
+abbrev pub WritesInt : ℤ → Lexemes → Type 0
+WritesInt (pos n) tokens = WritesPositive n tokens
+WritesInt (negsuc n) tokens = WritesNegative (suc n) tokens
+
+-- these tokens write a text: in quotes
+pub record WritesText (t : List ℕ) (tokens : Lexemes) : Type 0 where
+  pub text : Lexeme
+  pub are : tokens ≡ text ∷ []
+  pub kind : text.kind ≡ k.Text
+  pub inside : quoted text ≡ t
+
+-- this token writes NULL
+pub record WritesNull (tokens : Lexemes) : Type 0 where
+  pub null : Lexeme
+  pub are : tokens ≡ null ∷ []
+  pub kind : null.kind ≡ k.Null
+
+-- these tokens write a constant
+abbrev pub Writes : Value → Lexemes → Type 0
+Writes v.Null tokens = WritesNull tokens
+Writes (v.Int n) tokens = WritesInt n tokens
+Writes (v.Text t) tokens = WritesText t tokens
+
+-- a number or a text of the language, and no NULL
+abbrev pub IsConstant : Value → Type 0
+IsConstant v.Null = ⊥
+IsConstant (v.Int n) = nat_lt largest_number (unsigned_abs n) ≡ false
+IsConstant (v.Text t) = is_plain t ≡ true
+
+-- one of the language, or NULL
+abbrev pub IsValue : Value → Type 0
+IsValue v.Null = Unit {0}
+IsValue (v.Int n) = IsConstant (v.Int n)
+IsValue (v.Text t) = IsConstant (v.Text t)
+
+-- the values that may be given for an event: NULL too where it is an INSERT
+abbrev pub MayStand : Event → Value → Type 0
+MayStand (event.Run (s.Insert insert)) value = IsValue value
+MayStand other value = IsConstant value
+
+abbrev pub AreAll : (Value → Type 0) → List Value → Type 0
+AreAll ok [] = Unit {0}
+AreAll ok (value ∷ rest) = ok value × AreAll ok rest
+
+-- what stands for a token, where it is a number; and for those behind it
+abbrev pub for_token : Bool → Constants → Option Given
+for_token true constants = (taken constants).0
+for_token false constants = None
+
+abbrev pub behind_token : Bool → Constants → Constants
+behind_token true constants = (taken constants).1
+behind_token false constants = constants
+
+-- the tokens that are written for one
+abbrev pub written_token : (Given → Lexemes) → Lexeme → Option Given → Lexemes
+written_token write x None = x ∷ []
+written_token write x (Some given) = write given
+
+-- tokens with the constants written in the places of the parameters
+abbrev pub written : (Given → Lexemes) → Lexemes → Constants → Lexemes
+written write [] constants = []
+written write (x ∷ tokens) constants =
+    written_token write x (for_token (is_number x.kind) constants)
+    ++ written write tokens (behind_token (is_number x.kind) constants)
+
+-- Values that may stand there, filled in, give the event of each text that has them written in the places of its
+-- parameters, however they are spelled.
+pub record IsWritten (text : Text) (prepared : Prepared) (values : List Value) (write : Given → Lexemes) : Type 0 where
+  pub event : Event
+  pub fills : filled prepared values ≡ Ok event
+  pub reads : IsEvent (written write (lexemes (mask text)) (constants_of prepared.numbers values)) event
+
+abbrev pub FilledIsWritten : Type 0
+FilledIsWritten =
+    (text : Text) (prepared : Prepared) (values : List Value) (write : Given → Lexemes) → IsPrepared text prepared
+    → length values ≡ parameter_count prepared.numbers → AreAll (MayStand prepared.event) values
+    → ((given : Given) → IsValue given.value → Writes given.value (write given))
+    → IsWritten text prepared values write

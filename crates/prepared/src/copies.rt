@@ -1,0 +1,96 @@
+//! Copies of what has no number in it, and lists of what is made.
+
+ghost use Rattle.std.specs.Prelude.{◌≡◌, [], ◌∷◌, ◌++◌, IfOk, IsOkUnless};
+ghost use Rattle.prepared.specs.declared.faults.FillFault.TheVariants.{NoMemory};
+
+use crate::faults::FillFault;
+use sqlite_items::Items;
+use statement_syntax::Which;
+use std::alloc::Global;
+use syntax::ColumnName;
+use value::Text;
+
+/// The fault, once what was made is let go. Here its type is a parameter: that a tree may be dropped is proved dearly.
+pub fn drop_and_fail<T: Drop>(fault: FillFault, _made: T) -> FillFault
+    ensures { result ≡ fault }
+{
+    fault
+}
+
+/// A part more. NoMemory is the only error.
+pub fn put_behind<T: Drop>(mut made: Vec<T>, part: T) -> Result<Vec<T>, FillFault>
+    ensures only_memory { IsOkUnless result NoMemory }
+    ensures put { IfOk result (λ more. more.items ≡ made.items ++ part ∷ []) }
+{
+    made.push(part)?;
+    Ok(made)
+}
+
+/// A name equal to this one, if there is one. NoMemory is the only error.
+pub fn copy_name(name: &Option<Text>) -> Result<Option<Text>, FillFault>
+    ensures only_memory { IsOkUnless result NoMemory }
+    ensures equal { IfOk result (λ copy. copy ≡ name.now) }
+{
+    match name {
+        None => Ok(None),
+        Some(name) => Ok(Some(name.copy()?)),
+    }
+}
+
+/// A column's name equal to this one. NoMemory is the only error.
+pub fn copy_column(column: &ColumnName) -> Result<ColumnName, FillFault>
+    ensures only_memory { IsOkUnless result NoMemory }
+    ensures equal { IfOk result (λ copy. copy ≡ column.now) }
+{
+    let qualifier = copy_name(&column.qualifier)?;
+    let name = column.name.copy()?;
+    Ok(ColumnName { qualifier, name })
+}
+
+/// A column of GROUP BY equal to this one, if there is one. NoMemory is the only error.
+pub fn copy_group(group: &Option<ColumnName>) -> Result<Option<ColumnName>, FillFault>
+    ensures only_memory { IsOkUnless result NoMemory }
+    ensures equal { IfOk result (λ copy. copy ≡ group.now) }
+{
+    match group {
+        None => Ok(None),
+        Some(column) => Ok(Some(copy_column(column)?)),
+    }
+}
+
+/// Names equal to these, in their order. NoMemory is the only error.
+pub fn copy_names(alloc: Global, names: &[Text]) -> Result<Items<Text>, FillFault>
+    ensures only_memory { IsOkUnless result NoMemory }
+    ensures equal { IfOk result (λ copy. copy ≡ names.now) }
+{
+    let mut copies = Vec::with_capacity(alloc, names.len())?;
+    for name in names {
+        copies.push(name.copy()?)?;
+    }
+    Ok(Items::from_vec(copies))
+}
+
+/// The columns of an INSERT, if they are listed. NoMemory is the only error.
+pub fn copy_columns(
+    alloc: Global,
+    columns: &Option<Items<Text>>,
+) -> Result<Option<Items<Text>>, FillFault>
+    ensures only_memory { IsOkUnless result NoMemory }
+    ensures equal { IfOk result (λ copy. copy ≡ columns.now) }
+{
+    match columns {
+        None => Ok(None),
+        Some(columns) => Ok(Some(copy_names(alloc, columns.as_slice())?)),
+    }
+}
+
+/// All, or the names. NoMemory is the only error.
+pub fn copy_which(alloc: Global, which: &Which) -> Result<Which, FillFault>
+    ensures only_memory { IsOkUnless result NoMemory }
+    ensures equal { IfOk result (λ copy. copy ≡ which.now) }
+{
+    match which {
+        Which::All => Ok(Which::All),
+        Which::Names(names) => Ok(Which::Names(copy_names(alloc, names.as_slice())?)),
+    }
+}

@@ -1,0 +1,229 @@
+//! Statements and events with values in the places of their parameters.
+
+ghost use Rattle.std.specs.Prelude.{◌≡◌, ◌≢◌, IfOk, IfErr, Ok, Err};
+ghost use Rattle.prepared.specs.declared.faults.FillFault.TheVariants.{NoMemory};
+ghost use Rattle.prepared.specs.Statements as spec;
+ghost use Rattle.statement_syntax.specs.declared.statements.Statement.TheVariants as s;
+
+use crate::conditions::{fill_condition, fill_expression};
+use crate::constants::Constants;
+use crate::copies::{copy_columns, copy_which, drop_and_fail, put_behind};
+use crate::faults::FillFault;
+use sqlite_items::{Boxed, Items};
+use statement_syntax::{Assigned, Assignment, Event, Insert, Statement};
+use std::alloc::Global;
+use syntax::{Condition, Expression};
+use value::{Text, Value};
+
+/// A value of an INSERT.
+fn fill_value(value: &Value, constants: &mut Constants) -> Result<Value, FillFault>
+    ensures made { IfOk result (λ made. spec.filled_value value.now constants.old ≡ Ok (made, constants.new)) }
+    ensures refused { IfErr result (λ fault. fault ≢ NoMemory → spec.filled_value value.now constants.old ≡ Err fault) }
+{
+    match value {
+        Value::Null => Ok(Value::Null),
+        Value::Text(text) => Ok(Value::Text(text.copy()?)),
+        Value::Int(number) => constants.constant(*number),
+    }
+}
+
+/// The values of an INSERT, from the left.
+#[tactic(auto, using(crate::proofs::Parts::so_far_next, crate::proofs::Parts::so_far_none))]
+fn fill_values(
+    alloc: Global,
+    values: &[Value],
+    constants: &mut Constants,
+) -> Result<Items<Value>, FillFault>
+    ensures made { IfOk result (λ made. spec.filled_values values.now constants.old ≡ Ok (made, constants.new)) }
+    ensures refused { IfErr result (λ fault. fault ≢ NoMemory
+        → spec.filled_values values.now constants.old ≡ Err fault) }
+{
+    let mut made = Vec::new(alloc);
+    for value in values {
+        made.push(fill_value(value, constants)?)?;
+    }
+    Ok(Items::from_vec(made))
+}
+
+/// An INSERT.
+fn fill_insert(
+    alloc: Global,
+    insert: &Insert,
+    constants: &mut Constants,
+) -> Result<Insert, FillFault>
+    ensures made { IfOk result (λ made. spec.filled_insert insert.now constants.old ≡ Ok (made, constants.new)) }
+    ensures refused { IfErr result (λ fault. fault ≢ NoMemory
+        → spec.filled_insert insert.now constants.old ≡ Err fault) }
+{
+    let table = insert.table.copy()?;
+    let columns = copy_columns(alloc, &insert.columns)?;
+    let values = fill_values(alloc, insert.values.as_slice(), constants)?;
+    Ok(Insert {
+        table,
+        columns,
+        values,
+    })
+}
+
+/// What an UPDATE gives to a column. A parameter that is all of it may be NULL.
+fn fill_assigned(
+    alloc: Global,
+    assigned: &Assigned,
+    constants: &mut Constants,
+) -> Result<Assigned, FillFault>
+    ensures made { IfOk result (λ made. spec.filled_assigned assigned.now constants.old ≡ Ok (made, constants.new)) }
+    ensures refused { IfErr result (λ fault. fault ≢ NoMemory
+        → spec.filled_assigned assigned.now constants.old ≡ Err fault) }
+{
+    match assigned {
+        Assigned::Null => Ok(Assigned::Null),
+        Assigned::To(Expression::Number(number)) => constants.assigned(*number),
+        Assigned::To(expression) => {
+            Ok(Assigned::To(fill_expression(alloc, expression, constants)?))
+        }
+    }
+}
+
+/// A column of an UPDATE, and what is given to it.
+fn fill_assignment(
+    alloc: Global,
+    assignment: &Assignment,
+    constants: &mut Constants,
+) -> Result<Assignment, FillFault>
+    ensures made { IfOk result (λ made.
+        spec.filled_assignment assignment.now constants.old ≡ Ok (made, constants.new)) }
+    ensures refused { IfErr result (λ fault. fault ≢ NoMemory
+        → spec.filled_assignment assignment.now constants.old ≡ Err fault) }
+{
+    let column = assignment.column.copy()?;
+    let value = fill_assigned(alloc, &assignment.value, constants)?;
+    Ok(Assignment { column, value })
+}
+
+/// The columns of an UPDATE, from the left.
+#[tactic(auto, using(crate::proofs::Parts::so_far_next, crate::proofs::Parts::so_far_none))]
+fn fill_assignments(
+    alloc: Global,
+    assignments: &[Assignment],
+    constants: &mut Constants,
+) -> Result<Items<Assignment>, FillFault>
+    ensures made { IfOk result (λ made.
+        spec.filled_assignments assignments.now constants.old ≡ Ok (made, constants.new)) }
+    ensures refused { IfErr result (λ fault. fault ≢ NoMemory
+        → spec.filled_assignments assignments.now constants.old ≡ Err fault) }
+{
+    let mut made = Vec::new(alloc);
+    for assignment in assignments {
+        made = match fill_assignment(alloc, assignment, constants) {
+            Ok(assignment) => put_behind(made, assignment)?,
+            Err(fault) => return Err(drop_and_fail(fault, made)),
+        };
+    }
+    Ok(Items::from_vec(made))
+}
+
+/// The condition of a statement's WHERE, if there is one.
+fn fill_where(
+    alloc: Global,
+    keeps: &Option<Boxed<Condition>>,
+    constants: &mut Constants,
+) -> Result<Option<Boxed<Condition>>, FillFault>
+    ensures made { IfOk result (λ made. spec.filled_where keeps.now constants.old ≡ Ok (made, constants.new)) }
+    ensures refused { IfErr result (λ fault. fault ≢ NoMemory → spec.filled_where keeps.now constants.old ≡ Err fault) }
+{
+    match keeps {
+        None => Ok(None),
+        Some(condition) => {
+            let condition = fill_condition(alloc, condition.get(), constants)?;
+            Ok(Some(Boxed::new(alloc, condition)?))
+        }
+    }
+}
+
+/// An UPDATE of a table.
+fn fill_update(
+    alloc: Global,
+    table: &Text,
+    sets: &[Assignment],
+    keeps: &Option<Boxed<Condition>>,
+    constants: &mut Constants,
+) -> Result<Statement, FillFault>
+    ensures made { IfOk result (λ made. spec.filled_statement (s.Update table.now sets.now keeps.now)
+        constants.old ≡ Ok (made, constants.new)) }
+    ensures refused { IfErr result (λ fault. fault ≢ NoMemory
+        → spec.filled_statement (s.Update table.now sets.now keeps.now) constants.old ≡ Err fault) }
+{
+    let table = table.copy()?;
+    let sets = fill_assignments(alloc, sets, constants)?;
+    match fill_where(alloc, keeps, constants) {
+        Ok(keeps) => Ok(Statement::Update { table, sets, keeps }),
+        Err(fault) => Err(drop_and_fail(fault, sets)),
+    }
+}
+
+/// A statement.
+fn fill_statement(
+    alloc: Global,
+    statement: &Statement,
+    constants: &mut Constants,
+) -> Result<Statement, FillFault>
+    ensures made { IfOk result (λ made. spec.filled_statement statement.now constants.old ≡ Ok (made, constants.new)) }
+    ensures refused { IfErr result (λ fault. fault ≢ NoMemory
+        → spec.filled_statement statement.now constants.old ≡ Err fault) }
+{
+    match statement {
+        Statement::Insert(insert) => Ok(Statement::Insert(fill_insert(alloc, insert, constants)?)),
+        Statement::Update { table, sets, keeps } => {
+            fill_update(alloc, table, sets.as_slice(), keeps, constants)
+        }
+        Statement::Delete { table, keeps } => {
+            let table = table.copy()?;
+            let keeps = fill_where(alloc, keeps, constants)?;
+            Ok(Statement::Delete { table, keeps })
+        }
+        Statement::Select {
+            columns,
+            table,
+            keeps,
+        } => {
+            let table = table.copy()?;
+            let columns = copy_which(alloc, columns)?;
+            let keeps = fill_where(alloc, keeps, constants)?;
+            Ok(Statement::Select {
+                columns,
+                table,
+                keeps,
+            })
+        }
+        Statement::SetConstraints { assertions, mode } => {
+            let assertions = copy_which(alloc, assertions)?;
+            Ok(Statement::SetConstraints {
+                assertions,
+                mode: *mode,
+            })
+        }
+        Statement::Verdict(name) => Ok(Statement::Verdict(name.copy()?)),
+    }
+}
+
+/// The event with the next values in the places of its parameters.
+///
+/// # Errors
+///
+/// The fault of the first parameter whose value may not stand there, or NoMemory.
+pub fn fill_event(
+    alloc: Global,
+    event: &Event,
+    constants: &mut Constants,
+) -> Result<Event, FillFault>
+    ensures made { IfOk result (λ made. spec.filled_event event.now constants.old ≡ Ok (made, constants.new)) }
+    ensures refused { IfErr result (λ fault. fault ≢ NoMemory → spec.filled_event event.now constants.old ≡ Err fault) }
+{
+    match event {
+        Event::Begin => Ok(Event::Begin),
+        Event::BeginReadOnly => Ok(Event::BeginReadOnly),
+        Event::Commit => Ok(Event::Commit),
+        Event::Rollback => Ok(Event::Rollback),
+        Event::Run(statement) => Ok(Event::Run(fill_statement(alloc, statement, constants)?)),
+    }
+}
