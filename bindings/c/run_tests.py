@@ -1,0 +1,133 @@
+#!/usr/bin/env python3
+"""Runs the tests of the C library.
+
+    bindings/c/run_tests.py [--library FOLDER]
+
+FOLDER is what tools/c_library.py made; without it, it is made of the proved archive. The header is compiled as C99 and
+as C++11 without a warning. Every call and every status (tests/calls.c), and the worked examples through the library
+against their reports (tests/replay.c), are run plain and under AddressSanitizer, which also looks for what was not
+given back. Then the examples are run with each allocation refused in turn: a call that found no memory is made once
+more, and the report has to come out the same. The last line says what passed; the status is 1 where something did not.
+"""
+import argparse
+import concurrent.futures
+import os
+import pathlib
+import subprocess
+import sys
+import tempfile
+
+HERE = pathlib.Path(__file__).resolve().parent
+REPOSITORY = HERE.parent.parent
+EXAMPLES = "on-call", "ledger", "booking"
+PROGRAMS = "calls", "replay"
+SANITIZERS = "-fsanitize=address,undefined", "-fno-sanitize-recover=all"
+WARNINGS = "-Wall", "-Wextra", "-pedantic", "-Werror"
+MOST_ALLOCATIONS = 20000
+DESCRIPTOR = 9
+
+
+class Tests:
+    """What was run, and what of it failed."""
+
+    def __init__(self):
+        self.passed = 0
+        self.failed = 0
+
+    def note(self, name, holds, why=""):
+        self.passed += holds
+        self.failed += not holds
+        if not holds:
+            print(f"FAILED {name}\n{why}", file=sys.stderr)
+
+
+def run(*words, **options):
+    return subprocess.run([str(word) for word in words], capture_output=True, text=True, check=False, **options)
+
+
+def compile_headers(tests, work):
+    source = work / "header.c"
+    source.write_text('#include "skewguard.h"\nint main(void) { return 0; }\n')
+    for compiler in ("gcc", "clang"):
+        for language in (("-x", "c", "-std=c99"), ("-x", "c++", "-std=c++11")):
+            made = run(compiler, *language, *WARNINGS, "-I", HERE, "-c", source, "-o", work / "header.o")
+            tests.note(f"header by {compiler} {language[1]}", made.returncode == 0, made.stderr)
+
+
+def build(name, library, out, *flags):
+    """A test, linked with the static library."""
+    words = ("clang", "-std=c99", "-g", *flags, *WARNINGS, "-I", library, "-I", HERE / "tests")
+    made = run(*words, HERE / "tests" / f"{name}.c", library / "libskewguard.a", "-o", out)
+    if made.returncode:
+        sys.exit(made.stderr)
+    return out
+
+
+def example(name):
+    """The files of an example, and its report."""
+    folder = REPOSITORY / "examples" / name
+    return folder / "defs.sql", folder / "script.sql", (folder / "expected.txt").read_text()
+
+
+def run_programs(tests, kind, calls, replay):
+    """Each program, and each example."""
+    given = run(calls)
+    tests.note(f"calls, {kind}", given.returncode == 0, given.stdout + given.stderr)
+    for name in EXAMPLES:
+        definitions, script, report = example(name)
+        given = run(replay, definitions, script)
+        tests.note(f"{name}, {kind}", given.returncode == 0 and given.stdout == report, given.stdout + given.stderr)
+
+
+def refused_run(replay, preload, name, number):
+    """Whether an allocation was refused, and whether the report was the same all the same."""
+    definitions, script, report = example(name)
+    reader, writer = os.pipe()
+    environment = {"LD_PRELOAD": str(preload), "REFUSE": str(number), "REFUSE_TOLD": str(writer)}
+    given = run(replay, definitions, script, env=environment, pass_fds=(writer,))
+    os.close(writer)
+    told = os.read(reader, 1)
+    os.close(reader)
+    return bool(told), given.returncode == 0 and given.stdout == report
+
+
+def refuse_each(tests, replay, preload, name):
+    """The example with its first allocation refused, its second, and so on, up to a run that none is refused in."""
+    refused, differs = 0, []
+    with concurrent.futures.ThreadPoolExecutor(os.cpu_count()) as pool:
+        for start in range(1, MOST_ALLOCATIONS, 256):
+            numbers = range(start, start + 256)
+            runs = list(pool.map(lambda number: refused_run(replay, preload, name, number), numbers))
+            refused += sum(told for told, _ in runs)
+            differs += [number for number, (_, same) in zip(numbers, runs) if not same]
+            if not all(told for told, _ in runs):
+                break
+    tests.note(f"{name}, {refused} allocations refused", refused > 0 and not differs, f"differs: {differs[:20]}")
+    return refused
+
+
+def main():
+    words = argparse.ArgumentParser(description=__doc__.splitlines()[0])
+    words.add_argument("--library", type=pathlib.Path, help="the folder that tools/c_library.py made")
+    given = words.parse_args()
+    tests = Tests()
+    with tempfile.TemporaryDirectory() as folder:
+        work = pathlib.Path(folder)
+        library = given.library or work / "library"
+        if not given.library:
+            subprocess.run([sys.executable, REPOSITORY / "tools" / "c_library.py", library], check=True)
+        compile_headers(tests, work)
+        plain = [build(name, library, work / name) for name in PROGRAMS]
+        run_programs(tests, "plain", *plain)
+        sanitized = [build(name, library, work / f"{name}_sanitized", *SANITIZERS) for name in PROGRAMS]
+        run_programs(tests, "sanitized", *sanitized)
+        preload = work / "refuse_malloc.so"
+        refuser = REPOSITORY / "tools" / "refuse_malloc.c"
+        subprocess.run(["cc", "-O2", "-shared", "-fPIC", refuser, "-o", preload], check=True)
+        refused = sum(refuse_each(tests, plain[1], preload, name) for name in EXAMPLES)
+    print(f"C library: {tests.passed} passed, {tests.failed} failed, {refused} allocations refused")
+    sys.exit(tests.failed != 0)
+
+
+if __name__ == "__main__":
+    main()

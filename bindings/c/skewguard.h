@@ -1,0 +1,832 @@
+/*
+ * skewguard: transactions over SQL-92 assertions and serializable snapshots, in this process.
+ *
+ *     skewguard db;
+ *     uint64_t bob;
+ *     if (skewguard_open(&db, definitions, strlen(definitions), 1000000) != SKEWGUARD_DONE)
+ *         ...;                                      // db.reply.refusal says what is wrong with the definitions
+ *     skewguard_open_session(&db, "BOB", 3, &bob);
+ *     skewguard_begin(&db, bob);
+ *     if (skewguard_execute(&db, bob, text, strlen(text)) == SKEWGUARD_REFUSED)
+ *         ...;                                      // db.reply.refusal
+ *     skewguard_commit(&db, bob);
+ *     skewguard_close(&db);
+ *
+ * A call returns a skewguard_status, and leaves what it has to say in db.reply. Texts and values there point into
+ * memory of db: they stay valid until the next call on db, but for skewguard_next_row and skewguard_column.
+ *
+ * What the library can see and does not do is told by a status, and nothing has changed then: a null pointer, a
+ * session that is closed, a statement that is not there, a value that no statement takes. What it can't see is
+ * undefined, and the caller's to keep:
+ *
+ * - a skewguard that was neither opened nor set to zero, that was copied after it was opened, or bytes of it that
+ *   were written by the caller;
+ * - a pointer to fewer bytes than the length beside it says, or a text that lies in db.reply;
+ * - two calls at once on one skewguard: threads that share one need a lock around each call and the reading of its
+ *   reply. Nothing of it belongs to a thread, so one call may come from another thread than the next, and calls on two
+ *   skewguards may come from two threads at once;
+ * - a thread with less than 256 KiB of stack.
+ *
+ * The library prints nothing, and never ends the process. It is for C99 and C++11, on x86-64.
+ */
+#ifndef SKEWGUARD_H
+#define SKEWGUARD_H
+
+#include <stddef.h>
+#include <stdint.h>
+#include <stdlib.h>
+#include <string.h>
+
+#ifdef __cplusplus
+extern "C" {
+#endif
+
+/*
+ * The library itself: three functions, for this header and for bindings of other languages. All else here is inline.
+ *
+ * What goes in and comes out is bytes. A *number* is eight bytes, the lowest first, and a negative one in two's
+ * complement; a *text* is the number of its bytes, and these; a *value* is one byte for its kind and then what it
+ * holds: 0 for NULL, 1 and a number, 2 and a text. In replies 3 is ALL, the root of an assertion that is false as a
+ * whole, and 4 stands where there is no value.
+ *
+ * | operation | request | reply |
+ * |---|---|---|
+ * | 0 the last reply again. Nothing has changed then | | as it was |
+ * | 1 the line of the last answer or refusal in a report. Nothing has changed then | | text |
+ * | 2 open a session | its name | session |
+ * | 3 close a session. Its open transaction is rolled back | number of the session | changed |
+ * | 4 prepare a statement | its text | statement |
+ * | 5 forget a statement | number of the statement | changed |
+ * | 6 run a statement | number of the session, number of the statement, how many values, and these | answer |
+ * | 7 execute a text | number of the session, the text's bytes | answer |
+ * | 8 BEGIN, 9 BEGIN READ ONLY, 10 COMMIT, 11 ROLLBACK | number of the session | answer |
+ * | 12 the closing part of a report | | text |
+ * | 13 checkpoint | the rules to create as a text, how many names to drop, and each as a value | text |
+ *
+ * The status of 0 and 1 is that of the call whose response it was.
+ *
+ * A name, and the texts of 4 and 7, are all bytes that are left of their request, with no length in front. The request
+ * of skewguard_library_open is the greatest number of commits, and the bytes of the definitions; what became of them is
+ * the reply to operation 0, and where they were refused every other call returns SKEWGUARD_CLOSED. It returns 0, or 2
+ * without memory, and then there is nothing to close. No pointer may be null, also beside a length of 0, and the bytes
+ * of the request and of the reply may not overlap. A reply that is longer than capacity is there as far as it fits, and
+ * *reply_length is its whole length.
+ *
+ * The first byte of a reply is its kind (skewguard_kind), and behind it stands:
+ *
+ * | kind | what |
+ * |---|---|
+ * | nothing, changed, rolled back, modes set | |
+ * | opened | number of the layout of requests and replies, SKEWGUARD_LAYOUT |
+ * | session | number of the session |
+ * | statement | number of the statement, number of its parameters |
+ * | begun, committed | number of commits at the snapshot, number of the commit |
+ * | inserted, updated, deleted | number of rows |
+ * | rows | number of columns, the name of each as a text, number of rows, the values of each |
+ * | verdict | number: 0 false, 1 true, 2 unknown |
+ * | text | the text |
+ * | refused | number, SQLSTATE as a text of five bytes or none, name as a text, root or key as a value, five numbers |
+ * | | (commit in the way; reader, pivot, writer, 0 for this transaction; offset in the text), the line as a text |
+ * | misused | number of the parameter, from 1; or how many values are wanted |
+ */
+#define SKEWGUARD_LAYOUT 1
+
+int32_t skewguard_library_open(const unsigned char *request, size_t length, void **library);
+int32_t skewguard_library_call(void *library, uint32_t operation, const unsigned char *request, size_t length,
+                               unsigned char *reply, size_t capacity, size_t *reply_length);
+void skewguard_library_close(void *library);
+
+/* What became of a call. */
+typedef enum skewguard_status {
+    SKEWGUARD_DONE = 0,
+    /* The event, the text or the definitions were refused: reply.refusal says why. A COMMIT that was refused with 10,
+     * 12, 13 or 17 has ended its transaction; after any other refusal nothing has changed. */
+    SKEWGUARD_REFUSED = 1,
+    /* No memory was left. Nothing has changed. */
+    SKEWGUARD_NO_MEMORY = 2,
+    /* The call was answered, but no memory was left for its reply. skewguard_again gives the reply, with its status. */
+    SKEWGUARD_REPLY_WAITS = 3,
+    /* A null pointer, a kind of value that there is not, or a request whose bytes are none. */
+    SKEWGUARD_BAD_REQUEST = 4,
+    /* The session is closed, or was never opened. */
+    SKEWGUARD_NO_SESSION = 5,
+    /* The statement is forgotten, or was never prepared. */
+    SKEWGUARD_NO_STATEMENT = 6,
+    /* The statement has another number of parameters: reply.number says how many. */
+    SKEWGUARD_WRONG_COUNT = 7,
+    /* A value that no statement takes: NULL where none may stand, a number beyond 10^15, a text with a byte outside of
+     * 0x20 to 0x7E. reply.number is the parameter, from 1. */
+    SKEWGUARD_BAD_VALUE = 8,
+    /* No name: a letter, then letters, digits and '_', 128 bytes at most, and no reserved word. */
+    SKEWGUARD_BAD_NAME = 9,
+    /* A session of this name is open. */
+    SKEWGUARD_NAME_TAKEN = 10,
+    /* The skewguard is closed, or its definitions were refused. */
+    SKEWGUARD_CLOSED = 11
+} skewguard_status;
+
+/* What a reply is of. */
+typedef enum skewguard_kind {
+    SKEWGUARD_NOTHING = 0,
+    SKEWGUARD_OPENED = 1,
+    SKEWGUARD_SESSION = 2,
+    SKEWGUARD_STATEMENT = 3,
+    SKEWGUARD_CHANGED = 4,
+    SKEWGUARD_BEGUN = 5,
+    SKEWGUARD_COMMITTED = 6,
+    SKEWGUARD_ROLLED_BACK = 7,
+    SKEWGUARD_INSERTED = 8,
+    SKEWGUARD_UPDATED = 9,
+    SKEWGUARD_DELETED = 10,
+    SKEWGUARD_ROWS = 11,
+    SKEWGUARD_MODES_SET = 12,
+    SKEWGUARD_VERDICT = 13,
+    SKEWGUARD_TEXT = 14,
+    SKEWGUARD_REFUSAL = 15,
+    SKEWGUARD_MISUSED = 16
+} skewguard_kind;
+
+typedef enum skewguard_value_kind {
+    SKEWGUARD_NULL = 0,
+    SKEWGUARD_NUMBER = 1,
+    SKEWGUARD_CHARACTERS = 2,
+    /* Only of a root: the assertion is false as a whole. */
+    SKEWGUARD_ALL = 3,
+    /* Only in a refusal that names no root and no key. */
+    SKEWGUARD_NO_VALUE = 4
+} skewguard_value_kind;
+
+typedef enum skewguard_truth { SKEWGUARD_FALSE = 0, SKEWGUARD_TRUE = 1, SKEWGUARD_UNKNOWN = 2 } skewguard_truth;
+
+/* Bytes, with no zero behind them. */
+typedef struct skewguard_text {
+    const char *bytes;
+    size_t length;
+} skewguard_text;
+
+/* A cell of a row, a parameter of a statement, a key, or the root of an assertion. */
+typedef struct skewguard_value {
+    skewguard_value_kind kind;
+    int64_t number;
+    skewguard_text text;
+} skewguard_value;
+
+/* Why something was refused. The numbers and what each names are those of the report (README, "Refusals"). */
+typedef struct skewguard_refusal {
+    int number;
+    /* Five bytes, and a zero behind them; empty where there is none. */
+    char sqlstate[6];
+    /* Of the assertion, the column or the table; else empty. */
+    skewguard_text name;
+    /* Of 10 and 21 the root at which the assertion is false, of 7 and 12 the key. */
+    skewguard_value root;
+    /* Of 12: the commit that changed the row. */
+    uint64_t commit;
+    /* Of 13: commits by their numbers; 0 is the transaction that was refused. */
+    uint64_t reader, pivot, writer;
+    /* Of 2 and 19: the offset in the text at which it goes wrong, in bytes from 0. */
+    size_t offset;
+    /* As the report has it, with a line feed at its end. */
+    skewguard_text line;
+} skewguard_refusal;
+
+typedef struct skewguard_reply {
+    skewguard_kind kind;
+    /* Of opened: SKEWGUARD_LAYOUT; of begun: how many commits the snapshot holds; of committed: the number of the
+     * commit; of inserted, updated and deleted: how many rows; of session and statement: which; of misused: as the
+     * status says. */
+    uint64_t number;
+    /* Of statement: how many parameters it has. */
+    uint64_t parameters;
+    skewguard_truth verdict;
+    /* Of rows. */
+    uint64_t columns, rows;
+    skewguard_text text;
+    skewguard_refusal refusal;
+} skewguard_reply;
+
+/* A database with its sessions. Its members but reply are the functions' own. Zero bytes are a closed one. */
+typedef struct skewguard {
+    void *library;
+    unsigned char *reply_bytes, *request_bytes;
+    size_t reply_length, reply_capacity, request_length, request_capacity;
+    /* In reply_bytes: where the names of the columns, and the next row, begin. */
+    size_t names_at, next_row_at;
+    uint64_t rows_left;
+    skewguard_reply reply;
+} skewguard;
+
+/* ---- opening and closing */
+
+/*
+ * Takes in definitions: tables, assertions, and the rows to begin with. At most most_commits commits are then accepted
+ * until the next checkpoint, from 0 to 4,294,967,295.
+ *
+ * REFUSED: the definitions, by reply.refusal. BAD_REQUEST: a null pointer, most_commits past its range, or a library of
+ * another layout than this header. NO_MEMORY.
+ * After any of these db is closed, and its reply is valid until skewguard_close, which is due in each case.
+ */
+static inline skewguard_status skewguard_open(skewguard *db, const char *definitions, size_t length,
+                                              uint64_t most_commits);
+
+/* Gives all memory back; open transactions are rolled back. A closed one, and null, are left as they are. */
+static inline void skewguard_close(skewguard *db);
+
+/* ---- sessions and statements */
+
+/*
+ * Opens a session, in which one transaction at a time may be open. Case does not count in its name, which reports give.
+ * The number that is left in *session was never given before. A name may be used again once its session is closed.
+ *
+ * BAD_NAME, NAME_TAKEN; REFUSED with 24 where 256 other names have been used; NO_MEMORY, REPLY_WAITS, CLOSED,
+ * BAD_REQUEST.
+ */
+static inline skewguard_status skewguard_open_session(skewguard *db, const char *name, size_t length,
+                                                      uint64_t *session);
+
+/* Closes a session. Its open transaction is rolled back. NO_SESSION, CLOSED, BAD_REQUEST. */
+static inline skewguard_status skewguard_close_session(skewguard *db, uint64_t session);
+
+/*
+ * Prepares a statement or an event: one text of the language, with no semicolon, in which `?` may stand for a constant.
+ * The number that is left in *statement was never given before, and reply.parameters says how many there are.
+ *
+ * REFUSED with 2 or 19: the text, with reply.refusal.offset. NO_MEMORY, REPLY_WAITS, CLOSED, BAD_REQUEST.
+ */
+static inline skewguard_status skewguard_prepare(skewguard *db, const char *text, size_t length, uint64_t *statement);
+
+/* Lets a prepared statement go. NO_STATEMENT, CLOSED, BAD_REQUEST. */
+static inline skewguard_status skewguard_forget(skewguard *db, uint64_t statement);
+
+/* ---- events of a session */
+
+/*
+ * Runs a prepared statement with a value for each parameter. The reply is that of the statement, and rows are then read
+ * by skewguard_next_row.
+ *
+ * REFUSED by the engine. NO_SESSION, NO_STATEMENT, WRONG_COUNT, BAD_VALUE, NO_MEMORY, REPLY_WAITS, CLOSED, BAD_REQUEST.
+ */
+static inline skewguard_status skewguard_run(skewguard *db, uint64_t session, uint64_t statement,
+                                             const skewguard_value *values, size_t count);
+
+/* Runs a text that has no parameters. REFUSED by the engine, or with 2 or 19 the text; else as skewguard_run. */
+static inline skewguard_status skewguard_execute(skewguard *db, uint64_t session, const char *text, size_t length);
+
+/* BEGIN, BEGIN READ ONLY, COMMIT and ROLLBACK. REFUSED by the engine; NO_SESSION, NO_MEMORY, REPLY_WAITS, CLOSED,
+ * BAD_REQUEST. */
+static inline skewguard_status skewguard_begin(skewguard *db, uint64_t session);
+static inline skewguard_status skewguard_begin_read_only(skewguard *db, uint64_t session);
+static inline skewguard_status skewguard_commit(skewguard *db, uint64_t session);
+static inline skewguard_status skewguard_rollback(skewguard *db, uint64_t session);
+
+/* ---- what is left of the run */
+
+/* The closing part of a report, in reply.text: commits, serial order, refused COMMITs, assertions. NO_MEMORY,
+ * REPLY_WAITS, CLOSED, BAD_REQUEST. */
+static inline skewguard_status skewguard_report(skewguard *db);
+
+/*
+ * Drops the rules of the names in dropped, and creates those of created, a text of CREATE ASSERTION definitions; both
+ * may be empty. A new epoch then begins on the newest tables: its commits count from 1, and what was kept of the
+ * commits before is given back. Its closing part is in reply.text.
+ *
+ * REFUSED with 15 while a transaction is open; with 3 a name that no rule has, with 2, 4, 5, 18 to 22 a rule that is
+ * not taken in. Nothing has changed then. NO_MEMORY, REPLY_WAITS, CLOSED, BAD_REQUEST.
+ */
+static inline skewguard_status skewguard_checkpoint(skewguard *db, const char *created, size_t length,
+                                                    const skewguard_text *dropped, size_t count);
+
+/* ---- replies */
+
+/* The last reply once more, with the status of its call. */
+static inline skewguard_status skewguard_again(skewguard *db);
+
+/* The line of the last answer or refusal, as a report has it, with the lines of its rows, in reply.text; empty where
+ * the last call was none.
+ * skewguard_again then gives the reply itself again. NO_MEMORY, REPLY_WAITS, CLOSED, BAD_REQUEST. */
+static inline skewguard_status skewguard_line(skewguard *db);
+
+/* The next row of a reply of rows, in cells, which has room for `room` values. 1 where there was one; 0 at the end, and
+ * where a row has more values than there is room for. */
+static inline int skewguard_next_row(skewguard *db, skewguard_value *cells, size_t room);
+
+/* The name of a column of a reply of rows, by its place from 0; empty where there is none. */
+static inline skewguard_text skewguard_column(const skewguard *db, uint64_t place);
+
+/* ---- parameters */
+
+static inline skewguard_value skewguard_null(void);
+static inline skewguard_value skewguard_number(int64_t number);
+static inline skewguard_value skewguard_characters(const char *bytes, size_t length);
+
+/* ==== from here on: how it is done */
+
+enum skewguard_operation {
+    SKEWGUARD_DO_AGAIN = 0,
+    SKEWGUARD_DO_LINE = 1,
+    SKEWGUARD_DO_OPEN_SESSION = 2,
+    SKEWGUARD_DO_CLOSE_SESSION = 3,
+    SKEWGUARD_DO_PREPARE = 4,
+    SKEWGUARD_DO_FORGET = 5,
+    SKEWGUARD_DO_RUN = 6,
+    SKEWGUARD_DO_EXECUTE = 7,
+    SKEWGUARD_DO_BEGIN = 8,
+    SKEWGUARD_DO_BEGIN_READ_ONLY = 9,
+    SKEWGUARD_DO_COMMIT = 10,
+    SKEWGUARD_DO_ROLLBACK = 11,
+    SKEWGUARD_DO_REPORT = 12,
+    SKEWGUARD_DO_CHECKPOINT = 13
+};
+
+static inline skewguard_value skewguard_null(void)
+{
+    skewguard_value value;
+    memset(&value, 0, sizeof value);
+    return value;
+}
+
+static inline skewguard_value skewguard_number(int64_t number)
+{
+    skewguard_value value = skewguard_null();
+    value.kind = SKEWGUARD_NUMBER;
+    value.number = number;
+    return value;
+}
+
+static inline skewguard_value skewguard_characters(const char *bytes, size_t length)
+{
+    skewguard_value value = skewguard_null();
+    value.kind = SKEWGUARD_CHARACTERS;
+    value.text.bytes = bytes;
+    value.text.length = length;
+    return value;
+}
+
+/* -- a reader of the reply: past its end it gives zeros, and stays there */
+
+typedef struct skewguard_reader {
+    const unsigned char *bytes;
+    size_t at, length;
+} skewguard_reader;
+
+static inline skewguard_reader skewguard_read_from(const skewguard *db, size_t at)
+{
+    skewguard_reader reader;
+    reader.bytes = db->reply_bytes;
+    reader.at = at;
+    reader.length = db->reply_length;
+    return reader;
+}
+
+static inline unsigned skewguard_read_byte(skewguard_reader *reader)
+{
+    return reader->at < reader->length ? reader->bytes[reader->at++] : 0;
+}
+
+static inline uint64_t skewguard_read_number(skewguard_reader *reader)
+{
+    uint64_t number = 0;
+    unsigned place;
+    for (place = 0; place < 64; place += 8)
+        number |= (uint64_t)skewguard_read_byte(reader) << place;
+    return number;
+}
+
+static inline skewguard_text skewguard_read_text(skewguard_reader *reader)
+{
+    skewguard_text text;
+    uint64_t length = skewguard_read_number(reader);
+    if (length > reader->length - reader->at)
+        length = reader->length - reader->at;
+    text.bytes = (const char *)reader->bytes + reader->at;
+    text.length = (size_t)length;
+    reader->at += text.length;
+    return text;
+}
+
+static inline int64_t skewguard_signed(uint64_t bits)
+{
+    return bits >> 63 ? -1 - (int64_t)~bits : (int64_t)bits;
+}
+
+static inline skewguard_value skewguard_read_value(skewguard_reader *reader)
+{
+    unsigned kind = skewguard_read_byte(reader);
+    if (kind == SKEWGUARD_NUMBER)
+        return skewguard_number(skewguard_signed(skewguard_read_number(reader)));
+    if (kind == SKEWGUARD_CHARACTERS) {
+        skewguard_text text = skewguard_read_text(reader);
+        return skewguard_characters(text.bytes, text.length);
+    } else {
+        skewguard_value value = skewguard_null();
+        value.kind = (skewguard_value_kind)kind;
+        return value;
+    }
+}
+
+static inline void skewguard_read_refusal(skewguard_reader *reader, skewguard_refusal *refusal)
+{
+    skewguard_text state;
+    refusal->number = (int)skewguard_read_number(reader);
+    state = skewguard_read_text(reader);
+    if (state.length == 5)
+        memcpy(refusal->sqlstate, state.bytes, 5);
+    refusal->name = skewguard_read_text(reader);
+    refusal->root = skewguard_read_value(reader);
+    refusal->commit = skewguard_read_number(reader);
+    refusal->reader = skewguard_read_number(reader);
+    refusal->pivot = skewguard_read_number(reader);
+    refusal->writer = skewguard_read_number(reader);
+    refusal->offset = (size_t)skewguard_read_number(reader);
+    refusal->line = skewguard_read_text(reader);
+}
+
+static inline void skewguard_read_rows(skewguard *db, skewguard_reader *reader)
+{
+    uint64_t place;
+    db->reply.columns = skewguard_read_number(reader);
+    db->names_at = reader->at;
+    for (place = 0; place < db->reply.columns && reader->at < reader->length; place++)
+        (void)skewguard_read_text(reader);
+    db->reply.rows = db->rows_left = skewguard_read_number(reader);
+    db->next_row_at = reader->at;
+}
+
+static inline void skewguard_clear_reply(skewguard *db)
+{
+    memset(&db->reply, 0, sizeof db->reply);
+    db->rows_left = 0;
+}
+
+static inline void skewguard_read_reply(skewguard *db)
+{
+    skewguard_reader reader = skewguard_read_from(db, 0);
+    skewguard_clear_reply(db);
+    db->reply.kind = (skewguard_kind)skewguard_read_byte(&reader);
+    switch (db->reply.kind) {
+    case SKEWGUARD_OPENED:
+    case SKEWGUARD_SESSION:
+    case SKEWGUARD_BEGUN:
+    case SKEWGUARD_COMMITTED:
+    case SKEWGUARD_INSERTED:
+    case SKEWGUARD_UPDATED:
+    case SKEWGUARD_DELETED:
+    case SKEWGUARD_MISUSED:
+        db->reply.number = skewguard_read_number(&reader);
+        break;
+    case SKEWGUARD_STATEMENT:
+        db->reply.number = skewguard_read_number(&reader);
+        db->reply.parameters = skewguard_read_number(&reader);
+        break;
+    case SKEWGUARD_ROWS:
+        skewguard_read_rows(db, &reader);
+        break;
+    case SKEWGUARD_VERDICT:
+        db->reply.verdict = (skewguard_truth)skewguard_read_number(&reader);
+        break;
+    case SKEWGUARD_TEXT:
+        db->reply.text = skewguard_read_text(&reader);
+        break;
+    case SKEWGUARD_REFUSAL:
+        skewguard_read_refusal(&reader, &db->reply.refusal);
+        break;
+    case SKEWGUARD_NOTHING:
+    case SKEWGUARD_CHANGED:
+    case SKEWGUARD_ROLLED_BACK:
+    case SKEWGUARD_MODES_SET:
+        break;
+    }
+}
+
+static inline int skewguard_next_row(skewguard *db, skewguard_value *cells, size_t room)
+{
+    skewguard_reader reader;
+    size_t place;
+    if (!db || !cells || !db->rows_left || db->reply.columns > room)
+        return 0;
+    reader = skewguard_read_from(db, db->next_row_at);
+    for (place = 0; place < db->reply.columns; place++)
+        cells[place] = skewguard_read_value(&reader);
+    db->next_row_at = reader.at;
+    db->rows_left--;
+    return 1;
+}
+
+static inline skewguard_text skewguard_column(const skewguard *db, uint64_t place)
+{
+    skewguard_reader reader;
+    skewguard_text name;
+    name.bytes = "";
+    name.length = 0;
+    if (!db || db->reply.kind != SKEWGUARD_ROWS || place >= db->reply.columns)
+        return name;
+    reader = skewguard_read_from(db, db->names_at);
+    for (;; place--) {
+        name = skewguard_read_text(&reader);
+        if (!place)
+            return name;
+    }
+}
+
+/* -- requests */
+
+/* Room for so many bytes more; 0 without memory. */
+static inline int skewguard_grow(unsigned char **bytes, size_t *capacity, size_t length, size_t more)
+{
+    size_t wanted;
+    unsigned char *grown;
+    if (more <= *capacity - length)
+        return 1;
+    if (more > SIZE_MAX / 2 - length)
+        return 0;
+    wanted = length + more;
+    if (wanted < 2 * *capacity)
+        wanted = 2 * *capacity;
+    if (wanted < 512)
+        wanted = 512;
+    grown = (unsigned char *)realloc(*bytes, wanted);
+    if (!grown)
+        return 0;
+    *bytes = grown;
+    *capacity = wanted;
+    return 1;
+}
+
+/* Each adds to the request, and gives 0 without memory. */
+static inline int skewguard_add_bytes(skewguard *db, const void *bytes, size_t length)
+{
+    if (!skewguard_grow(&db->request_bytes, &db->request_capacity, db->request_length, length))
+        return 0;
+    if (length)
+        memcpy(db->request_bytes + db->request_length, bytes, length);
+    db->request_length += length;
+    return 1;
+}
+
+static inline int skewguard_add_number(skewguard *db, uint64_t number)
+{
+    unsigned char bytes[8];
+    unsigned place;
+    for (place = 0; place < 8; place++)
+        bytes[place] = (unsigned char)(number >> 8 * place);
+    return skewguard_add_bytes(db, bytes, 8);
+}
+
+static inline int skewguard_add_value(skewguard *db, const skewguard_value *value)
+{
+    unsigned char kind = (unsigned char)value->kind;
+    if (!skewguard_add_bytes(db, &kind, 1))
+        return 0;
+    if (value->kind == SKEWGUARD_NUMBER)
+        return skewguard_add_number(db, (uint64_t)value->number);
+    if (value->kind == SKEWGUARD_CHARACTERS)
+        return skewguard_add_number(db, value->text.length)
+            && skewguard_add_bytes(db, value->text.bytes, value->text.length);
+    return 1;
+}
+
+/* Whether a value may be a parameter. */
+static inline int skewguard_is_parameter(const skewguard_value *value)
+{
+    switch (value->kind) {
+    case SKEWGUARD_NULL:
+    case SKEWGUARD_NUMBER:
+        return 1;
+    case SKEWGUARD_CHARACTERS:
+        return value->text.bytes || !value->text.length;
+    case SKEWGUARD_ALL:
+    case SKEWGUARD_NO_VALUE:
+        break;
+    }
+    return 0;
+}
+
+static inline skewguard_status skewguard_give(skewguard *db, skewguard_status status)
+{
+    skewguard_clear_reply(db);
+    return status;
+}
+
+/* Whether a call may be made; all arguments were looked at. */
+static inline skewguard_status skewguard_ready(skewguard *db, int arguments)
+{
+    if (!db)
+        return SKEWGUARD_BAD_REQUEST;
+    db->request_length = 0;
+    if (!arguments)
+        return skewguard_give(db, SKEWGUARD_BAD_REQUEST);
+    if (!db->library)
+        return skewguard_give(db, SKEWGUARD_CLOSED);
+    return SKEWGUARD_DONE;
+}
+
+/* One call of the library. Should its reply have no room, it is asked for again in more. */
+static inline skewguard_status skewguard_call(skewguard *db, uint32_t operation)
+{
+    static const unsigned char none[1] = {0};
+    const unsigned char *request = db->request_length ? db->request_bytes : none;
+    size_t length = db->request_length, reply_length = 0;
+    int32_t status;
+    if (!skewguard_grow(&db->reply_bytes, &db->reply_capacity, 0, 512))
+        return skewguard_give(db, SKEWGUARD_NO_MEMORY);
+    status = skewguard_library_call(db->library, operation, request, length, db->reply_bytes, db->reply_capacity,
+                                    &reply_length);
+    if (reply_length > db->reply_capacity) {
+        if (!skewguard_grow(&db->reply_bytes, &db->reply_capacity, 0, reply_length))
+            return skewguard_give(db, SKEWGUARD_REPLY_WAITS);
+        if (operation != SKEWGUARD_DO_LINE) {
+            operation = SKEWGUARD_DO_AGAIN;
+            request = none;
+            length = 0;
+        }
+        status = skewguard_library_call(db->library, operation, request, length, db->reply_bytes, db->reply_capacity,
+                                        &reply_length);
+        if (reply_length > db->reply_capacity)
+            return skewguard_give(db, SKEWGUARD_REPLY_WAITS);
+    }
+    db->reply_length = reply_length;
+    skewguard_read_reply(db);
+    return (skewguard_status)status;
+}
+
+static inline skewguard_status skewguard_call_with_number(skewguard *db, uint32_t operation, uint64_t number)
+{
+    skewguard_status status = skewguard_ready(db, 1);
+    if (status != SKEWGUARD_DONE)
+        return status;
+    if (!skewguard_add_number(db, number))
+        return skewguard_give(db, SKEWGUARD_NO_MEMORY);
+    return skewguard_call(db, operation);
+}
+
+static inline skewguard_status skewguard_call_with_text(skewguard *db, uint32_t operation, const char *text,
+                                                        size_t length, uint64_t *number)
+{
+    skewguard_status status = skewguard_ready(db, text && number);
+    if (status != SKEWGUARD_DONE)
+        return status;
+    if (!skewguard_add_bytes(db, text, length))
+        return skewguard_give(db, SKEWGUARD_NO_MEMORY);
+    status = skewguard_call(db, operation);
+    if (status == SKEWGUARD_DONE)
+        *number = db->reply.number;
+    return status;
+}
+
+/* -- the calls */
+
+static inline void skewguard_close(skewguard *db)
+{
+    if (!db)
+        return;
+    if (db->library)
+        skewguard_library_close(db->library);
+    free(db->reply_bytes);
+    free(db->request_bytes);
+    memset(db, 0, sizeof *db);
+}
+
+static inline skewguard_status skewguard_open(skewguard *db, const char *definitions, size_t length,
+                                              uint64_t most_commits)
+{
+    skewguard_status status;
+    if (!db)
+        return SKEWGUARD_BAD_REQUEST;
+    memset(db, 0, sizeof *db);
+    if (!definitions || most_commits > UINT32_MAX)
+        return SKEWGUARD_BAD_REQUEST;
+    if (!skewguard_add_number(db, most_commits) || !skewguard_add_bytes(db, definitions, length))
+        return SKEWGUARD_NO_MEMORY;
+    if (skewguard_library_open(db->request_bytes, db->request_length, &db->library) != SKEWGUARD_DONE) {
+        db->library = NULL;
+        return SKEWGUARD_NO_MEMORY;
+    }
+    db->request_length = 0;
+    status = skewguard_call(db, SKEWGUARD_DO_AGAIN);
+    if (status == SKEWGUARD_DONE && db->reply.number != SKEWGUARD_LAYOUT)
+        status = SKEWGUARD_BAD_REQUEST;
+    if (status != SKEWGUARD_DONE) {
+        skewguard_library_close(db->library);
+        db->library = NULL;
+    }
+    return status == SKEWGUARD_REPLY_WAITS ? SKEWGUARD_NO_MEMORY : status;
+}
+
+static inline skewguard_status skewguard_open_session(skewguard *db, const char *name, size_t length,
+                                                      uint64_t *session)
+{
+    return skewguard_call_with_text(db, SKEWGUARD_DO_OPEN_SESSION, name, length, session);
+}
+
+static inline skewguard_status skewguard_close_session(skewguard *db, uint64_t session)
+{
+    return skewguard_call_with_number(db, SKEWGUARD_DO_CLOSE_SESSION, session);
+}
+
+static inline skewguard_status skewguard_prepare(skewguard *db, const char *text, size_t length, uint64_t *statement)
+{
+    return skewguard_call_with_text(db, SKEWGUARD_DO_PREPARE, text, length, statement);
+}
+
+static inline skewguard_status skewguard_forget(skewguard *db, uint64_t statement)
+{
+    return skewguard_call_with_number(db, SKEWGUARD_DO_FORGET, statement);
+}
+
+static inline skewguard_status skewguard_run(skewguard *db, uint64_t session, uint64_t statement,
+                                             const skewguard_value *values, size_t count)
+{
+    size_t place;
+    skewguard_status status = skewguard_ready(db, values || !count);
+    if (status != SKEWGUARD_DONE)
+        return status;
+    for (place = 0; place < count; place++)
+        if (!skewguard_is_parameter(&values[place]))
+            return skewguard_give(db, SKEWGUARD_BAD_REQUEST);
+    if (!skewguard_add_number(db, session) || !skewguard_add_number(db, statement) || !skewguard_add_number(db, count))
+        return skewguard_give(db, SKEWGUARD_NO_MEMORY);
+    for (place = 0; place < count; place++)
+        if (!skewguard_add_value(db, &values[place]))
+            return skewguard_give(db, SKEWGUARD_NO_MEMORY);
+    return skewguard_call(db, SKEWGUARD_DO_RUN);
+}
+
+static inline skewguard_status skewguard_execute(skewguard *db, uint64_t session, const char *text, size_t length)
+{
+    skewguard_status status = skewguard_ready(db, text != NULL);
+    if (status != SKEWGUARD_DONE)
+        return status;
+    if (!skewguard_add_number(db, session) || !skewguard_add_bytes(db, text, length))
+        return skewguard_give(db, SKEWGUARD_NO_MEMORY);
+    return skewguard_call(db, SKEWGUARD_DO_EXECUTE);
+}
+
+static inline skewguard_status skewguard_begin(skewguard *db, uint64_t session)
+{
+    return skewguard_call_with_number(db, SKEWGUARD_DO_BEGIN, session);
+}
+
+static inline skewguard_status skewguard_begin_read_only(skewguard *db, uint64_t session)
+{
+    return skewguard_call_with_number(db, SKEWGUARD_DO_BEGIN_READ_ONLY, session);
+}
+
+static inline skewguard_status skewguard_commit(skewguard *db, uint64_t session)
+{
+    return skewguard_call_with_number(db, SKEWGUARD_DO_COMMIT, session);
+}
+
+static inline skewguard_status skewguard_rollback(skewguard *db, uint64_t session)
+{
+    return skewguard_call_with_number(db, SKEWGUARD_DO_ROLLBACK, session);
+}
+
+static inline skewguard_status skewguard_call_alone(skewguard *db, uint32_t operation)
+{
+    skewguard_status status = skewguard_ready(db, 1);
+    return status == SKEWGUARD_DONE ? skewguard_call(db, operation) : status;
+}
+
+static inline skewguard_status skewguard_report(skewguard *db)
+{
+    return skewguard_call_alone(db, SKEWGUARD_DO_REPORT);
+}
+
+static inline skewguard_status skewguard_again(skewguard *db)
+{
+    return skewguard_call_alone(db, SKEWGUARD_DO_AGAIN);
+}
+
+static inline skewguard_status skewguard_line(skewguard *db)
+{
+    skewguard_status status = skewguard_call_alone(db, SKEWGUARD_DO_LINE);
+    return db && db->reply.kind == SKEWGUARD_TEXT ? SKEWGUARD_DONE : status;
+}
+
+static inline skewguard_status skewguard_checkpoint(skewguard *db, const char *created, size_t length,
+                                                    const skewguard_text *dropped, size_t count)
+{
+    size_t place;
+    skewguard_value value;
+    skewguard_status status = skewguard_ready(db, (created || !length) && (dropped || !count));
+    if (status != SKEWGUARD_DONE)
+        return status;
+    for (place = 0; place < count; place++)
+        if (!dropped[place].bytes)
+            return skewguard_give(db, SKEWGUARD_BAD_REQUEST);
+    if (!skewguard_add_number(db, length) || !skewguard_add_bytes(db, created, length)
+        || !skewguard_add_number(db, count))
+        return skewguard_give(db, SKEWGUARD_NO_MEMORY);
+    for (place = 0; place < count; place++) {
+        value = skewguard_characters(dropped[place].bytes, dropped[place].length);
+        if (!skewguard_add_value(db, &value))
+            return skewguard_give(db, SKEWGUARD_NO_MEMORY);
+    }
+    return skewguard_call(db, SKEWGUARD_DO_CHECKPOINT);
+}
+
+#ifdef __cplusplus
+}
+#endif
+
+#endif

@@ -1,0 +1,43 @@
+-- What a call tells, where another call made it.
+use Rattle.std.proofs.Common.{◌≡◌, ℕ, List, Option, Some, None, Result, Ok, Err, refl, sym, subst, inl, inr}
+use Rattle.value.specs.declared.values.Value.{Value}
+use Rattle.statement_syntax.specs.declared.statements.Event.{Event}
+use Rattle.statement_syntax.specs.Grammar.{IsEvent}
+use Rattle.running.specs.Texts.{IsRead}
+use Rattle.prepared.specs.declared.prepared.Prepared.{Prepared}
+use Rattle.prepared.specs.Prepared.{filled}
+use Rattle.messages.specs.declared.responses.Response.{Response}
+use Rattle.messages.specs.Requests.{RunFields}
+use Rattle.calls.specs.declared.databases.Database.{Database}
+use Rattle.calls.specs.Sessions.{session_name}
+use Rattle.calls.specs.Statements.{statement_at}
+use Rattle.calls.specs.Calls.{AnswersEvent, AnswersNamed, ExecutesText, RunsKept, RunsStatement}
+
+module _ (Is : Event → Type 0) (event : Event) (old new : Database) (r : Response) (is : Is event) where
+  -- an event that is this one is such a one
+  such : (name : Option (List ℕ)) → AnswersNamed name (λ e. e ≡ event) old new r → AnswersNamed name Is old new r
+  such None told = told
+  such (Some name) (inl told) = inl told
+  such (Some name) (inr told) = inr (record {
+    step = told.step;
+    session_is = told.session_is;
+    event_is = subst Is (sym told.event_is) is;
+    answer = told.answer;
+    answered = told.answered;
+    leaves = told.leaves;
+    told = told.told;
+  })
+
+pub executes_read : (text : List ℕ) (session : ℕ) (event : Event) (old new : Database) (r : Response) → IsRead IsEvent text event
+    → AnswersEvent (λ e. e ≡ event) session old new r → ExecutesText text session old new r
+executes_read text session event old new r read told = inr (such (λ e. IsRead IsEvent text e) event old new r read (session_name session old.sessions) told)
+
+kept : (found : Option Prepared) (fields : RunFields) (statement : Prepared) (event : Event) (old new : Database) (r : Response) → found ≡ Some statement
+    → filled statement fields.values ≡ Ok event → AnswersEvent (λ e. e ≡ event) fields.session old new r → RunsKept found fields old new r
+kept found fields statement event old new r is made told =
+    subst (λ f. RunsKept f fields old new r) (sym is)
+    (inr (such (λ e. filled statement fields.values ≡ Ok e) event old new r made (session_name fields.session old.sessions) told))
+
+pub runs_kept : (fields : RunFields) (statement : Prepared) (event : Event) (old new : Database) (r : Response) → Some statement ≡ statement_at fields.statement old.statements
+    → filled statement fields.values ≡ Ok event → AnswersEvent (λ e. e ≡ event) fields.session old new r → RunsStatement fields old new r
+runs_kept fields statement event old new r is made told = kept (statement_at fields.statement old.statements) fields statement event old new r (sym is) made told

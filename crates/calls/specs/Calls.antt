@@ -1,0 +1,361 @@
+-- What each call makes of a database, and what it answers.
+use Rattle.std.specs.Prelude.{◌≡◌, ◌⊎◌, ◌++◌, ℕ, Bool, true, false, List, [], ◌∷◌, map, Option, Some, None, Result, Ok, Err, IsSomeAnd}
+use Rattle.value.specs.declared.refusals.Refusal.{Refusal}
+use Rattle.value.specs.declared.refusals.Refusal.TheVariants as refusal
+use Rattle.value.specs.declared.values.Value.{Value}
+use Rattle.value.specs.declared.values.Value.TheVariants as value
+use Rattle.table.specs.Rows.{Layout, layout_of}
+use Rattle.table.specs.declared.schemas.Column.{Column}
+use Rattle.token.specs.Bytes.{name_of}
+use Rattle.statement_syntax.specs.declared.statements.Event.{Event}
+use Rattle.statement_syntax.specs.declared.statements.Event.TheVariants as event
+use Rattle.statement_syntax.specs.declared.statements.Step.{Step}
+use Rattle.statement_syntax.specs.declared.statements.Statement.TheVariants as statement
+use Rattle.statement_syntax.specs.declared.definitions.Definition.{Definition}
+use Rattle.statement_syntax.specs.Grammar.{IsEvent}
+use Rattle.statement_syntax.specs.SchemaGrammar.{IsSchema}
+use Rattle.answer.specs.declared.answers.Answer.{Answer}
+use Rattle.definitions.specs.declared.redeclaration.NewAssertion.{NewAssertion}
+use Rattle.definitions.specs.Redeclaration.{definition_of}
+use Rattle.commit.specs.Epochs.{IsNextEpoch, is_any_open}
+use Rattle.commit.specs.Admission.{admitted}
+use Rattle.commit.specs.Events.{EngineState, IsAnswered, after}
+use Rattle.commit.specs.Runs.{beginning, seated}
+use Rattle.commit.specs.Views.{Shown}
+use Rattle.commit.specs.Written.{AreWritten}
+use Rattle.running.specs.Lines.{closing}
+use Rattle.running.specs.Texts.{IsRead, IsUnread}
+use Rattle.prepared.specs.declared.faults.FillFault.{FillFault}
+use Rattle.prepared.specs.declared.faults.FillFault.TheVariants as fill
+use Rattle.prepared.specs.Numbers.{parameter_count}
+use Rattle.prepared.specs.declared.prepared.Prepared.{Prepared}
+use Rattle.prepared.specs.Prepared.{IsPrepared, RefusedText, filled, numbers_of}
+use Rattle.layout.specs.Reading.{number_at}
+use Rattle.layout.specs.declared.faults.FieldFault.{FieldFault}
+use Rattle.layout.specs.declared.faults.FieldFault.TheVariants as field
+use Rattle.messages.specs.declared.operations.Operation.{Operation}
+use Rattle.messages.specs.declared.operations.Operation.TheVariants as op
+use Rattle.messages.specs.declared.responses.Misuse.TheVariants as misuse
+use Rattle.messages.specs.declared.responses.Response.{Response}
+use Rattle.messages.specs.declared.responses.Response.TheVariants as response
+use Rattle.messages.specs.declared.responses.Source.{Source}
+use Rattle.messages.specs.declared.responses.Source.TheVariants as source
+use Rattle.messages.specs.Names.{is_name}
+use Rattle.messages.specs.Requests.{RunFields, checkpoint_request, only_number, run_request}
+use Rattle.calls.specs.declared.databases.Database.{Database}
+use Rattle.calls.specs.Sessions.{has_room, is_named, no_sessions, session_name, with_session, without_session}
+use Rattle.calls.specs.Statements.{no_statements, statement_at, with_statement, without_statement}
+
+-- ---- calls that are not made: nothing has changed
+
+-- the response says why
+pub record IsTold (old new : Database) (is told : Response) : Type 0 where
+  pub response : is ≡ told
+  pub same : new ≡ old
+
+abbrev pub refused : Source → Refusal → Response
+refused source why = response.Refused source why
+
+abbrev pub unread : FieldFault → Response
+unread field.NoMemory = response.Refused source.Statement refusal.NoMemory
+unread field.Malformed = response.Misused misuse.BadRequest
+
+abbrev pub unfilled : FillFault → Response
+unfilled fill.NoMemory = response.Refused source.Statement refusal.NoMemory
+unfilled (fill.WrongCount wanted given) = response.Misused (misuse.WrongCount wanted)
+unfilled (fill.NullNotAllowed parameter) = response.Misused (misuse.BadValue parameter)
+unfilled (fill.NumberOutOfRange parameter) = response.Misused (misuse.BadValue parameter)
+unfilled (fill.TextNotPlain parameter) = response.Misused (misuse.BadValue parameter)
+
+-- memory ran out
+abbrev pub IsWithoutMemory : Source → Database → Database → Response → Type 0
+IsWithoutMemory source old new r = IsTold old new r (response.Refused source refusal.NoMemory)
+
+-- a call with one number, of a session or a statement
+abbrev pub WithNumber : Option ℕ → (ℕ → Database → Database → Response → Type 0) → Database → Database → Response
+    → Type 0
+WithNumber None Does old new r = IsTold old new r (response.Misused misuse.BadRequest)
+WithNumber (Some n) Does old new r = Does n old new r
+
+-- ---- sessions
+
+-- a session of this name is open, which was not
+pub record IsOpenedAs (name : List ℕ) (old new : Database) (number : ℕ) : Type 0 where
+  pub number_is : number ≡ old.sessions.next
+  pub free : is_named name old.sessions ≡ false
+  pub leaves : new ≡ record {
+    engine = record old.engine { seats = seated old.engine.seats name };
+    sessions = with_session name old.sessions;
+    statements = old.statements;
+  }
+
+abbrev pub OpensNamed : List ℕ → Database → Database → Response → Type 0
+OpensNamed name old new (response.Session n) = IsOpenedAs name old new n
+OpensNamed name old new (response.Misused m) =
+    (m ≡ misuse.NameTaken) × (is_named name old.sessions ≡ true) × (new ≡ old)
+OpensNamed name old new (response.Refused source refusal.TooManySessions) =
+    (has_room old.engine name old.sessions ≡ false) × (new ≡ old)
+OpensNamed name old new (response.Refused source r) = (r ≡ refusal.NoMemory) × (new ≡ old)
+OpensNamed name old new other = ⊥
+
+-- by a name of the language, in which case does not count
+abbrev pub OpensIf : (named : Bool) → List ℕ → Database → Database → Response → Type 0
+OpensIf false bytes old new r = IsTold old new r (response.Misused misuse.BadName)
+OpensIf true bytes old new r = IsWithoutMemory source.Session old new r ⊎ OpensNamed (name_of bytes) old new r
+
+abbrev pub OpensSession : List ℕ → Database → Database → Response → Type 0
+OpensSession bytes old new r = OpensIf (is_name bytes) bytes old new r
+
+-- the open transaction of a session is rolled back, and its number is none from then on
+pub record IsClosedAs (number : ℕ) (name : List ℕ) (old new : Database) (r : Response) : Type 0 where
+  pub answer : Answer
+  pub answered : IsAnswered old.engine (record { session = name; event = event.Rollback }) answer
+  pub leaves : new ≡ record {
+    engine = after old.engine (record { session = name; event = event.Rollback }) answer;
+    sessions = without_session number old.sessions;
+    statements = old.statements;
+  }
+  pub told : r ≡ response.SessionClosed
+
+abbrev pub ClosesNamed : Option (List ℕ) → ℕ → Database → Database → Response → Type 0
+ClosesNamed None number old new r = IsTold old new r (response.Misused misuse.NoSession)
+ClosesNamed (Some name) number old new r = IsClosedAs number name old new r
+
+abbrev pub ClosesSession : ℕ → Database → Database → Response → Type 0
+ClosesSession number old new r = ClosesNamed (session_name number old.sessions) number old new r
+
+-- ---- events of a session
+
+-- the engine answers an event in the seat of the session's name
+pub record IsAnsweredIn (name : List ℕ) (Is : Event → Type 0) (old new : Database) (r : Response) : Type 0 where
+  pub step : Step
+  pub session_is : step.session ≡ name
+  pub event_is : Is step.event
+  pub answer : Answer
+  pub answered : IsAnswered old.engine step answer
+  pub leaves : new ≡ record old { engine = after old.engine step answer }
+  pub told : r ≡ response.Answered step answer
+
+abbrev pub AnswersNamed : Option (List ℕ) → (Event → Type 0) → Database → Database → Response → Type 0
+AnswersNamed None Is old new r = IsTold old new r (response.Misused misuse.NoSession)
+AnswersNamed (Some name) Is old new r =
+    IsWithoutMemory source.Statement old new r ⊎ IsAnsweredIn name Is old new r
+
+-- an event of a session, if it is open
+abbrev pub AnswersEvent : (Event → Type 0) → ℕ → Database → Database → Response → Type 0
+AnswersEvent Is session old new r = AnswersNamed (session_name session old.sessions) Is old new r
+
+-- the event of a text
+pub record IsTextRefused (text : List ℕ) (old new : Database) (r : Response) : Type 0 where
+  pub why : Refusal
+  pub unread : IsUnread IsEvent text why
+  pub told : IsTold old new r (response.Refused source.Statement why)
+
+abbrev pub ExecutesText : List ℕ → ℕ → Database → Database → Response → Type 0
+ExecutesText text session old new r =
+    IsTextRefused text old new r ⊎ AnswersEvent (λ e. IsRead IsEvent text e) session old new r
+
+abbrev pub Executes : Option (ℕ × List ℕ) → Database → Database → Response → Type 0
+Executes None old new r = IsTold old new r (response.Misused misuse.BadRequest)
+Executes (Some read) old new r = ExecutesText read.1 read.0 old new r
+
+-- ---- prepared statements
+
+-- a statement is kept, as the text has it
+pub record IsKept (text : List ℕ) (old new : Database) (r : Response) : Type 0 where
+  pub statement : Prepared
+  pub prepared : IsPrepared text statement
+  pub leaves : new ≡ record old { statements = with_statement statement old.statements }
+  pub told : r ≡ response.Prepared old.statements.next (parameter_count (numbers_of text))
+
+pub record IsUnprepared (text : List ℕ) (old new : Database) (r : Response) : Type 0 where
+  pub why : Refusal
+  pub refused : RefusedText text why
+  pub told : IsTold old new r (response.Refused source.Statement why)
+
+abbrev pub PreparesText : List ℕ → Database → Database → Response → Type 0
+PreparesText text old new r = IsUnprepared text old new r ⊎ IsKept text old new r
+
+abbrev pub ForgetsKept : Option Prepared → ℕ → Database → Database → Response → Type 0
+ForgetsKept None number old new r = IsTold old new r (response.Misused misuse.NoStatement)
+ForgetsKept (Some statement) number old new r =
+    (r ≡ response.Forgotten) × (new ≡ record old { statements = without_statement number old.statements })
+
+abbrev pub Forgets : ℕ → Database → Database → Response → Type 0
+Forgets number old new r = ForgetsKept (statement_at number old.statements) number old new r
+
+-- a statement is run with values: it is the event with these constants
+pub record IsUnfilled (statement : Prepared) (values : List Value) (old new : Database)
+    (r : Response) : Type 0 where
+  pub fault : FillFault
+  pub due : ¬ (fault ≡ fill.NoMemory) → filled statement values ≡ Err fault
+  pub told : IsTold old new r (unfilled fault)
+
+abbrev pub RunsKept : Option Prepared → RunFields → Database → Database → Response → Type 0
+RunsKept None fields old new r = IsTold old new r (response.Misused misuse.NoStatement)
+RunsKept (Some statement) fields old new r =
+    IsUnfilled statement fields.values old new r
+    ⊎ AnswersEvent (λ e. filled statement fields.values ≡ Ok e) fields.session old new r
+
+abbrev pub RunsStatement : RunFields → Database → Database → Response → Type 0
+RunsStatement fields old new r = RunsKept (statement_at fields.statement old.statements) fields old new r
+
+abbrev pub RunsRead : Option RunFields → Database → Database → Response → Type 0
+RunsRead None old new r = IsTold old new r (response.Misused misuse.BadRequest)
+RunsRead (Some fields) old new r = RunsStatement fields old new r
+
+abbrev pub Runs : List ℕ → Database → Database → Response → Type 0
+Runs request old new r = IsWithoutMemory source.Statement old new r ⊎ RunsRead (run_request request) old new r
+
+-- ---- reports and checkpoints
+
+abbrev pub Reports : Database → Database → Response → Type 0
+Reports old new r =
+    IsWithoutMemory source.Rules old new r ⊎ IsTold old new r (response.Closing (closing old.engine.core))
+
+-- whether a response says that a database may have changed
+abbrev pub is_change : Response → Bool
+is_change response.Opened = true
+is_change (response.Session n) = true
+is_change (response.Prepared n parameters) = true
+is_change response.SessionClosed = true
+is_change response.Forgotten = true
+is_change (response.Answered step answer) = true
+is_change (response.Closing bytes) = false
+is_change (response.Changed bytes) = true
+is_change (response.Refused source refusal) = false
+is_change (response.Misused misuse) = false
+
+-- a name of the language, in which case does not count
+abbrev pub named_if : Bool → List ℕ → Option (List ℕ)
+named_if true bytes = Some (name_of bytes)
+named_if false bytes = None
+
+-- the name that a value has, if it is a text
+abbrev pub value_name : Value → Option (List ℕ)
+value_name value.Null = None
+value_name (value.Int n) = None
+value_name (value.Text bytes) = named_if (is_name bytes) bytes
+
+-- the names of all, if each has one
+abbrev pub with_first : Option (List ℕ) → Option (List (List ℕ)) → Option (List (List ℕ))
+with_first None names = None
+with_first (Some name) None = None
+with_first (Some name) (Some names) = Some (name ∷ names)
+
+abbrev pub names_of : List Value → Option (List (List ℕ))
+names_of [] = Some []
+names_of (v ∷ vs) = with_first (value_name v) (names_of vs)
+
+-- a name was added to others, if the value has one
+abbrev pub IsNameAdded : (added : Bool) → Value → (old new : List (List ℕ)) → Type 0
+IsNameAdded true v old new = IsSomeAnd (value_name v) (λ name. new ≡ old ++ name ∷ [])
+IsNameAdded false v old new = value_name v ≡ None
+
+-- the rules that a text creates
+pub record AreRules (text : List ℕ) (created : List NewAssertion) : Type 0 where
+  pub definitions : List Definition
+  pub read : IsRead IsSchema text definitions
+  pub written : definitions ≡ map definition_of created
+
+-- what a request for a checkpoint asks for
+pub record IsRequested (request : List ℕ) (dropped : List (List ℕ)) (created : List NewAssertion) : Type 0 where
+  pub text : List ℕ
+  pub values : List Value
+  pub read : checkpoint_request request ≡ Some (text, values)
+  pub names : names_of values ≡ Some dropped
+  pub rules : AreRules text created
+
+-- nothing has changed, and the response says so
+pub record IsLeft (old new : Database) (r : Response) : Type 0 where
+  pub same : new ≡ old
+  pub told : is_change r ≡ false
+
+-- rules are dropped and created, and a new epoch begins; the response is the closing part of the one before
+pub record IsChanged (dropped : List (List ℕ)) (created : List NewAssertion) (old new : Database) (r : Response) :
+    Type 0 where
+  pub closed : is_any_open old.engine.seats ≡ false
+  pub next : IsNextEpoch dropped created old.engine.core new.engine.core
+  pub seats : new.engine.seats ≡ old.engine.seats
+  pub sessions : new.sessions ≡ old.sessions
+  pub statements : new.statements ≡ old.statements
+  pub told : r ≡ response.Changed (closing old.engine.core)
+
+abbrev pub ChangesRules : List (List ℕ) → List NewAssertion → Database → Database → Response → Type 0
+ChangesRules dropped created old new r = IsLeft old new r ⊎ IsChanged dropped created old new r
+
+-- as the request asks for
+pub record IsCheckpoint (request : List ℕ) (old new : Database) (r : Response) : Type 0 where
+  pub dropped : List (List ℕ)
+  pub created : List NewAssertion
+  pub requested : IsRequested request dropped created
+  pub changed : IsChanged dropped created old new r
+
+abbrev pub Checkpoints : List ℕ → Database → Database → Response → Type 0
+Checkpoints request old new r = IsLeft old new r ⊎ IsCheckpoint request old new r
+
+-- ---- the columns of a SELECT that lists all
+
+abbrev pub columns_in : Option Layout → List Column
+columns_in None = []
+columns_in (Some layout) = layout.columns
+
+abbrev pub table_columns : List ℕ → Database → List Column
+table_columns table now = columns_in (layout_of table now.engine.core.declared.tables)
+
+abbrev pub columns_of : Event → Database → List Column
+columns_of (event.Run (statement.Select columns table keeps)) now = table_columns table now
+columns_of other now = []
+
+abbrev pub all_columns : Response → Database → List Column
+all_columns (response.Answered step answer) now = columns_of step.event now
+all_columns other now = []
+
+-- ---- the beginning
+
+-- the definitions of a text are read and admitted, and each assertion means what they write
+pub record IsBeginning (text : List ℕ) (limit : ℕ) (engine : EngineState) : Type 0 where
+  pub definitions : List Definition
+  pub read : IsRead IsSchema text definitions
+  pub shown : Shown
+  pub admits : admitted definitions ≡ Ok shown
+  pub written : AreWritten definitions shown.declared
+  pub is : engine ≡ beginning limit shown []
+
+-- they are read, and refused
+pub record AreRefused (text : List ℕ) (why : Refusal) : Type 0 where
+  pub definitions : List Definition
+  pub read : IsRead IsSchema text definitions
+  pub refused : ¬ (why ≡ refusal.NoMemory) → admitted definitions ≡ Err why
+
+-- the text is none of definitions, or they are refused
+abbrev pub IsUnbegun : (text : List ℕ) → Refusal → Type 0
+IsUnbegun text why = IsUnread IsSchema text why ⊎ AreRefused text why
+
+-- an engine before its first event, with no session and no statement
+pub record IsBegun (text : List ℕ) (limit : ℕ) (now : Database) : Type 0 where
+  pub engine : IsBeginning text limit now.engine
+  pub sessions : now.sessions ≡ no_sessions
+  pub statements : now.statements ≡ no_statements
+
+-- ---- one call
+
+abbrev pub IsOperated : Operation → List ℕ → Database → Database → Response → Type 0
+IsOperated op.Again request old new r = IsTold old new r (response.Misused misuse.BadRequest)
+IsOperated op.Line request old new r = IsTold old new r (response.Misused misuse.BadRequest)
+IsOperated op.OpenSession request old new r = OpensSession request old new r
+IsOperated op.CloseSession request old new r = WithNumber (only_number request) ClosesSession old new r
+IsOperated op.Prepare request old new r = PreparesText request old new r
+IsOperated op.Forget request old new r = WithNumber (only_number request) Forgets old new r
+IsOperated op.Run request old new r = Runs request old new r
+IsOperated op.Execute request old new r = Executes (number_at request) old new r
+IsOperated op.Begin request old new r =
+    WithNumber (only_number request) (AnswersEvent (λ e. e ≡ event.Begin)) old new r
+IsOperated op.BeginReadOnly request old new r =
+    WithNumber (only_number request) (AnswersEvent (λ e. e ≡ event.BeginReadOnly)) old new r
+IsOperated op.Commit request old new r =
+    WithNumber (only_number request) (AnswersEvent (λ e. e ≡ event.Commit)) old new r
+IsOperated op.Rollback request old new r =
+    WithNumber (only_number request) (AnswersEvent (λ e. e ≡ event.Rollback)) old new r
+IsOperated op.Report request old new r = Reports old new r
+IsOperated op.Checkpoint request old new r = Checkpoints request old new r

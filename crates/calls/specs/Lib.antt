@@ -1,0 +1,4 @@
+pub mod Sessions
+pub mod Statements
+pub mod Calls
+pub mod States

@@ -1,0 +1,420 @@
+//! A database with its sessions and its prepared statements.
+
+ghost use Rattle.std.specs.Prelude.{◌≡◌, ◌≤◌, false, IfOk, IfErr, IsOkUnless};
+ghost use Rattle.value.specs.declared.refusals.Refusal.TheVariants.{NoMemory};
+ghost use Rattle.std.specs.Option.{option_map};
+ghost use Rattle.messages.specs.Requests.{only_number};
+ghost use Rattle.running.specs.Lines.{closing};
+ghost use Rattle.calls.specs.Calls as spec;
+
+use crate::sessions::{Session, Sessions};
+use crate::statements::Statements;
+use commit::{Core, Engine, admit};
+use definitions::{NewAssertion, new_assertions};
+use layout::{FieldFault, read_number};
+use messages::{
+    Misuse, Operation, Response, Source, is_name, read_checkpoint, read_name, read_only_number,
+    read_run,
+};
+use parse::{parse_schema, parse_statement};
+use prepared::{FillFault, prepare};
+use report::Report;
+use running::add_closing_part;
+use statement_syntax::{Event, Statement, Step};
+use std::alloc::{AllocError, Global};
+use table::Column;
+use value::{Refusal, Text, Value};
+
+/// The committed transactions, the open sessions, and the prepared statements.
+#[derive(Drop)]
+pub struct Database {
+    pub engine: Engine,
+    pub sessions: Sessions,
+    pub statements: Statements,
+}
+
+/// Lets a value go. Its type is a parameter here, so that the caller's proof does not go over its fields.
+pub fn let_go<T: Drop>(_value: T) {}
+
+fn refused(source: Source, refusal: Refusal) -> Response
+    ensures { result ≡ spec.refused source refusal }
+{
+    Response::Refused { source, refusal }
+}
+
+/// What a request is answered whose fields were not read.
+fn unread(fault: FieldFault) -> Response
+    ensures { result ≡ spec.unread fault }
+{
+    match fault {
+        FieldFault::NoMemory => refused(Source::Statement, Refusal::NoMemory),
+        FieldFault::Malformed => Response::Misused(Misuse::BadRequest),
+    }
+}
+
+/// What is answered where values do not fit a statement.
+fn unfilled(fault: FillFault) -> Response
+    ensures { result ≡ spec.unfilled fault }
+{
+    match fault {
+        FillFault::NoMemory => refused(Source::Statement, Refusal::NoMemory),
+        FillFault::WrongCount { wanted, .. } => Response::Misused(Misuse::WrongCount { wanted }),
+        FillFault::NullNotAllowed { parameter } => Response::Misused(Misuse::BadValue {
+            parameter,
+        }),
+        FillFault::NumberOutOfRange { parameter } => Response::Misused(Misuse::BadValue {
+            parameter,
+        }),
+        FillFault::TextNotPlain { parameter } => Response::Misused(Misuse::BadValue { parameter }),
+    }
+}
+
+/// The rules that a checkpoint changes.
+#[derive(Drop)]
+struct RuleChanges {
+    dropped: Vec<Text>,
+    created: Vec<NewAssertion>,
+}
+
+/// Adds the name that a value has, if it is a text and a name of the language.
+fn add_name(alloc: Global, value: &Value, names: &mut Vec<Text>) -> Result<bool, Refusal>
+    ensures only_memory { IsOkUnless result NoMemory }
+    ensures added { IfOk result (λ added. spec.IsNameAdded added value.now names.old.items names.new.items) }
+{
+    match value {
+        Value::Text(text) => {
+            if !is_name(text.as_bytes()) {
+                return Ok(false);
+            }
+            names.push(read_name(alloc, text.as_bytes())?)?;
+            Ok(true)
+        }
+        _ => Ok(false),
+    }
+}
+
+/// The names that values have; nothing where one has none.
+fn read_names(alloc: Global, values: &[Value]) -> Result<Option<Vec<Text>>, Refusal>
+    ensures only_memory { IsOkUnless result NoMemory }
+    ensures names { IfOk result (λ names. option_map (λ v. v.items) names ≡ spec.names_of values.now) }
+{
+    let mut names = Vec::new(alloc);
+    for value in values {
+        if !add_name(alloc, value, &mut names)? {
+            return Ok(None);
+        }
+    }
+    Ok(Some(names))
+}
+
+/// The rules that a text creates.
+fn read_rules(alloc: Global, text: &[u8]) -> Result<Vec<NewAssertion>, Refusal>
+    ensures { IfOk result (λ created. spec.AreRules text.now created.items) }
+{
+    let definitions = parse_schema(alloc, text)?;
+    let created = new_assertions(alloc, definitions)?;
+    Ok(created)
+}
+
+/// The changes of a request, or the response where it has none.
+fn read_changes(alloc: Global, request: &[u8]) -> Result<RuleChanges, Response>
+    ensures read { IfOk result (λ changes.
+        spec.IsRequested request.now changes.dropped.items changes.created.items) }
+    ensures left { IfErr result (λ r. spec.is_change r ≡ false) }
+{
+    let (text, values) = match read_checkpoint(alloc, request) {
+        Ok(read) => read,
+        Err(fault) => return Err(unread(fault)),
+    };
+    let dropped = match read_names(alloc, &values) {
+        Ok(Some(dropped)) => dropped,
+        Ok(None) => return Err(Response::Misused(Misuse::BadName)),
+        Err(refusal) => return Err(refused(Source::Rules, refusal)),
+    };
+    match read_rules(alloc, text) {
+        Ok(created) => Ok(RuleChanges { dropped, created }),
+        Err(refusal) => Err(refused(Source::Rules, refusal)),
+    }
+}
+
+/// The closing part of a report on commits.
+fn closing_part(alloc: Global, core: &Core) -> Result<Text, AllocError>
+    ensures { IfOk result (λ text. text ≡ closing core.now) }
+{
+    let mut lines = Report::new(alloc);
+    add_closing_part(alloc, core, &mut lines)?;
+    let bytes = Vec::from_slice(alloc, lines.as_bytes())?;
+    Ok(Text::new(bytes))
+}
+
+impl Database {
+    /// What definitions define, with at most so many commits, and no session.
+    ///
+    /// # Errors
+    ///
+    /// Why the definitions are refused, or [`Refusal::NoMemory`].
+    pub fn new(alloc: Global, definitions: &[u8], limit: u64) -> Result<Database, Refusal>
+        requires within { limit ≤ 4294967295 }
+        ensures begun { IfOk result (spec.IsBegun definitions.now limit) }
+        ensures refused { IfErr result (spec.IsUnbegun definitions.now) }
+    {
+        let definitions = parse_schema(alloc, definitions)?;
+        let view = admit(alloc, definitions.as_slice())?;
+        let engine = Engine::new(alloc, limit, view, &[])?;
+        Ok(Database {
+            engine,
+            sessions: Sessions::new(alloc),
+            statements: Statements::new(alloc),
+        })
+    }
+
+    /// One call. `Again` and `Line` are none of a database.
+    pub fn operate(&mut self, alloc: Global, operation: Operation, request: &[u8]) -> Response
+        ensures { spec.IsOperated operation request.now self.old self.new result }
+    {
+        match operation {
+            Operation::Again => Response::Misused(Misuse::BadRequest),
+            Operation::Line => Response::Misused(Misuse::BadRequest),
+            Operation::OpenSession => self.open_session(alloc, request),
+            Operation::CloseSession => match read_only_number(request) {
+                None => Response::Misused(Misuse::BadRequest),
+                Some(session) => self.close_session(session),
+            },
+            Operation::Prepare => self.prepare_text(alloc, request),
+            Operation::Forget => match read_only_number(request) {
+                None => Response::Misused(Misuse::BadRequest),
+                Some(statement) => self.forget(statement),
+            },
+            Operation::Run => self.run(alloc, request),
+            Operation::Execute => match read_number(request) {
+                None => Response::Misused(Misuse::BadRequest),
+                Some((session, text)) => self.execute(alloc, session, text),
+            },
+            Operation::Begin => self.answer_alone(request, Event::Begin),
+            Operation::BeginReadOnly => self.answer_alone(request, Event::BeginReadOnly),
+            Operation::Commit => self.answer_alone(request, Event::Commit),
+            Operation::Rollback => self.answer_alone(request, Event::Rollback),
+            Operation::Report => self.report(alloc),
+            Operation::Checkpoint => self.checkpoint(alloc, request),
+        }
+    }
+
+    /// Opens a session by a name of the language.
+    fn open_session(&mut self, alloc: Global, bytes: &[u8]) -> Response
+        ensures { spec.OpensSession bytes.now self.old self.new result }
+    {
+        if !is_name(bytes) {
+            return Response::Misused(Misuse::BadName);
+        }
+        match read_name(alloc, bytes) {
+            Err(refusal) => refused(Source::Session, refusal),
+            Ok(name) => self.open_named(name),
+        }
+    }
+
+    /// Opens a session, unless one of its name is open.
+    fn open_named(&mut self, name: Text) -> Response
+        ensures { spec.OpensNamed name self.old self.new result }
+    {
+        if self.sessions.is_named(&name) {
+            return Response::Misused(Misuse::NameTaken);
+        }
+        if !self.sessions.has_room(&self.engine, &name) {
+            return refused(Source::Session, Refusal::TooManySessions);
+        }
+        match self.sessions.add(&mut self.engine, name) {
+            Ok(number) => Response::Session(number),
+            Err(refusal) => refused(Source::Session, refusal),
+        }
+    }
+
+    /// Closes a session, and rolls its open transaction back. It takes no memory.
+    fn close_session(&mut self, number: u64) -> Response
+        ensures { spec.ClosesSession number self.old self.new result }
+    {
+        let Some(session) = self.sessions.close(number) else {
+            return Response::Misused(Misuse::NoSession);
+        };
+        let Session { number: _, name } = session;
+        let step = Step {
+            session: name,
+            event: Event::Rollback,
+        };
+        let_go(self.engine.answer(&step));
+        Response::SessionClosed
+    }
+
+    /// Keeps the statement of a text.
+    fn prepare_text(&mut self, alloc: Global, text: &[u8]) -> Response
+        ensures { spec.PreparesText text.now self.old self.new result }
+    {
+        let prepared = match prepare(alloc, text) {
+            Ok(prepared) => prepared,
+            Err(refusal) => return refused(Source::Statement, refusal),
+        };
+        let parameters = prepared.parameter_count();
+        match self.statements.add(prepared) {
+            Ok(number) => Response::Prepared { number, parameters },
+            Err(refusal) => refused(Source::Statement, refusal),
+        }
+    }
+
+    /// Lets a statement go.
+    fn forget(&mut self, number: u64) -> Response
+        ensures { spec.Forgets number self.old self.new result }
+    {
+        match self.statements.remove(number) {
+            None => Response::Misused(Misuse::NoStatement),
+            Some(prepared) => {
+                let_go(prepared);
+                Response::Forgotten
+            }
+        }
+    }
+
+    /// Runs a statement with values, in a session.
+    fn run(&mut self, alloc: Global, request: &[u8]) -> Response
+        ensures { spec.Runs request.now self.old self.new result }
+    {
+        match read_run(alloc, request) {
+            Ok(fields) => self.run_statement(
+                alloc,
+                fields.session,
+                fields.statement,
+                &fields.values,
+            ),
+            Err(fault) => unread(fault),
+        }
+    }
+
+    fn run_statement(
+        &mut self,
+        alloc: Global,
+        session: u64,
+        statement: u64,
+        values: &[Value],
+    ) -> Response
+        ensures { spec.RunsStatement (record { session = session; statement = statement; values = values.now })
+            self.old self.new result }
+    {
+        let Some(prepared) = self.statements.get(statement) else {
+            return Response::Misused(Misuse::NoStatement);
+        };
+        match prepared.fill(alloc, values) {
+            Ok(event) => self.answer(session, event),
+            Err(fault) => unfilled(fault),
+        }
+    }
+
+    /// Executes a text, in a session.
+    fn execute(&mut self, alloc: Global, session: u64, text: &[u8]) -> Response
+        ensures { spec.ExecutesText text.now session self.old self.new result }
+    {
+        match parse_statement(alloc, text) {
+            Ok(event) => self.answer(session, event),
+            Err(refusal) => refused(Source::Statement, refusal),
+        }
+    }
+
+    /// Answers an event of the session whose number is the request.
+    fn answer_alone(&mut self, request: &[u8], event: Event) -> Response
+        ensures { spec.WithNumber (only_number request.now) (spec.AnswersEvent (λ e. e ≡ event)) self.old self.new
+            result }
+    {
+        match read_only_number(request) {
+            None => {
+                let_go(event);
+                Response::Misused(Misuse::BadRequest)
+            }
+            Some(session) => self.answer(session, event),
+        }
+    }
+
+    /// Answers an event of a session.
+    fn answer(&mut self, session: u64, event: Event) -> Response
+        ensures { spec.AnswersEvent (λ e. e ≡ event) session self.old self.new result }
+    {
+        let Some(name) = self.sessions.name(session) else {
+            let_go(event);
+            return Response::Misused(Misuse::NoSession);
+        };
+        match name.copy() {
+            Ok(session) => {
+                let step = Step { session, event };
+                let answer = self.engine.answer(&step);
+                Response::Answered { step, answer }
+            }
+            Err(_) => {
+                let_go(event);
+                refused(Source::Statement, Refusal::NoMemory)
+            }
+        }
+    }
+
+    /// The closing part of a report.
+    fn report(&self, alloc: Global) -> Response
+        ensures { spec.Reports self.now self.now result }
+    {
+        match closing_part(alloc, self.engine.core()) {
+            Ok(text) => Response::Closing(text),
+            Err(_) => refused(Source::Rules, Refusal::NoMemory),
+        }
+    }
+
+    fn checkpoint(&mut self, alloc: Global, request: &[u8]) -> Response
+        ensures { spec.Checkpoints request.now self.old self.new result }
+    {
+        match read_changes(alloc, request) {
+            Ok(changes) => self.change_rules(alloc, &changes),
+            Err(response) => response,
+        }
+    }
+
+    /// Changes the rules, with a new epoch. The closing part of the one before is made first, so that nothing fails
+    /// behind the change.
+    fn change_rules(&mut self, alloc: Global, changes: &RuleChanges) -> Response
+        ensures { spec.ChangesRules changes.now.dropped.items changes.now.created.items self.old self.new result }
+    {
+        let Ok(text) = closing_part(alloc, self.engine.core()) else {
+            return refused(Source::Rules, Refusal::NoMemory);
+        };
+        match self.engine.checkpoint(&changes.dropped, &changes.created) {
+            Ok(before) => {
+                let_go(before);
+                Response::Changed(text)
+            }
+            Err(refusal) => {
+                let_go(text);
+                refused(Source::Rules, refusal)
+            }
+        }
+    }
+
+    /// The columns of the table of a response whose SELECT lists all; none for any other response.
+    pub fn listed_columns(&self, response: &Response) -> &[Column]
+        ensures { result.now ≡ spec.all_columns response.now self.now }
+    {
+        match response {
+            Response::Answered { step, .. } => self.columns_of(&step.event),
+            _ => &[],
+        }
+    }
+
+    fn columns_of(&self, event: &Event) -> &[Column]
+        ensures { result.now ≡ spec.columns_of event.now self.now }
+    {
+        match event {
+            Event::Run(Statement::Select { table, .. }) => self.table_columns(table),
+            _ => &[],
+        }
+    }
+
+    fn table_columns(&self, table: &Text) -> &[Column]
+        ensures { result.now ≡ spec.table_columns table.now self.now }
+    {
+        match self.engine.core().newest().catalog().get(table) {
+            None => &[],
+            Some(schema) => schema.columns(),
+        }
+    }
+}

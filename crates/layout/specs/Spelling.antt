@@ -1,0 +1,70 @@
+-- How numbers, texts, values and rows are spelled in bytes.
+use Rattle.std.specs.Prelude.{ℕ, ℤ, pos, negsuc, ◌-◌, ◌^◌, List, [], ◌∷◌, ◌++◌, length}
+use Rattle.std.specs.List.{flat_map}
+use Rattle.std.specs.Int.{w64, to_le_bytes}
+use Rattle.value.specs.declared.values.Value.{Value}
+use Rattle.value.specs.declared.values.Value.TheVariants.{Null, Int, Text}
+use Rattle.value.specs.declared.values.Root.{Root}
+use Rattle.value.specs.declared.values.Root.TheVariants.{All, Of}
+use Rattle.threeval.specs.declared.Truth.{Truth}
+use Rattle.threeval.specs.declared.Truth.TheVariants.{False, True, Unknown}
+use Rattle.table.specs.declared.schemas.Column.{Column}
+use Rattle.table.specs.Rows.{RowValues}
+
+-- eight bytes, the lowest first
+unfoldable pub number : ℕ → List ℕ
+number n = to_le_bytes w64 n
+
+-- in two's complement
+abbrev pub bits_of : ℤ → ℕ
+bits_of (pos n) = n
+bits_of (negsuc n) = 18446744073709551615 - n
+
+-- how many bytes, and these
+abbrev pub text : List ℕ → List ℕ
+text bytes = number (length bytes) ++ bytes
+
+-- its kind, and what it holds
+abbrev pub value : Value → List ℕ
+value Null = 0 ∷ []
+value (Int n) = 1 ∷ number (bits_of n)
+value (Text bytes) = 2 ∷ text bytes
+
+abbrev pub root : Root → List ℕ
+root All = 3 ∷ []
+root (Of v) = value v
+
+abbrev pub truth : Truth → List ℕ
+truth False = number 0
+truth True = number 1
+truth Unknown = number 2
+
+-- the values of a row, with no count in front
+abbrev pub row : RowValues → List ℕ
+row [] = []
+row (v ∷ vs) = value v ++ row vs
+
+-- the rows, one behind the other
+abbrev pub each_row : List RowValues → List ℕ
+each_row [] = []
+each_row (r ∷ rs) = row r ++ each_row rs
+
+-- how many rows, and each
+abbrev pub rows : List RowValues → List ℕ
+rows rs = number (length rs) ++ each_row rs
+
+abbrev pub each_name : List (List ℕ) → List ℕ
+each_name [] = []
+each_name (name ∷ names) = text name ++ each_name names
+
+-- how many names, and each
+abbrev pub names : List (List ℕ) → List ℕ
+names ns = number (length ns) ++ each_name ns
+
+-- how many columns, and the name of each
+abbrev pub each_column : List Column → List ℕ
+each_column [] = []
+each_column (c ∷ cs) = text c.name ++ each_column cs
+
+abbrev pub columns : List Column → List ℕ
+columns cs = number (length cs) ++ each_column cs

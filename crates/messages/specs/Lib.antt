@@ -1,0 +1,5 @@
+pub mod Operations
+pub mod Names
+pub mod Requests
+pub mod Statuses
+pub mod Replies

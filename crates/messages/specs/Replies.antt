@@ -1,0 +1,102 @@
+-- The bytes of each reply. The first is its kind.
+use Rattle.std.specs.Prelude.{ℕ, Bool, true, false, List, [], ◌∷◌, ◌++◌, codes, if◌then◌else◌}
+use Rattle.value.specs.declared.refusals.Refusal.{Refusal}
+use Rattle.table.specs.declared.schemas.Column.{Column}
+use Rattle.statement_syntax.specs.declared.statements.Which.TheVariants as which
+use Rattle.statement_syntax.specs.declared.statements.Statement.TheVariants as statement
+use Rattle.statement_syntax.specs.declared.statements.Event.{Event}
+use Rattle.statement_syntax.specs.declared.statements.Event.TheVariants as event
+use Rattle.statement_syntax.specs.declared.statements.Step.{Step}
+use Rattle.answer.specs.declared.answers.Reply.{Reply}
+use Rattle.answer.specs.declared.answers.Reply.TheVariants as reply
+use Rattle.answer.specs.declared.answers.Answer.{Answer}
+use Rattle.answer.specs.declared.answers.Answer.TheVariants as answer
+use Rattle.report.specs.Report.{answer_line, is_commit, refusal_line}
+use Rattle.layout.specs.Refusals.{refusal_parts}
+use Rattle.layout.specs.Spelling.{columns, names, number, rows, text, truth}
+use Rattle.messages.specs.declared.responses.Misuse.{Misuse}
+use Rattle.messages.specs.declared.responses.Misuse.TheVariants as misuse
+use Rattle.messages.specs.declared.responses.Source.{Source}
+use Rattle.messages.specs.declared.responses.Source.TheVariants as source
+use Rattle.messages.specs.declared.responses.Response.{Response}
+use Rattle.messages.specs.declared.responses.Response.TheVariants as response
+
+abbrev pub numbered : (kind : ℕ) → ℕ → List ℕ
+numbered kind n = kind ∷ number n
+
+abbrev pub text_reply : List ℕ → List ℕ
+text_reply bytes = 14 ∷ text bytes
+
+-- its number, and how many values it takes
+abbrev pub statement_reply : ℕ → ℕ → List ℕ
+statement_reply n parameters = numbered 3 n ++ number parameters
+
+-- how many values are wanted, or which parameter it is; nothing where the status says all
+abbrev pub misuse_reply : Misuse → List ℕ
+misuse_reply (misuse.WrongCount wanted) = numbered 16 wanted
+misuse_reply (misuse.BadValue parameter) = numbered 16 parameter
+misuse_reply other = 0 ∷ []
+
+-- the columns that a SELECT names; those of its table, where it lists all
+abbrev pub listed_columns : List Column → Event → List ℕ
+listed_columns all (event.Run (statement.Select (which.Names ns) table keeps)) = names ns
+listed_columns all other = columns all
+
+abbrev pub reply_bytes : List Column → Event → Reply → List ℕ
+reply_bytes all event reply.Inserted = numbered 8 1
+reply_bytes all event (reply.Updated n) = numbered 9 n
+reply_bytes all event (reply.Deleted n) = numbered 10 n
+reply_bytes all event (reply.Rows rs) = 11 ∷ (listed_columns all event ++ rows rs)
+reply_bytes all event reply.ModesSet = 12 ∷ []
+reply_bytes all event (reply.Verdict t) = 13 ∷ truth t
+
+-- the parts of a refusal, and its line
+abbrev pub refused_reply : (at_commit : Bool) → Refusal → (line : List ℕ) → List ℕ
+refused_reply at_commit refusal line = 15 ∷ (refusal_parts at_commit refusal ++ text line)
+
+abbrev pub answer_bytes : List Column → Step → Answer → (line : List ℕ) → List ℕ
+answer_bytes all step (answer.Begun n) line = numbered 5 n
+answer_bytes all step (answer.Replied reply) line = reply_bytes all step.event reply
+answer_bytes all step (answer.Committed n) line = numbered 6 n
+answer_bytes all step answer.RolledBack line = 7 ∷ []
+answer_bytes all step (answer.Refused refusal) line = refused_reply (is_commit step.event) refusal line
+
+-- the word for what was refused, in front of the line of its refusal
+abbrev pub source_name : Source → List ℕ
+source_name source.Definitions = codes "DEFS"
+source_name source.Session = codes "SESSION"
+source_name source.Statement = codes "STATEMENT"
+source_name source.Rules = codes "RULES"
+
+-- the line of an answer or of a refusal; empty for any other response
+abbrev pub line_of : Response → List ℕ
+line_of (response.Answered step answer) = answer_line step answer
+line_of (response.Refused source refusal) = refusal_line (source_name source) refusal
+line_of other = []
+
+abbrev pub is_refused : Answer → Bool
+is_refused (answer.Refused refusal) = true
+is_refused other = false
+
+abbrev pub is_refusal : Response → Bool
+is_refusal (response.Answered step answer) = is_refused answer
+is_refusal (response.Refused source refusal) = true
+is_refusal other = false
+
+-- with this line in a refusal
+abbrev pub response_with : List Column → Response → (line : List ℕ) → List ℕ
+response_with all response.Opened line = numbered 1 1
+response_with all (response.Session n) line = numbered 2 n
+response_with all (response.Prepared n parameters) line = statement_reply n parameters
+response_with all response.SessionClosed line = 4 ∷ []
+response_with all response.Forgotten line = 4 ∷ []
+response_with all (response.Answered step answer) line = answer_bytes all step answer line
+response_with all (response.Closing bytes) line = text_reply bytes
+response_with all (response.Changed bytes) line = text_reply bytes
+response_with all (response.Refused source refusal) line = refused_reply false refusal line
+response_with all (response.Misused misuse) line = misuse_reply misuse
+
+-- the bytes of a response; a refusal has its line at the end
+abbrev pub response_bytes : List Column → Response → List ℕ
+response_bytes all response =
+    if is_refusal response then response_with all response (line_of response) else response_with all response []

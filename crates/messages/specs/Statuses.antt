@@ -1,0 +1,56 @@
+-- What a call returns.
+use Rattle.std.specs.Prelude.{ℤ, pos}
+use Rattle.value.specs.declared.refusals.Refusal.{Refusal}
+use Rattle.value.specs.declared.refusals.Refusal.TheVariants as refusal
+use Rattle.answer.specs.declared.answers.Answer.{Answer}
+use Rattle.answer.specs.declared.answers.Answer.TheVariants as answer
+use Rattle.messages.specs.declared.responses.Misuse.{Misuse}
+use Rattle.messages.specs.declared.responses.Misuse.TheVariants as misuse
+use Rattle.messages.specs.declared.responses.Response.{Response}
+use Rattle.messages.specs.declared.responses.Response.TheVariants as response
+use Rattle.messages.specs.declared.responses.Status.{Status}
+use Rattle.messages.specs.declared.responses.Status.TheVariants as status
+
+abbrev pub status_number : Status → ℤ
+status_number status.Done = pos 0
+status_number status.Refused = pos 1
+status_number status.NoMemory = pos 2
+status_number status.ReplyWaits = pos 3
+status_number status.BadRequest = pos 4
+status_number status.NoSession = pos 5
+status_number status.NoStatement = pos 6
+status_number status.WrongCount = pos 7
+status_number status.BadValue = pos 8
+status_number status.BadName = pos 9
+status_number status.NameTaken = pos 10
+status_number status.Closed = pos 11
+
+abbrev pub status_of_refusal : Refusal → Status
+status_of_refusal refusal.NoMemory = status.NoMemory
+status_of_refusal other = status.Refused
+
+abbrev pub status_of_answer : Answer → Status
+status_of_answer (answer.Refused refusal) = status_of_refusal refusal
+status_of_answer other = status.Done
+
+abbrev pub status_of_misuse : Misuse → Status
+status_of_misuse misuse.BadRequest = status.BadRequest
+status_of_misuse misuse.NoSession = status.NoSession
+status_of_misuse misuse.NoStatement = status.NoStatement
+status_of_misuse (misuse.WrongCount wanted) = status.WrongCount
+status_of_misuse (misuse.BadValue parameter) = status.BadValue
+status_of_misuse misuse.BadName = status.BadName
+status_of_misuse misuse.NameTaken = status.NameTaken
+status_of_misuse misuse.Closed = status.Closed
+
+-- where the bytes of the reply were written
+abbrev pub status_of : Response → Status
+status_of (response.Answered step answer) = status_of_answer answer
+status_of (response.Refused source refusal) = status_of_refusal refusal
+status_of (response.Misused misuse) = status_of_misuse misuse
+status_of other = status.Done
+
+-- where there was no memory for them
+abbrev pub status_without_reply : Status → Status
+status_without_reply status.NoMemory = status.NoMemory
+status_without_reply other = status.ReplyWaits

@@ -1,0 +1,232 @@
+//! The bytes of a response.
+
+ghost use Rattle.std.specs.Prelude.{◌≡◌, ◌++◌, IfOk, OnOk};
+ghost use Rattle.report.specs.Report.{is_commit};
+ghost use Rattle.messages.specs.Replies as spec;
+
+use crate::lines::line_of;
+use crate::responses::{Misuse, Response};
+use answer::{Answer, Reply};
+use layout::Bytes;
+use statement_syntax::{Event, Statement, Step, Which};
+use std::alloc::{AllocError, Global};
+use table::Column;
+use value::Refusal;
+
+/// The number of the layout of requests and replies.
+const LAYOUT: u64 = 1;
+
+// The kinds of replies, as `bindings/c/skewguard.h` numbers them.
+const NOTHING: u8 = 0;
+
+const OPENED: u8 = 1;
+
+const SESSION: u8 = 2;
+
+const STATEMENT: u8 = 3;
+
+const CHANGED: u8 = 4;
+
+const BEGUN: u8 = 5;
+
+const COMMITTED: u8 = 6;
+
+const ROLLED_BACK: u8 = 7;
+
+const INSERTED: u8 = 8;
+
+const UPDATED: u8 = 9;
+
+const DELETED: u8 = 10;
+
+const ROWS: u8 = 11;
+
+const MODES_SET: u8 = 12;
+
+const VERDICT: u8 = 13;
+
+const TEXT: u8 = 14;
+
+const REFUSAL: u8 = 15;
+
+const MISUSED: u8 = 16;
+
+fn is_commit(event: &Event) -> bool
+    ensures { result ≡ is_commit event.now }
+{
+    match event {
+        Event::Commit => true,
+        _ => false,
+    }
+}
+
+fn add_numbered(bytes: &mut Bytes, kind: u8, number: u64) -> Result<(), AllocError>
+    ensures { OnOk result (bytes.new ≡ bytes.old ++ spec.numbered kind number) }
+{
+    bytes.add_byte(kind)?;
+    bytes.add_number(number)
+}
+
+fn add_text(bytes: &mut Bytes, text: &[u8]) -> Result<(), AllocError>
+    ensures { OnOk result (bytes.new ≡ bytes.old ++ spec.text_reply text.now) }
+{
+    bytes.add_byte(TEXT)?;
+    bytes.add_text(text)
+}
+
+fn add_statement(bytes: &mut Bytes, number: u64, parameters: usize) -> Result<(), AllocError>
+    ensures { OnOk result (bytes.new ≡ bytes.old ++ spec.statement_reply number parameters) }
+{
+    add_numbered(bytes, STATEMENT, number)?;
+    bytes.add_number(parameters as u64)
+}
+
+fn add_misuse(bytes: &mut Bytes, misuse: Misuse) -> Result<(), AllocError>
+    ensures { OnOk result (bytes.new ≡ bytes.old ++ spec.misuse_reply misuse) }
+{
+    match misuse {
+        Misuse::WrongCount { wanted } => add_numbered(bytes, MISUSED, wanted as u64),
+        Misuse::BadValue { parameter } => add_numbered(bytes, MISUSED, parameter as u64),
+        _ => bytes.add_byte(NOTHING),
+    }
+}
+
+/// The names of the columns that a statement lists; those of its table, where it lists all.
+fn add_listed_columns(
+    bytes: &mut Bytes,
+    columns: &[Column],
+    event: &Event,
+) -> Result<(), AllocError>
+    ensures { OnOk result (bytes.new ≡ bytes.old ++ spec.listed_columns columns.now event.now) }
+{
+    match event {
+        Event::Run(
+            Statement::Select {
+                columns: Which::Names(names),
+                ..
+            },
+        ) => bytes.add_names(names.as_slice()),
+        _ => bytes.add_columns(columns),
+    }
+}
+
+fn add_reply(
+    bytes: &mut Bytes,
+    columns: &[Column],
+    event: &Event,
+    reply: &Reply,
+) -> Result<(), AllocError>
+    ensures { OnOk result (bytes.new ≡ bytes.old ++ spec.reply_bytes columns.now event.now reply.now) }
+{
+    match reply {
+        Reply::Inserted => add_numbered(bytes, INSERTED, 1),
+        Reply::Updated(count) => add_numbered(bytes, UPDATED, *count),
+        Reply::Deleted(count) => add_numbered(bytes, DELETED, *count),
+        Reply::Rows(rows) => {
+            bytes.add_byte(ROWS)?;
+            add_listed_columns(bytes, columns, event)?;
+            bytes.add_rows(rows.as_slice())
+        }
+        Reply::ModesSet => bytes.add_byte(MODES_SET),
+        Reply::Verdict(truth) => {
+            bytes.add_byte(VERDICT)?;
+            bytes.add_truth(*truth)
+        }
+    }
+}
+
+/// A refusal, and its line in a report.
+fn add_refused(
+    bytes: &mut Bytes,
+    at_commit: bool,
+    refusal: &Refusal,
+    line: &[u8],
+) -> Result<(), AllocError>
+    ensures { OnOk result (bytes.new ≡ bytes.old ++ spec.refused_reply at_commit refusal.now line.now) }
+{
+    bytes.add_byte(REFUSAL)?;
+    bytes.add_refusal(at_commit, refusal)?;
+    bytes.add_text(line)
+}
+
+fn add_answer(
+    bytes: &mut Bytes,
+    columns: &[Column],
+    step: &Step,
+    answer: &Answer,
+    line: &[u8],
+) -> Result<(), AllocError>
+    ensures { OnOk result (bytes.new ≡ bytes.old ++ spec.answer_bytes columns.now step.now answer.now line.now) }
+{
+    match answer {
+        Answer::Begun(commits) => add_numbered(bytes, BEGUN, *commits),
+        Answer::Replied(reply) => add_reply(bytes, columns, &step.event, reply),
+        Answer::Committed(number) => add_numbered(bytes, COMMITTED, *number),
+        Answer::RolledBack => bytes.add_byte(ROLLED_BACK),
+        Answer::Refused(refusal) => add_refused(bytes, is_commit(&step.event), refusal, line),
+    }
+}
+
+/// The line that stands in a reply: that of a refusal.
+fn is_refusal(response: &Response) -> bool
+    ensures { result ≡ spec.is_refusal response.now }
+{
+    match response {
+        Response::Answered {
+            answer: Answer::Refused(_),
+            ..
+        } => true,
+        Response::Refused { .. } => true,
+        _ => false,
+    }
+}
+
+fn add_response(
+    bytes: &mut Bytes,
+    columns: &[Column],
+    response: &Response,
+    line: &[u8],
+) -> Result<(), AllocError>
+    ensures { OnOk result (bytes.new ≡ bytes.old ++ spec.response_with columns.now response.now line.now) }
+{
+    match response {
+        Response::Opened => add_numbered(bytes, OPENED, LAYOUT),
+        Response::Session(number) => add_numbered(bytes, SESSION, *number),
+        Response::Prepared { number, parameters } => add_statement(bytes, *number, *parameters),
+        Response::SessionClosed => bytes.add_byte(CHANGED),
+        Response::Forgotten => bytes.add_byte(CHANGED),
+        Response::Answered { step, answer } => add_answer(bytes, columns, step, answer, line),
+        Response::Closing(text) => add_text(bytes, text.as_bytes()),
+        Response::Changed(text) => add_text(bytes, text.as_bytes()),
+        Response::Refused { refusal, .. } => add_refused(bytes, false, refusal, line),
+        Response::Misused(misuse) => add_misuse(bytes, *misuse),
+    }
+}
+
+/// The bytes of a response. `columns` are those of the table of a SELECT that lists all.
+pub fn response_bytes(
+    alloc: Global,
+    columns: &[Column],
+    response: &Response,
+) -> Result<Bytes, AllocError>
+    ensures { IfOk result (λ bytes. bytes ≡ spec.response_bytes columns.now response.now) }
+{
+    let mut bytes = Bytes::new(alloc)?;
+    if is_refusal(response) {
+        let line = line_of(alloc, response)?;
+        add_response(&mut bytes, columns, response, line.as_bytes())?;
+    } else {
+        add_response(&mut bytes, columns, response, &[])?;
+    }
+    Ok(bytes)
+}
+
+/// The bytes of its line.
+pub fn line_bytes(alloc: Global, response: &Response) -> Result<Bytes, AllocError>
+    ensures { IfOk result (λ bytes. bytes ≡ spec.text_reply (spec.line_of response.now)) }
+{
+    let mut bytes = Bytes::new(alloc)?;
+    let line = line_of(alloc, response)?;
+    add_text(&mut bytes, line.as_bytes())?;
+    Ok(bytes)
+}

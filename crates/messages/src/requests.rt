@@ -1,0 +1,57 @@
+//! The requests of several fields.
+
+ghost use Rattle.std.specs.Prelude.{◌≡◌};
+ghost use Rattle.layout.specs.Reading.{Gives};
+ghost use Rattle.messages.specs.Requests as spec;
+
+use layout::{FieldFault, read_number, read_text, read_values};
+use std::alloc::Global;
+use value::Value;
+
+/// A prepared statement with its values, in a session.
+#[derive(Drop)]
+pub struct RunRequest {
+    pub session: u64,
+    pub statement: u64,
+    pub values: Vec<Value>,
+}
+
+/// The number that is all of a request, if one is.
+#[tactic(auto, unfolding(crate::specs::Requests::only_number))]
+pub fn read_only_number(request: &[u8]) -> Option<u64>
+    ensures { result ≡ spec.only_number request.now }
+{
+    let (number, rest) = read_number(request)?;
+    if rest.is_empty() { Some(number) } else { None }
+}
+
+/// The fields of a request to run a statement.
+#[tactic(auto, unfolding(crate::specs::Requests::run_request))]
+pub fn read_run(alloc: Global, request: &[u8]) -> Result<RunRequest, FieldFault>
+    ensures { Gives spec.run_fields result (spec.run_request request.now) }
+{
+    let Some((session, rest)) = read_number(request) else {
+        return Err(FieldFault::Malformed);
+    };
+    let Some((statement, rest)) = read_number(rest) else {
+        return Err(FieldFault::Malformed);
+    };
+    let values = read_values(alloc, rest)?;
+    Ok(RunRequest {
+        session,
+        statement,
+        values,
+    })
+}
+
+/// The fields of a request for a checkpoint: the text of the rules to create, and the names of those to drop.
+#[tactic(auto, unfolding(crate::specs::Requests::checkpoint_request))]
+pub fn read_checkpoint(alloc: Global, request: &[u8]) -> Result<(&[u8], Vec<Value>), FieldFault>
+    ensures { Gives (λ x. (x.0.now, x.1.items)) result (spec.checkpoint_request request.now) }
+{
+    let Some((created, rest)) = read_text(request) else {
+        return Err(FieldFault::Malformed);
+    };
+    let dropped = read_values(alloc, rest)?;
+    Ok((created, dropped))
+}

@@ -1,0 +1,102 @@
+//! The exports of the C library: an opaque handle, requests as bytes, and replies that are copied into the caller's
+//! buffer. `bindings/c/skewguard.h` declares them, and has all else that a C program calls.
+//!
+//! What a call means is the contract of the safe functions of the crate `calls`; here it is said of the value behind a
+//! pointer (`specs/Handles`): what [`skewguard_library_open`] leaves at its pointer is what [`skewguard_library_call`]
+//! asks for there, and leaves there again, and what [`skewguard_library_close`] takes. That the caller hands in a
+//! pointer that it was given, and does not use it twice at once or after it was closed, is the caller's to keep.
+//!
+//! The exports are proved by hand, since they follow a raw pointer: each is one expression over a safe function, so
+//! that its proof does not change with what the function means.
+#![tactic(auto)]
+
+ghost use Rattle.std.specs.Prelude.{IfSome};
+ghost use Rattle.std.specs.Borrow.{sem};
+ghost use Rattle.calls.specs.States.{LibraryState, IsCalled, IsOpened, IsReplied};
+ghost use Rattle.skewguard_c.specs.Handles.{handle, handle_where, opened};
+
+#[cfg(test)]
+mod tests;
+
+use calls::{Library, open};
+use std::alloc::Global;
+
+/// The library of a request in a box, if there is memory for it.
+fn make(alloc: Global, request: &[u8]) -> Option<Box<Library>>
+    ensures { IfSome result (λ b. IsOpened request.now b.value) }
+{
+    let library = open(alloc, request);
+    Box::new(alloc, library).ok()
+}
+
+/// One call.
+fn serve(
+    library: &mut Library,
+    alloc: Global,
+    operation: u32,
+    request: &[u8],
+    buf: &mut [u8],
+    len: &mut usize,
+) -> i32
+    ensures called { IsCalled operation request.now library.old library.new }
+    ensures replied { IsReplied operation library.new buf.old buf.new len.new result }
+{
+    calls::serve(library, alloc, operation, request, buf, len)
+}
+
+/// Lets a library go, with all its memory.
+fn finish(library: Box<Library>) {
+    drop(library);
+}
+
+/// Opens a library by a request: the greatest number of commits, and the bytes of the definitions. Its first reply, by
+/// operation 0, says what became of them.
+///
+/// 0, and the handle is in `out`; or 2 without memory, and nothing was made.
+#[unsafe(no_mangle)]
+pub extern "C" fn skewguard_library_open(alloc: Global, request: &[u8], out: &mut *mut u8) -> i32
+    ensures* { sem 𝓛 (opened alloc request.now out.old out.new result) }
+{
+    match make(alloc, request) {
+        Some(made) => {
+            *out = Box::into_raw(made) as *mut u8;
+            0
+        }
+        None => 2,
+    }
+}
+
+/// One call of the library behind a handle: an operation with its request. The reply is in `buf` as far as it fits, and
+/// its length in `len`; the status is returned.
+#[unsafe(no_mangle)]
+pub unsafe extern "C" fn skewguard_library_call(
+    alloc: Global,
+    at: *mut u8,
+    operation: u32,
+    request: &[u8],
+    buf: &mut [u8],
+    len: &mut usize,
+) -> i32
+    ghost old: { LibraryState }
+    requires* { sem 𝓛 (handle alloc at old) }
+    ensures* { sem 𝓛 (handle_where alloc at (λ new.
+        IsCalled operation request.now old new × IsReplied operation new buf.old buf.new len.new result)) }
+{
+    serve(
+        &mut *(at as *mut Library),
+        alloc,
+        operation,
+        request,
+        buf,
+        len,
+    )
+}
+
+/// Closes a library: all its memory is given back, and its handle is none from then on.
+#[unsafe(no_mangle)]
+pub unsafe extern "C" fn skewguard_library_close(alloc: Global, at: *mut u8)
+    ghost old: { LibraryState }
+    requires* { sem 𝓛 (handle alloc at old) }
+{
+    finish(Box::from_raw(alloc, at as *mut Library))
+}

@@ -1,0 +1,84 @@
+#!/usr/bin/env python3
+"""Builds the C library into a folder, of the proved archive.
+
+    tools/c_library.py FOLDER [--archive FILE]
+
+FOLDER gets skewguard.h, libskewguard.a, and libskewguard.so.0.1.0 with the links libskewguard.so.0 (its soname) and
+libskewguard.so. Of either library only the three functions of the header can be seen. Without --archive, `rt lib`
+proves and builds crates/skewguard_c/out/libskewguard_c.a; it takes no time where nothing has changed.
+"""
+import argparse
+import os
+import pathlib
+import shutil
+import subprocess
+import sys
+import tempfile
+
+REPOSITORY = pathlib.Path(__file__).resolve().parent.parent
+CRATE = REPOSITORY / "crates" / "skewguard_c"
+HEADER = REPOSITORY / "bindings" / "c" / "skewguard.h"
+SONAME = "libskewguard.so.0"
+FILE = "libskewguard.so.0.1.0"
+EXPORTS = "skewguard_library_open", "skewguard_library_call", "skewguard_library_close"
+
+
+def run(*words, folder=None):
+    subprocess.run([str(word) for word in words], cwd=folder, check=True)
+
+
+def proved_archive():
+    """What `rt lib` makes, over the work that earlier checks kept."""
+    run("rt", "lib", folder=CRATE)
+    return CRATE / "out" / "libskewguard_c.a"
+
+
+def memory_archive():
+    """The kit's calls of malloc, which stand beside the toolchain's `rt`."""
+    tool = shutil.which("rt")
+    if not tool:
+        sys.exit("c_library.py: there is no `rt` to find the kit by")
+    return pathlib.Path(tool).resolve().parent.parent / "c" / "liblibc_c.a"
+
+
+def one_object(archive, work):
+    """All of both archives, in which only the exports can be seen."""
+    whole = work / "skewguard.o"
+    run("ld", "-r", "-o", whole, "--whole-archive", archive, "--no-whole-archive", memory_archive())
+    run("objcopy", *(f"--keep-global-symbol={name}" for name in EXPORTS), whole)
+    return whole
+
+
+def static_library(whole, folder):
+    library = folder / "libskewguard.a"
+    library.unlink(missing_ok=True)
+    run("ar", "rcsD", library, whole)
+
+
+def shared_library(whole, work, folder):
+    names = work / "exports.map"
+    names.write_text("{ global: " + " ".join(f"{name};" for name in EXPORTS) + " local: *; };\n")
+    link = (f"-Wl,-soname,{SONAME}", f"-Wl,--version-script={names}", "-Wl,--gc-sections", "-Wl,--no-undefined")
+    run("cc", "-shared", "-s", *link, "-Wl,-z,relro,-z,now", "-Wl,--build-id=sha1", "-o", folder / FILE, whole)
+    for link_name, target in ((SONAME, FILE), ("libskewguard.so", SONAME)):
+        link_path = folder / link_name
+        link_path.unlink(missing_ok=True)
+        os.symlink(target, link_path)
+
+
+def main():
+    words = argparse.ArgumentParser(description=__doc__.splitlines()[0])
+    words.add_argument("folder", type=pathlib.Path)
+    words.add_argument("--archive", type=pathlib.Path, help="what `rt lib` made; without it `rt lib` is called")
+    given = words.parse_args()
+    archive = given.archive or proved_archive()
+    given.folder.mkdir(parents=True, exist_ok=True)
+    shutil.copyfile(HEADER, given.folder / HEADER.name)
+    with tempfile.TemporaryDirectory() as work:
+        whole = one_object(archive.resolve(), pathlib.Path(work))
+        static_library(whole, given.folder)
+        shared_library(whole, pathlib.Path(work), given.folder)
+
+
+if __name__ == "__main__":
+    main()

@@ -1,0 +1,463 @@
+#!/usr/bin/env python3
+"""Random calls of the C library through ctypes, against `skewguard replay` of the same events.
+
+    tools/fuzz_calls.py LIBRARY PROGRAM [--calls 100000] [--seed 1]
+
+LIBRARY is a libskewguard.so, PROGRAM the program skewguard. Each run has some definitions and up to five sessions, and
+is 500 calls: events as texts, by calls of their own, and prepared with values; sessions that are closed and opened
+again; and calls that no library should be given, as sessions that are closed, statements that were never prepared,
+requests of random bytes and operations that there are not. What each event was answered is asked for as the line of a
+report, and the reply's bytes have to say the same; a call that is misused may change nothing. In the end the events are
+replayed as a script: every line, and the closing part, have to be the same bytes. The last line says how many calls
+were made, and how many runs differ.
+"""
+import argparse
+import collections
+import ctypes
+import pathlib
+import random
+import struct
+import subprocess
+import sys
+import tempfile
+
+(AGAIN, LINE, OPEN_SESSION, CLOSE_SESSION, PREPARE, FORGET, RUN, EXECUTE, BEGIN, BEGIN_READ_ONLY, COMMIT, ROLLBACK,
+ REPORT, CHECKPOINT) = range(14)
+DONE, REFUSED = 0, 1
+(BAD_REQUEST, NO_SESSION, NO_STATEMENT, WRONG_COUNT, BAD_VALUE, BAD_NAME, NAME_TAKEN) = range(4, 11)
+SESSION, STATEMENT, BEGUN, COMMITTED, ROLLED_BACK, INSERTED, UPDATED, DELETED, ROWS = 2, 3, 5, 6, 7, 8, 9, 10, 11
+MODES_SET, VERDICT, TEXT, REFUSAL = 12, 13, 14, 15
+ENDING = "10 40002", "12 40001", "13 40001", "17 -"
+CALLS_IN_A_RUN = 500
+
+CLINIC = """
+CREATE TABLE SHIFTS (ID INTEGER PRIMARY KEY);
+CREATE TABLE DUTY (ID INTEGER PRIMARY KEY, SHIFT INTEGER, DOCTOR VARCHAR(8), ONCALL INTEGER);
+CREATE ASSERTION COVERED CHECK (NOT EXISTS (SELECT * FROM SHIFTS S WHERE NOT EXISTS (
+    SELECT * FROM DUTY D WHERE D.SHIFT = S.ID AND D.ONCALL = 1)));
+CREATE ASSERTION FEW CHECK ((SELECT COUNT(*) FROM DUTY) < 9) INITIALLY DEFERRED;
+INSERT INTO DUTY VALUES (1, 1, 'KIM', 1); INSERT INTO DUTY VALUES (2, 1, 'O''HARA', 1);
+INSERT INTO DUTY VALUES (3, 2, NULL, 1); INSERT INTO SHIFTS VALUES (1); INSERT INTO SHIFTS VALUES (2);
+"""
+BANK = """
+CREATE TABLE DUTY (ID INTEGER PRIMARY KEY, SHIFT INTEGER NOT NULL, DOCTOR VARCHAR(8), ONCALL INTEGER);
+CREATE ASSERTION COVERED CHECK (NOT EXISTS (SELECT SHIFT FROM DUTY GROUP BY SHIFT HAVING SUM(ONCALL) < 0));
+CREATE ASSERTION TWICE CHECK (NOT EXISTS (SELECT DOCTOR FROM DUTY GROUP BY DOCTOR HAVING COUNT(*) > 3));
+INSERT INTO DUTY VALUES (1, 1, 'KIM', 5); INSERT INTO DUTY VALUES (2, 1, 'LEE', 0);
+"""
+PLAIN = "CREATE TABLE DUTY (ID INTEGER PRIMARY KEY, SHIFT INTEGER, DOCTOR VARCHAR(8), ONCALL INTEGER);"
+DEFINITIONS = CLINIC, CLINIC, BANK, PLAIN
+# Each with the types of its parameters: a number, a text, or a number where NULL may stand too.
+STATEMENTS = {
+    "INSERT INTO DUTY VALUES (?, ?, ?, ?)": "nnto",
+    "INSERT INTO DUTY (ID, ONCALL, SHIFT) VALUES (?, ?, 1)": "no",
+    "UPDATE DUTY SET ONCALL = ? WHERE ID = ?": "on",
+    "UPDATE DUTY SET ONCALL = 0 WHERE ID = ?": "n",
+    "UPDATE DUTY SET ONCALL = ONCALL - ?, DOCTOR = 'EVE' WHERE SHIFT = ? OR ID = ?": "nnn",
+    "DELETE FROM DUTY WHERE ID = ?": "n",
+    "DELETE FROM DUTY WHERE DOCTOR = ? AND ONCALL < ?": "tn",
+    "SELECT * FROM DUTY WHERE ID = ?": "n",
+    "SELECT DOCTOR, ID FROM DUTY WHERE SHIFT = ? OR ONCALL IS NULL": "n",
+    "SELECT ID FROM DUTY": "",
+    "VERDICT COVERED": "",
+    "SET CONSTRAINTS ALL DEFERRED": "",
+    "SET CONSTRAINTS COVERED IMMEDIATE": "",
+    "INSERT INTO NOWHERE VALUES (?)": "n",
+}
+NO_NAMES = b"", b"A B", b"SELECT", b"\xff", b"1A", b"A" * 129
+EVENTS = {BEGIN: "BEGIN", BEGIN_READ_ONLY: "BEGIN READ ONLY", COMMIT: "COMMIT", ROLLBACK: "ROLLBACK"}
+
+
+def number(value):
+    return struct.pack("<q", value)
+
+
+def value_bytes(value):
+    if value is None:
+        return b"\0"
+    if isinstance(value, int):
+        return b"\1" + number(value)
+    text = value.encode("latin-1")
+    return b"\2" + number(len(text)) + text
+
+
+def literal(value):
+    if value is None:
+        return "NULL"
+    return str(value) if isinstance(value, int) else "'" + value.replace("'", "''") + "'"
+
+
+class Reader:
+    """The fields of a reply."""
+
+    def __init__(self, data):
+        self.data, self.at = data, 0
+
+    def take(self, count):
+        self.at += count
+        if self.at > len(self.data):
+            raise ValueError("the reply ends too early")
+        return self.data[self.at - count:self.at]
+
+    def byte(self):
+        return self.take(1)[0]
+
+    def number(self):
+        return struct.unpack("<q", self.take(8))[0]
+
+    def text(self):
+        return self.take(self.number()).decode("latin-1")
+
+    def value(self):
+        kind = self.byte()
+        return {0: lambda: None, 1: self.number, 2: self.text, 3: lambda: "ALL", 4: lambda: ""}[kind]()
+
+    def done(self):
+        if self.at != len(self.data):
+            raise ValueError("the reply goes on behind its end")
+
+
+class Library:
+    """A handle, with the calls that were made."""
+
+    def __init__(self, shared, definitions, limit):
+        self.shared, self.handle = shared, ctypes.c_void_p()
+        request = number(limit) + definitions.encode()
+        if shared.skewguard_library_open(request, len(request), ctypes.byref(self.handle)):
+            raise MemoryError
+
+    def call(self, operation, request, room=1 << 16):
+        buffer, length = ctypes.create_string_buffer(room), ctypes.c_size_t()
+        status = self.shared.skewguard_library_call(
+            self.handle, operation, request or b"\0", len(request), buffer, room, ctypes.byref(length))
+        if length.value > room:
+            return self.call(operation if operation == LINE else AGAIN, b"", length.value)
+        return status, buffer.raw[:length.value]
+
+    def line(self):
+        status, reply = self.call(LINE, b"")
+        reader = Reader(reply)
+        kind, text = reader.byte(), reader.text()
+        reader.done()
+        if (status != DONE and status != REFUSED) or kind != TEXT:
+            raise ValueError(f"no line: {status} {reply!r}")
+        return text
+
+    def close(self):
+        self.shared.skewguard_library_close(self.handle)
+
+
+def rows_of(reader):
+    names = [reader.text() for _ in range(reader.number())]
+    return names, [[reader.value() for _ in names] for _ in range(reader.number())]
+
+
+def told_by(reply):
+    """What the fields of a reply say, as the line of a report has it behind the session's name."""
+    reader = Reader(reply)
+    kind = reader.byte()
+    words = {BEGUN: "BEGIN", COMMITTED: "COMMIT", INSERTED: "INSERT", UPDATED: "UPDATE", DELETED: "DELETE"}
+    if kind in words:
+        told = f"{words[kind]} {reader.number()}"
+    elif kind == ROLLED_BACK:
+        told = "ROLLBACK"
+    elif kind == MODES_SET:
+        told = "SET CONSTRAINTS"
+    elif kind == VERDICT:
+        told = ("FALSE", "TRUE", "UNKNOWN")[reader.number()]
+    elif kind == ROWS:
+        _, rows = rows_of(reader)
+        told = f"SELECT {len(rows)}" + "".join("\n  " + ", ".join(map(literal, row)) for row in rows)
+    elif kind == REFUSAL:
+        told = refusal_of(reader)
+    else:
+        raise ValueError(f"a reply of kind {kind}")
+    reader.done()
+    return kind, told
+
+
+def refusal_of(reader):
+    which, state, name, root = reader.number(), reader.text() or "-", reader.text(), reader.value()
+    by, *parties, _offset = (reader.number() for _ in range(5))
+    line = reader.text()
+    told = f"REFUSED {which} {state}"
+    if which == 13:
+        words = [party or "THIS" for party in parties]
+        told += " READER {} PIVOT {} WRITER {}".format(*words)
+    elif which in (7, 10, 12, 21):
+        shown = root if root == "ALL" and "'ALL'" not in line else literal(root)
+        told += f" {name} {shown}" + (f" BY {by}" if which == 12 else "")
+    elif name:
+        told += f" {name}"
+    if told not in line:
+        raise ValueError(f"{told!r} is not in {line!r}")
+    return line.split(": ", 1)[1].rstrip("\n")
+
+
+class Run:
+    """One database, the script of what was done, and the report that is expected of it."""
+
+    def __init__(self, shared, chance):
+        self.chance = chance
+        self.definitions = chance.choice(DEFINITIONS)
+        self.limit = chance.choice((1000000, 1000000, 12))
+        self.library = Library(shared, self.definitions, self.limit)
+        self.sessions, self.closed, self.statements = {}, [0, 10**12], {}
+        self.script, self.lines, self.order = [], [], []
+        self.in_transaction = collections.defaultdict(bool)
+        self.calls = 0
+
+    def call(self, operation, request=b""):
+        self.calls += 1
+        return self.library.call(operation, request)
+
+    def expect(self, holds, what):
+        if not holds:
+            raise ValueError(what)
+
+    def misuse(self, operation, request, *statuses):
+        """A call that may do nothing, and says why."""
+        before = self.library.call(REPORT, b"")
+        status, _ = self.call(operation, request)
+        self.expect(status in statuses, f"status {status} of operation {operation}, wanted {statuses}")
+        self.expect(self.library.call(REPORT, b"") == before, f"operation {operation} changed something")
+
+    def value(self, kind):
+        """A value of the kind, or now and then of another."""
+        if self.chance.random() < 0.03:
+            kind = self.chance.choice("nto")
+        if kind == "t":
+            return self.chance.choice(("KIM", "LEE", "O'HARA", "EVE", "", "'; --", "NINELONGER"))
+        if kind == "o" and self.chance.random() < 0.2:
+            return None
+        return self.chance.choice((0, 0, 1, 1, 2, 3, 4, 5, 6, 7, 8, 9, -1))
+
+    def session(self):
+        """A session, mostly one with an open transaction."""
+        working = [name for name in self.sessions if self.in_transaction[name]]
+        name = self.chance.choice(working if working and self.chance.random() < 0.95 else list(self.sessions))
+        return name, self.sessions[name]
+
+    def event(self, name, text, operation, request):
+        """An event that the engine answers: its line goes into the report, and the event into the script."""
+        status, reply = self.call(operation, request)
+        self.expect(status in (DONE, REFUSED), f"status {status} of {text}")
+        kind, told = told_by(reply)
+        line = self.library.line()
+        if line.startswith("STATEMENT: "):
+            raise ValueError(f"{text} was refused as a text: {line}")
+        shown = line.split(": ", 1)[1].rstrip("\n")
+        self.expect(line.startswith(f"{name}: "), line)
+        self.expect(told == shown or (kind == VERDICT and shown.endswith(" " + told)), f"{told!r} is not {shown!r}")
+        self.expect((status == REFUSED) == (kind == REFUSAL), f"status {status} with kind {kind}")
+        if kind == BEGUN:
+            self.in_transaction[name] = True
+        elif kind in (COMMITTED, ROLLED_BACK) or (text == "COMMIT" and shown[8:].startswith(ENDING)):
+            self.in_transaction[name] = False
+        self.note(name, text, line)
+
+    def note(self, name, text, line):
+        if name not in self.order:
+            self.order.append(name)
+        self.script.append(f"{name}: {text};")
+        self.lines.append(line)
+
+    def open_session(self):
+        name = self.chance.choice(("ANN", "BOB", "CLEO", "DAN", "EVE"))
+        written = self.chance.choice((name, name.lower())).encode()
+        if name in self.sessions:
+            return self.misuse(OPEN_SESSION, written, NAME_TAKEN)
+        status, reply = self.call(OPEN_SESSION, written)
+        reader = Reader(reply)
+        self.expect(status == DONE and reader.byte() == SESSION, f"status {status} of opening {name}")
+        self.sessions[name] = reader.number()
+        self.expect(self.sessions[name] not in self.closed, "a session's number was given again")
+
+    def close_session(self):
+        name = self.chance.choice(list(self.sessions))
+        session = self.sessions.pop(name)
+        self.closed.append(session)
+        status, _ = self.call(CLOSE_SESSION, number(session))
+        self.expect(status == DONE, f"status {status} of closing {name}")
+        if self.in_transaction[name]:
+            self.in_transaction[name] = False
+            self.note(name, "ROLLBACK", f"{name}: ROLLBACK\n")
+
+    def prepare(self):
+        text = self.chance.choice(list(STATEMENTS))
+        status, reply = self.call(PREPARE, text.encode())
+        reader = Reader(reply)
+        self.expect(status == DONE and reader.byte() == STATEMENT, f"status {status} of preparing {text}")
+        statement, parameters = reader.number(), reader.number()
+        self.expect(parameters == text.count("?") and statement not in self.statements, text)
+        self.statements[statement] = text
+
+    def run_statement(self):
+        name, session = self.session()
+        statement, text = self.chance.choice(list(self.statements.items()))
+        values = [self.value(kind) for kind in STATEMENTS[text]]
+        request = number(session) + number(statement) + number(len(values)) + b"".join(map(value_bytes, values))
+        if None in values and not text.startswith("INSERT") and not text.startswith("UPDATE DUTY SET ONCALL = ?"):
+            return self.misuse(RUN, request, BAD_VALUE)
+        if None in values[1:] and text.startswith("UPDATE DUTY SET ONCALL = ?"):
+            return self.misuse(RUN, request, BAD_VALUE)
+        pieces = text.split("?")
+        written = "".join(piece + literal(value) for piece, value in zip(pieces, values)) + pieces[-1]
+        self.event(name, written, RUN, request)
+
+    def execute(self):
+        name, session = self.session()
+        text = self.chance.choice(list(STATEMENTS))
+        for kind in STATEMENTS[text]:
+            value = self.value(kind)
+            if value is None and not text.startswith("INSERT"):
+                value = 0
+            text = text.replace("?", literal(value), 1)
+        self.event(name, text, EXECUTE, number(session) + text.encode())
+
+    def bound(self):
+        name, session = self.chance.choice(list(self.sessions.items()))
+        if self.in_transaction[name]:
+            operation = self.chance.choices((COMMIT, ROLLBACK, BEGIN), (12, 2, 1))[0]
+        else:
+            operation = self.chance.choices((BEGIN, BEGIN_READ_ONLY, COMMIT), (12, 1, 1))[0]
+        if self.chance.random() < 0.3:
+            text = EVENTS[operation]
+            return self.event(name, text, EXECUTE, number(session) + text.encode())
+        self.event(name, EVENTS[operation], operation, number(session))
+
+    def foul(self):
+        """What no caller should do."""
+        chance = self.chance
+        gone = number(chance.choice(self.closed))
+        live = number(next(iter(self.sessions.values()), 0))
+        noise = bytes(chance.randrange(256) for _ in range(chance.randrange(40)))
+        status = NO_SESSION
+        kinds = [
+            lambda: self.misuse(chance.choice((BEGIN, BEGIN_READ_ONLY, COMMIT, ROLLBACK, CLOSE_SESSION)), gone, status),
+            lambda: self.misuse(EXECUTE, gone + b"BEGIN", status),
+            lambda: self.misuse(FORGET, number(10**9), NO_STATEMENT),
+            lambda: self.misuse(RUN, live + number(10**9) + number(0), NO_STATEMENT),
+            lambda: self.misuse(chance.randrange(14, 2**32), noise, BAD_REQUEST),
+            lambda: self.misuse(OPEN_SESSION, chance.choice(NO_NAMES), BAD_NAME),
+            lambda: self.misuse(chance.choice((CLOSE_SESSION, FORGET, BEGIN, COMMIT)), noise[:7], BAD_REQUEST),
+            lambda: self.misuse(RUN, live + live + noise[:12] + b"\x77", BAD_REQUEST, NO_STATEMENT),
+            lambda: self.misuse(CHECKPOINT, b"\xff" + noise, BAD_REQUEST),
+            lambda: self.misuse(EXECUTE, live + b"SELEKT " + noise, REFUSED, NO_SESSION),
+            lambda: self.misuse(PREPARE, b"SELECT ? " + noise, REFUSED),
+        ]
+        if self.statements:
+            statement, text = chance.choice(list(self.statements.items()))
+            count = text.count("?") + 1
+            head = live + number(statement)
+            kinds += [
+                lambda: self.misuse(RUN, head + number(count) + count * b"\0", WRONG_COUNT),
+                lambda: self.misuse(RUN, head + number(count) + (count - 1) * b"\0", BAD_REQUEST),
+            ]
+            if text.count("?"):
+                most = b"".join(value_bytes(10**15 + 1) for _ in range(count - 1))
+                odd = b"".join(value_bytes("\xe9") for _ in range(count - 1))
+                kinds.append(lambda: self.misuse(RUN, head + number(count - 1) + chance.choice((most, odd)), BAD_VALUE))
+        chance.choice(kinds)()
+
+    def forget(self):
+        statement = self.chance.choice(list(self.statements))
+        del self.statements[statement]
+        self.expect(self.call(FORGET, number(statement))[0] == DONE, "a statement was not forgotten")
+
+    def step(self):
+        pick = self.chance.random()
+        if not self.sessions or pick < 0.02:
+            return self.open_session()
+        if not self.statements or pick < 0.05:
+            return self.prepare()
+        if pick < 0.07:
+            return self.close_session()
+        if pick < 0.08:
+            return self.forget()
+        if pick < 0.16:
+            return self.foul()
+        if pick < (0.32 if any(self.in_transaction.values()) else 0.9):
+            return self.bound()
+        return self.run_statement() if pick < 0.8 else self.execute()
+
+    def report(self):
+        """What the library told, as a whole report."""
+        left = "".join(f"{name}: ROLLBACK AT END\n" for name in self.order if self.in_transaction[name])
+        reader = Reader(self.call(REPORT)[1])
+        self.expect(reader.byte() == TEXT, "no report")
+        return "".join(self.lines) + left + reader.text()
+
+    def replayed(self, program):
+        with tempfile.TemporaryDirectory() as folder:
+            definitions, script = pathlib.Path(folder, "defs.sql"), pathlib.Path(folder, "script.sql")
+            definitions.write_text(self.definitions)
+            script.write_text("\n".join(self.script) + "\n")
+            words = [program, "replay", *self.limit_words(), str(definitions), str(script)]
+            return subprocess.run(words, capture_output=True, text=True, check=True).stdout
+
+    def limit_words(self):
+        return ["--max-commits", str(self.limit)]
+
+
+def bind(path):
+    shared = ctypes.CDLL(path)
+    size, pointer = ctypes.c_size_t, ctypes.c_void_p
+    shared.skewguard_library_open.argtypes = [ctypes.c_char_p, size, ctypes.POINTER(pointer)]
+    shared.skewguard_library_open.restype = ctypes.c_int32
+    shared.skewguard_library_call.argtypes = [
+        pointer, ctypes.c_uint32, ctypes.c_char_p, size, ctypes.c_char_p, size, ctypes.POINTER(size)]
+    shared.skewguard_library_call.restype = ctypes.c_int32
+    shared.skewguard_library_close.argtypes = [pointer]
+    shared.skewguard_library_close.restype = None
+    return shared
+
+
+def one_run(shared, program, seed):
+    """How many calls were made, and what differs."""
+    run = Run(shared, random.Random(seed))
+    try:
+        while run.calls < CALLS_IN_A_RUN:
+            run.step()
+        told, replayed = run.report(), run.replayed(program)
+        run.expect(told == replayed, first_difference(told, replayed))
+    except ValueError as fault:
+        return run, f"seed {seed}: {fault}"
+    finally:
+        run.library.close()
+    return run, None
+
+
+def first_difference(told, replayed):
+    for line, other in zip(told.splitlines(), replayed.splitlines()):
+        if line != other:
+            return f"library {line!r}, replay {other!r}"
+    return f"{len(told)} bytes from the library, {len(replayed)} from replay"
+
+
+def main():
+    words = argparse.ArgumentParser(description=__doc__.splitlines()[0])
+    words.add_argument("library", type=pathlib.Path)
+    words.add_argument("program")
+    words.add_argument("--calls", type=int, default=100000)
+    words.add_argument("--seed", type=int, default=1)
+    given = words.parse_args()
+    shared = bind(str(given.library.resolve()))
+    calls = events = differs = seed = 0
+    answers = collections.Counter()
+    while calls < given.calls:
+        run, fault = one_run(shared, given.program, given.seed * 10**6 + seed)
+        seed, calls, events = seed + 1, calls + run.calls, events + len(run.lines)
+        for line in run.lines:
+            told = line.split(": ", 1)[1].split()
+            answers[" ".join(told[:2]) if told[0] == "REFUSED" else told[0]] += 1
+        if fault:
+            differs += 1
+            print(fault)
+    print(", ".join(f"{word} {count}" for word, count in sorted(answers.items())))
+    print(f"{calls} calls, {events} events in {seed} scripts, {differs} differ")
+    sys.exit(differs != 0)
+
+
+if __name__ == "__main__":
+    main()
