@@ -1,0 +1,235 @@
+#!/usr/bin/env python3
+"""Time of a transaction of one UPDATE from C and from Python: skewguard, and SQLite in memory with triggers.
+
+    python3 bench/languages.py [--library FOLDER] [--rows 10000,100000] [--threads 1,4] [--forms "by row,by group"]
+                               [--transactions 20000] [--repetitions 5]
+
+FOLDER has libskewguard.so; without it tools/c_library.py builds it. It needs a C compiler and libsqlite3-dev. The
+table that docs/PERFORMANCE.md holds is printed as it stands there.
+
+A transaction is BEGIN, one UPDATE of a row by its key, prepared once and with two values, and COMMIT. The tables, the
+rules and SQLite's triggers are those of bench/statements.py. Each side is called as its users would call it: skewguard
+from C by the functions of its header under a lock round each call, and from Python by `with manager.transaction()`;
+SQLite by statements that are prepared once, under a lock round the whole transaction, since a connection in memory has
+one transaction at a time. Threads share one database and take turns at the same list of changes. Where others were in
+the way of a COMMIT of skewguard, the transaction is run again, and that is counted.
+
+Each measurement is a process of its own; the sides take turns. Medians count, of the time that passed on the clock and
+of that of the processor. Each answer is looked at: a statement that did not change one row ends the run.
+"""
+
+import argparse
+import os
+import pathlib
+import sqlite3
+import statistics
+import struct
+import subprocess
+import sys
+import tempfile
+import threading
+import time
+
+from replays import TOP, digits, machine, table, written
+from statements import FORMS, text
+
+LANGUAGES = ("C", "Python")
+SIDES = ("skewguard", "sqlite")
+
+
+def update_of(form):
+    """The statement that each transaction runs: it changes whether a person is on call, or a balance."""
+    column = "ONCALL" if form.changed == "DUTY" else "BAL"
+    return f"UPDATE {form.changed} SET {column} = ? WHERE ID = ?"
+
+
+def changes_of(form, rows, count):
+    """The values of each transaction: a new one, and the key of a row, anywhere in the table.
+
+    The first person of each shift stays on call, so that no rule is broken, and each change is one.
+    """
+    first = rows // 10
+    for number in range(count):
+        at = first + number * 7919 % (rows - first)
+        turn = number // (rows - first)
+        yield turn % 2 if form.changed == "DUTY" else 1000 + turn, 2 * at
+
+
+def write_setups(form, rows, folder):
+    """The files that make the tables: definitions for skewguard; rows, side tables and triggers for SQLite."""
+    loaded = [f"{text(*one)}\n" for one in form.loaded(rows)]
+    after = [f"{one};\n" for one in (*form.side, *form.triggers)]
+    return {
+        "skewguard": written(f"{folder}/skewguard", form.definitions(rows)),
+        "sqlite": written(f"{folder}/sqlite", [*form.tables, "BEGIN;\n", *loaded, "COMMIT;\n", *after, "ANALYZE;\n"]),
+    }
+
+
+def write_changes(form, rows, count, folder):
+    path = pathlib.Path(folder) / "changes"
+    path.write_bytes(b"".join(struct.pack("<qq", *one) for one in changes_of(form, rows, count)))
+    return str(path)
+
+
+# -- from Python; each run is a process of this file
+
+
+def in_skewguard(setup, update):
+    """What makes a change in skewguard, and counts how often others were in its way."""
+    import skewguard
+
+    manager = skewguard.open(pathlib.Path(setup).read_text())
+
+    def change(values):
+        refused = 0
+        while True:
+            try:
+                with manager.transaction() as transaction:
+                    if transaction.execute(update, values).count != 1:
+                        raise ValueError("an UPDATE was not answered as it has to be")
+                return refused
+            except skewguard.SerializationFailure:
+                refused += 1
+
+    return change
+
+
+def in_sqlite(setup, update):
+    """What makes a change in SQLite."""
+    base = sqlite3.connect(":memory:", isolation_level=None, check_same_thread=False)
+    base.executescript(pathlib.Path(setup).read_text())
+    lock, execute = threading.Lock(), base.execute
+
+    def change(values):
+        with lock:
+            execute("BEGIN")
+            if execute(update, values).rowcount != 1:
+                raise ValueError("an UPDATE was not answered as it has to be")
+            execute("COMMIT")
+        return 0
+
+    return change
+
+
+def run_in_python(side, setup, update, path, threads):
+    """Prints what bench/languages.c prints."""
+    change = {"skewguard": in_skewguard, "sqlite": in_sqlite}[side](setup, update)
+    changes = list(struct.iter_unpack("<qq", pathlib.Path(path).read_bytes()))
+    refused, faults = [], []
+
+    def run(part):
+        try:
+            refused.append(sum(change(values) for values in part))
+        except BaseException as fault:
+            faults.append(fault)
+
+    workers = [threading.Thread(target=run, args=(changes[thread::threads],)) for thread in range(threads)]
+    passed, used = time.monotonic(), time.process_time()
+    for worker in workers:
+        worker.start()
+    for worker in workers:
+        worker.join()
+    passed, used = time.monotonic() - passed, time.process_time() - used
+    if faults:
+        raise faults[0]
+    print(f"{passed:.6f} {used:.6f} {sum(refused)}")
+
+
+# -- all of them
+
+
+def linked(built, folder):
+    """A folder in which the library has the names that compilers and programs look for; where none is built, it is."""
+    if not built:
+        built = f"{folder}/library"
+        os.mkdir(built)
+        subprocess.run([sys.executable, f"{TOP}/tools/c_library.py", built], check=True, stdout=subprocess.DEVNULL)
+    place = pathlib.Path(folder) / "linked"
+    place.mkdir()
+    for name in ("libskewguard.so", "libskewguard.so.0"):
+        (place / name).symlink_to(pathlib.Path(built, "libskewguard.so").resolve(strict=True))
+    return str(place)
+
+
+def compiled(library, folder):
+    """The program of bench/languages.c."""
+    program = f"{folder}/languages"
+    flags = ["-std=gnu99", "-O2", "-Wall", "-Wextra", f"-I{TOP}/bindings/c"]
+    libraries = [f"-L{library}", "-lskewguard", "-lsqlite3", "-lpthread", f"-Wl,-rpath,{library}"]
+    subprocess.run(["cc", *flags, "-o", program, f"{TOP}/bench/languages.c", *libraries], check=True)
+    return [program]
+
+
+def measured(command, side, setup, update, changes, threads, library):
+    """Microseconds a transaction on the clock and of the processor, and how many COMMITs were refused for others."""
+    known = {"PYTHONPATH": f"{TOP}/bindings/python/src", "SKEWGUARD_LIBRARY": f"{library}/libskewguard.so.0"}
+    words = [*command, side, setup, update, changes, str(threads)]
+    done = subprocess.run(words, check=True, stdout=subprocess.PIPE, text=True, env=os.environ | known)
+    passed, used, refused = done.stdout.split()
+    each = 1e6 / (os.path.getsize(changes) / 16)
+    return float(passed) * each, float(used) * each, int(refused)
+
+
+def measure(form, rows, asked, commands, library, folder):
+    """The figures of each number of threads, language and side."""
+    setups, update = write_setups(form, rows, folder), update_of(form)
+    changes, found = write_changes(form, rows, asked.transactions, folder), {}
+    for _ in range(asked.repetitions):
+        for threads in asked.threads:
+            for language in LANGUAGES:
+                for side in SIDES:
+                    figures = measured(commands[language], side, setups[side], update, changes, threads, library)
+                    found.setdefault((threads, language, side), []).append(figures)
+    for key, figures in found.items():
+        each = " ".join(f"{one[0]:.1f}/{one[1]:.1f}" for one in figures)
+        print(f"{form.name}, {rows} rows, {key}: {each}", flush=True)
+    return found
+
+
+def medians(figures):
+    return [statistics.median(column) for column in zip(*figures)]
+
+
+def print_table(found):
+    heads = ["form", "rows", "threads", "from", "skewguard, us", "SQLite, us", "SQLite / skewguard"]
+    heads += ["skewguard, processor", "SQLite, processor", "tried again"]
+    rows = []
+    for (form, size, threads, language), figures in found.items():
+        (own, own_used, refused), (other, other_used, _) = (medians(figures[side]) for side in SIDES)
+        times = [digits(time) for time in (own, other, other / own, own_used, other_used)]
+        rows.append([form, f"{size:,}", str(threads), language, *times, f"{refused:.0f}"])
+    table(heads, rows)
+
+
+def numbers(text):
+    return [int(number) for number in text.split(",")]
+
+
+def main():
+    words = argparse.ArgumentParser(description=__doc__, formatter_class=argparse.RawDescriptionHelpFormatter)
+    words.add_argument("--library", help="the folder of libskewguard.so; without it tools/c_library.py builds it")
+    words.add_argument("--rows", type=numbers, default=[10_000, 100_000])
+    words.add_argument("--threads", type=numbers, default=[1, 4])
+    words.add_argument("--forms", type=lambda text: text.split(","), default=["by row", "by group"])
+    words.add_argument("--transactions", type=int, default=20_000)
+    words.add_argument("--repetitions", type=int, default=5)
+    asked = words.parse_args()
+    found = {}
+    with tempfile.TemporaryDirectory() as folder:
+        library = linked(asked.library, folder)
+        commands = {"C": compiled(library, folder), "Python": [sys.executable, os.path.abspath(__file__), "--run"]}
+        print(f"SQLite {sqlite3.sqlite_version}, {machine(asked.repetitions)}", flush=True)
+        for form in FORMS:
+            for rows in asked.rows if form.name in asked.forms else ():
+                measures = measure(form, rows, asked, commands, library, folder)
+                for (threads, language, side), figures in measures.items():
+                    found.setdefault((form.name, rows, threads, language), {})[side] = figures
+    print(f"load at the end {os.getloadavg()[0]:.1f}")
+    print_table(found)
+
+
+if __name__ == "__main__":
+    if sys.argv[1:2] == ["--run"]:
+        run_in_python(*sys.argv[2:6], int(sys.argv[6]))
+    else:
+        main()

@@ -1,0 +1,134 @@
+"""The exception of each refusal."""
+
+from __future__ import annotations
+
+from typing import Dict, Optional, Tuple, Type, Union
+
+from . import errors
+from ._layout import Reader
+from .errors import DangerousStructure, Error, WriteConflict
+
+SYNTAX, TOO_DEEP = 2, 19
+VIOLATED, WRITE_CONFLICT, DANGEROUS, NO_TRANSACTION, EPOCH_FULL, FALSE_AT_CREATION = 10, 12, 13, 14, 17, 21
+
+# So many characters of a line stand above a caret.
+SHOWN = 110
+
+# The class of each fault's exception; ProgrammingError where none stands here.
+_CLASSES: Dict[int, Type[Error]] = {
+    1: errors.NoMemory,
+    6: errors.IntegrityError,
+    7: errors.IntegrityError,
+    9: errors.DataError,
+    VIOLATED: errors.RuleViolated,
+    EPOCH_FULL: errors.EpochFull,
+    FALSE_AT_CREATION: errors.RuleViolated,
+    24: errors.OperationalError,
+}
+
+# What is said of each fault, with the name and the root or key that it tells.
+_WORDS: Dict[int, str] = {
+    1: "no memory is left",
+    3: "nothing has the name {name}",
+    4: "the name {name} is taken",
+    5: "values and columns differ in number or type",
+    6: "{name} takes no NULL",
+    7: "{name} has a row under the key {root} already",
+    8: "{name} is a key, which no UPDATE may set",
+    9: "the value is beyond the range, or the length, of {name}",
+    VIOLATED: "{name} would be false at {root}",
+    11: "{name} is not DEFERRABLE",
+    NO_TRANSACTION: "no transaction is open in this session",
+    15: "a transaction is open",
+    16: "this is of another manager or epoch",
+    EPOCH_FULL: "the epoch holds as many commits as it may: begin another by checkpoint",
+    18: "arithmetic could pass the range in which it is exact",
+    20: "this is outside the class of assertions and conditions that are taken",
+    FALSE_AT_CREATION: "{name} is false at {root} on the rows that are there",
+    22: "the attributes of {name} exclude each other",
+    23: "the transaction is READ ONLY",
+    24: "there are as many sessions as may be",
+}
+
+
+def refusal(reply: bytes, text: Optional[str]) -> Error:
+    """The exception of a refusal. A fault in a text is shown in that text."""
+    reader = Reader(reply)
+    number, sqlstate, name, root = reader.number(), reader.text(), reader.text(), reader.value()
+    commit, first, pivot, last = (reader.number() for _ in range(4))
+    offset, line = reader.number(), reader.text().rstrip()
+    error: Error
+    if number in (SYNTAX, TOO_DEEP) and text is not None:
+        error = _fault_in_text(number, text, offset)
+    elif number == WRITE_CONFLICT:
+        error = _failure(WriteConflict(name, root, commit))
+    elif number == DANGEROUS:
+        error = _failure(DangerousStructure(first or None, pivot or None, last or None))
+    else:
+        words = _WORDS.get(number, line).format(name=name, root=_shown(root))
+        error = _CLASSES.get(number, errors.ProgrammingError)(words)
+        if isinstance(error, errors.RuleViolated):
+            error.rule, error.root = name, root
+    error.number, error.sqlstate, error.report = number, sqlstate or None, line
+    error.names = (name,) if name else ()
+    return error
+
+
+def no_memory() -> Error:
+    """The exception where there is no memory."""
+    error = errors.NoMemory(_WORDS[1])
+    error.number = 1
+    return error
+
+
+def _shown(root: object) -> str:
+    """A key or root as the report writes it."""
+    if isinstance(root, str):
+        return "'" + root.replace("'", "''") + "'"
+    return "NULL" if root is None else repr(root)
+
+
+def _failure(conflict: Union[WriteConflict, DangerousStructure]) -> Error:
+    """The exception of a COMMIT that others were in the way of."""
+    if isinstance(conflict, WriteConflict):
+        row = f"the row {_shown(conflict.key)} of {conflict.table}"
+        words = f"commit {conflict.commit} has changed {row} since this transaction began"
+    else:
+        reader, pivot, writer = (_party(it) for it in (conflict.reader, conflict.pivot, conflict.writer))
+        words = (
+            f"there would be no serial order: {reader} read what {pivot} changed, and {pivot} read what {writer} "
+            "changed, each without seeing the change"
+        )
+    error = errors.SerializationFailure(words)
+    error.conflict = conflict
+    return error
+
+
+def _party(number: Optional[int]) -> str:
+    return "this transaction" if number is None else f"commit {number}"
+
+
+def _fault_in_text(number: int, text: str, offset: int) -> Error:
+    """A fault of a text, with its line and a caret under the place."""
+    line, column, whole = place_of(text, offset)
+    what = "parentheses nest too deep" if number == TOO_DEEP else "the text stops being one of the language"
+    error = errors.ProgrammingError(f"{what} at line {line}, column {column}\n{_drawn(whole, column)}")
+    error.line, error.column = line, column
+    return error
+
+
+def _drawn(line: str, column: int) -> str:
+    """A line, or the part of a long one that lies around a column, and below it a caret under that column."""
+    start = max(0, column - 1 - SHOWN // 2)
+    part = line[start : start + SHOWN]
+    shown = "".join(character if character.isprintable() or character == "\t" else "?" for character in part)
+    indent = "".join("\t" if character == "\t" else " " for character in part[: column - 1 - start])
+    return f"  {shown}\n  {indent}^"
+
+
+def place_of(text: str, offset: int) -> Tuple[int, int, str]:
+    """Line and column of an offset in bytes, each from 1, and the line itself."""
+    before = text.encode("utf-8", "surrogatepass")[:offset].decode("utf-8", "replace")
+    start = before.rfind("\n") + 1
+    shown = text[start:].split("\n", 1)[0].rstrip("\r")
+    return before.count("\n") + 1, len(before) - start + 1, shown

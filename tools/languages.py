@@ -1,0 +1,210 @@
+#!/usr/bin/env python3
+"""Runs the tests of the languages: Python and Rust, their examples, and what the README and the manual show.
+
+    tools/languages.py [--library FOLDER] [--program FILE] [--without-rust]
+    tools/languages.py --manual          prints the manual's example in C
+
+FOLDER has the static and the shared library; without it tools/c_library.py builds them. FILE is the program, or that
+which the gate has built. It needs a C compiler, cargo, and Python 3.9 or later with venv; no network.
+"""
+import argparse
+import os
+import pathlib
+import re
+import shutil
+import subprocess
+import sys
+import tempfile
+
+TOP = pathlib.Path(__file__).resolve().parent.parent
+PYTHON, RUST = TOP / "bindings/python", TOP / "bindings/rust"
+SONAME = "libskewguard.so.0"
+
+# What the examples print, in both languages. Their threads come in any order, and what is printed does not tell of it.
+EXAMPLES = {
+    "on_call": "3 go home, 1 on call\nstays: COVERED would be false in shift 7\n",
+    "ledger": "half of a transfer: BALANCED would be false at ALL\n"
+    "400 answers: some made, some refused by FUNDS\n"
+    "the bank holds 200, and no owner is below zero\n",
+    "booking": "4 guests have a room\nslots: 1209 1210 1211 1212 1213\n",
+}
+
+
+def run(words, **how):
+    """What a command prints, which has to end well."""
+    words = list(map(str, words))
+    printed = {"stdout": subprocess.PIPE, "stderr": subprocess.STDOUT, "text": True}
+    done = subprocess.run(words, **printed, timeout=300, check=False, **how)
+    if done.returncode:
+        sys.exit(f"{' '.join(words)} ended with {done.returncode}:\n{done.stdout}")
+    return done.stdout
+
+
+def wanted(what, found, expected):
+    """Ends the run where something printed what it should not."""
+    if found != expected:
+        sys.exit(f"{what} prints\n{found}and not\n{expected}")
+
+
+def linked(library, folder):
+    """A folder in which the libraries have the names that compilers and programs look for."""
+    place = folder / "linked"
+    place.mkdir()
+    for name, built in (("libskewguard.a",) * 2, ("libskewguard.so",) * 2, (SONAME, "libskewguard.so")):
+        (place / name).symlink_to((library / built).resolve(strict=True))
+    return place
+
+
+def environment(library, program, folder):
+    """As if the packages were installed: where compilers and programs find header, library, module and program."""
+    programs = folder / "programs"
+    programs.mkdir()
+    if program:
+        (programs / "skewguard").symlink_to(program)
+    # The places that the one who calls has set come last; an empty one would mean the folder at hand.
+    places = {
+        "PATH": programs,
+        "CPATH": TOP / "bindings/c",
+        "LIBRARY_PATH": library,
+        "LD_LIBRARY_PATH": library,
+        "PYTHONPATH": PYTHON / "src",
+    }
+    set_before = {name: os.pathsep + os.environ[name] for name in places if os.environ.get(name)}
+    own = {name: f"{place}{set_before.get(name, '')}" for name, place in places.items()}
+    own |= {
+        "SKEWGUARD_LIBRARY": str(library / SONAME),
+        "SKEWGUARD_LIB_DIR": str(library),
+        "PYTHONDONTWRITEBYTECODE": "1",
+        "CARGO_TARGET_DIR": str(folder / "target"),
+    }
+    return os.environ | own
+
+
+def python_tests(known):
+    run([sys.executable, "-X", "dev", "-W", "error", "-m", "unittest", "discover", "-s", PYTHON / "tests"],
+        cwd=PYTHON / "tests", env=known)
+    readme = (PYTHON / "README.md").read_text(encoding="utf-8")
+    first = re.search(r"^```python\n(.*?)^```$", readme, re.MULTILINE | re.DOTALL).group(1)
+    printed = re.search(r"^It prints `(.*)`\.$", readme, re.MULTILINE).group(1)
+    wanted("the example of the README", run([sys.executable, "-c", first], env=known), f"{printed}\n")
+    for name, expected in EXAMPLES.items():
+        wanted(f"{name}.py", run([sys.executable, PYTHON / f"examples/{name}.py"], env=known), expected)
+
+
+def python_package(known, library, folder):
+    """The package in an environment of its own: from nothing, without a network and with the library in it."""
+    run([sys.executable, "-m", "venv", folder / "venv"])
+    python = folder / "venv/bin/python"
+    bare = {name: value for name, value in known.items() if not name.startswith(("PYTHON", "SKEWGUARD", "LD_"))}
+    bundled = bare | {"SKEWGUARD_BUNDLE": str(library / SONAME)}
+    run([python, "-m", "pip", "install", "--quiet", "--no-index", "--disable-pip-version-check", PYTHON], env=bundled)
+    found = run([python, PYTHON / "examples/booking.py"], cwd=folder, env=bare)
+    wanted("booking.py, installed", found, EXAMPLES["booking"])
+    run([python, "-m", "pip", "uninstall", "--quiet", "--yes", "--disable-pip-version-check", "skewguard"], env=bare)
+
+
+def rust_tests(known):
+    for words in (["test", "--quiet", "--offline"], ["build", "--quiet", "--offline", "--examples"]):
+        run(["cargo", *words, "--manifest-path", RUST / "Cargo.toml"], env=known)
+    for name, expected in EXAMPLES.items():
+        program = pathlib.Path(known["CARGO_TARGET_DIR"]) / "debug/examples" / name
+        wanted(f"{name}.rs", run([program], env=known), expected)
+
+
+def manual_page():
+    return (TOP / "packaging/skewguard.3").read_text(encoding="utf-8")
+
+
+def manual_example():
+    """The program in C of the manual's page, as a reader would copy it."""
+    found = re.search(r"^\.SH EXAMPLES\n\.nf\n\.RS\n(.*?)^\.RE$", manual_page(), re.MULTILINE | re.DOTALL)
+    return found.group(1).replace("\\-", "-")
+
+
+def untold_calls():
+    """The calls of the header that the manual does not tell of."""
+    header, _ = (TOP / "bindings/c/skewguard.h").read_text(encoding="utf-8").split("how it is done")
+    calls = re.findall(r"^(?:static inline )?\w+ \*?(skewguard_\w+)\(", header, re.MULTILINE)
+    told = re.findall(r"\b(skewguard_\w+)(?: \(\)|\()", manual_page())
+    return sorted(set(calls) - set(told))
+
+
+def manual(known, library, folder):
+    """The manual tells of each call, and its example runs with either library."""
+    if untold_calls():
+        sys.exit(f"packaging/skewguard.3 does not tell of {', '.join(untold_calls())}")
+    (folder / "first.c").write_text(manual_example(), encoding="utf-8")
+    strict = ["cc", "-std=c99", "-Wall", "-Wextra", "-pedantic", "-Werror", "first.c"]
+    for libraries in (["-lskewguard"], [library / "libskewguard.a"]):
+        run([*strict, "-o", "first", *libraries], cwd=folder, env=known)
+        wanted("the manual's example", run(["./first"], cwd=folder, env=known), "KIM: REFUSED 10 23000 COVERED ALL\n")
+
+
+def page_sections():
+    """Of each section of the README its name, the files that it shows, and its commands with their output."""
+    page = (TOP / "README.md").read_text(encoding="utf-8")
+    for section in re.split(r"^##+ ", page, flags=re.MULTILINE)[1:]:
+        files = re.findall(r"`([\w./]+)`:\n\n```\w+\n(.*?)^```$", section, re.MULTILINE | re.DOTALL)
+        shown = re.findall(r"^```sh\n(.*?)^```$", section, re.MULTILINE | re.DOTALL)
+        if files:
+            yield section.splitlines()[0], dict(files), "".join(shown)
+
+
+def page(known, folder, without_rust):
+    """Runs what the page shows, each section from an empty folder."""
+    (folder / "skewguard").symlink_to(TOP)
+    count = 0
+    for name, files, shown in page_sections():
+        if name == "Rust" and without_rust:
+            continue
+        place = folder / name.replace(" ", "_")
+        place.mkdir()
+        commands = [line[2:] for line in shown.splitlines() if line.startswith("$ ")]
+        before = [command for command in commands if command.startswith("cargo init")]
+        for command in before:
+            run(["bash", "-c", command], cwd=place, env=known)
+        for path, text in files.items():
+            (place / path).parent.mkdir(exist_ok=True)
+            (place / path).write_text(text, encoding="utf-8")
+        found = "".join(run(["bash", "-ec", command], cwd=place, env=known) for command in commands[len(before):])
+        printed = [line for line in shown.splitlines(keepends=True) if not line.startswith("$ ")]
+        wanted(f"README.md, {name},", found, "".join(printed))
+        count += 1
+    if count != 4 - bool(without_rust):
+        sys.exit(f"README.md: {count} sections were run")
+
+
+def main():
+    words = argparse.ArgumentParser(description=__doc__, formatter_class=argparse.RawDescriptionHelpFormatter)
+    words.add_argument("--library", type=pathlib.Path)
+    words.add_argument("--program", type=pathlib.Path, default=TOP / "crates/skewguard/out/skewguard")
+    words.add_argument("--without-rust", action="store_true")
+    words.add_argument("--manual", action="store_true")
+    asked = words.parse_args()
+    if asked.manual:
+        print(manual_example(), end="")
+        return
+    if not asked.program.exists():
+        sys.exit(f"there is no program at {asked.program}: `rt run` in crates/skewguard makes it")
+    if not asked.without_rust and not shutil.which("cargo"):
+        sys.exit("there is no cargo: --without-rust leaves Rust out")
+    with tempfile.TemporaryDirectory() as place:
+        folder = pathlib.Path(place)
+        library = asked.library
+        if not library:
+            library = folder / "library"
+            library.mkdir()
+            run([sys.executable, TOP / "tools/c_library.py", library])
+        library = linked(library.resolve(), folder)
+        known = environment(library, asked.program.resolve(), folder)
+        python_tests(known)
+        python_package(known, library, folder)
+        if not asked.without_rust:
+            rust_tests(known)
+        manual(known, library, folder)
+        page(known, folder, asked.without_rust)
+    print("the languages: all ran as they have to" + (", without Rust" if asked.without_rust else ""))
+
+
+if __name__ == "__main__":
+    main()
