@@ -1,11 +1,16 @@
 #!/usr/bin/env python3
 """Builds the C library into a folder, of the proved archive.
 
-    tools/c_library.py FOLDER [--archive FILE]
+    tools/c_library.py FOLDER [--archive FILE | --behind-gate]
 
 FOLDER gets skewguard.h, libskewguard.a, and libskewguard.so.0.1.0 with the links libskewguard.so.0 (its soname) and
 libskewguard.so. Of either library only the three functions of the header can be seen. Without --archive, `rt lib`
 proves and builds crates/skewguard_c/out/libskewguard_c.a; it takes no time where nothing has changed.
+
+With --behind-gate the crates below are those that `rt ci` has just proved from nothing and left built. It marks them as
+no work of one's own, so `rt lib` would prove them all once more; here the compiler is called over them by what `rt` is
+made of, and proves skewguard_c alone again. Where checks of one's own have kept some of the crates, `rt ci` has put
+them back in place of its own, and they are no set that was built together: then it is `rt lib` all the same.
 """
 import argparse
 import os
@@ -33,12 +38,31 @@ def proved_archive():
     return CRATE / "out" / "libskewguard_c.a"
 
 
-def memory_archive():
-    """The kit's calls of malloc, which stand beside the toolchain's `rt`."""
+def archive_behind_gate():
+    """What the compiler makes over the crates that `rt ci` has left, and proves as it does."""
+    sys.path.insert(0, str(kit() / "bin"))
+    import rtlib
+
+    rtlib.Crate.cuts_libraries = True
+    crate = rtlib.Crate(str(CRATE), str(REPOSITORY), {})
+    if any(library.is_built() for library in crate.below()):
+        return proved_archive()
+    if crate.build_static([]) or not crate.is_proved:
+        sys.exit("c_library.py: skewguard_c was not built over what `rt ci` has left")
+    return CRATE / "out" / "libskewguard_c.a"
+
+
+def kit():
+    """The folder of the toolchain, which has `rt` in its bin/."""
     tool = shutil.which("rt")
     if not tool:
         sys.exit("c_library.py: there is no `rt` to find the kit by")
-    return pathlib.Path(tool).resolve().parent.parent / "c" / "liblibc_c.a"
+    return pathlib.Path(tool).resolve().parent.parent
+
+
+def memory_archive():
+    """The kit's calls of malloc."""
+    return kit() / "c" / "liblibc_c.a"
 
 
 def one_object(archive, work):
@@ -69,9 +93,11 @@ def shared_library(whole, work, folder):
 def main():
     words = argparse.ArgumentParser(description=__doc__.splitlines()[0])
     words.add_argument("folder", type=pathlib.Path)
-    words.add_argument("--archive", type=pathlib.Path, help="what `rt lib` made; without it `rt lib` is called")
+    made = words.add_mutually_exclusive_group()
+    made.add_argument("--archive", type=pathlib.Path, help="what `rt lib` made; without it `rt lib` is called")
+    made.add_argument("--behind-gate", action="store_true", help="over the crates that `rt ci` has just proved")
     given = words.parse_args()
-    archive = given.archive or proved_archive()
+    archive = given.archive or (archive_behind_gate() if given.behind_gate else proved_archive())
     given.folder.mkdir(parents=True, exist_ok=True)
     shutil.copyfile(HEADER, given.folder / HEADER.name)
     with tempfile.TemporaryDirectory() as work:
