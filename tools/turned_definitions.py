@@ -4,7 +4,7 @@ refuses it.
 
 A must-fail edit turns code, which its own contract refuses. A slip made alike in code and definition passes that
 contract, and only the law that ties the form, or the key, to what is written can find it. So in a copy of the
-repository the definitions of numbering and form_check, and those of keys in alone, are put into the crate `meaning`
+repository the definitions of form_check, and those of keys in alone, are put into the crate `meaning`
 (the code is then left out of it), one of them is turned, and the crate is checked again: it has to be refused. First
 it is checked with nothing turned, and has to be proved.
 
@@ -25,8 +25,7 @@ from pathlib import Path
 
 REPOSITORY = Path(__file__).resolve().parent.parent
 MODULES = {
-    "numbering": ["Results", "Columns", "Leaves"],
-    "form_check": ["Queries", "Links", "Forms"],
+    "form_check": ["Results", "Columns", "Leaves", "Queries", "Links", "Forms"],
     "alone": ["Reads", "Checks"],
 }
 LAWS = ["rows_are_as_written", "class_has_forms", "form_means_what_is_written", "keys_are_as_written"]

@@ -13,8 +13,8 @@ use Rattle.value.specs.ValueOrder.{value_cmp}
 use Rattle.value.specs.Ordered.{AreAbove, IsAscending, by_order}
 use Rattle.value.proofs.ValueOrders.{value_cmp_total}
 use Rattle.table.specs.Rows.{RowValues, Layout, value_in, row_at}
-use Rattle.cond.specs.declared.conds.Cond.{Cond}
-use Rattle.cond.specs.Eval.{keeps}
+use Rattle.table.specs.declared.conds.Cond.{Cond}
+use Rattle.table.specs.Eval.{keeps}
 use Rattle.assertion.specs.Meaning.{State, rows_of, key_of}
 use Rattle.assertion.specs.Roots.{state_after_all}
 use Rattle.assertcheck.specs.declared.updates.Setting.{Setting}

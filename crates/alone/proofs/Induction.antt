@@ -7,7 +7,7 @@ use Rattle.value.specs.declared.refusals.Refusal.TheVariants.{KeyUpdate}
 use Rattle.table.specs.declared.rows.Change.{Change}
 use Rattle.table.specs.Rows.{Layout, layouts_of, names_of}
 use Rattle.table.specs.Faults.{row_refusal}
-use Rattle.cond.specs.declared.conds.Cond.{Cond}
+use Rattle.table.specs.declared.conds.Cond.{Cond}
 use Rattle.assertion.specs.declared.assertions.Assertion.{Assertion}
 use Rattle.assertion.specs.Meaning.{State, key_of, least_bad_of}
 use Rattle.assertion.specs.Roots.{state_after_all}

@@ -8,12 +8,12 @@ use Rattle.std.specs.List.{list_all}
 use Rattle.value.specs.declared.refusals.Refusal.TheVariants.{KeyUpdate, TypeMismatch, TooWide}
 use Rattle.table.specs.Rows.{Layout, Tables, layouts_of, layout_of, position_of, names_of}
 use Rattle.syntax.specs.declared.trees.Condition.{Condition}
-use Rattle.statement_syntax.specs.declared.statements.Assignment.{Assignment}
-use Rattle.cond.specs.Bounds.{is_bounded}
+use Rattle.syntax.specs.declared.statements.Assignment.{Assignment}
+use Rattle.table.specs.Bounds.{is_bounded}
 use Rattle.assertion.specs.Meaning.{key_of}
-use Rattle.name_check.specs.Scopes.{Scope}
+use Rattle.form_check.specs.Scopes.{Scope}
 use Rattle.form_check.specs.Queries.{Source, sourced, source_of, row_filter}
-use Rattle.type_check.specs.Types.{is_typed_condition}
+use Rattle.assertcheck.specs.Types.{is_typed_condition}
 use Rattle.assertcheck.specs.declared.updates.Setting.{Setting}
 use Rattle.assertcheck.specs.declared.updates.Update.{Update}
 use Rattle.value.specs.Results.{and_then, provided, unless}

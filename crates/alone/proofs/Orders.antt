@@ -17,8 +17,8 @@ use Rattle.table.specs.declared.rows.Change.{Change}
 use Rattle.table.specs.Rows.{RowValues, Layout, value_in}
 use Rattle.assertion.specs.Meaning.{State, rows_of, key_of}
 use Rattle.assertion.specs.Roots.{IsOrdered, AreChangesOf, state_after, state_after_all}
-use Rattle.cond.specs.declared.conds.Cond.{Cond}
-use Rattle.cond.specs.Eval.{keeps}
+use Rattle.table.specs.declared.conds.Cond.{Cond}
+use Rattle.table.specs.Eval.{keeps}
 use Rattle.siread.specs.declared.keys.Place.{Place}
 use Rattle.siread.specs.Keys.{same_place, place_of}
 use Rattle.alone.specs.States.{row_in, IsState, IsPut, same_there, is_real, change_between, place_cmp, AreInOrder, AreDue, AreDifferences, keys_of_both, table_changes, net_change}

@@ -15,8 +15,8 @@ use Rattle.modes.specs.Modes.{is_immediate, named_ones, modes_with, assertion_of
 use Rattle.siread.specs.declared.keys.LockKey.{LockKey}
 use Rattle.answer.specs.declared.answers.Reply.{Reply}
 use Rattle.answer.specs.declared.answers.Reply.TheVariants.{ModesSet}
-use Rattle.statement_syntax.specs.declared.statements.Statement.{Statement as Written}
-use Rattle.statement_syntax.specs.declared.statements.Statement.TheVariants as written
+use Rattle.syntax.specs.declared.statements.Statement.{Statement as Written}
+use Rattle.syntax.specs.declared.statements.Statement.TheVariants as written
 use Rattle.assertcheck.specs.Statements.{select_of}
 use Rattle.alone.specs.States.{is_real, change_between, keys_of_both, table_changes, net_change, row_in}
 use Rattle.alone.specs.Checks.{violation, checks_read}

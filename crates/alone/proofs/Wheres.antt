@@ -10,20 +10,20 @@ use Rattle.value.specs.declared.comparisons.Comparison.{Comparison}
 use Rattle.value.specs.declared.comparisons.Comparison.TheVariants as comparison
 use Rattle.value.proofs.OrderedLists.{equal_from}
 use Rattle.value.proofs.ValueOrders.{value_exact}
-use Rattle.threeval.specs.declared.Truth.{Truth}
-use Rattle.threeval.specs.declared.Truth.TheVariants.{True, False, Unknown}
-use Rattle.threeval.specs.Truths.{and_of, is_of, known}
+use Rattle.value.specs.declared.truths.Truth.{Truth}
+use Rattle.value.specs.declared.truths.Truth.TheVariants.{True, False, Unknown}
+use Rattle.value.specs.Truths.{and_of, is_of, known}
 use Rattle.table.specs.Rows.{RowValues, Layout, value_in}
-use Rattle.cond.specs.declared.exprs.Expr.{Expr}
-use Rattle.cond.specs.declared.exprs.Expr.TheOpen.{Expr-F}
-use Rattle.cond.specs.declared.exprs.Expr.TheFolds.{fold-roll-Expr}
-use Rattle.cond.specs.declared.exprs.Expr.TheViews.{out-Expr, roll-Expr, roll-out-Expr}
-use Rattle.cond.specs.declared.conds.Cond.{Cond}
-use Rattle.cond.specs.declared.conds.Cond.TheOpen.{Cond-F}
-use Rattle.cond.specs.declared.conds.Cond.TheFolds.{fold-roll-Cond}
-use Rattle.cond.specs.declared.conds.Cond.TheViews.{out-Cond, roll-Cond, roll-out-Cond}
-use Rattle.cond.specs.Eval.{truth, keeps, answer, expr_step, cond_step}
-use Rattle.cond.specs.Values.{all_of, compared}
+use Rattle.table.specs.declared.exprs.Expr.{Expr}
+use Rattle.table.specs.declared.exprs.Expr.TheOpen.{Expr-F}
+use Rattle.table.specs.declared.exprs.Expr.TheFolds.{fold-roll-Expr}
+use Rattle.table.specs.declared.exprs.Expr.TheViews.{out-Expr, roll-Expr, roll-out-Expr}
+use Rattle.table.specs.declared.conds.Cond.{Cond}
+use Rattle.table.specs.declared.conds.Cond.TheOpen.{Cond-F}
+use Rattle.table.specs.declared.conds.Cond.TheFolds.{fold-roll-Cond}
+use Rattle.table.specs.declared.conds.Cond.TheViews.{out-Cond, roll-Cond, roll-out-Cond}
+use Rattle.table.specs.Eval.{truth, keeps, answer, expr_step, cond_step}
+use Rattle.table.specs.Values.{all_of, compared}
 use Rattle.assertion.specs.Meaning.{State, key_of}
 use Rattle.assertion.specs.Roots.{IsOrdered}
 use Rattle.siread.specs.Keys.{is_under, SameUnder, same_value}

@@ -4,12 +4,12 @@ use Rattle.std.specs.Option.{option_or}
 use Rattle.value.specs.declared.values.Value.{Value}
 use Rattle.value.specs.declared.comparisons.Comparison.{Comparison}
 use Rattle.value.specs.declared.comparisons.Comparison.TheVariants.{Equal}
-use Rattle.cond.specs.declared.exprs.Expr.{Expr}
-use Rattle.cond.specs.declared.exprs.Expr.TheOpen.{Expr-F}
-use Rattle.cond.specs.declared.exprs.Expr.TheViews.{out-Expr}
-use Rattle.cond.specs.declared.conds.Cond.{Cond}
-use Rattle.cond.specs.declared.conds.Cond.TheOpen.{Cond-F}
-use Rattle.cond.specs.declared.conds.Cond.TheViews.{out-Cond}
+use Rattle.table.specs.declared.exprs.Expr.{Expr}
+use Rattle.table.specs.declared.exprs.Expr.TheOpen.{Expr-F}
+use Rattle.table.specs.declared.exprs.Expr.TheViews.{out-Expr}
+use Rattle.table.specs.declared.conds.Cond.{Cond}
+use Rattle.table.specs.declared.conds.Cond.TheOpen.{Cond-F}
+use Rattle.table.specs.declared.conds.Cond.TheViews.{out-Cond}
 use Rattle.siread.specs.declared.keys.LockKey.{LockKey}
 use Rattle.siread.specs.declared.keys.LockKey.TheVariants.{Row as OneRow, Column as InColumn, Table as WholeTable}
 

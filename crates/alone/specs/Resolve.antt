@@ -2,8 +2,8 @@
 use Rattle.std.specs.Prelude.{Bool, true, false, Result, Ok, Err}
 use Rattle.value.specs.declared.refusals.Refusal.{Refusal}
 use Rattle.value.specs.declared.refusals.Refusal.TheVariants.{ReadOnlyTransaction}
-use Rattle.statement_syntax.specs.declared.statements.Statement.{Statement as Written}
-use Rattle.statement_syntax.specs.declared.statements.Statement.TheVariants as written
+use Rattle.syntax.specs.declared.statements.Statement.{Statement as Written}
+use Rattle.syntax.specs.declared.statements.Statement.TheVariants as written
 use Rattle.assertcheck.specs.Statements.{insert_of, delete_of, select_of}
 use Rattle.assertcheck.specs.Updates.{update_of}
 use Rattle.assertion.specs.Declarations.{Declared}

@@ -2,7 +2,7 @@
 
 use assertcheck::{Delete, NewRow, Select, Update};
 use sqlite_items::Items;
-use statement_syntax::Mode;
+use syntax::Mode;
 use value::{Refusal, Text};
 
 /// A statement with its names found, as a transaction's trace holds it: it can be run again on other rows. One that

@@ -2,8 +2,7 @@
 
 use sqlite_items::Items;
 use table::Row;
-use threeval::Truth;
-use value::{Refusal, Text};
+use value::{Refusal, Text, Truth};
 
 /// What a statement did.
 #[derive(Debug, Drop)]

@@ -1,2 +1,5 @@
+pub mod TypeLists
+pub mod BoundedForms
+pub mod ExprTypes
 mod Widths
 mod Refused

@@ -5,8 +5,8 @@ use Rattle.value.specs.declared.refusals.Refusal.{Refusal}
 use Rattle.value.specs.declared.refusals.Refusal.TheVariants.{NoMemory}
 use Rattle.table.specs.declared.schemas.Column.{Column}
 use Rattle.syntax.specs.declared.trees.Condition.{Condition}
-use Rattle.statement_syntax.specs.declared.statements.Assignment.{Assignment}
-use Rattle.cond.specs.declared.conds.Cond.{Cond}
+use Rattle.syntax.specs.declared.statements.Assignment.{Assignment}
+use Rattle.table.specs.declared.conds.Cond.{Cond}
 use Rattle.value.specs.Results.{and_then}
 use Rattle.form_check.specs.Queries.{Source, row_filter}
 use Rattle.assertcheck.specs.declared.updates.Setting.{Setting}

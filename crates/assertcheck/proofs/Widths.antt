@@ -4,8 +4,8 @@ use Rattle.std.specs.Prelude.{IsTrue, IsSome, IfSome, All}
 use Rattle.std.specs.List.{list_all}
 use Rattle.std.proofs.lemmas.List.Elements.{All-nil, All-cons}
 use Rattle.std.proofs.lemmas.Bool.{and_parts}
-use Rattle.cond.specs.declared.exprs.Expr.{Expr}
-use Rattle.cond.specs.Bounds.{bound_of}
+use Rattle.table.specs.declared.exprs.Expr.{Expr}
+use Rattle.table.specs.Bounds.{bound_of}
 use Rattle.assertcheck.specs.declared.updates.Setting.{Setting}
 use Rattle.assertcheck.specs.Updates.{IsBoundedSetting, is_bounded_setting, is_bounded_value}
 

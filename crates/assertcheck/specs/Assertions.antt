@@ -4,17 +4,17 @@ use Rattle.value.specs.declared.refusals.Refusal.{Refusal}
 use Rattle.value.specs.declared.refusals.Refusal.TheVariants.{AttributeClash, TypeMismatch, TooWide}
 use Rattle.table.specs.Rows.{Tables, layouts_of}
 use Rattle.syntax.specs.declared.trees.Condition.{Condition}
-use Rattle.statement_syntax.specs.declared.statements.Mode.{Mode}
-use Rattle.statement_syntax.specs.declared.statements.Mode.TheVariants.{Deferred, Immediate}
-use Rattle.statement_syntax.specs.declared.definitions.Attributes.{Attributes}
+use Rattle.syntax.specs.declared.statements.Mode.{Mode}
+use Rattle.syntax.specs.declared.statements.Mode.TheVariants.{Deferred, Immediate}
+use Rattle.syntax.specs.declared.definitions.Attributes.{Attributes}
 use Rattle.assertion.specs.declared.assertions.Assertion.{Assertion}
 use Rattle.assertion.specs.declared.assertions.ConstraintAttributes.{ConstraintAttributes}
 use Rattle.assertion.specs.declared.forms.Form.{Form}
-use Rattle.name_check.specs.Names.{condition_fault}
+use Rattle.form_check.specs.Names.{condition_fault}
 use Rattle.value.specs.Results.{and_then, provided, unless}
 use Rattle.form_check.specs.Forms.{form_of}
-use Rattle.type_check.specs.Forms.{is_typed_form}
-use Rattle.type_check.specs.Widths.{is_bounded_form}
+use Rattle.assertcheck.specs.Forms.{is_typed_form}
+use Rattle.assertcheck.specs.Widths.{is_bounded_form}
 
 -- whether INITIALLY DEFERRED is written
 abbrev pub is_deferred : Option Mode → Bool

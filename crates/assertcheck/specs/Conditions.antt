@@ -4,13 +4,13 @@ use Rattle.value.specs.declared.refusals.Refusal.{Refusal}
 use Rattle.value.specs.declared.refusals.Refusal.TheVariants.{TypeMismatch, TooWide}
 use Rattle.table.specs.Rows.{Tables}
 use Rattle.syntax.specs.declared.trees.Condition.{Condition}
-use Rattle.cond.specs.declared.conds.Cond.{Cond}
-use Rattle.cond.specs.Bounds.{is_bounded}
-use Rattle.name_check.specs.Scopes.{Scope}
-use Rattle.name_check.specs.Names.{condition_fault}
+use Rattle.table.specs.declared.conds.Cond.{Cond}
+use Rattle.table.specs.Bounds.{is_bounded}
+use Rattle.form_check.specs.Scopes.{Scope}
+use Rattle.form_check.specs.Names.{condition_fault}
 use Rattle.value.specs.Results.{and_then, found, provided, unless}
 use Rattle.form_check.specs.Queries.{Source, source_of, row_filter}
-use Rattle.type_check.specs.Types.{is_typed_condition}
+use Rattle.assertcheck.specs.Types.{is_typed_condition}
 
 -- the table of a statement; no correlation_name is written there
 abbrev pub target_of : Tables → List ℕ → Result Source Refusal

@@ -1,3 +1,6 @@
+pub mod Types
+pub mod Forms
+pub mod Widths
 pub mod Assertions
 pub mod Conditions
 pub mod Statements

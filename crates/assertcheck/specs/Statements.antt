@@ -9,9 +9,9 @@ use Rattle.table.specs.declared.schemas.Column.{Column}
 use Rattle.table.specs.Rows.{RowValues, Tables, column_of}
 use Rattle.table.specs.Faults.{are_typed}
 use Rattle.syntax.specs.declared.trees.Condition.{Condition}
-use Rattle.statement_syntax.specs.declared.statements.Insert.{Insert}
-use Rattle.statement_syntax.specs.declared.statements.Which.{Which}
-use Rattle.statement_syntax.specs.declared.statements.Which.TheVariants.{All, Names}
+use Rattle.syntax.specs.declared.statements.Insert.{Insert}
+use Rattle.syntax.specs.declared.statements.Which.{Which}
+use Rattle.syntax.specs.declared.statements.Which.TheVariants.{All, Names}
 use Rattle.value.specs.Results.{and_then, each, found, provided}
 use Rattle.form_check.specs.Queries.{Source}
 use Rattle.assertcheck.specs.declared.deletes.Delete.{Delete}

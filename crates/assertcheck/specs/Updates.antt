@@ -7,17 +7,17 @@ use Rattle.value.specs.declared.refusals.Refusal.TheVariants.{KeyUpdate, TypeMis
 use Rattle.table.specs.declared.schemas.Column.{Column}
 use Rattle.table.specs.Rows.{Layout, Tables}
 use Rattle.syntax.specs.declared.trees.Condition.{Condition}
-use Rattle.statement_syntax.specs.declared.statements.Assigned.{Assigned}
-use Rattle.statement_syntax.specs.declared.statements.Assigned.TheVariants.{Null, To}
-use Rattle.statement_syntax.specs.declared.statements.Assignment.{Assignment}
-use Rattle.cond.specs.declared.exprs.Expr.{Expr}
-use Rattle.cond.specs.Bounds.{bound_of, is_bounded}
-use Rattle.name_check.specs.Scopes.{Scope}
-use Rattle.name_check.specs.Names.{expression_fault}
+use Rattle.syntax.specs.declared.statements.Assigned.{Assigned}
+use Rattle.syntax.specs.declared.statements.Assigned.TheVariants.{Null, To}
+use Rattle.syntax.specs.declared.statements.Assignment.{Assignment}
+use Rattle.table.specs.declared.exprs.Expr.{Expr}
+use Rattle.table.specs.Bounds.{bound_of, is_bounded}
+use Rattle.form_check.specs.Scopes.{Scope}
+use Rattle.form_check.specs.Names.{expression_fault}
 use Rattle.value.specs.Results.{and_then, provided, unless}
 use Rattle.form_check.specs.Queries.{Source, row_expression, row_filter}
-use Rattle.type_check.specs.declared.data_types.DataType.{DataType}
-use Rattle.type_check.specs.Types.{are_comparable, column_type, expression_type, is_typed_condition}
+use Rattle.assertcheck.specs.declared.data_types.DataType.{DataType}
+use Rattle.assertcheck.specs.Types.{are_comparable, column_type, expression_type, is_typed_condition}
 use Rattle.assertcheck.specs.declared.updates.Setting.{Setting}
 use Rattle.assertcheck.specs.declared.updates.Update.{Update}
 use Rattle.assertcheck.specs.Conditions.{target_of, where_fault}

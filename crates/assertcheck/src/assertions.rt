@@ -5,14 +5,13 @@ ghost use Rattle.value.specs.declared.refusals.Refusal.TheVariants.{NoMemory};
 ghost use Rattle.assertion.specs.Bounded.{IsBounded};
 ghost use Rattle.assertcheck.specs.Assertions.{are_at_odds, attributes_of, checked, of_form};
 
+use crate::bounded_forms::form_is_bounded;
+use crate::typed_forms::form_is_typed;
 use assertion::{Assertion, ConstraintAttributes, Form};
-use form_check::form;
-use name_check::look_up_condition;
-use statement_syntax::{Attributes, Mode};
+use form_check::{form, look_up_condition};
 use std::alloc::Global;
-use syntax::Condition;
+use syntax::{Attributes, Condition, Mode};
 use table::Catalog;
-use type_check::{form_is_bounded, form_is_typed};
 use value::{Refusal, Text};
 
 /// The assertion that `CREATE ASSERTION name CHECK (condition) attributes` defines over the tables of a catalog.

@@ -3,21 +3,19 @@
 ghost use Rattle.std.specs.Prelude.{◌≡◌, ◌≢◌, [], All, length, IsTrue, IfOk, IfErr, Ok, Err, Some, None};
 ghost use Rattle.std.specs.List.{list_all};
 ghost use Rattle.value.specs.declared.refusals.Refusal.TheVariants.{NoMemory};
-ghost use Rattle.name_check.specs.Shown.{shown};
+ghost use Rattle.form_check.specs.ShownScopes.{shown};
 ghost use Rattle.assertcheck.specs.Updates.{IsBoundedSetting, assignable, assigned_places, fits, is_bounded_setting, names_fault, settings_of, value_fault, value_of, values_fault};
 
 use crate::columns::new_place;
 use crate::conditions::look_up_where;
+use crate::data_types::{are_comparable, column_type};
+use crate::typed_trees::expression_type;
 use crate::updates::Setting;
-use cond::{Expr, bound};
-use form_check::row_expression;
-use name_check::{Scope, look_up_expression};
+use form_check::{Scope, look_up_expression, row_expression};
 use sqlite_items::Boxed;
-use statement_syntax::{Assigned, Assignment};
 use std::alloc::Global;
-use syntax::Condition;
-use table::{Catalog, Column, Schema};
-use type_check::{are_comparable, column_type, expression_type};
+use syntax::{Assigned, Assignment, Condition};
+use table::{Catalog, Column, Expr, Schema, bound};
 use value::{Refusal, Text};
 
 /// The places of the assigned columns, none of them twice and none of them the key.

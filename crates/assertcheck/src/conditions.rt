@@ -1,21 +1,19 @@
 //! The table and the condition of a statement.
 
 ghost use Rattle.std.specs.Prelude.{◌≡◌, ◌≢◌, ◌<◌, [], length, IsTrue, IfOk, IfErr, Ok, Err, Some, None};
-ghost use Rattle.cond.specs.Bounds.{is_bounded};
+ghost use Rattle.table.specs.Bounds.{is_bounded};
 ghost use Rattle.value.specs.declared.refusals.Refusal.TheVariants.{NoMemory};
-ghost use Rattle.name_check.specs.Shown.{shown};
+ghost use Rattle.form_check.specs.ShownScopes.{shown};
 ghost use Rattle.form_check.specs.Queries.{row_filter};
-ghost use Rattle.form_check.specs.Shown.{shown_source};
+ghost use Rattle.form_check.specs.ShownSources.{shown_source};
 ghost use Rattle.assertcheck.specs.Conditions.{sound_condition, target_of, where_fault, where_of};
 
-use cond::{Cond, is_bounded};
-use form_check::{Source, row_condition};
-use name_check::{Scope, look_up_condition};
+use crate::typed_trees::is_well_typed;
+use form_check::{Scope, Source, look_up_condition, row_condition};
 use sqlite_items::{Boxed, Items};
 use std::alloc::Global;
 use syntax::Condition;
-use table::Catalog;
-use type_check::is_well_typed;
+use table::{Catalog, Cond, is_bounded};
 use value::{Refusal, Text};
 
 /// The table that a statement names.

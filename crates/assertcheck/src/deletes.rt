@@ -1,16 +1,15 @@
 //! DELETE.
 
 ghost use Rattle.std.specs.Prelude.{◌≡◌, ◌≢◌, ◌<◌, [], length, IsTrue, IfOk, IfErr, Ok, Err};
-ghost use Rattle.cond.specs.Bounds.{is_bounded};
+ghost use Rattle.table.specs.Bounds.{is_bounded};
 ghost use Rattle.value.specs.declared.refusals.Refusal.TheVariants.{NoMemory};
 ghost use Rattle.assertcheck.specs.Statements.{delete_of};
 
 use crate::conditions::{target, where_condition};
-use cond::Cond;
 use sqlite_items::Boxed;
 use std::alloc::Global;
 use syntax::Condition;
-use table::Catalog;
+use table::{Catalog, Cond};
 use value::{Refusal, Text};
 
 /// A DELETE with its names found: the rows of a table that a condition keeps go.

@@ -2,14 +2,14 @@
 
 ghost use Rattle.std.specs.Prelude.{◌≡◌, ◌≢◌, ◌<◌, ◌==◌, length, IfOk, IfErr, IsOkUnless, Ok, Err, position};
 ghost use Rattle.value.specs.declared.refusals.Refusal.TheVariants.{NoMemory};
-ghost use Rattle.form_check.specs.Shown.{shown_source};
+ghost use Rattle.form_check.specs.ShownSources.{shown_source};
 ghost use Rattle.assertcheck.specs.Statements.{given_to, insert_of, row_of, typed_row};
 
 use crate::columns::{all_places, places_of};
 use crate::conditions::target;
 use form_check::Source;
-use statement_syntax::Insert;
 use std::alloc::Global;
+use syntax::Insert;
 use table::{Catalog, Column, Row};
 use value::{Refusal, Text, Value};
 

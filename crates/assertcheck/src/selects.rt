@@ -1,18 +1,16 @@
 //! SELECT.
 
 ghost use Rattle.std.specs.Prelude.{◌≡◌, ◌≢◌, ◌<◌, [], length, IsTrue, IfOk, IfErr, Ok, Err};
-ghost use Rattle.cond.specs.Bounds.{is_bounded};
+ghost use Rattle.table.specs.Bounds.{is_bounded};
 ghost use Rattle.value.specs.declared.refusals.Refusal.TheVariants.{NoMemory};
 ghost use Rattle.assertcheck.specs.Statements.{select_of, selected};
 
 use crate::columns::{all_places, named_columns};
 use crate::conditions::{target, where_condition};
-use cond::Cond;
 use sqlite_items::{Boxed, Items};
-use statement_syntax::Which;
 use std::alloc::Global;
-use syntax::Condition;
-use table::{Catalog, Schema};
+use syntax::{Condition, Which};
+use table::{Catalog, Cond, Schema};
 use value::{Refusal, Text};
 
 /// A SELECT with its names found: of the rows of a table that a condition keeps, what stands in these columns.

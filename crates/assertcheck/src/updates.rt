@@ -1,21 +1,19 @@
 //! UPDATE.
 
 ghost use Rattle.std.specs.Prelude.{◌≡◌, ◌≢◌, ◌<◌, [], All, length, IsTrue, IfOk, IfErr, Ok, Err};
-ghost use Rattle.cond.specs.Bounds.{is_bounded as is_bounded_of};
+ghost use Rattle.table.specs.Bounds.{is_bounded as is_bounded_of};
 ghost use Rattle.value.specs.declared.refusals.Refusal.TheVariants.{NoMemory};
-ghost use Rattle.form_check.specs.Shown.{shown_source};
+ghost use Rattle.form_check.specs.ShownSources.{shown_source};
 ghost use Rattle.assertcheck.specs.Updates.{IsBoundedSetting, sound_update, update_of, update_over};
 
 use crate::assignments::{all_fit, are_bounded, assigned_places, known_names, settings};
 use crate::conditions::{row_filter, target};
-use cond::{Cond, Expr, is_bounded};
+use crate::typed_trees::is_well_typed;
 use form_check::Source;
 use sqlite_items::{Boxed, Items};
-use statement_syntax::Assignment;
 use std::alloc::Global;
-use syntax::Condition;
-use table::{Catalog, Column};
-use type_check::is_well_typed;
+use syntax::{Assignment, Condition};
+use table::{Catalog, Column, Cond, Expr, is_bounded};
 use value::{Refusal, Text};
 
 /// What an UPDATE gives to a column of a row that it keeps.

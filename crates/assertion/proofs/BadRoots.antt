@@ -13,8 +13,8 @@ use Rattle.value.specs.ValueOrder.{value_cmp, root_cmp}
 use Rattle.value.specs.Ordered as ordered
 use Rattle.value.proofs.OrderedLists.{has, equal_from, AreAbove-below, AreAbove-tied}
 use Rattle.value.proofs.ValueOrders.{value_cmp_total, value_exact}
-use Rattle.threeval.specs.declared.Truth.TheVariants.{False}
-use Rattle.threeval.specs.Truths.{is_of}
+use Rattle.value.specs.declared.truths.Truth.TheVariants.{False}
+use Rattle.value.specs.Truths.{is_of}
 use Rattle.table.specs.Rows.{RowValues, Layout, value_in, row_at}
 use Rattle.table.specs.Aggregates.{rows_of_group}
 use Rattle.assertion.specs.declared.forms.Form.{Form}

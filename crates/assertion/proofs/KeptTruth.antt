@@ -16,14 +16,14 @@ use Rattle.value.specs.ValueOrder.{value_cmp, root_cmp}
 use Rattle.value.specs.Ordered as ordered
 use Rattle.value.proofs.OrderedLists.{has, at-put, equal_from, IsAscending-put}
 use Rattle.value.proofs.ValueOrders.{value_cmp_total, value_exact}
-use Rattle.threeval.specs.declared.Truth.TheVariants.{True, False}
-use Rattle.threeval.specs.Truths.{is_of, known}
+use Rattle.value.specs.declared.truths.Truth.TheVariants.{True, False}
+use Rattle.value.specs.Truths.{is_of, known}
 use Rattle.table.specs.declared.rows.Change.{Change}
 use Rattle.table.specs.Rows.{RowValues, Layout, value_in, row_at, put_row}
 use Rattle.table.specs.Aggregates.{is_there, aggregate, rows_of_group}
-use Rattle.cond.specs.declared.conds.Cond.{Cond}
-use Rattle.cond.specs.Eval.{truth, keeps}
-use Rattle.cond.specs.Values.{compared}
+use Rattle.table.specs.declared.conds.Cond.{Cond}
+use Rattle.table.specs.Eval.{truth, keeps}
+use Rattle.table.specs.Values.{compared}
 use Rattle.assertion.specs.declared.queries.Query.{Query}
 use Rattle.assertion.specs.declared.queries.Link.{Link}
 use Rattle.assertion.specs.declared.queries.Whole.{Whole}

@@ -5,11 +5,11 @@ use Rattle.value.specs.declared.values.Root.TheVariants.{All, Of}
 use Rattle.value.specs.ValueOrder.{root_cmp}
 use Rattle.value.proofs.OrderedLists.{has, first, least-first}
 use Rattle.value.proofs.ValueOrders.{root_cmp_total, root_exact}
-use Rattle.threeval.specs.declared.Truth.{Truth}
-use Rattle.threeval.specs.declared.Truth.TheVariants.{True, False, Unknown}
-use Rattle.threeval.specs.Truths.{is_of}
+use Rattle.value.specs.declared.truths.Truth.{Truth}
+use Rattle.value.specs.declared.truths.Truth.TheVariants.{True, False, Unknown}
+use Rattle.value.specs.Truths.{is_of}
 use Rattle.table.specs.Rows.{Layout}
-use Rattle.cond.specs.declared.conds.Cond.{Cond}
+use Rattle.table.specs.declared.conds.Cond.{Cond}
 use Rattle.assertion.specs.declared.queries.Query.{Query}
 use Rattle.assertion.specs.declared.queries.Whole.{Whole}
 use Rattle.assertion.specs.declared.forms.Form.{Form}

@@ -9,7 +9,7 @@ use Rattle.value.specs.ValueOrder.{root_cmp}
 use Rattle.value.specs.Ordered.{least, lesser}
 use Rattle.value.proofs.OrderedLists.{has, first, has-itself, has-least, least-below}
 use Rattle.value.proofs.ValueOrders.{root_cmp_total, root_exact}
-use Rattle.threeval.specs.declared.Truth.TheVariants.{False, Unknown}
+use Rattle.value.specs.declared.truths.Truth.TheVariants.{False, Unknown}
 use Rattle.assertion.specs.Meaning.{truth_of_roots}
 
 -- false where there is a root

@@ -1,9 +1,9 @@
 -- Which forms are evaluated without overflow: those whose conditions have only bounded expressions.
 use Rattle.std.specs.Prelude.{List, [], map, All, IsTrue}
-use Rattle.cond.specs.declared.slots.SlotKind.{SlotKind}
-use Rattle.cond.specs.declared.conds.Cond.{Cond}
-use Rattle.cond.specs.Bounds.{is_bounded}
-use Rattle.cond.specs.Kinds.{kind_of_aggregate}
+use Rattle.table.specs.declared.slots.SlotKind.{SlotKind}
+use Rattle.table.specs.declared.conds.Cond.{Cond}
+use Rattle.table.specs.Bounds.{is_bounded}
+use Rattle.table.specs.Kinds.{kind_of_aggregate}
 use Rattle.assertion.specs.declared.queries.Query.{Query}
 use Rattle.assertion.specs.declared.forms.Form.{Form}
 use Rattle.assertion.specs.declared.forms.Form.TheVariants.{ByRow, ByGroup, Single}

@@ -3,7 +3,7 @@ use Rattle.std.specs.Prelude.{◌≡◌, ◌≢◌, ◌↔◌, IsTrue, Contains,
 use Rattle.std.specs.declared.cmp.Ordering.TheVariants.{Less}
 use Rattle.value.specs.declared.values.Root.{Root}
 use Rattle.value.specs.ValueOrder.{root_cmp}
-use Rattle.threeval.specs.declared.Truth.TheVariants.{False, Unknown}
+use Rattle.value.specs.declared.truths.Truth.TheVariants.{False, Unknown}
 use Rattle.table.specs.declared.rows.Change.{Change}
 use Rattle.table.specs.Rows.{Layout}
 use Rattle.assertion.specs.declared.forms.Form.{Form}

@@ -6,15 +6,15 @@ use Rattle.value.specs.declared.values.Root.TheVariants.{All, Of}
 use Rattle.value.specs.declared.comparisons.Comparison.TheVariants.{Equal}
 use Rattle.value.specs.ValueOrder.{root_cmp}
 use Rattle.value.specs.Ordered.{least}
-use Rattle.threeval.specs.declared.Truth.{Truth}
-use Rattle.threeval.specs.declared.Truth.TheVariants.{True, False}
-use Rattle.threeval.specs.Truths.{is_of}
+use Rattle.value.specs.declared.truths.Truth.{Truth}
+use Rattle.value.specs.declared.truths.Truth.TheVariants.{True, False}
+use Rattle.value.specs.Truths.{is_of}
 use Rattle.table.specs.declared.aggregates.Aggregate.{Aggregate}
 use Rattle.table.specs.Rows.{RowValues, Layout, value_in}
 use Rattle.table.specs.Aggregates.{aggregate, rows_of_group}
-use Rattle.cond.specs.declared.conds.Cond.{Cond}
-use Rattle.cond.specs.Eval.{truth, keeps}
-use Rattle.cond.specs.Values.{compared}
+use Rattle.table.specs.declared.conds.Cond.{Cond}
+use Rattle.table.specs.Eval.{truth, keeps}
+use Rattle.table.specs.Values.{compared}
 use Rattle.assertion.specs.declared.queries.Query.{Query}
 use Rattle.assertion.specs.declared.queries.Link.{Link}
 use Rattle.assertion.specs.declared.queries.Whole.{Whole}

@@ -5,13 +5,13 @@ use Rattle.value.specs.declared.values.Root.{Root}
 use Rattle.value.specs.declared.values.Root.TheVariants.{All, Of}
 use Rattle.value.specs.ValueOrder.{value_cmp, root_cmp}
 use Rattle.value.specs.Ordered as ordered
-use Rattle.threeval.specs.Truths.{is_of}
-use Rattle.threeval.specs.declared.Truth.TheVariants.{False}
+use Rattle.value.specs.Truths.{is_of}
+use Rattle.value.specs.declared.truths.Truth.TheVariants.{False}
 use Rattle.table.specs.declared.aggregates.Aggregate.{Aggregate}
 use Rattle.table.specs.declared.rows.Change.{Change}
 use Rattle.table.specs.Rows.{RowValues, Layout, value_in, row_at, put_row}
 use Rattle.table.specs.Aggregates.{rows_of_group}
-use Rattle.cond.specs.declared.conds.Cond.{Cond}
+use Rattle.table.specs.declared.conds.Cond.{Cond}
 use Rattle.assertion.specs.declared.queries.Query.{Query}
 use Rattle.assertion.specs.declared.queries.Link.{Link}
 use Rattle.assertion.specs.declared.forms.Form.{Form}

@@ -4,10 +4,9 @@ ghost use Rattle.std.specs.Prelude.{◌≡◌, IfOk, IsOkUnless};
 ghost use Rattle.value.specs.declared.refusals.Refusal.TheVariants.{NoMemory};
 
 use crate::queries::{Link, Query, Whole, copy_queries};
-use cond::Cond;
 use sqlite_items::Items;
 use std::alloc::Global;
-use table::Aggregate;
+use table::{Aggregate, Cond};
 use value::Refusal;
 
 /// What an assertion forbids or demands. The slots of its condition are its queries or aggregates, in order.

@@ -1,10 +1,9 @@
 //! The kinds of slots that set functions fill.
 
 ghost use Rattle.std.specs.Prelude.{◌≡◌};
-ghost use Rattle.cond.specs.Kinds.{kind_of_aggregate};
+ghost use Rattle.table.specs.Kinds.{kind_of_aggregate};
 
-use cond::SlotKind;
-use table::Aggregate;
+use table::{Aggregate, SlotKind};
 
 /// The kind of slot that holds what a set function gives, which says how large its number can be.
 pub fn kind(aggregate: Aggregate) -> SlotKind

@@ -3,10 +3,9 @@
 ghost use Rattle.std.specs.Prelude.{◌≡◌, IfOk, IsOkUnless};
 ghost use Rattle.value.specs.declared.refusals.Refusal.TheVariants.{NoMemory};
 
-use cond::Cond;
 use sqlite_items::Items;
 use std::alloc::Global;
-use table::Aggregate;
+use table::{Aggregate, Cond};
 use value::Refusal;
 
 /// A subquery, `(SELECT aggregate FROM table WHERE filter)`: over the rows of a table that a condition keeps, or over

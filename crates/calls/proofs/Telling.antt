@@ -1,9 +1,9 @@
 -- What a call tells, where another call made it.
 use Rattle.std.proofs.Common.{◌≡◌, ℕ, List, Option, Some, None, Result, Ok, Err, refl, sym, subst, inl, inr}
 use Rattle.value.specs.declared.values.Value.{Value}
-use Rattle.statement_syntax.specs.declared.statements.Event.{Event}
-use Rattle.statement_syntax.specs.Grammar.{IsEvent}
-use Rattle.running.specs.Texts.{IsRead}
+use Rattle.syntax.specs.declared.statements.Event.{Event}
+use Rattle.syntax.specs.StatementGrammar.{IsEvent}
+use Rattle.replay.specs.Texts.{IsRead}
 use Rattle.prepared.specs.declared.prepared.Prepared.{Prepared}
 use Rattle.prepared.specs.Prepared.{filled}
 use Rattle.messages.specs.declared.responses.Response.{Response}

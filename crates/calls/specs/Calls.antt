@@ -7,13 +7,13 @@ use Rattle.value.specs.declared.values.Value.TheVariants as value
 use Rattle.table.specs.Rows.{Layout, layout_of}
 use Rattle.table.specs.declared.schemas.Column.{Column}
 use Rattle.token.specs.Bytes.{name_of}
-use Rattle.statement_syntax.specs.declared.statements.Event.{Event}
-use Rattle.statement_syntax.specs.declared.statements.Event.TheVariants as event
-use Rattle.statement_syntax.specs.declared.statements.Step.{Step}
-use Rattle.statement_syntax.specs.declared.statements.Statement.TheVariants as statement
-use Rattle.statement_syntax.specs.declared.definitions.Definition.{Definition}
-use Rattle.statement_syntax.specs.Grammar.{IsEvent}
-use Rattle.statement_syntax.specs.SchemaGrammar.{IsSchema}
+use Rattle.syntax.specs.declared.statements.Event.{Event}
+use Rattle.syntax.specs.declared.statements.Event.TheVariants as event
+use Rattle.syntax.specs.declared.statements.Step.{Step}
+use Rattle.syntax.specs.declared.statements.Statement.TheVariants as statement
+use Rattle.syntax.specs.declared.definitions.Definition.{Definition}
+use Rattle.syntax.specs.StatementGrammar.{IsEvent}
+use Rattle.syntax.specs.SchemaGrammar.{IsSchema}
 use Rattle.answer.specs.declared.answers.Answer.{Answer}
 use Rattle.definitions.specs.declared.redeclaration.NewAssertion.{NewAssertion}
 use Rattle.definitions.specs.Redeclaration.{definition_of}
@@ -23,8 +23,8 @@ use Rattle.commit.specs.Events.{EngineState, IsAnswered, after}
 use Rattle.commit.specs.Runs.{beginning, seated}
 use Rattle.commit.specs.Views.{Shown}
 use Rattle.commit.specs.Written.{AreWritten}
-use Rattle.running.specs.Lines.{closing}
-use Rattle.running.specs.Texts.{IsRead, IsUnread}
+use Rattle.replay.specs.Reports.{closing}
+use Rattle.replay.specs.Texts.{IsRead, IsUnread}
 use Rattle.prepared.specs.declared.faults.FillFault.{FillFault}
 use Rattle.prepared.specs.declared.faults.FillFault.TheVariants as fill
 use Rattle.prepared.specs.Numbers.{parameter_count}

@@ -5,7 +5,7 @@ use Rattle.std.specs.List.{list_any}
 use Rattle.std.specs.Str.{bytes_eq}
 use Rattle.commit.specs.declared.seats.Seat.{Seat}
 use Rattle.commit.specs.Events.{EngineState}
-use Rattle.running.specs.Texts.{most_sessions}
+use Rattle.replay.specs.Texts.{most_sessions}
 use Rattle.calls.specs.declared.sessions.Session.{Session}
 
 -- in the order of their numbers, and the number that comes next

@@ -4,7 +4,7 @@ ghost use Rattle.std.specs.Prelude.{◌≡◌, ◌≤◌, false, IfOk, IfErr, Is
 ghost use Rattle.value.specs.declared.refusals.Refusal.TheVariants.{NoMemory};
 ghost use Rattle.std.specs.Option.{option_map};
 ghost use Rattle.messages.specs.Requests.{only_number};
-ghost use Rattle.running.specs.Lines.{closing};
+ghost use Rattle.replay.specs.Reports.{closing};
 ghost use Rattle.calls.specs.Calls as spec;
 
 use crate::sessions::{Session, Sessions};
@@ -18,10 +18,10 @@ use messages::{
 };
 use parse::{parse_schema, parse_statement};
 use prepared::{FillFault, prepare};
+use replay::add_closing_part;
 use report::Report;
-use running::add_closing_part;
-use statement_syntax::{Event, Statement, Step};
 use std::alloc::{AllocError, Global};
+use syntax::{Event, Statement, Step};
 use table::Column;
 use value::{Refusal, Text, Value};
 

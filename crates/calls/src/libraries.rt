@@ -23,8 +23,8 @@ pub struct Library {
 }
 
 impl Model for Library {
-    ghost use Rattle.cond.specs.contracts.conds.Cond as cond_type;
-    ghost use Rattle.cond.specs.contracts.exprs.Expr as expr_type;
+    ghost use Rattle.table.specs.contracts.conds.Cond as cond_type;
+    ghost use Rattle.table.specs.contracts.exprs.Expr as expr_type;
     ghost use Rattle.prepared.specs.contracts.prepared.Prepared as prepared_type;
     ghost use Rattle.syntax.specs.contracts.trees.Condition as condition_type;
     ghost use Rattle.syntax.specs.contracts.trees.Expression as expression_type;

@@ -6,7 +6,7 @@ ghost use Rattle.commit.specs.Runs.{seated};
 ghost use Rattle.calls.specs.Sessions as spec;
 
 use commit::{Engine, Seat};
-use running::MOST_SESSIONS;
+use replay::MOST_SESSIONS;
 use std::alloc::Global;
 use std::marker::Model;
 use value::{Refusal, Text};

@@ -5,7 +5,7 @@ use Rattle.std.proofs.lemmas.List.Elements.{All-nil, All-cons, All-head, All-tai
 use Rattle.value.specs.Ordered.{HoldsOf}
 use Rattle.table.specs.declared.rows.Change.{Change}
 use Rattle.table.specs.Rows.{RowValues, Layout, FitsColumns}
-use Rattle.cond.specs.declared.conds.Cond.{Cond}
+use Rattle.table.specs.declared.conds.Cond.{Cond}
 use Rattle.alone.specs.Meaning.{State, rows_of, key_of, filtered_rows}
 use Rattle.assertcheck.specs.declared.updates.Setting.{Setting}
 use Rattle.alone.specs.States.{IsState, AreDue}

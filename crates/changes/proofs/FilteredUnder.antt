@@ -11,8 +11,8 @@ use Rattle.value.specs.Ordered.{AreAbove, HoldsOf, IsAscending, by_order}
 use Rattle.value.proofs.OrderedLists.{All-at, AreAbove-below, AreAbove-tied}
 use Rattle.value.proofs.ValueOrders.{value_cmp_total}
 use Rattle.table.specs.Rows.{RowValues, value_in, row_at}
-use Rattle.cond.specs.declared.conds.Cond.{Cond}
-use Rattle.cond.specs.Eval.{keeps}
+use Rattle.table.specs.declared.conds.Cond.{Cond}
+use Rattle.table.specs.Eval.{keeps}
 use Rattle.alone.specs.Meaning.{filtered_rows}
 use Rattle.siread.specs.Keys.{is_under, same_value}
 use Rattle.alone.specs.Reads.{Equality, first_on, first_equality, key_from, top_parts}

@@ -1,3 +1,6 @@
+mod Members
+pub mod Places
+mod KeyLists
 pub mod Due
 pub mod Fitting
 pub mod FilteredUnder

@@ -5,7 +5,7 @@ use Rattle.value.specs.Results.{and_then, unless}
 use Rattle.table.specs.Rows.{RowValues, Layout, value_in, row_at}
 use Rattle.table.specs.Faults.{row_refusal}
 use Rattle.siread.specs.declared.keys.Place.{Place}
-use Rattle.statement_syntax.specs.declared.statements.Insert.{Insert}
+use Rattle.syntax.specs.declared.statements.Insert.{Insert}
 use Rattle.alone.specs.Declarations.{layouts_in}
 use Rattle.alone.specs.Roots.{state_after_all}
 use Rattle.assertcheck.specs.Statements.{insert_of}

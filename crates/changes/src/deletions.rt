@@ -5,7 +5,7 @@ ghost use Rattle.value.specs.declared.refusals.Refusal.TheVariants.{NoMemory};
 ghost use Rattle.value.specs.Ordered.{IsAscending};
 ghost use Rattle.value.specs.ValueOrder.{value_cmp};
 ghost use Rattle.table.specs.Rows.{Layout, value_in};
-ghost use Rattle.cond.specs.Bounds.{IsSmallRow, is_bounded};
+ghost use Rattle.table.specs.Bounds.{IsSmallRow, is_bounded};
 ghost use Rattle.alone.specs.Meaning.{State, key_of, filtered_rows, rows_of};
 ghost use Rattle.answer.specs.declared.answers.Reply.TheVariants.{Deleted};
 ghost use Rattle.alone.specs.States.{AreDue, IsState};
@@ -13,11 +13,10 @@ ghost use Rattle.alone.specs.Statements.{delete_effect, removal};
 ghost use Rattle.delta.specs.Views.{IsFitting};
 
 use crate::filtered::filtered_rows;
-use cond::Cond;
 use mvrows::Rows;
 use roots::value_at;
 use std::alloc::Global;
-use table::{Change, Row};
+use table::{Change, Cond, Row};
 use value::Refusal;
 
 /// The changes of a DELETE: that each row of a table which the condition keeps is taken out, in key order. `table` is

@@ -5,15 +5,14 @@ ghost use Rattle.std.specs.Iterator.{YieldsFirstRef, item_count};
 ghost use Rattle.value.specs.Ordered.{IsAscending};
 ghost use Rattle.value.specs.ValueOrder.{value_cmp};
 ghost use Rattle.table.specs.Rows.{value_in};
-ghost use Rattle.cond.specs.Bounds.{IsSmallRow, is_bounded};
+ghost use Rattle.table.specs.Bounds.{IsSmallRow, is_bounded};
 ghost use Rattle.alone.specs.Meaning.{filtered_rows};
 
 use crate::lookups::{Looked, look_through};
-use cond::{Cond, passes};
 use mvrows::Rows;
 use std::alloc::Global;
 use std::marker::Model;
-use table::Row;
+use table::{Cond, Row, passes};
 
 /// The rows that a condition keeps and that are still to come, in key order. It takes no memory.
 #[derive(Drop)]
@@ -26,7 +25,7 @@ pub struct FilteredRows<'a> {
 impl<'a> Model for FilteredRows<'a> {
     ghost use Rattle.std.specs.Prelude.{[], All, IsTrue, List};
     ghost use Rattle.table.specs.Rows.{RowValues};
-    ghost use Rattle.cond.specs.Bounds.{IsSmallRow, is_bounded};
+    ghost use Rattle.table.specs.Bounds.{IsSmallRow, is_bounded};
     ghost use Rattle.alone.specs.Meaning.{filtered_rows};
 
     ghost Value = { List RowValues };

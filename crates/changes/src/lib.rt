@@ -1,4 +1,7 @@
-//! What each statement changes of the rows of a table.
+//! What each statement changes of the rows of a table, what statements and checks read, and the net change between two
+//! views.
+//!
+//! # Changes
 //!
 //! - An INSERT adds a row, and it may do so only where the row satisfies the table's own constraints: each value is
 //!   of its column's type and range, NULL stands only where it may, and no other row has the key (ISO/IEC 9075:1992,
@@ -24,19 +27,61 @@
 //! name their tables.
 //!
 //! The definitions are those of `alone`; `specs/Insertions` has INSERT as a whole on what a view shows.
+//!
+//! # Reads
+//!
+//! A serializable snapshot engine notes what each transaction read, under keys that outlive the read (SIREAD locks:
+//! Cahill, Röhm and Fekete 2008). What a predicate reads is noted under the smallest key that covers it, as the
+//! "index-range and relation locks" of Ports and Grittner (2012) do:
+//!
+//! - [`where_key`]: a WHERE reads one row, whether it is there or not, where a part that AND joins at the top sets the
+//!   key column equal to a literal; else the rows with a value in a column, where a part sets that column equal to a
+//!   literal; else the table.
+//! - [`equality_on`] is the part that sets a column equal to a literal, for who looks the row of a key up.
+//! - [`checks_read`]: a check of assertions reads at each candidate of the changes: by rows the row and those that
+//!   link to it, by groups the group, and of a single condition the tables of its queries.
+//! - [`tables_read`]: VERDICT reads each table that an assertion names.
+//!
+//! A check is over the rows that have changed alone; [`real_changes`] leaves out the changes of a row to what it held.
+//!
+//! What the layer above may rest on: the keys are those of `alone`, so that the laws there are about them; NoMemory is
+//! the only error. What it owes: for each assertion whether it is meant.
+//!
+//! The definitions are those of `alone`: `specs/Reads`, `specs/Checks` and `is_real` of `specs/States`.
+//!
+//! # The net change
+//!
+//! A transaction changes rows, some of them twice, and some back to what they held. What counts at its COMMIT is its
+//! *net change*: the rows in which its own view and the tables of its begin differ, by table and key, each with what
+//! stood there and what is to stand there. To compare two whole states would cost the tables; so a transaction notes
+//! the places that it has touched ([`Touched`]), and [`net_change`] looks at each once, by its key, in both views.
+//!
+//! What the layer above may rest on: where two views can differ at the noted places alone (`specs/Nets`), what is
+//! answered is the net change of the definition (`net_change` in `alone/specs/States`), which compares the states
+//! whole. Only memory can fail.
 #![tactic(auto)]
 
+mod checks;
 mod deletions;
 mod filtered;
 mod insertions;
 mod lookups;
+mod net;
+mod real;
 mod schemas;
 mod selections;
 mod settings;
+mod touched;
 mod updates;
+mod wheres;
 
+pub use checks::{checks_read, tables_read};
 pub use deletions::removals;
 pub use insertions::insertion;
+pub use net::{is_same_there, net_change, row_in};
+pub use real::real_changes;
 pub use schemas::{name_at, schema_at};
 pub use selections::selected_rows;
+pub use touched::Touched;
 pub use updates::renewals;
+pub use wheres::{Equality, equality_on, where_key};

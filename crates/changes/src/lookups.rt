@@ -6,14 +6,13 @@ ghost use Rattle.value.specs.Ordered.{IsAscending};
 ghost use Rattle.value.specs.ValueOrder.{value_cmp};
 ghost use Rattle.table.specs.declared.schemas.Column.{Column};
 ghost use Rattle.table.specs.Rows.{FitsColumns, value_in};
-ghost use Rattle.cond.specs.Bounds.{IsSmallRow};
+ghost use Rattle.table.specs.Bounds.{IsSmallRow};
 ghost use Rattle.alone.specs.Meaning.{filtered_rows};
 
-use cond::Cond;
+use crate::wheres::equality_on;
 use mvrows::{RowIter, Rows};
-use reads::equality_on;
 use std::marker::Model;
-use table::Row;
+use table::{Cond, Row};
 
 /// The rows that a condition has still to be tested on, in key order: one, where it wants a key, or all. It takes no
 /// memory.

@@ -2,16 +2,15 @@
 
 ghost use Rattle.std.specs.Prelude.{◌≡◌, ◌<◌, [], length, IfOk, IsOkUnless, IsTrue};
 ghost use Rattle.value.specs.declared.refusals.Refusal.TheVariants.{NoMemory};
-ghost use Rattle.cond.specs.Bounds.{is_bounded};
+ghost use Rattle.table.specs.Bounds.{is_bounded};
 ghost use Rattle.alone.specs.Meaning.{filtered_rows, rows_of};
 ghost use Rattle.alone.specs.Statements.{selected_rows, selected_values};
 
 use crate::filtered::filtered_rows;
-use cond::Cond;
 use delta::View;
 use roots::value_at;
 use std::alloc::Global;
-use table::Row;
+use table::{Cond, Row};
 use value::Refusal;
 
 /// What a SELECT lists: of each row of a table that the condition keeps, in key order, what stands in these columns, in

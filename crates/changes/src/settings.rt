@@ -3,15 +3,14 @@
 ghost use Rattle.std.specs.Prelude.{◌≡◌, ◌≢◌, IfOk, IfErr, OnOk, Some, None};
 ghost use Rattle.value.specs.declared.refusals.Refusal.TheVariants.{NoMemory};
 ghost use Rattle.value.specs.declared.values.Value.TheVariants as values;
-ghost use Rattle.cond.specs.Bounds.{IsSmallRow};
-ghost use Rattle.cond.specs.Shown.{shown};
+ghost use Rattle.table.specs.Bounds.{IsSmallRow};
+ghost use Rattle.table.specs.Shown.{shown};
 ghost use Rattle.assertcheck.specs.Updates.{IsBoundedSetting};
 ghost use Rattle.alone.specs.Statements.{given_fault, given_value};
 
 use assertcheck::Setting;
-use cond::{Given, Slots, evaluate};
 use std::alloc::Global;
-use table::{Column, LARGEST, Row};
+use table::{Column, Given, LARGEST, Row, Slots, evaluate};
 use value::{ColType, Excess, Refusal, Value};
 
 /// What an assignment gives to its column, evaluated on the row as it was, or what is wrong with it there.

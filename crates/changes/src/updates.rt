@@ -4,7 +4,7 @@ ghost use Rattle.std.specs.Prelude.{◌≡◌, ◌≢◌, ◌<◌, false, [], Al
 ghost use Rattle.value.specs.declared.refusals.Refusal.TheVariants.{NoMemory};
 ghost use Rattle.value.specs.Ordered.{HoldsOf};
 ghost use Rattle.table.specs.Rows.{FitsColumns, IsTable, Layout};
-ghost use Rattle.cond.specs.Bounds.{IsSmallRow, is_bounded};
+ghost use Rattle.table.specs.Bounds.{IsSmallRow, is_bounded};
 ghost use Rattle.alone.specs.Meaning.{State, key_of, filtered_rows, rows_of};
 ghost use Rattle.assertcheck.specs.Updates.{IsBoundedSetting};
 ghost use Rattle.answer.specs.declared.answers.Reply.TheVariants.{Updated};
@@ -15,11 +15,10 @@ ghost use Rattle.delta.specs.Views.{IsFitting, layout_at};
 use crate::filtered::filtered_rows;
 use crate::settings::given_value;
 use assertcheck::Setting;
-use cond::Cond;
 use mvrows::Rows;
 use roots::value_at;
 use std::alloc::Global;
-use table::{Change, Column, Row, Schema};
+use table::{Change, Column, Cond, Row, Schema};
 use value::{Refusal, Value};
 
 /// The changes of an UPDATE: that each row of a table which the condition keeps gets what is assigned, in key order.

@@ -1,7 +1,7 @@
 //! Which columns a condition looks at.
 
-use cond::{Cond, Expr};
 use std::alloc::AllocError;
+use table::{Cond, Expr};
 
 /// Puts a column among others, in their order, if it is not there.
 pub fn add_column(columns: &mut Vec<usize>, column: usize) -> Result<(), AllocError> {

@@ -6,10 +6,10 @@ use delta::View;
 use diagnosis::{diagnose_definitions, diagnose_false, diagnose_statement, row_text};
 use faults::{At, Diagnosis, Which, diagnose_grammar};
 use parse::{parse_schema, parse_script};
-use running::MOST_SESSIONS;
+use replay::MOST_SESSIONS;
 use sqlite_items::Items;
-use statement_syntax::{Definition, Event, Step};
 use std::alloc::{AllocError, Global};
+use syntax::{Definition, Event, Step};
 use value::{Refusal, Root, Text};
 
 /// What is said of too many sessions.

@@ -7,10 +7,9 @@
 use crate::columns::{add_column, add_condition};
 use assertion::{Form, Link, Query, Whole};
 use changes::selected_rows;
-use cond::{Cond, is_bounded};
 use delta::View;
 use std::alloc::{AllocError, Global};
-use table::{Aggregate, Row};
+use table::{Aggregate, Cond, Row, is_bounded};
 use value::Value;
 
 /// How the rows of a table go into groups.

@@ -8,7 +8,7 @@ use delta::View;
 use faults::{Colour, Diagnosis, Which, picture};
 use std::alloc::{AllocError, Global};
 use table::Catalog;
-use threeval::Truth;
+use value::Truth;
 
 /// A text with the name that it is shown by.
 #[derive(Clone, Copy)]

@@ -10,10 +10,10 @@ use Rattle.std.proofs.lemmas.List.Quantifiers.{position-Some}
 use Rattle.std.proofs.lemmas.Option.{slice_get-get_or}
 use Rattle.value.specs.Ordered.{HoldsOf}
 use Rattle.value.specs.declared.refusals.Refusal.{Refusal}
-use Rattle.statement_syntax.specs.declared.statements.Statement.{Statement}
-use Rattle.statement_syntax.specs.declared.statements.Step.{Step}
-use Rattle.statement_syntax.specs.declared.statements.Event.{Event}
-use Rattle.statement_syntax.specs.declared.statements.Event.TheVariants.{Begin, BeginReadOnly, Commit, Rollback, Run}
+use Rattle.syntax.specs.declared.statements.Statement.{Statement}
+use Rattle.syntax.specs.declared.statements.Step.{Step}
+use Rattle.syntax.specs.declared.statements.Event.{Event}
+use Rattle.syntax.specs.declared.statements.Event.TheVariants.{Begin, BeginReadOnly, Commit, Rollback, Run}
 use Rattle.answer.specs.declared.answers.Answer.{Answer}
 use Rattle.answer.specs.declared.answers.Answer.TheVariants.{Begun, Committed, Refused, Replied, RolledBack}
 use Rattle.alone.specs.Alone.{IsSound}

@@ -2,7 +2,7 @@
 use Rattle.std.proofs.Common.{◌≡◌, ◌≤◌, ◌<◌, ℕ, false, nat_le, List, [], ◌∷◌, length, Option, Some, None, ap, arith}
 use Rattle.std.proofs.lemmas.Bool.{lt-leb}
 use Rattle.std.proofs.lemmas.List.{length-append}
-use Rattle.statement_syntax.specs.declared.statements.Step.{Step}
+use Rattle.syntax.specs.declared.statements.Step.{Step}
 use Rattle.commit.specs.declared.seats.Seat.{Seat}
 use Rattle.commit.specs.Events.{seat_of}
 use Rattle.commit.specs.Runs.{all_seated, free_seat, seated, unless_seated}

@@ -3,7 +3,7 @@ use Rattle.std.specs.Prelude.{List, Option, Some, None, Result, Ok}
 use Rattle.value.specs.declared.refusals.Refusal.{Refusal}
 use Rattle.value.specs.declared.refusals.Refusal.TheVariants.{FalseAtCreation, Violated}
 use Rattle.assertion.specs.Declarations.{layouts_in}
-use Rattle.statement_syntax.specs.declared.definitions.Definition.{Definition}
+use Rattle.syntax.specs.declared.definitions.Definition.{Definition}
 use Rattle.value.specs.Results.{and_then, unless}
 use Rattle.alone.specs.Checks.{violation}
 use Rattle.delta.specs.Views.{Shown}

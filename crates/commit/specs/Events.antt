@@ -4,10 +4,10 @@ use Rattle.std.specs.List.{position}
 use Rattle.std.specs.Str.{bytes_eq}
 use Rattle.value.specs.declared.refusals.Refusal.{Refusal}
 use Rattle.value.specs.declared.refusals.Refusal.TheVariants.{NoMemory, NoTransaction, TooManySessions, TransactionOpen}
-use Rattle.statement_syntax.specs.declared.statements.Statement.{Statement}
-use Rattle.statement_syntax.specs.declared.statements.Step.{Step}
-use Rattle.statement_syntax.specs.declared.statements.Event.{Event}
-use Rattle.statement_syntax.specs.declared.statements.Event.TheVariants.{Begin, BeginReadOnly, Commit, Rollback, Run}
+use Rattle.syntax.specs.declared.statements.Statement.{Statement}
+use Rattle.syntax.specs.declared.statements.Step.{Step}
+use Rattle.syntax.specs.declared.statements.Event.{Event}
+use Rattle.syntax.specs.declared.statements.Event.TheVariants.{Begin, BeginReadOnly, Commit, Rollback, Run}
 use Rattle.answer.specs.declared.answers.Answer.{Answer}
 use Rattle.answer.specs.declared.answers.Answer.TheVariants.{Begun, Committed, Refused, Replied, RolledBack}
 use Rattle.answer.specs.declared.answers.Reply.{Reply}

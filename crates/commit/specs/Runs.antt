@@ -1,6 +1,6 @@
 -- Events one after the other.
 use Rattle.std.specs.Prelude.{◌≡◌, ℕ, List, [], ◌∷◌, ◌++◌, Option, Some, None, ⊤}
-use Rattle.statement_syntax.specs.declared.statements.Step.{Step}
+use Rattle.syntax.specs.declared.statements.Step.{Step}
 use Rattle.answer.specs.declared.answers.Answer.{Answer}
 use Rattle.alone.specs.Alone.{IsSound}
 use Rattle.delta.specs.Views.{Shown}

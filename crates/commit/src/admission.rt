@@ -10,8 +10,8 @@ ghost use Rattle.commit.specs.Admission.{admitted, satisfied};
 
 use definitions::Definitions;
 use delta::View;
-use statement_syntax::Definition;
 use std::alloc::Global;
+use syntax::Definition;
 use value::{Refusal, Root, Text};
 
 /// The tables that definitions begin with. Every assertion is satisfied on them, and means what the definitions write.

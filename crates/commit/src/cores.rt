@@ -27,9 +27,8 @@ use sqlite_items::Items;
 use std::alloc::Global;
 use std::marker::Model;
 use std::mem;
-use threeval::Truth;
 use txn::{Closed, Parts, Txn, Unclosed, verdict_on};
-use value::{Refusal, Text};
+use value::{Refusal, Text, Truth};
 
 /// The committed transactions: the tables before the first and after the last, a record of each, their serial
 /// order, and the commits that were refused; and what is needed of the open ones. Between a [`Core::prepare`] that
@@ -54,8 +53,8 @@ pub struct Core {
 }
 
 impl Model for Core {
-    ghost use Rattle.cond.specs.contracts.conds.Cond as cond_type;
-    ghost use Rattle.cond.specs.contracts.exprs.Expr as expr_type;
+    ghost use Rattle.table.specs.contracts.conds.Cond as cond_type;
+    ghost use Rattle.table.specs.contracts.exprs.Expr as expr_type;
     ghost use Rattle.std.specs.Coded.{codes};
     ghost use Rattle.std.specs.Prelude.{◌<◌, vec_capacity, vec_len};
     ghost use Rattle.siread.specs.Locks.{readers_at};

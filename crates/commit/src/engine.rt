@@ -16,9 +16,9 @@ use crate::seats::{Seat, answer_event, find_seat, make_seats, seat_session};
 use answer::Answer;
 use definitions::NewAssertion;
 use delta::View;
-use statement_syntax::Step;
 use std::alloc::Global;
 use std::marker::Model;
+use syntax::Step;
 use value::{Refusal, Text};
 
 /// What stands between two events: the committed transactions, and the sessions with the open ones.
@@ -29,8 +29,8 @@ pub struct Engine {
 }
 
 impl Model for Engine {
-    ghost use Rattle.cond.specs.contracts.conds.Cond as cond_type;
-    ghost use Rattle.cond.specs.contracts.exprs.Expr as expr_type;
+    ghost use Rattle.table.specs.contracts.conds.Cond as cond_type;
+    ghost use Rattle.table.specs.contracts.exprs.Expr as expr_type;
     ghost use Rattle.std.specs.Coded.{codes};
     ghost use Rattle.commit.specs.Events.{AreLive, EngineState};
 

@@ -14,9 +14,9 @@ use crate::engine::{Outcome, run};
 use definitions::{NewAssertion, redeclare};
 use delta::View;
 use sqlite_items::Items;
-use statement_syntax::Step;
 use std::alloc::Global;
 use std::mem;
+use syntax::Step;
 use value::{Refusal, Text};
 
 /// How the assertions change when an epoch begins, and the events in it.

@@ -4,15 +4,15 @@ ghost use Rattle.std.specs.Prelude.{◌≡◌, ◌<◌, [], false, true, length,
 ghost use Rattle.value.specs.Ordered.{HoldsOf};
 ghost use Rattle.value.specs.declared.refusals.Refusal.TheVariants.{NoMemory};
 ghost use Rattle.commit.specs.Cores.{IsLive};
-ghost use Rattle.statement_syntax.specs.declared.statements.Event.TheVariants.{Commit, Rollback, Run};
+ghost use Rattle.syntax.specs.declared.statements.Event.TheVariants.{Commit, Rollback, Run};
 ghost use Rattle.commit.specs.Events.{IsReply, begin_answer, core_after, core_begun, found_no_memory, rollback_answer, run_answer, seat_of, takes_memory, txn_after, txn_begun, txn_with};
 ghost use Rattle.commit.specs.Runs.{all_seated, seated};
 
 use crate::cores::{Core, Uncommitted};
 use answer::Answer;
-use statement_syntax::{Event, Statement, Step};
 use std::alloc::Global;
 use std::mem;
+use syntax::{Event, Statement, Step};
 use txn::Txn;
 use value::{Refusal, Text};
 

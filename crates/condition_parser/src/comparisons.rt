@@ -16,8 +16,8 @@ use leaf_parser::{
 use sqlite_items::Boxed;
 use std::alloc::{AllocError, Global};
 use syntax::{Condition, Expression, Found, Want};
-use threeval::Truth;
 use token::Kind;
+use value::Truth;
 
 /// What makes a condition of an expression begins so.
 pub fn begins_comparison(kind: Kind) -> bool

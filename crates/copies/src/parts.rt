@@ -3,11 +3,10 @@
 ghost use Rattle.std.specs.Prelude.{◌≡◌, IfOk, IsOkUnless};
 ghost use Rattle.value.specs.declared.refusals.Refusal.TheVariants.{NoMemory};
 
-use cond::Expr;
 use siread::LockKey;
 use sqlite_items::Items;
 use std::alloc::Global;
-use table::Row;
+use table::{Expr, Row};
 use value::{Refusal, Text};
 
 /// What has a copy equal to it where there is memory. `Clone` could not answer that there is none.

@@ -7,7 +7,7 @@ use Rattle.value.specs.declared.refusals.Refusal.{Refusal}
 use Rattle.value.specs.declared.refusals.Refusal.TheVariants.{NameTaken}
 use Rattle.value.specs.Results.{and_then}
 use Rattle.value.proofs.Results.{and_then_ok, ok_same, provided_ok}
-use Rattle.statement_syntax.specs.declared.definitions.Definition.{Definition}
+use Rattle.syntax.specs.declared.definitions.Definition.{Definition}
 use Rattle.assertion.specs.declared.assertions.Assertion.{Assertion}
 use Rattle.assertcheck.specs.Assertions.{checked}
 use Rattle.meaning.specs.Laws.{Pairs}

@@ -7,11 +7,11 @@ use Rattle.value.specs.Results.{and_then}
 use Rattle.value.proofs.Results.{and_then_ok, ok_same, provided_ok}
 use Rattle.table.specs.Rows.{Layout, Tables, layout_of}
 use Rattle.syntax.specs.declared.trees.Condition.{Condition}
-use Rattle.statement_syntax.specs.declared.statements.Insert.{Insert}
-use Rattle.statement_syntax.specs.declared.definitions.Attributes.{Attributes}
-use Rattle.statement_syntax.specs.declared.definitions.ColumnDefinition.{ColumnDefinition}
-use Rattle.statement_syntax.specs.declared.definitions.Definition.{Definition}
-use Rattle.statement_syntax.specs.declared.definitions.Definition.TheVariants as definition
+use Rattle.syntax.specs.declared.statements.Insert.{Insert}
+use Rattle.syntax.specs.declared.definitions.Attributes.{Attributes}
+use Rattle.syntax.specs.declared.definitions.ColumnDefinition.{ColumnDefinition}
+use Rattle.syntax.specs.declared.definitions.Definition.{Definition}
+use Rattle.syntax.specs.declared.definitions.Definition.TheVariants as definition
 use Rattle.assertion.specs.declared.assertions.Assertion.{Assertion}
 use Rattle.assertion.specs.Declarations.{Declared, layouts_in}
 use Rattle.assertion.specs.Roots.{state_after_all}

@@ -4,8 +4,8 @@ use Rattle.value.specs.declared.refusals.Refusal.{Refusal}
 use Rattle.value.specs.declared.refusals.Refusal.TheVariants.{UnknownName}
 use Rattle.value.specs.Results.{and_then, provided}
 use Rattle.table.specs.Rows.{Tables}
-use Rattle.statement_syntax.specs.declared.definitions.Definition.{Definition}
-use Rattle.statement_syntax.specs.declared.definitions.Definition.TheVariants as definition
+use Rattle.syntax.specs.declared.definitions.Definition.{Definition}
+use Rattle.syntax.specs.declared.definitions.Definition.TheVariants as definition
 use Rattle.assertion.specs.declared.assertions.Assertion.{Assertion}
 use Rattle.meaning.specs.Laws.{IsWritten, Pairs}
 use Rattle.delta.specs.Views.{Shown, without_assertion}

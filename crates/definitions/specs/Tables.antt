@@ -6,7 +6,7 @@ use Rattle.value.specs.declared.refusals.Refusal.{Refusal}
 use Rattle.value.specs.declared.refusals.Refusal.TheVariants.{NameTaken, OutsideClass}
 use Rattle.table.specs.declared.schemas.Column.{Column}
 use Rattle.table.specs.Rows.{Layout}
-use Rattle.statement_syntax.specs.declared.definitions.ColumnDefinition.{ColumnDefinition}
+use Rattle.syntax.specs.declared.definitions.ColumnDefinition.{ColumnDefinition}
 use Rattle.value.specs.Results.{unless}
 
 -- a column as it was defined: a key takes no NULL

@@ -6,10 +6,10 @@ use Rattle.value.specs.declared.refusals.Refusal.{Refusal}
 use Rattle.value.specs.declared.refusals.Refusal.TheVariants.{NameTaken}
 use Rattle.table.specs.Rows.{layout_of}
 use Rattle.syntax.specs.declared.trees.Condition.{Condition}
-use Rattle.statement_syntax.specs.declared.definitions.Attributes.{Attributes}
-use Rattle.statement_syntax.specs.declared.definitions.ColumnDefinition.{ColumnDefinition}
-use Rattle.statement_syntax.specs.declared.definitions.Definition.{Definition}
-use Rattle.statement_syntax.specs.declared.definitions.Definition.TheVariants as definition
+use Rattle.syntax.specs.declared.definitions.Attributes.{Attributes}
+use Rattle.syntax.specs.declared.definitions.ColumnDefinition.{ColumnDefinition}
+use Rattle.syntax.specs.declared.definitions.Definition.{Definition}
+use Rattle.syntax.specs.declared.definitions.Definition.TheVariants as definition
 use Rattle.assertion.specs.declared.assertions.Assertion.{Assertion}
 use Rattle.delta.specs.Views.{Shown}
 use Rattle.changes.specs.Insertions.{inserted}

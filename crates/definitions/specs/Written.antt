@@ -1,8 +1,8 @@
 -- The assertions that a schema writes.
 use Rattle.std.specs.Prelude.{Bool, true, false, List, filter}
 use Rattle.table.specs.Rows.{Tables}
-use Rattle.statement_syntax.specs.declared.definitions.Definition.{Definition}
-use Rattle.statement_syntax.specs.declared.definitions.Definition.TheVariants as definition
+use Rattle.syntax.specs.declared.definitions.Definition.{Definition}
+use Rattle.syntax.specs.declared.definitions.Definition.TheVariants as definition
 use Rattle.assertion.specs.declared.assertions.Assertion.{Assertion}
 use Rattle.assertion.specs.Declarations.{Declared}
 use Rattle.meaning.specs.Laws.{IsWritten, Pairs}

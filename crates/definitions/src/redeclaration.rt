@@ -12,9 +12,8 @@ use crate::taken::is_asserted;
 use assertcheck::check;
 use delta::View;
 use sqlite_items::Items;
-use statement_syntax::{Attributes, Definition};
 use std::alloc::Global;
-use syntax::Condition;
+use syntax::{Attributes, Condition, Definition};
 use value::{Refusal, Text};
 
 /// `CREATE ASSERTION name CHECK (condition) attributes`, for tables that there are.

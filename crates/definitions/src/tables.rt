@@ -4,8 +4,8 @@ ghost use Rattle.std.specs.Prelude.{◌≡◌, ◌≢◌, ◌<◌, [], map, coun
 ghost use Rattle.value.specs.declared.refusals.Refusal.TheVariants.{NoMemory};
 ghost use Rattle.definitions.specs.Tables.{defined_column, is_named, layout_from, only_key, repeated_name};
 
-use statement_syntax::ColumnDefinition;
 use std::alloc::Global;
+use syntax::ColumnDefinition;
 use table::{Column, Schema};
 use value::{Refusal, Text};
 

@@ -17,10 +17,9 @@ use assertion::Assertion;
 use changes::{insertion, name_at, schema_at};
 use delta::{View, copy_assertions, copy_catalog};
 use mvrows::Rows;
-use statement_syntax::{Attributes, ColumnDefinition, Definition, Insert};
 use std::alloc::Global;
 use std::marker::Model;
-use syntax::Condition;
+use syntax::{Attributes, ColumnDefinition, Condition, Definition, Insert};
 use table::{Catalog, Change, Row};
 use value::{Refusal, Text};
 
@@ -33,8 +32,8 @@ pub struct Definitions {
 }
 
 impl Model for Definitions {
-    ghost use Rattle.cond.specs.contracts.conds.Cond as cond_type;
-    ghost use Rattle.cond.specs.contracts.exprs.Expr as expr_type;
+    ghost use Rattle.table.specs.contracts.conds.Cond as cond_type;
+    ghost use Rattle.table.specs.contracts.exprs.Expr as expr_type;
     ghost use Rattle.std.specs.Coded.{codes};
     ghost use Rattle.table.specs.Rows.{layouts_of};
     ghost use Rattle.delta.specs.Maintained.{IsGood};

@@ -9,8 +9,8 @@ use Rattle.value.proofs.ValueOrders.{value_cmp_total}
 use Rattle.value.proofs.OrderedLists.{All-at, All-put, IsAscending-put}
 use Rattle.table.specs.declared.rows.Change.{Change}
 use Rattle.table.specs.Rows.{RowValues, Layout, FitsColumns, IsTable, value_in, put_row}
-use Rattle.cond.specs.Bounds.{IsSmallRow}
-use Rattle.cond.proofs.SmallRows.{IsSmallRow-fits}
+use Rattle.table.specs.Bounds.{IsSmallRow}
+use Rattle.table.proofs.SmallRows.{IsSmallRow-fits}
 use Rattle.assertion.specs.Meaning.{State, rows_of, key_of}
 use Rattle.assertion.specs.Roots.{IsOrdered, IsChangeOf, state_after}
 use Rattle.assertion.proofs.KeptTruth.{rows-changed, rows-same, equal_of}

@@ -5,7 +5,7 @@ ghost use Rattle.std.specs.Arc.{arc_value};
 ghost use Rattle.std.specs.Option.{option_copied};
 ghost use Rattle.value.specs.declared.refusals.Refusal.TheVariants.{NoMemory};
 ghost use Rattle.table.specs.Rows.{IsTable, layouts_of, row_at};
-ghost use Rattle.cond.specs.Bounds.{IsSmallRow};
+ghost use Rattle.table.specs.Bounds.{IsSmallRow};
 ghost use Rattle.assertion.specs.Bounded.{IsBounded};
 ghost use Rattle.assertion.specs.declared.assertions.Assertion.{Assertion as AnyAssertion};
 ghost use Rattle.assertion.specs.Candidates.{candidates_of};
@@ -28,8 +28,7 @@ use std::alloc::Global;
 use std::marker::Model;
 use std::sync::Arc;
 use table::{Catalog, Change, Row, Schema};
-use threeval::Truth;
-use value::{Refusal, Root, Text, Value};
+use value::{Refusal, Root, Text, Truth, Value};
 
 /// The rows of each table, with the maintained verdicts of the assertions on them. It never changes.
 #[derive(Drop)]
@@ -44,8 +43,8 @@ impl Model for View {
     ghost use Rattle.std.specs.Prelude.{map};
     ghost use Rattle.std.specs.Arc.{arc_value};
     ghost use Rattle.std.specs.Coded.{codes};
-    ghost use Rattle.cond.specs.contracts.conds.Cond as cond_type;
-    ghost use Rattle.cond.specs.contracts.exprs.Expr as expr_type;
+    ghost use Rattle.table.specs.contracts.conds.Cond as cond_type;
+    ghost use Rattle.table.specs.contracts.exprs.Expr as expr_type;
     ghost use Rattle.delta.specs.Maintained.{IsMaintained};
     ghost use Rattle.delta.specs.Views.{Shown};
 

@@ -13,8 +13,7 @@ use roots::{BadRoots, bad_after, bad_of, is_over, totals_after, totals_of, truth
 use std::alloc::Global;
 use std::sync::Arc;
 use table::{Change, Schema};
-use threeval::Truth;
-use value::Refusal;
+use value::{Refusal, Truth};
 
 /// What is maintained for an assertion: the totals that its set functions are answered from, its bad roots in order,
 /// and its truth.

@@ -7,12 +7,12 @@ use crate::rules::{advice, wrong};
 use crate::shapes::{Outside, in_assertion, in_where};
 use crate::types::{Mismatch, in_condition as mismatch_in_condition};
 use crate::widths::{Wide, first_wide};
+use assertcheck::DataType;
 use faults::{At, Diagnosis, Piece, Span, Which, enumeration, number_of, printable};
-use name_check::Scope;
+use form_check::Scope;
 use std::alloc::{AllocError, Global};
 use syntax::Condition;
 use table::Catalog;
-use type_check::DataType;
 use value::{Refusal, Text};
 
 /// A definition or step of a text, and the tables that there are where it stands.

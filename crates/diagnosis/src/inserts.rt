@@ -2,13 +2,12 @@
 
 use crate::conditions::{Context, diagnose_name, diagnose_whole, type_name};
 use crate::names::{unknown_column, unknown_table};
-use assertcheck::check_insert;
+use assertcheck::{DataType, check_insert};
 use faults::{At, Diagnosis, enumeration};
-use name_check::Scope;
-use statement_syntax::Insert;
+use form_check::Scope;
 use std::alloc::{AllocError, Global};
+use syntax::Insert;
 use table::{Catalog, Column, Schema};
-use type_check::DataType;
 use value::{ColType, Excess, Refusal, Text, Value};
 
 /// The refusal of an answer, where it is no want of memory.

@@ -5,7 +5,7 @@
 use crate::leaves::{clauses_of, of_column};
 use crate::parts::{Node, Part};
 use faults::{Nearest, enumeration};
-use name_check::{Scope, exposed_name};
+use form_check::{Scope, exposed_name};
 use std::alloc::{AllocError, Global};
 use syntax::ColumnName;
 use table::Catalog;

@@ -8,8 +8,8 @@ use crate::inserts::insert_refusal;
 use assertcheck::check_insert;
 use definitions::Definitions;
 use delta::View;
-use statement_syntax::{Definition, Insert};
 use std::alloc::{AllocError, Global};
+use syntax::{Definition, Insert};
 use table::Catalog;
 use value::{Refusal, Text, Value};
 

@@ -1,7 +1,7 @@
 //! What each rule of the class says, and how to write what was meant.
 
 use crate::shapes::Outside;
-use name_check::Scope;
+use form_check::Scope;
 use std::alloc::{AllocError, Global};
 
 /// Which rule of the class a part breaks.

@@ -7,7 +7,7 @@
 use crate::leaves::{Range, clauses_of, of_column, of_condition};
 use crate::parts::{Node, Part, parts_of_condition};
 use crate::rules::Rule;
-use name_check::{Scope, exposed_name};
+use form_check::{Scope, exposed_name};
 use std::alloc::{AllocError, Global};
 use std::slice;
 use syntax::{ColumnName, Condition, Expression, Query, SelectList};

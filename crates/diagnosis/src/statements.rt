@@ -12,16 +12,14 @@ use crate::parts::parts_of_expression;
 use crate::shapes::in_parts;
 use crate::types::of_type;
 use crate::widths::first_wide;
-use assertcheck::{check_delete, check_select, check_update};
+use assertcheck::{DataType, check_delete, check_select, check_update};
 use delta::View;
 use faults::{At, Diagnosis, Nearest, Piece, Span, Which, enumeration};
-use name_check::Scope;
+use form_check::Scope;
 use sqlite_items::Boxed;
-use statement_syntax::{Assigned, Assignment, Statement, Which as Listed};
 use std::alloc::{AllocError, Global};
-use syntax::Condition;
+use syntax::{Assigned, Assignment, Condition, Statement, Which as Listed};
 use table::Catalog;
-use type_check::DataType;
 use value::{Refusal, Text};
 
 /// Why a statement, at a place among the steps of a script, is refused in every transaction, if it is.

@@ -3,11 +3,11 @@
 //! What has which type is told by `type_check`: numbers and texts. Names and shapes are right when this is asked.
 
 use crate::leaves::{Range, clauses_of, of_condition, of_expression};
-use name_check::{Scope, exposed_name};
+use assertcheck::DataType;
+use form_check::{Scope, exposed_name};
 use std::alloc::{AllocError, Global};
 use syntax::{Aggregate, ColumnName, Condition, Expression, Query, SelectList};
 use table::Catalog;
-use type_check::DataType;
 
 /// Types that do not fit.
 #[derive(Clone, Copy)]

@@ -1,13 +1,13 @@
 //! The first sum or product that has no bound: where it stands, and the bounds of its parts.
 //!
-//! Bounds are those of `cond::bound`. Names, shapes and types are right when this is asked.
+//! Bounds are those of `table::bound`. Names, shapes and types are right when this is asked.
 
 use crate::leaves::Range;
 use crate::parts::{Node, Part};
-use cond::{Expr, SlotKind, bound};
 use sqlite_items::{Boxed, Items};
 use std::alloc::{AllocError, Global};
 use syntax::{Aggregate, Expression, SelectList};
+use table::{Expr, SlotKind, bound};
 use value::Value;
 
 /// A part of an expression, and the greatest number that it can be.

@@ -1,9 +1,9 @@
 //! Conditions and expressions over one table, as SQL writes them.
 
-use cond::{Cond, Expr};
 use delta::View;
 use history::column_name;
 use std::alloc::AllocError;
+use table::{Cond, Expr};
 use value::Comparison;
 
 /// Adds a condition without slots over the columns of a table. BETWEEN and IN are written as what they abbreviate.

@@ -6,7 +6,7 @@ use crate::happenings::add_event;
 use crate::stories::Story;
 use answer::Answer;
 use history::{Source, read_history};
-use running::{ProgramFault, flush, write_all};
+use replay::{ProgramFault, flush, write_all};
 use std::alloc::Global;
 use std::io::Write;
 use thiserror::Error;

@@ -4,11 +4,10 @@ use crate::conditions::add_condition;
 use crate::parts::{Part, Share, figure_of, lists_of, parts_of, rows_at};
 use crate::stories::{MOST_LINES, Story, add_left_out};
 use assertion::{Assertion, Form};
-use cond::{Cond, Expr, SlotValue};
 use delta::View;
 use history::{add_row, add_table, column_name};
 use std::alloc::{AllocError, Global};
-use table::{Aggregate, Row};
+use table::{Aggregate, Cond, Expr, Row, SlotValue};
 use value::{Comparison, Refusal, Root, Text, Value};
 
 /// Adds the rule, its figures at the root, and the rows that they are of, on a view on which it would be false.

@@ -6,8 +6,8 @@ use crate::stories::{MOST_LINES, Story, add_left_out, add_snapshot, number_of};
 use answer::Answer;
 use history::{End, Happening, Read, Transaction, add_bytes, add_change, add_key};
 use report::Report;
-use statement_syntax::Step;
 use std::alloc::{AllocError, Global};
+use syntax::Step;
 use table::Change;
 use value::Refusal;
 

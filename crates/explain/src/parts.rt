@@ -1,17 +1,16 @@
 //! The set functions of an assertion, each with the rows that it is of at a root.
 
 ghost use Rattle.std.specs.Prelude.{[], All, IsTrue};
-ghost use Rattle.cond.specs.Bounds.{IsSmallRow, is_bounded};
+ghost use Rattle.table.specs.Bounds.{IsSmallRow, is_bounded};
 
 use assertion::{Form, Link, Query};
-use cond::{Cond, SlotValue, is_bounded, passes};
 use delta::View;
 use groups::{Member, Totals};
 use mvrows::Rows;
 use roots::value_at;
 use siread::is_same;
 use std::alloc::{AllocError, Global};
-use table::{Aggregate, Row};
+use table::{Aggregate, Cond, Row, SlotValue, is_bounded, passes};
 use value::{Refusal, Root, Value};
 
 /// Which rows of a table go to a root.

@@ -5,8 +5,8 @@ use Rattle.value.specs.declared.refusals.Refusal.TheVariants.{OutsideClass}
 use Rattle.table.specs.Rows.{Tables}
 use Rattle.table.specs.declared.aggregates.Aggregate.{Aggregate}
 use Rattle.table.specs.declared.aggregates.Aggregate.TheVariants.{CountRows}
-use Rattle.cond.specs.declared.conds.Cond.{Cond}
-use Rattle.cond.specs.declared.conds.Cond.TheViews as cond_of
+use Rattle.table.specs.declared.conds.Cond.{Cond}
+use Rattle.table.specs.declared.conds.Cond.TheViews as cond_of
 use Rattle.syntax.specs.declared.trees.ColumnName.{ColumnName}
 use Rattle.syntax.specs.declared.trees.Condition.{Condition, out-Condition}
 use Rattle.syntax.specs.declared.trees.Condition.TheOpen.{Condition-F, Query-F}
@@ -18,11 +18,11 @@ use Rattle.assertion.specs.declared.queries.Link.{Link}
 use Rattle.assertion.specs.declared.queries.Whole.{Whole}
 use Rattle.assertion.specs.declared.forms.Form.{Form}
 use Rattle.assertion.specs.declared.forms.Form.TheVariants.{ByRow, ByGroup, Single}
-use Rattle.name_check.specs.Scopes.{Scope, own_column}
+use Rattle.form_check.specs.Scopes.{Scope, own_column}
 use Rattle.value.specs.Results.{and_then, each}
-use Rattle.numbering.specs.Results.{in_class, only_if}
-use Rattle.numbering.specs.Columns.{no_column, grouping_column}
-use Rattle.numbering.specs.Leaves.{Leaf, Leaves, Rows, Of, Exists, Value, numbered}
+use Rattle.form_check.specs.Results.{in_class, only_if}
+use Rattle.form_check.specs.Columns.{no_column, grouping_column}
+use Rattle.form_check.specs.Leaves.{Leaf, Leaves, Rows, Of, Exists, Value, numbered}
 use Rattle.form_check.specs.Queries.{Source, source_of, row_filter, of_column, selected_aggregate, may_be_selected}
 use Rattle.form_check.specs.Links.{top_parts, links_in, only_one, filter_parts}
 

@@ -1,4 +1,11 @@
-pub mod Shown
+pub mod Scopes
+pub mod ShownScopes
+pub mod Names
+pub mod Results
+pub mod Columns
+pub mod Leaves
+pub mod ShownLeaves
+pub mod ShownSources
 pub mod Queries
 pub mod Links
 pub mod Forms

@@ -3,7 +3,7 @@
 use Rattle.std.specs.Prelude.{ℕ, List, [], ◌∷◌, ◌++◌, filter, Option, Some, None, is_none, option_to_list, Result, if◌then◌else◌}
 use Rattle.value.specs.declared.refusals.Refusal.{Refusal}
 use Rattle.value.specs.declared.comparisons.Comparison.TheVariants.{Equal}
-use Rattle.cond.specs.declared.conds.Cond.{Cond}
+use Rattle.table.specs.declared.conds.Cond.{Cond}
 use Rattle.assertion.specs.declared.queries.Link.{Link}
 use Rattle.syntax.specs.declared.trees.ColumnName.{ColumnName}
 use Rattle.syntax.specs.declared.trees.Condition.{Condition, out-Condition}
@@ -11,7 +11,7 @@ use Rattle.syntax.specs.declared.trees.Condition.TheOpen.{Condition-F, Expressio
 use Rattle.syntax.specs.declared.trees.Expression.{Expression, out-Expression}
 use Rattle.syntax.specs.declared.trees.SelectList.{SelectList}
 use Rattle.syntax.specs.declared.trees.Query.{Query}
-use Rattle.name_check.specs.Scopes.{Scope, is_name_of, own_column}
+use Rattle.form_check.specs.Scopes.{Scope, is_name_of, own_column}
 use Rattle.value.specs.Results.{each}
 use Rattle.form_check.specs.Queries.{row_condition}
 

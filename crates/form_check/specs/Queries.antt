@@ -14,12 +14,12 @@ use Rattle.syntax.specs.declared.trees.Condition.TheOpen.{Expression-F, SelectLi
 use Rattle.syntax.specs.declared.trees.Expression.{Expression, out-Expression}
 use Rattle.syntax.specs.declared.trees.SelectList.{SelectList, out-SelectList}
 use Rattle.syntax.specs.declared.trees.Query.{Query}
-use Rattle.cond.specs.declared.exprs.Expr.{Expr}
-use Rattle.cond.specs.declared.conds.Cond.{Cond}
-use Rattle.cond.specs.declared.conds.Cond.TheViews as cond_of
-use Rattle.name_check.specs.Scopes.{Scope, own_column}
+use Rattle.table.specs.declared.exprs.Expr.{Expr}
+use Rattle.table.specs.declared.conds.Cond.{Cond}
+use Rattle.table.specs.declared.conds.Cond.TheViews as cond_of
+use Rattle.form_check.specs.Scopes.{Scope, own_column}
 use Rattle.value.specs.Results.{and_then}
-use Rattle.numbering.specs.Leaves.{Leaves, numbered, numbered_expression}
+use Rattle.form_check.specs.Leaves.{Leaves, numbered, numbered_expression}
 
 -- the table of a query by its place, and as names in the query see it
 pub record Source : Type 0 where

@@ -3,23 +3,22 @@
 ghost use Rattle.std.specs.Prelude.{◌≡◌, ◌≢◌, IfOk, IfErr, Ok, Err};
 ghost use Rattle.syntax.specs.declared.trees.Query.{out-Query};
 ghost use Rattle.value.specs.declared.refusals.Refusal.TheVariants.{NoMemory};
-ghost use Rattle.name_check.specs.Shown.{shown};
+ghost use Rattle.form_check.specs.ShownScopes.{shown};
 ghost use Rattle.form_check.specs.Forms.{aggregate_of, by_clauses, by_group, by_row, form_of, having_over, not_exists, row_where, single};
-ghost use Rattle.form_check.specs.Shown.{shown_source};
-ghost use Rattle.numbering.specs.Shown.{shown_leaves};
+ghost use Rattle.form_check.specs.ShownSources.{shown_source};
+ghost use Rattle.form_check.specs.ShownLeaves.{shown_leaves};
 
+use crate::leaves::{Columns, Leaf, numbered};
 use crate::linked_queries::RowQueries;
 use crate::plain_queries::WholeQueries;
 use crate::queries::{Source, may_be_selected, of_column, row_filter};
+use crate::scopes::Scope;
 use crate::slots::{Slots, all_slots};
 use assertion::Form;
-use cond::Cond;
-use name_check::Scope;
-use numbering::{Columns, Leaf, numbered};
 use sqlite_items::Items;
 use std::alloc::Global;
 use syntax::{ColumnName, Condition, Query};
-use table::{Aggregate, Catalog};
+use table::{Aggregate, Catalog, Cond};
 use value::Refusal;
 
 /// The form of an assertion's condition, whose names are known.

@@ -3,23 +3,22 @@
 ghost use Rattle.std.specs.Prelude.{◌≡◌, ◌≢◌, IfOk, IfErr, Ok, Err};
 ghost use Rattle.syntax.specs.declared.trees.Query.{out-Query};
 ghost use Rattle.value.specs.declared.refusals.Refusal.TheVariants.{NoMemory};
-ghost use Rattle.name_check.specs.Shown.{shown};
+ghost use Rattle.form_check.specs.ShownScopes.{shown};
 ghost use Rattle.form_check.specs.Links.{top_parts};
 ghost use Rattle.form_check.specs.Forms.{linked, linked_by, linked_exists, linked_value, linked_where};
-ghost use Rattle.form_check.specs.Shown.{shown_source};
+ghost use Rattle.form_check.specs.ShownSources.{shown_source};
 
+use crate::leaves::{Columns, Leaf};
 use crate::links::LinkedTables;
 use crate::queries::{Source, may_be_selected, selected_aggregate};
+use crate::scopes::Scope;
 use crate::slots::Slots;
 use assertion::{Link, Query};
-use cond::Cond;
-use name_check::Scope;
-use numbering::{Columns, Leaf};
 use sqlite_items::Items;
 use std::alloc::Global;
 use std::slice;
 use syntax::{ColumnName, Condition, Query as WrittenQuery};
-use table::{Aggregate, Catalog};
+use table::{Aggregate, Catalog, Cond};
 use value::Refusal;
 
 /// The queries of the rows of a table.

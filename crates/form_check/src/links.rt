@@ -2,15 +2,15 @@
 
 ghost use Rattle.std.specs.Prelude.{◌≡◌, ◌≢◌, ◌++◌, IfOk, IfErr, Ok, Err, List};
 ghost use Rattle.value.specs.declared.refusals.Refusal.TheVariants.{NoMemory};
-ghost use Rattle.name_check.specs.Shown.{shown};
+ghost use Rattle.form_check.specs.ShownScopes.{shown};
 ghost use Rattle.form_check.specs.Links.{link_of_names, outer_column, link_of, links_in, only_one, filter_parts};
 
 use crate::queries::row_condition;
+use crate::scopes::Scope;
 use assertion::Link;
-use cond::Cond;
-use name_check::Scope;
 use std::alloc::Global;
 use syntax::{ColumnName, Condition, Expression};
+use table::Cond;
 use value::{Comparison, Refusal};
 
 /// The two tables of a linked query: its own, and that of the row around it.

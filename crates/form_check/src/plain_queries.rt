@@ -4,12 +4,12 @@ ghost use Rattle.std.specs.Prelude.{◌≡◌, ◌≢◌, IfOk, IfErr, Ok, Err};
 ghost use Rattle.syntax.specs.declared.trees.Query.{out-Query};
 ghost use Rattle.value.specs.declared.refusals.Refusal.TheVariants.{NoMemory};
 ghost use Rattle.form_check.specs.Forms.{plain, plain_by, plain_value};
-ghost use Rattle.form_check.specs.Shown.{shown_source};
+ghost use Rattle.form_check.specs.ShownSources.{shown_source};
 
+use crate::leaves::Leaf;
 use crate::queries::{Source, row_filter, selected_aggregate};
 use crate::slots::Slots;
 use assertion::{Query, Whole};
-use numbering::Leaf;
 use std::alloc::Global;
 use syntax::{ColumnName, Condition, Query as WrittenQuery};
 use table::{Aggregate, Catalog};

@@ -4,18 +4,17 @@ ghost use Rattle.std.specs.Prelude.{◌≡◌, ◌≢◌, ◌<◌, length, IfOk,
 ghost use Rattle.table.specs.Rows.{layout_of, position_of};
 ghost use Rattle.std.specs.Option.{option_map};
 ghost use Rattle.value.specs.declared.refusals.Refusal.TheVariants.{NoMemory};
-ghost use Rattle.name_check.specs.Shown.{shown};
+ghost use Rattle.form_check.specs.ShownScopes.{shown};
 ghost use Rattle.form_check.specs.Queries.{alone, source_of, sourced, row_condition, row_expression, row_filter, of_column, selected_aggregate, may_be_selected};
-ghost use Rattle.form_check.specs.Shown.{shown_source};
-ghost use Rattle.numbering.specs.Shown.{shown_leaves, place};
+ghost use Rattle.form_check.specs.ShownSources.{shown_source};
+ghost use Rattle.form_check.specs.ShownLeaves.{shown_leaves, place};
 
-use cond::{Cond, Expr};
-use name_check::{Scope, exposed_name};
-use numbering::{Columns, Leaf, numbered, numbered_expression};
+use crate::leaves::{Columns, Leaf, numbered, numbered_expression};
+use crate::scopes::{Scope, exposed_name};
 use sqlite_items::Items;
 use std::alloc::Global;
 use syntax::{Condition, Expression, SelectList};
-use table::{Aggregate, Catalog};
+use table::{Aggregate, Catalog, Cond, Expr};
 use value::{Refusal, Text};
 
 /// The table of a query: by its place in the catalog, and as names in the query see it.

@@ -3,9 +3,9 @@
 ghost use Rattle.std.specs.Prelude.{◌≡◌, ◌≢◌, IfOk, IfErr, Ok, Err};
 ghost use Rattle.value.specs.declared.refusals.Refusal.TheVariants.{NoMemory};
 ghost use Rattle.value.specs.Results.{each};
-ghost use Rattle.numbering.specs.Shown.{shown_leaf, shown_leaves};
+ghost use Rattle.form_check.specs.ShownLeaves.{shown_leaf, shown_leaves};
 
-use numbering::Leaf;
+use crate::leaves::Leaf;
 use sqlite_items::Items;
 use std::alloc::Global;
 use value::Refusal;
@@ -14,7 +14,7 @@ use value::Refusal;
 pub trait Slots {
     ghost use Rattle.std.specs.Prelude.{Result};
     ghost use Rattle.value.specs.declared.refusals.Refusal.{Refusal as AnyRefusal};
-    ghost use Rattle.numbering.specs.Leaves.{Leaf as AnyLeaf};
+    ghost use Rattle.form_check.specs.Leaves.{Leaf as AnyLeaf};
 
     type Slot: Drop;
 

@@ -15,9 +15,9 @@ use Rattle.table.specs.declared.aggregates.Aggregate.{Aggregate}
 use Rattle.table.specs.declared.aggregates.Aggregate.TheVariants.{CountRows, Count, Sum, Min, Max}
 use Rattle.table.specs.Aggregates.{is_there, sum_of, values_in, sum_answer, aggregate}
 use Rattle.table.specs.Rows.{RowValues, value_in}
-use Rattle.cond.specs.declared.slots.SlotValue.{SlotValue}
-use Rattle.cond.specs.declared.slots.SlotValue.TheVariants as slot
-use Rattle.cond.specs.Slots.{magnitude, value_of as value_in_slot, IsWithinKind}
+use Rattle.table.specs.declared.slots.SlotValue.{SlotValue}
+use Rattle.table.specs.declared.slots.SlotValue.TheVariants as slot
+use Rattle.table.specs.Slots.{magnitude, value_of as value_in_slot, IsWithinKind}
 use Rattle.groups.specs.Answers.{answer_from, value_for}
 use Rattle.groups.specs.Figures.{Figures}
 use Rattle.groups.specs.Totals.{IsTotalOf, AreSmall, IsWithin}

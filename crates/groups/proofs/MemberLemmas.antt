@@ -12,7 +12,7 @@ use Rattle.value.specs.ValueOrder.{value_cmp}
 use Rattle.value.proofs.ValueOrders.{value_exact}
 use Rattle.value.proofs.OrderedLists.{count_by-append, equal_from}
 use Rattle.table.specs.Aggregates.{number_of, sum_of}
-use Rattle.cond.specs.Slots.{magnitude}
+use Rattle.table.specs.Slots.{magnitude}
 use Rattle.groups.specs.declared.members.Member.{Member}
 use Rattle.groups.specs.Totals.{Members, IsOneMore, HaveOneMore, AreSmall, IsWithin, AreWithin}
 

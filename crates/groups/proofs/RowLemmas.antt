@@ -16,8 +16,8 @@ use Rattle.value.proofs.ValueOrders.{value_cmp_total}
 use Rattle.table.specs.declared.aggregates.Aggregate.{Aggregate}
 use Rattle.table.specs.declared.aggregates.Aggregate.TheVariants.{CountRows, Count, Sum, Min, Max}
 use Rattle.table.specs.Rows.{RowValues, value_in, row_at, put_row}
-use Rattle.cond.specs.Bounds.{IsSmallRow}
-use Rattle.cond.specs.Slots.{magnitude}
+use Rattle.table.specs.Bounds.{IsSmallRow}
+use Rattle.table.specs.Slots.{magnitude}
 use Rattle.groups.specs.Answers.{value_for}
 use Rattle.groups.specs.Members.{is_placed, rows_in, members_of, member_of}
 use Rattle.groups.specs.Totals.{Members, IsOneMore, HaveOneMore, IsChange, AreSmall, AreWithin}

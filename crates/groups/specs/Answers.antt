@@ -5,8 +5,8 @@ use Rattle.value.specs.declared.values.Value.TheVariants as value
 use Rattle.table.specs.declared.aggregates.Aggregate.{Aggregate}
 use Rattle.table.specs.declared.aggregates.Aggregate.TheVariants.{CountRows, Count, Sum, Min, Max}
 use Rattle.table.specs.Rows.{RowValues, value_in}
-use Rattle.cond.specs.declared.slots.SlotValue.{SlotValue}
-use Rattle.cond.specs.declared.slots.SlotValue.TheVariants as slot
+use Rattle.table.specs.declared.slots.SlotValue.{SlotValue}
+use Rattle.table.specs.declared.slots.SlotValue.TheVariants as slot
 use Rattle.groups.specs.Counts.{first_value, last_value}
 use Rattle.groups.specs.Figures.{Figures}
 

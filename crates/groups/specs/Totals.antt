@@ -8,7 +8,7 @@ use Rattle.value.specs.Ordered as ordered
 use Rattle.table.specs.declared.aggregates.Aggregate.{Aggregate}
 use Rattle.table.specs.declared.aggregates.Aggregate.TheVariants.{CountRows, Count as CountOf, Sum, Min, Max}
 use Rattle.table.specs.Aggregates.{is_there, sum_of}
-use Rattle.cond.specs.Slots.{magnitude}
+use Rattle.table.specs.Slots.{magnitude}
 use Rattle.groups.specs.declared.members.Member.{Member}
 use Rattle.groups.specs.Counts.{Count, value_of, count_at}
 use Rattle.groups.specs.Figures.{Figures}

@@ -7,20 +7,19 @@ ghost use Rattle.value.specs.declared.values.Value.{Value as values};
 ghost use Rattle.table.specs.declared.aggregates.Aggregate.{Aggregate as functions};
 ghost use Rattle.table.specs.Aggregates.{aggregate as aggregate_of};
 ghost use Rattle.table.specs.Rows.{RowValues};
-ghost use Rattle.cond.specs.Kinds.{kind_of_aggregate};
-ghost use Rattle.cond.specs.Slots.{IsWithinKind, kind_of, value_of};
+ghost use Rattle.table.specs.Kinds.{kind_of_aggregate};
+ghost use Rattle.table.specs.Slots.{IsWithinKind, kind_of, value_of};
 ghost use Rattle.groups.specs.Answers.{value_for};
 ghost use Rattle.groups.specs.Steps.{put_entry, total_entry, figures_at, entries_more, entries_less, entries_moved};
 ghost use Rattle.groups.specs.Totals.{Members, total_at, IsEntryOf, AreTotalsOf, AreWithin, IsWithin, IsChange};
 
 use crate::members::Member;
 use crate::totals::Total;
-use cond::SlotValue;
 use pages::Pages;
 use std::alloc::Global;
 use std::cmp::Ordering;
 use std::marker::Model;
-use table::Aggregate;
+use table::{Aggregate, SlotValue};
 use value::{Refusal, Value, order};
 
 /// The total of each group that has a row, in the order of the groups.

@@ -5,7 +5,7 @@ ghost use Rattle.value.specs.declared.values.Value.{Value};
 ghost use Rattle.table.specs.declared.aggregates.Aggregate.{Aggregate};
 ghost use Rattle.table.specs.Aggregates.{rows_of_group};
 ghost use Rattle.table.specs.Rows.{RowValues, row_at, put_row, value_in};
-ghost use Rattle.cond.specs.Bounds.{IsSmallRow};
+ghost use Rattle.table.specs.Bounds.{IsSmallRow};
 ghost use Rattle.groups.specs.Answers.{value_for};
 ghost use Rattle.groups.specs.Indexes.{IsIndexOf, ValueKeys};
 ghost use Rattle.groups.specs.Members.{member_of, members_of, rows_in};

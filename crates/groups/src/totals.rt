@@ -5,17 +5,16 @@ ghost use Rattle.value.specs.declared.refusals.Refusal.TheVariants.{NoMemory};
 ghost use Rattle.value.specs.declared.values.Value.{Value as values};
 ghost use Rattle.table.specs.Aggregates.{number_of, aggregate as aggregate_of};
 ghost use Rattle.table.specs.Rows.{RowValues};
-ghost use Rattle.cond.specs.Kinds.{kind_of_aggregate};
-ghost use Rattle.cond.specs.Slots.{IsWithinKind, kind_of, value_of};
+ghost use Rattle.table.specs.Kinds.{kind_of_aggregate};
+ghost use Rattle.table.specs.Slots.{IsWithinKind, kind_of, value_of};
 ghost use Rattle.groups.specs.Answers.{answer_from, value_for};
 ghost use Rattle.groups.specs.Steps.{no_figures, there_of, one_more, one_less, values_more as values_more_of, values_less as values_less_of};
 ghost use Rattle.groups.specs.Totals.{is_extreme as is_extreme_of, IsTotalOf, IsWithin};
 
 use crate::counts::Counts;
-use cond::SlotValue;
 use std::alloc::Global;
 use std::marker::Model;
-use table::Aggregate;
+use table::{Aggregate, SlotValue};
 use value::{Refusal, Value};
 
 /// What a set function needs of a group's rows: how many there are, and of their values that are not NULL how many and

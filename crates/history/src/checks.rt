@@ -4,8 +4,8 @@ ghost use Rattle.std.specs.Prelude.{◌≡◌, length, IfOk, IsOkUnless};
 ghost use Rattle.value.specs.declared.refusals.Refusal.TheVariants.{NoMemory};
 
 use crate::histories::{Read, Reader};
+use changes::checks_read;
 use delta::View;
-use reads::checks_read;
 use siread::LockKey;
 use std::alloc::Global;
 use table::Change;

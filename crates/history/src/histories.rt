@@ -4,7 +4,7 @@ use answer::Answer;
 use delta::View;
 use siread::LockKey;
 use sqlite_items::Items;
-use statement_syntax::Step;
+use syntax::Step;
 use table::Change;
 use value::Text;
 

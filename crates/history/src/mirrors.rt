@@ -10,9 +10,9 @@ use copies::copy_changes;
 use delta::View;
 use modes::Modes;
 use sqlite_items::Items;
-use statement_syntax::{Event, Mode, Statement, Step};
 use std::alloc::Global;
 use std::mem;
+use syntax::{Event, Mode, Statement, Step};
 use txn::{Closed, Txn, Unclosed};
 use value::Refusal;
 

@@ -6,11 +6,10 @@ use crate::histories::{Happening, History};
 use crate::mirrors::{Mirror, Notes, follow};
 use commit::{Engine, Seat};
 use modes::Modes;
-use replay::begin_run;
-use running::ProgramFault;
+use replay::{ProgramFault, begin_run};
 use sqlite_items::Items;
-use statement_syntax::Step;
 use std::alloc::Global;
+use syntax::Step;
 use value::{Refusal, Text};
 
 /// What happens when a script of any sessions is run on definitions, with at most so many commits.

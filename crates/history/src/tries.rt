@@ -7,10 +7,10 @@ ghost use Rattle.txn.specs.Effects.{ArePutIn};
 ghost use Rattle.txn.specs.Runnable.{IsRunnable};
 
 use alone::Resolved;
+use changes::real_changes;
 use delta::View;
-use reads::real_changes;
-use statement_syntax::Statement;
 use std::alloc::Global;
+use syntax::Statement;
 use table::Change;
 use txn::{Effect, delete_effect, insert_effect, recall_order, resolve, update_effect};
 use value::Refusal;

@@ -6,8 +6,8 @@ use Rattle.value.specs.declared.values.Value.{Value}
 use Rattle.value.specs.declared.values.Value.TheVariants.{Null, Int, Text}
 use Rattle.value.specs.declared.values.Root.{Root}
 use Rattle.value.specs.declared.values.Root.TheVariants.{All, Of}
-use Rattle.threeval.specs.declared.Truth.{Truth}
-use Rattle.threeval.specs.declared.Truth.TheVariants.{False, True, Unknown}
+use Rattle.value.specs.declared.truths.Truth.{Truth}
+use Rattle.value.specs.declared.truths.Truth.TheVariants.{False, True, Unknown}
 use Rattle.table.specs.declared.schemas.Column.{Column}
 use Rattle.table.specs.Rows.{RowValues}
 

@@ -10,8 +10,7 @@ use crate::parts::{
 use std::alloc::{AllocError, Global};
 use std::marker::Model;
 use table::{Column, Row};
-use threeval::Truth;
-use value::{Refusal, Root, Text, Value};
+use value::{Refusal, Root, Text, Truth, Value};
 
 /// Bytes that grow, in a contract their list. Where no memory is left, a field may stand there in part.
 #[derive(Drop)]

@@ -4,7 +4,7 @@ use Rattle.std.proofs.lemmas.Bool.Decides.{nat_tests}
 use Rattle.std.specs.Option.{unwrap_or}
 use Rattle.token.specs.Lexer.{number_value}
 use Rattle.token.specs.Spellings.{decimal, largest_number}
-use Rattle.reading.specs.Language.{Lexeme}
+use Rattle.syntax.specs.Language.{Lexeme}
 use Rattle.syntax.specs.Grammar.{digits_value}
 
 small : (n : ℕ) → unwrap_or (if nat_le n largest_number then Some n else None) 0 ≤ largest_number

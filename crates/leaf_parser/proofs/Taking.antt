@@ -2,9 +2,9 @@
 use Rattle.std.proofs.Common.{◌≡◌, false, [], ◌∷◌, sym, ap, subst, ◌∙◌, if◌then◌else◌}
 use Rattle.token.specs.declared.kinds.Kind.{Kind}
 use Rattle.token.specs.declared.kinds.Kind.TheVariants as k
-use Rattle.reading.specs.Language.{Lexeme, Lexemes}
-use Rattle.reading.specs.Reading.{Done, Fail, same_kind, expect, take}
-use Rattle.reading.proofs.Laws.{same_kind_self}
+use Rattle.syntax.specs.Language.{Lexeme, Lexemes}
+use Rattle.syntax.specs.Reading.{Done, Fail, same_kind, expect, take}
+use Rattle.syntax.proofs.WordLaws.{same_kind_self}
 use Rattle.leaf_parser.specs.Reads.{IsAt, is_end}
 
 pub at_none : (kind : Kind) → IsAt kind [] → ⊥

@@ -3,8 +3,8 @@ use Rattle.std.proofs.Common.{◌≡◌, ℕ, zero, suc, ◌-◌, ◌<◌, Bool,
 use Rattle.token.specs.declared.kinds.Kind.{Kind}
 use Rattle.token.specs.declared.kinds.Kind.TheVariants as k
 use Rattle.leaf_parser.specs.declared.stops.Stop.TheVariants as stop
-use Rattle.reading.specs.Language.{Lexemes, kind_at}
-use Rattle.reading.specs.Reading.{Reader, Outcome, and_then, Done, Fail, Deep, ◌>>=◌, ◌>>◌, pure, same_kind, expect, parens, many}
+use Rattle.syntax.specs.Language.{Lexemes, kind_at}
+use Rattle.syntax.specs.Reading.{Reader, Outcome, and_then, Done, Fail, Deep, ◌>>=◌, ◌>>◌, pure, same_kind, expect, parens, many}
 use Rattle.leaf_parser.specs.Reads.{Stops, full_stop}
 
 pub many_stops : {A : Type 0} (goes_on : Kind → Bool) (item : Reader A) (n : ℕ) (found : List A) (ts : Lexemes) → goes_on (kind_at ts) ≡ false → many goes_on item n found ts ≡ (Done found, ts)

@@ -1,3 +1,3 @@
 pub mod Reads
-pub use Rattle.reading.specs.Language
-pub use Rattle.reading.specs.Reading
+pub use Rattle.syntax.specs.Language
+pub use Rattle.syntax.specs.Reading

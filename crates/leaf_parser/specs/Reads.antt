@@ -4,8 +4,8 @@ use Rattle.token.specs.declared.kinds.Kind.{Kind}
 use Rattle.token.specs.declared.kinds.Kind.TheVariants as k
 use Rattle.leaf_parser.specs.declared.stops.Stop.{Stop}
 use Rattle.leaf_parser.specs.declared.stops.Stop.TheVariants as stop
-use Rattle.reading.specs.Language.{Lexemes, kind_at}
-use Rattle.reading.specs.Reading.{same_kind, Outcome, Done, Fail, Deep}
+use Rattle.syntax.specs.Language.{Lexemes, kind_at}
+use Rattle.syntax.specs.Reading.{same_kind, Outcome, Done, Fail, Deep}
 
 -- why the reader stopped, and where
 abbrev pub Stops : {A : Type 0} → Outcome A → Stop → Lexemes → Type 0

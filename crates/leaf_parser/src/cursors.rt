@@ -1,10 +1,10 @@
 //! A cursor over the tokens of a text.
 
 ghost use Rattle.std.specs.Prelude.{◌≡◌, ◌↔◌, [], IsTrue, map, length};
-ghost use Rattle.reading.specs.Language.{head, kind_at};
-ghost use Rattle.reading.specs.Reading as rd;
-ghost use Rattle.reading.specs.Lexemes.{lexeme, bytes_of, place};
-ghost use Rattle.reading.specs.Reading.{Done};
+ghost use Rattle.syntax.specs.Language.{head, kind_at};
+ghost use Rattle.syntax.specs.Reading as rd;
+ghost use Rattle.syntax.specs.Lexemes.{lexeme, bytes_of, place};
+ghost use Rattle.syntax.specs.Reading.{Done};
 ghost use Rattle.leaf_parser.specs.Reads.{Reads, IsAt};
 
 use crate::stops::Stop;
@@ -20,7 +20,7 @@ pub struct Piece<'a> {
 }
 
 impl<'a> Model for Piece<'a> {
-    ghost use Rattle.reading.specs.Language.{Lexeme};
+    ghost use Rattle.syntax.specs.Language.{Lexeme};
 
     ghost Value = { Lexeme };
 
@@ -29,7 +29,7 @@ impl<'a> Model for Piece<'a> {
 
 impl<'a> Piece<'a> {
     /// Whether it is of this kind.
-    #[tactic(auto, unfolding(reading::specs::Reading::same_kind))]
+    #[tactic(auto, unfolding(syntax::specs::Reading::same_kind))]
     pub fn is(&self, kind: Kind) -> bool
         ensures { result ≡ rd.same_kind self.now.kind kind }
     {
@@ -52,8 +52,8 @@ pub struct Cursor<'a> {
 
 impl<'a> Model for Cursor<'a> {
     ghost use Rattle.std.specs.Prelude.{map};
-    ghost use Rattle.reading.specs.Language.{Lexemes};
-    ghost use Rattle.reading.specs.Lexemes.{lexeme};
+    ghost use Rattle.syntax.specs.Language.{Lexemes};
+    ghost use Rattle.syntax.specs.Lexemes.{lexeme};
 
     ghost Value = { Lexemes };
 
@@ -118,7 +118,7 @@ impl<'a> Cursor<'a> {
     }
 
     /// Whether the next token is of this kind.
-    #[tactic(auto, unfolding(reading::specs::Reading::same_kind))]
+    #[tactic(auto, unfolding(syntax::specs::Reading::same_kind))]
     pub fn is(&self, kind: Kind) -> bool
         ensures { result ≡ rd.same_kind (kind_at self.now) kind }
     {

@@ -1,7 +1,7 @@
 //! Parts that stand there again and again, in lists with commas and in parentheses.
 
 ghost use Rattle.std.specs.Prelude.{◌≡◌, ◌-◌};
-ghost use Rattle.reading.specs.Reading as rd;
+ghost use Rattle.syntax.specs.Reading as rd;
 ghost use Rattle.leaf_parser.specs.Reads.{Reads};
 
 use crate::cursors::Cursor;
@@ -13,7 +13,7 @@ use token::Kind;
 
 /// A part of a text, as what parses it.
 pub trait Part {
-    ghost use Rattle.reading.specs.Reading.{Reader};
+    ghost use Rattle.syntax.specs.Reading.{Reader};
 
     /// What is made of the part.
     type Tree: Drop;
@@ -64,7 +64,7 @@ pub fn parse_many<P: Repeated>(
 struct Behind<'a, P>(&'a P);
 
 impl<'a, P: Part> Part for Behind<'a, P> {
-    ghost use Rattle.reading.specs.Reading as rd;
+    ghost use Rattle.syntax.specs.Reading as rd;
 
     type Tree = P::Tree;
 
@@ -72,7 +72,7 @@ impl<'a, P: Part> Part for Behind<'a, P> {
 
     ghost reader = { λ b. rd.list_item (P.reader b.0.now) };
 
-    #[tactic(auto, unfolding(reading::specs::Reading::list_item))]
+    #[tactic(auto, unfolding(syntax::specs::Reading::list_item))]
     fn parse(&self, cursor: &mut Cursor<'_>) -> Result<P::Tree, Stop> {
         cursor.expect(Kind::Comma)?;
         self.0.parse(cursor)
@@ -80,7 +80,7 @@ impl<'a, P: Part> Part for Behind<'a, P> {
 }
 
 impl<'a, P: Part> Repeated for Behind<'a, P> {
-    ghost use Rattle.reading.specs.Reading as rd;
+    ghost use Rattle.syntax.specs.Reading as rd;
 
     ghost begins = { rd.is_comma };
 
@@ -93,7 +93,7 @@ impl<'a, P: Part> Repeated for Behind<'a, P> {
 }
 
 /// `part { "," part }`
-#[tactic(auto, unfolding(reading::specs::Reading::list))]
+#[tactic(auto, unfolding(syntax::specs::Reading::list))]
 pub fn parse_list<P: Part>(
     alloc: Global,
     part: &P,
@@ -140,7 +140,7 @@ struct Listed<'a, P> {
 }
 
 impl<'a, P: Part> Part for Listed<'a, P> {
-    ghost use Rattle.reading.specs.Reading as rd;
+    ghost use Rattle.syntax.specs.Reading as rd;
 
     type Tree = Items<P::Tree>;
 

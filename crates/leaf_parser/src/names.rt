@@ -1,7 +1,7 @@
 //! Names, numbers and texts.
 
 ghost use Rattle.std.specs.Prelude.{◌≡◌, ◌≤◌, [], ◌∷◌, IfOk, IsOkUnless};
-ghost use Rattle.reading.specs.Reading as rd;
+ghost use Rattle.syntax.specs.Reading as rd;
 ghost use Rattle.token.specs.declared.kinds.Kind.TheVariants as k;
 ghost use Rattle.token.specs.Spellings.{largest_number};
 ghost use Rattle.syntax.specs.Grammar as spec;

@@ -2,7 +2,7 @@
 
 ghost use Rattle.std.specs.Prelude.{◌≡◌, ◌++◌, [], ◌∷◌, false, reverse, IfOk, OnOk};
 ghost use Rattle.std.specs.List.{flat_map};
-ghost use Rattle.reading.specs.Reading as rd;
+ghost use Rattle.syntax.specs.Reading as rd;
 ghost use Rattle.leaf_parser.specs.Reads.{Reads};
 ghost use Rattle.syntax.specs.Grammar as spec;
 

@@ -5,9 +5,8 @@ ghost use Rattle.leaf_parser.specs.Reads.{Reads};
 
 use crate::cursors::Cursor;
 use crate::stops::Stop;
-use threeval::Truth;
 use token::Kind;
-use value::Comparison;
+use value::{Comparison, Truth};
 
 /// `=`, `<>`, `<`, `<=`, `>` or `>=`.
 #[tactic(auto, unfolding(syntax::specs::Readers::comparison_sign))]

@@ -1,7 +1,7 @@
 //! Why the parser stopped.
 
 ghost use Rattle.std.specs.Prelude.{◌≡◌};
-ghost use Rattle.reading.specs.Language.{kind_at};
+ghost use Rattle.syntax.specs.Language.{kind_at};
 ghost use Rattle.leaf_parser.specs.Reads.{full_stop};
 
 use crate::cursors::Cursor;
@@ -42,7 +42,7 @@ impl<T: Drop> From<AllocFailed<T>> for Stop {
 }
 
 /// Why the parser stops where no parenthesis may be opened.
-#[tactic(auto, unfolding(reading::specs::Reading::same_kind))]
+#[tactic(auto, unfolding(syntax::specs::Reading::same_kind))]
 pub fn stop_for_depth(cursor: &Cursor<'_>) -> Stop
     ensures { result ≡ full_stop (kind_at cursor.now) }
 {

@@ -15,8 +15,7 @@ use std::marker::Brand;
 use std::process::Abort;
 use std::sync::Wait;
 use std::test::Fail;
-use threeval::Truth;
-use value::{Refusal, Text};
+use value::{Refusal, Text, Truth};
 
 /// One account.
 const FIVE: &str = "INSERT INTO ACCT VALUES (1, 'KIM', 5);";

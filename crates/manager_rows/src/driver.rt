@@ -6,13 +6,13 @@ use crate::again::{for_ever, is_same, shown};
 use answer::Answer;
 use report::Report;
 use session::{CommitFault, Manager, Named, Receipt, Session, Txn};
-use statement_syntax::{Event, Statement, Step};
 use std::alloc::Global;
 use std::fmt::Debug;
 use std::mem;
 use std::process::Abort;
 use std::sync::Wait;
 use std::test::Fail;
+use syntax::{Event, Statement, Step};
 use value::{Refusal, Text};
 
 /// A session with its open transaction, if one is open. One that is let go is abandoned.

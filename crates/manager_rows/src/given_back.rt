@@ -15,12 +15,12 @@ use delta::View;
 use parse::parse_schema;
 use report::Report;
 use session::{CommitFault, Manager, Named};
-use statement_syntax::Step;
 use std::alloc::Global;
 use std::marker::Brand;
 use std::process::Abort;
 use std::sync::Wait;
 use std::test::Fail;
+use syntax::Step;
 
 /// Each takes the same one off call; the second is refused, and its COMMIT has an entry to make for that.
 const SCRIPT: &str = "A: BEGIN; B: BEGIN; A: UPDATE DUTY SET ONCALL = 0 WHERE ID = 1;

@@ -1,8 +1,8 @@
 //! The calls below the manager that take no memory, where every allocation is refused.
 
 ghost use Rattle.std.specs.Prelude.{◌≡◌, [], IfOk, OnOk, None};
-ghost use Rattle.cond.specs.Bounds.{IsSmallRow};
-ghost use Rattle.cond.specs.Slots.{kinds_of};
+ghost use Rattle.table.specs.Bounds.{IsSmallRow};
+ghost use Rattle.table.specs.Slots.{kinds_of};
 ghost use Rattle.siread.specs.Locks.{no_reads, readers_at};
 ghost use Rattle.commit.specs.Cores.{IsLive};
 
@@ -10,7 +10,6 @@ use crate::driver::{equal, let_go};
 use crate::printed::{COVER, SEVEN, TABLES, defined, steps_of};
 use crate::without_memory::{ask_in_vain, end_memory};
 use commit::{Core, Uncommitted, admit, first_false};
-use cond::{Cond, Expr, Slots, bound, eval, is_bounded};
 use conflict::{Candidate, Verdict, is_safe, judge, share_row, touch_any};
 use delta::View;
 use groups::{Member, Totals};
@@ -21,15 +20,14 @@ use pages::Pages;
 use parse::parse_schema;
 use session::Limits;
 use siread::{LockKey, LockTable, Place, touches};
-use statement_syntax::{Event, Mode, Step};
 use std::alloc::Global;
 use std::cmp::Ordering;
 use std::process::Abort;
 use std::test::Fail;
-use table::{Aggregate, Change, Row};
-use threeval::Truth;
+use syntax::{Event, Mode, Step};
+use table::{Aggregate, Change, Cond, Expr, Row, Slots, bound, eval, is_bounded};
 use txn::{Closed, Txn, Unclosed};
-use value::{Comparison, Refusal, Root, Text, Value, compare, order};
+use value::{Comparison, Refusal, Root, Text, Truth, Value, compare, order};
 
 #[test]
 fn values(rt: HostRuntime) -> Result<(), Fail> {

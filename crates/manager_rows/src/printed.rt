@@ -10,14 +10,13 @@ use parse::{parse_schema, parse_script};
 use report::Report;
 use session::{History, Limits, Manager, Named, Receipt, Shelf};
 use sqlite_items::Items;
-use statement_syntax::Step;
 use std::alloc::Global;
 use std::marker::Brand;
 use std::process::Abort;
 use std::sync::Wait;
 use std::test::Fail;
-use threeval::Truth;
-use value::{Refusal, Text};
+use syntax::Step;
+use value::{Refusal, Text, Truth};
 
 /// Shifts, who is on duty in them, and accounts.
 pub const TABLES: &str = "CREATE TABLE SHIFTS (ID INTEGER PRIMARY KEY);

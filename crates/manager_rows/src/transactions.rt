@@ -6,14 +6,13 @@ use crate::driver::{equal, let_go};
 use crate::printed::{Opening, make_opening, open, steps_of};
 use answer::Reply;
 use session::{Closed, CommitFault, Manager, Named, Receipt, Txn, Unclosed};
-use statement_syntax::{Event, Step};
 use std::alloc::Global;
 use std::marker::Brand;
 use std::process::Abort;
 use std::sync::Wait;
 use std::test::Fail;
-use threeval::Truth;
-use value::{Refusal, Text};
+use syntax::{Event, Step};
+use value::{Refusal, Text, Truth};
 
 /// Someone is on call in each shift, when a transaction ends.
 const COVER_DEFERRED: &str =

@@ -12,8 +12,7 @@ use std::marker::Brand;
 use std::process::Abort;
 use std::sync::Wait;
 use std::test::Fail;
-use threeval::Truth;
-use value::Text;
+use value::{Text, Truth};
 
 /// So many bytes are asked for where memory ends: `tools/refuse_malloc.c` refuses all that is asked for behind it.
 const MARK: usize = 7_654_321;

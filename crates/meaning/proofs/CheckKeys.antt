@@ -8,8 +8,8 @@ use Rattle.table.specs.Rows.{RowValues, Layout, Tables, layout_of, layouts_of, p
 use Rattle.table.specs.Aggregates.{is_there}
 use Rattle.table.specs.declared.aggregates.Aggregate.{Aggregate}
 use Rattle.table.specs.declared.aggregates.Aggregate.TheVariants.{CountRows}
-use Rattle.cond.specs.declared.conds.Cond.{Cond}
-use Rattle.cond.specs.declared.conds.Cond.TheViews as cond_of
+use Rattle.table.specs.declared.conds.Cond.{Cond}
+use Rattle.table.specs.declared.conds.Cond.TheViews as cond_of
 use Rattle.assertion.specs.declared.queries.Query.{Query as Subquery}
 use Rattle.assertion.specs.declared.queries.Link.{Link}
 use Rattle.assertion.specs.declared.queries.Whole.{Whole}
@@ -20,11 +20,11 @@ use Rattle.assertion.specs.Candidates.{touched, linked_values}
 use Rattle.syntax.specs.declared.trees.ColumnName.{ColumnName}
 use Rattle.syntax.specs.declared.trees.Condition.{Condition}
 use Rattle.syntax.specs.declared.trees.Query.{Query, out-Query}
-use Rattle.name_check.specs.Scopes.{Scope, own_column}
+use Rattle.form_check.specs.Scopes.{Scope, own_column}
 use Rattle.value.specs.Results.{each}
-use Rattle.numbering.specs.Results.{in_class, only_if}
-use Rattle.numbering.specs.Columns.{no_column}
-use Rattle.numbering.specs.Leaves.{Leaf, Leaves}
+use Rattle.form_check.specs.Results.{in_class, only_if}
+use Rattle.form_check.specs.Columns.{no_column}
+use Rattle.form_check.specs.Leaves.{Leaf, Leaves}
 use Rattle.form_check.specs.Queries.{Source, source_of, selected_aggregate, may_be_selected}
 use Rattle.form_check.specs.Forms.{form_of, plain, plain_by, row_where, by_row, by_group, by_clauses, not_exists, single, linked, linked_where}
 use Rattle.siread.specs.declared.keys.LockKey.TheVariants as key

@@ -7,29 +7,29 @@ use Rattle.std.proofs.lemmas.Bool.{not-true}
 use Rattle.value.specs.declared.refusals.Refusal.{Refusal}
 use Rattle.value.specs.declared.refusals.Refusal.TheVariants.{AttributeClash, KeyUpdate, NameTaken, TypeMismatch, TooWide}
 use Rattle.table.specs.Rows.{RowValues, Tables, layouts_of, column_of}
-use Rattle.cond.specs.declared.exprs.Expr.{Expr}
-use Rattle.cond.specs.declared.conds.Cond.{Cond}
-use Rattle.cond.specs.Bounds.{is_bounded}
-use Rattle.cond.specs.Eval as resolved
+use Rattle.table.specs.declared.exprs.Expr.{Expr}
+use Rattle.table.specs.declared.conds.Cond.{Cond}
+use Rattle.table.specs.Bounds.{is_bounded}
+use Rattle.table.specs.Eval as resolved
 use Rattle.assertion.specs.declared.assertions.Assertion.{Assertion}
 use Rattle.assertion.specs.declared.forms.Form.{Form}
 use Rattle.assertion.specs.Meaning.{State, rows_of, filtered_rows}
 use Rattle.syntax.specs.declared.trees.Condition.{Condition}
-use Rattle.statement_syntax.specs.declared.definitions.Attributes.{Attributes}
-use Rattle.statement_syntax.specs.declared.statements.Assigned.{Assigned}
-use Rattle.statement_syntax.specs.declared.statements.Assigned.TheVariants.{Null, To}
-use Rattle.statement_syntax.specs.declared.statements.Assignment.{Assignment}
-use Rattle.statement_syntax.specs.declared.statements.Which.{Which}
-use Rattle.statement_syntax.specs.declared.statements.Which.TheVariants.{All, Names}
-use Rattle.name_check.specs.Scopes.{Scope}
-use Rattle.name_check.specs.Names.{condition_fault}
+use Rattle.syntax.specs.declared.definitions.Attributes.{Attributes}
+use Rattle.syntax.specs.declared.statements.Assigned.{Assigned}
+use Rattle.syntax.specs.declared.statements.Assigned.TheVariants.{Null, To}
+use Rattle.syntax.specs.declared.statements.Assignment.{Assignment}
+use Rattle.syntax.specs.declared.statements.Which.{Which}
+use Rattle.syntax.specs.declared.statements.Which.TheVariants.{All, Names}
+use Rattle.form_check.specs.Scopes.{Scope}
+use Rattle.form_check.specs.Names.{condition_fault}
 use Rattle.value.specs.Results.{and_then, found, provided, unless}
 use Rattle.value.proofs.Results.{found_ok, provided_is, provided_ok, unless_is, unless_ok}
 use Rattle.form_check.specs.Forms.{form_of}
 use Rattle.form_check.specs.Queries.{Source, source_of, row_expression, row_filter}
-use Rattle.type_check.specs.Forms.{is_typed_form}
-use Rattle.type_check.specs.Types.{is_typed_condition}
-use Rattle.type_check.specs.Widths.{is_bounded_form}
+use Rattle.assertcheck.specs.Forms.{is_typed_form}
+use Rattle.assertcheck.specs.Types.{is_typed_condition}
+use Rattle.assertcheck.specs.Widths.{is_bounded_form}
 use Rattle.assertcheck.specs.declared.deletes.Delete.{Delete}
 use Rattle.assertcheck.specs.declared.selects.Select.{Select}
 use Rattle.assertcheck.specs.declared.updates.Setting.{Setting}

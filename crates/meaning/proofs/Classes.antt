@@ -8,8 +8,8 @@ use Rattle.value.specs.declared.comparisons.Comparison.TheVariants.{Equal, NotEq
 use Rattle.table.specs.Rows.{Layout, Tables, layout_of, names_of, position_of}
 use Rattle.table.specs.declared.aggregates.Aggregate.{Aggregate}
 use Rattle.table.specs.declared.aggregates.Aggregate.TheVariants.{CountRows}
-use Rattle.cond.specs.declared.conds.Cond.{Cond}
-use Rattle.cond.specs.declared.conds.Cond.TheViews as cond_of
+use Rattle.table.specs.declared.conds.Cond.{Cond}
+use Rattle.table.specs.declared.conds.Cond.TheViews as cond_of
 use Rattle.assertion.specs.declared.queries.Query.{Query as Subquery}
 use Rattle.assertion.specs.declared.queries.Link.{Link}
 use Rattle.assertion.specs.declared.queries.Whole.{Whole}
@@ -21,11 +21,11 @@ use Rattle.syntax.specs.declared.trees.Condition.TheOpen.{Condition-F, Expressio
 use Rattle.syntax.specs.declared.trees.Expression.{Expression, out-Expression}
 use Rattle.syntax.specs.declared.trees.SelectList.{SelectList, out-SelectList}
 use Rattle.syntax.specs.declared.trees.Query.{Query, out-Query}
-use Rattle.name_check.specs.Scopes.{Scope, named_in, is_name_of, own_column}
+use Rattle.form_check.specs.Scopes.{Scope, named_in, is_name_of, own_column}
 use Rattle.value.specs.Results.{and_then, each}
-use Rattle.numbering.specs.Results.{in_class, only_if}
-use Rattle.numbering.specs.Columns.{no_column, in_group, grouping_column}
-use Rattle.numbering.specs.Leaves.{Leaf, Leaves, numbered}
+use Rattle.form_check.specs.Results.{in_class, only_if}
+use Rattle.form_check.specs.Columns.{no_column, in_group, grouping_column}
+use Rattle.form_check.specs.Leaves.{Leaf, Leaves, numbered}
 use Rattle.form_check.specs.Queries.{Source, sourced, source_of, alone, aggregate_in, aggregate_selected, expression_may_stand, selection_may_stand, row_condition, row_filter, of_column, selected_aggregate, may_be_selected}
 use Rattle.form_check.specs.Forms.{Clauses, plain, plain_by, plain_value, aggregate_of, row_where, by_row, having_over, by_group, by_clauses, not_exists, single, denied, form_in, form_of, linked}
 use Rattle.meaning.specs.Class as class

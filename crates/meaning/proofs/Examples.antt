@@ -8,22 +8,22 @@ use Rattle.value.specs.declared.values.Root.TheVariants as root
 use Rattle.value.specs.declared.values.ColType.TheVariants.{Integer}
 use Rattle.value.specs.declared.comparisons.Comparison.{Comparison}
 use Rattle.value.specs.declared.comparisons.Comparison.TheVariants.{Equal, AtMost, Greater}
-use Rattle.threeval.specs.declared.Truth.{Truth}
-use Rattle.threeval.specs.declared.Truth.TheVariants.{True, False, Unknown}
-use Rattle.threeval.specs.Truths.{and_of, not_of, known}
+use Rattle.value.specs.declared.truths.Truth.{Truth}
+use Rattle.value.specs.declared.truths.Truth.TheVariants.{True, False, Unknown}
+use Rattle.value.specs.Truths.{and_of, not_of, known}
 use Rattle.table.specs.declared.schemas.Column.{Column}
 use Rattle.table.specs.Rows.{RowValues, Layout, Tables}
-use Rattle.cond.specs.declared.exprs.Expr.TheOpen.{Expr-F}
-use Rattle.cond.specs.declared.exprs.Expr.TheVariants as expr
-use Rattle.cond.specs.declared.exprs.Expr.TheViews.{out-Expr}
-use Rattle.cond.specs.declared.conds.Cond.{Cond}
-use Rattle.cond.specs.declared.conds.Cond.TheOpen.{Cond-F}
-use Rattle.cond.specs.declared.conds.Cond.TheVariants as cond
-use Rattle.cond.specs.declared.conds.Cond.TheViews as cond_of
-use Rattle.cond.specs.declared.conds.Cond.TheViews.{out-Cond}
-use Rattle.cond.specs.Eval as resolved
-use Rattle.cond.specs.Values.{compared}
-use Rattle.cond.proofs.EvalLemmas.{truth-And}
+use Rattle.table.specs.declared.exprs.Expr.TheOpen.{Expr-F}
+use Rattle.table.specs.declared.exprs.Expr.TheVariants as expr
+use Rattle.table.specs.declared.exprs.Expr.TheViews.{out-Expr}
+use Rattle.table.specs.declared.conds.Cond.{Cond}
+use Rattle.table.specs.declared.conds.Cond.TheOpen.{Cond-F}
+use Rattle.table.specs.declared.conds.Cond.TheVariants as cond
+use Rattle.table.specs.declared.conds.Cond.TheViews as cond_of
+use Rattle.table.specs.declared.conds.Cond.TheViews.{out-Cond}
+use Rattle.table.specs.Eval as resolved
+use Rattle.table.specs.Values.{compared}
+use Rattle.table.proofs.EvalLemmas.{truth-And}
 use Rattle.assertion.specs.Meaning.{State}
 use Rattle.syntax.specs.declared.trees.Aggregate.TheVariants as function
 use Rattle.syntax.specs.declared.trees.ColumnName.{ColumnName}
@@ -33,7 +33,7 @@ use Rattle.syntax.specs.declared.trees.Expression.{Expression, roll-Expression, 
 use Rattle.syntax.specs.declared.trees.SelectList.{SelectList, roll-SelectList}
 use Rattle.syntax.specs.declared.trees.Query.{Query, roll-Query, out-roll-Query}
 use Rattle.syntax.specs.Grammar.{and_layer}
-use Rattle.name_check.specs.Scopes.{Scope}
+use Rattle.form_check.specs.Scopes.{Scope}
 use Rattle.siread.specs.declared.keys.LockKey.{LockKey}
 use Rattle.siread.specs.declared.keys.LockKey.TheVariants as key
 use Rattle.alone.specs.Reads as reads

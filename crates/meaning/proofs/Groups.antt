@@ -15,22 +15,22 @@ use Rattle.value.specs.declared.refusals.Refusal.{Refusal}
 use Rattle.value.specs.ValueOrder.{value_cmp, root_cmp}
 use Rattle.value.proofs.OrderedLists.{has, equal_from}
 use Rattle.value.proofs.ValueOrders.{value_cmp_total, value_exact}
-use Rattle.threeval.specs.declared.Truth.TheVariants.{True}
-use Rattle.threeval.specs.Truths.{is_of}
+use Rattle.value.specs.declared.truths.Truth.TheVariants.{True}
+use Rattle.value.specs.Truths.{is_of}
 use Rattle.table.specs.Rows.{RowValues, Tables, value_in}
 use Rattle.table.specs.Aggregates.{aggregate, rows_of_group}
 use Rattle.table.specs.declared.aggregates.Aggregate.{Aggregate}
 use Rattle.table.specs.declared.aggregates.Aggregate.TheVariants.{CountRows}
-use Rattle.cond.specs.declared.conds.Cond.{Cond}
-use Rattle.cond.specs.Eval as resolved
+use Rattle.table.specs.declared.conds.Cond.{Cond}
+use Rattle.table.specs.Eval as resolved
 use Rattle.assertion.specs.Meaning.{State, filtered_rows, lists_group, group_roots}
 use Rattle.syntax.specs.declared.trees.ColumnName.{ColumnName}
 use Rattle.syntax.specs.declared.trees.Condition.{Condition}
-use Rattle.name_check.specs.Scopes as names
-use Rattle.name_check.specs.Scopes.{own_column}
+use Rattle.form_check.specs.Scopes as names
+use Rattle.form_check.specs.Scopes.{own_column}
 use Rattle.value.specs.Results.{each}
-use Rattle.numbering.specs.Columns.{in_group, grouping_column}
-use Rattle.numbering.specs.Leaves.{Leaf, Leaves, Rows, Of as SetOf, Exists, Value as Worth, numbered}
+use Rattle.form_check.specs.Columns.{in_group, grouping_column}
+use Rattle.form_check.specs.Leaves.{Leaf, Leaves, Rows, Of as SetOf, Exists, Value as Worth, numbered}
 use Rattle.form_check.specs.Queries.{row_filter, of_column}
 use Rattle.form_check.specs.Forms.{aggregate_of}
 use Rattle.meaning.specs.Meaning as written

@@ -18,10 +18,10 @@ use Rattle.syntax.specs.declared.trees.Condition.TheOpen.{Condition-F}
 use Rattle.syntax.specs.declared.trees.Expression.{Expression}
 use Rattle.syntax.specs.declared.trees.SelectList.{SelectList}
 use Rattle.syntax.specs.declared.trees.Query.{Query, out-Query}
-use Rattle.name_check.specs.Scopes.{Scope, own_column}
-use Rattle.numbering.specs.Results.{in_class, only_if}
-use Rattle.numbering.specs.Columns.{no_column}
-use Rattle.numbering.specs.Leaves.{Leaf, Rows, Of, Exists, Value, numbered}
+use Rattle.form_check.specs.Scopes.{Scope, own_column}
+use Rattle.form_check.specs.Results.{in_class, only_if}
+use Rattle.form_check.specs.Columns.{no_column}
+use Rattle.form_check.specs.Leaves.{Leaf, Rows, Of, Exists, Value, numbered}
 use Rattle.form_check.specs.Queries.{Source, sourced, source_of, selected_aggregate, may_be_selected}
 use Rattle.form_check.specs.Forms.{Clauses, linked_where, linked, plain_by, plain, row_where, by_row, by_clauses, not_exists, single, denied, form_in}
 use Rattle.meaning.specs.Laws as law

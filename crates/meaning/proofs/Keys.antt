@@ -6,17 +6,17 @@ use Rattle.value.specs.declared.values.Value.{Value}
 use Rattle.value.specs.declared.values.Value.TheVariants as value
 use Rattle.value.specs.declared.comparisons.Comparison.{Comparison}
 use Rattle.value.specs.declared.comparisons.Comparison.TheVariants.{Equal, NotEqual, Less, AtMost, Greater, AtLeast}
-use Rattle.cond.specs.declared.exprs.Expr.{Expr}
-use Rattle.cond.specs.declared.exprs.Expr.TheOpen.{Expr-F}
-use Rattle.cond.specs.declared.exprs.Expr.TheVariants as expr
-use Rattle.cond.specs.declared.exprs.Expr.TheViews as expr_of
-use Rattle.cond.specs.declared.exprs.Expr.TheViews.{out-Expr, roll-Expr, out-roll-Expr}
-use Rattle.cond.specs.declared.conds.Cond.{Cond}
-use Rattle.cond.specs.declared.conds.Cond.TheOpen.{Cond-F}
-use Rattle.cond.specs.declared.conds.Cond.TheVariants as cond
-use Rattle.cond.specs.declared.conds.Cond.TheViews as cond_of
-use Rattle.cond.specs.declared.conds.Cond.TheViews.{out-Cond, roll-Cond, out-roll-Cond}
-use Rattle.cond.specs.Conditions.{between_of, in_of}
+use Rattle.table.specs.declared.exprs.Expr.{Expr}
+use Rattle.table.specs.declared.exprs.Expr.TheOpen.{Expr-F}
+use Rattle.table.specs.declared.exprs.Expr.TheVariants as expr
+use Rattle.table.specs.declared.exprs.Expr.TheViews as expr_of
+use Rattle.table.specs.declared.exprs.Expr.TheViews.{out-Expr, roll-Expr, out-roll-Expr}
+use Rattle.table.specs.declared.conds.Cond.{Cond}
+use Rattle.table.specs.declared.conds.Cond.TheOpen.{Cond-F}
+use Rattle.table.specs.declared.conds.Cond.TheVariants as cond
+use Rattle.table.specs.declared.conds.Cond.TheViews as cond_of
+use Rattle.table.specs.declared.conds.Cond.TheViews.{out-Cond, roll-Cond, out-roll-Cond}
+use Rattle.table.specs.Conditions.{between_of, in_of}
 use Rattle.syntax.specs.declared.trees.ColumnName.{ColumnName}
 use Rattle.syntax.specs.declared.trees.Condition.{Condition, out-Condition, roll-out-Condition}
 use Rattle.syntax.specs.declared.trees.Condition.TheOpen.{Condition-F, Expression-F}
@@ -25,9 +25,9 @@ use Rattle.syntax.specs.declared.trees.Expression.{Expression, out-Expression, r
 use Rattle.syntax.specs.declared.trees.SelectList.{SelectList}
 use Rattle.syntax.specs.declared.trees.Query.{Query}
 use Rattle.syntax.specs.Grammar.{and_layer}
-use Rattle.name_check.specs.Scopes.{Scope, own_column}
-use Rattle.numbering.specs.Leaves.{Leaves, Numbered, Rows, Of, Exists, Value as Worth, then_made, both, all, numbered, numbered_expression}
-use Rattle.numbering.specs.Leaves as leaves_of
+use Rattle.form_check.specs.Scopes.{Scope, own_column}
+use Rattle.form_check.specs.Leaves.{Leaves, Numbered, Rows, Of, Exists, Value as Worth, then_made, both, all, numbered, numbered_expression}
+use Rattle.form_check.specs.Leaves as leaves_of
 use Rattle.form_check.specs.Queries.{alone, row_filter}
 use Rattle.alone.specs.Reads as reads
 use Rattle.alone.specs.Reads.{Equality}

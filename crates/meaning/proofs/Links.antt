@@ -11,17 +11,17 @@ use Rattle.value.specs.declared.values.Value.TheVariants.{Null, Int, Text}
 use Rattle.value.specs.declared.refusals.Refusal.{Refusal}
 use Rattle.value.specs.declared.comparisons.Comparison.TheVariants.{Equal, NotEqual, Less, AtMost, Greater, AtLeast}
 use Rattle.value.specs.ValueOrder.{value_cmp}
-use Rattle.threeval.specs.declared.Truth.{Truth}
-use Rattle.threeval.specs.declared.Truth.TheVariants.{True, False, Unknown}
-use Rattle.threeval.specs.Truths.{and_of, is_of, known}
+use Rattle.value.specs.declared.truths.Truth.{Truth}
+use Rattle.value.specs.declared.truths.Truth.TheVariants.{True, False, Unknown}
+use Rattle.value.specs.Truths.{and_of, is_of, known}
 use Rattle.table.specs.Rows.{RowValues, Tables, value_in}
 use Rattle.table.specs.Aggregates.{aggregate}
 use Rattle.table.specs.declared.aggregates.Aggregate.{Aggregate}
 use Rattle.table.specs.declared.aggregates.Aggregate.TheVariants.{CountRows}
-use Rattle.cond.specs.declared.conds.Cond.{Cond}
-use Rattle.cond.specs.declared.conds.Cond.TheViews as cond_of
-use Rattle.cond.specs.Values as sql
-use Rattle.cond.specs.Eval as resolved
+use Rattle.table.specs.declared.conds.Cond.{Cond}
+use Rattle.table.specs.declared.conds.Cond.TheViews as cond_of
+use Rattle.table.specs.Values as sql
+use Rattle.table.specs.Eval as resolved
 use Rattle.assertion.specs.declared.queries.Query.{Query as Subquery}
 use Rattle.assertion.specs.declared.queries.Link.{Link}
 use Rattle.assertion.specs.Meaning.{State, rows_of, links, linked_answer}
@@ -32,11 +32,11 @@ use Rattle.syntax.specs.declared.trees.Condition.TheFolds.{map-Condition, map-Ex
 use Rattle.syntax.specs.declared.trees.Expression.{Expression, out-Expression}
 use Rattle.syntax.specs.declared.trees.SelectList.{SelectList, out-SelectList}
 use Rattle.syntax.specs.declared.trees.Query.{Query, out-Query}
-use Rattle.name_check.specs.Scopes as names
-use Rattle.name_check.specs.Scopes.{is_name_of, own_column}
+use Rattle.form_check.specs.Scopes as names
+use Rattle.form_check.specs.Scopes.{is_name_of, own_column}
 use Rattle.value.specs.Results.{and_then, each}
-use Rattle.numbering.specs.Results.{in_class, only_if}
-use Rattle.numbering.specs.Leaves.{Leaf, Rows, Of, Exists, Value as Worth}
+use Rattle.form_check.specs.Results.{in_class, only_if}
+use Rattle.form_check.specs.Leaves.{Leaf, Rows, Of, Exists, Value as Worth}
 use Rattle.form_check.specs.Queries.{Source, source_of, row_condition, selected_aggregate, may_be_selected, selection_may_stand, expression_may_stand}
 use Rattle.form_check.specs.Links.{parts_in, top_parts, name_in, outer_column, link_by, link_of_names, either, link_between, link_in, link_of, links_in, only_one, own_parts, filter_parts}
 use Rattle.form_check.specs.Forms.{linked_where, linked_exists, linked_value, linked}

@@ -3,7 +3,7 @@ use Rattle.std.proofs.Common.{◌≡◌, ℕ, true, Some, Result, Ok, List, []}
 use Rattle.value.specs.declared.refusals.Refusal.{Refusal}
 use Rattle.table.specs.Rows.{Tables}
 use Rattle.table.specs.declared.aggregates.Aggregate.{Aggregate}
-use Rattle.cond.specs.declared.conds.Cond.{Cond}
+use Rattle.table.specs.declared.conds.Cond.{Cond}
 use Rattle.assertion.specs.declared.queries.Query.{Query as Subquery}
 use Rattle.assertion.specs.declared.queries.Link.{Link}
 use Rattle.assertion.specs.declared.queries.Whole.{Whole}
@@ -11,11 +11,11 @@ use Rattle.assertion.specs.declared.forms.Form.{Form}
 use Rattle.assertion.specs.declared.forms.Form.TheVariants.{ByRow, ByGroup, Single}
 use Rattle.syntax.specs.declared.trees.ColumnName.{ColumnName}
 use Rattle.syntax.specs.declared.trees.Condition.{Condition}
-use Rattle.name_check.specs.Scopes.{own_column}
+use Rattle.form_check.specs.Scopes.{own_column}
 use Rattle.value.specs.Results.{and_then, each}
-use Rattle.numbering.specs.Results.{only_if}
-use Rattle.numbering.specs.Columns.{no_column, grouping_column}
-use Rattle.numbering.specs.Leaves.{Leaves, numbered}
+use Rattle.form_check.specs.Results.{only_if}
+use Rattle.form_check.specs.Columns.{no_column, grouping_column}
+use Rattle.form_check.specs.Leaves.{Leaves, numbered}
 use Rattle.form_check.specs.Queries.{Source, row_filter, may_be_selected}
 use Rattle.form_check.specs.Forms.{Clauses, plain, linked, aggregate_of, row_where, by_row, having_over, by_group, single}
 use Rattle.meaning.proofs.Steps.{and_then_ok, in_class_ok, only_if_ok, ok_same}

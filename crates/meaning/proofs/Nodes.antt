@@ -2,11 +2,11 @@
 use Rattle.std.proofs.Common.{◌≡◌, ℕ, ℤ, true, Option, Some, None, List, [], ◌∷◌, ap, ◌∙◌}
 use Rattle.value.specs.declared.values.Value.TheVariants.{Int}
 use Rattle.value.specs.declared.comparisons.Comparison.{Comparison}
-use Rattle.threeval.specs.declared.Truth.{Truth}
-use Rattle.threeval.specs.declared.Truth.TheVariants.{True}
-use Rattle.threeval.specs.Truths.{and_of, not_of, known}
+use Rattle.value.specs.declared.truths.Truth.{Truth}
+use Rattle.value.specs.declared.truths.Truth.TheVariants.{True}
+use Rattle.value.specs.Truths.{and_of, not_of, known}
 use Rattle.table.specs.Rows.{Tables}
-use Rattle.cond.specs.Values.{compared}
+use Rattle.table.specs.Values.{compared}
 use Rattle.assertion.specs.Meaning.{State}
 use Rattle.syntax.specs.declared.trees.Aggregate.{Aggregate}
 use Rattle.syntax.specs.declared.trees.ColumnName.{ColumnName}

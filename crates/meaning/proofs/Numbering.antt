@@ -10,24 +10,24 @@ use Rattle.value.specs.declared.values.Value.{Value}
 use Rattle.value.specs.declared.values.Value.TheVariants as value
 use Rattle.value.specs.declared.comparisons.Comparison.{Comparison}
 use Rattle.value.specs.declared.comparisons.Comparison.TheVariants.{Equal, AtMost, AtLeast}
-use Rattle.threeval.specs.declared.Truth.{Truth}
-use Rattle.threeval.specs.declared.Truth.TheVariants.{True, False, Unknown}
-use Rattle.threeval.specs.Truths.{and_of, not_of, is_of, known}
+use Rattle.value.specs.declared.truths.Truth.{Truth}
+use Rattle.value.specs.declared.truths.Truth.TheVariants.{True, False, Unknown}
+use Rattle.value.specs.Truths.{and_of, not_of, is_of, known}
 use Rattle.table.specs.Rows.{RowValues, Tables, value_in}
 use Rattle.table.specs.Aggregates.{is_there}
-use Rattle.cond.specs.declared.exprs.Expr.{Expr}
-use Rattle.cond.specs.declared.exprs.Expr.TheOpen.{Expr-F}
-use Rattle.cond.specs.declared.exprs.Expr.TheFolds.{fold-roll-Expr}
-use Rattle.cond.specs.declared.exprs.Expr.TheVariants as expr
-use Rattle.cond.specs.declared.exprs.Expr.TheViews as expr_of
-use Rattle.cond.specs.declared.conds.Cond.{Cond}
-use Rattle.cond.specs.declared.conds.Cond.TheOpen.{Cond-F}
-use Rattle.cond.specs.declared.conds.Cond.TheFolds.{fold-roll-Cond}
-use Rattle.cond.specs.declared.conds.Cond.TheVariants as cond
-use Rattle.cond.specs.declared.conds.Cond.TheViews as cond_of
-use Rattle.cond.specs.Conditions.{between_of, in_of}
-use Rattle.cond.specs.Values as sql
-use Rattle.cond.specs.Eval as resolved
+use Rattle.table.specs.declared.exprs.Expr.{Expr}
+use Rattle.table.specs.declared.exprs.Expr.TheOpen.{Expr-F}
+use Rattle.table.specs.declared.exprs.Expr.TheFolds.{fold-roll-Expr}
+use Rattle.table.specs.declared.exprs.Expr.TheVariants as expr
+use Rattle.table.specs.declared.exprs.Expr.TheViews as expr_of
+use Rattle.table.specs.declared.conds.Cond.{Cond}
+use Rattle.table.specs.declared.conds.Cond.TheOpen.{Cond-F}
+use Rattle.table.specs.declared.conds.Cond.TheFolds.{fold-roll-Cond}
+use Rattle.table.specs.declared.conds.Cond.TheVariants as cond
+use Rattle.table.specs.declared.conds.Cond.TheViews as cond_of
+use Rattle.table.specs.Conditions.{between_of, in_of}
+use Rattle.table.specs.Values as sql
+use Rattle.table.specs.Eval as resolved
 use Rattle.assertion.specs.Meaning.{State}
 use Rattle.syntax.specs.declared.trees.ColumnName.{ColumnName}
 use Rattle.syntax.specs.declared.trees.Condition.{Condition, roll-Condition}
@@ -37,8 +37,8 @@ use Rattle.syntax.specs.declared.trees.Expression.{Expression, roll-Expression}
 use Rattle.syntax.specs.declared.trees.SelectList.{SelectList}
 use Rattle.syntax.specs.declared.trees.Query.{Query}
 use Rattle.value.specs.Results.{and_then}
-use Rattle.numbering.specs.Leaves.{Leaf, Leaves, Numbered, Rows, Of, Exists, Value as Worth, placed, slot, then_made, both, all, numbered, numbered_expression}
-use Rattle.numbering.specs.Leaves as leaves_of
+use Rattle.form_check.specs.Leaves.{Leaf, Leaves, Numbered, Rows, Of, Exists, Value as Worth, placed, slot, then_made, both, all, numbered, numbered_expression}
+use Rattle.form_check.specs.Leaves as leaves_of
 use Rattle.meaning.specs.Meaning as written
 use Rattle.meaning.specs.Meaning.{References, Valued, Answer, column_values, first_value, rows_at_hand, set_function, only_value, is_any, truth, valued, answers}
 use Rattle.meaning.proofs.Steps.{and_then_ok, in_class_ok, then_ok, ok_pair}

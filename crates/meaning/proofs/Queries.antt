@@ -5,13 +5,13 @@ use Rattle.std.proofs.lemmas.List.Elements.{filter_agree}
 use Rattle.std.proofs.lemmas.Option.{same_Some}
 use Rattle.value.specs.declared.values.Value.{Value}
 use Rattle.value.specs.declared.refusals.Refusal.{Refusal}
-use Rattle.threeval.specs.declared.Truth.{Truth}
+use Rattle.value.specs.declared.truths.Truth.{Truth}
 use Rattle.table.specs.Rows.{RowValues, Layout, Tables, layout_of, position_of}
 use Rattle.table.specs.Aggregates.{is_there, aggregate, values_in}
 use Rattle.table.specs.declared.aggregates.Aggregate.{Aggregate}
 use Rattle.table.specs.declared.aggregates.Aggregate.TheVariants.{CountRows}
-use Rattle.cond.specs.declared.conds.Cond.{Cond}
-use Rattle.cond.specs.Eval as resolved
+use Rattle.table.specs.declared.conds.Cond.{Cond}
+use Rattle.table.specs.Eval as resolved
 use Rattle.assertion.specs.declared.queries.Query.{Query as Subquery}
 use Rattle.assertion.specs.declared.queries.Whole.{Whole}
 use Rattle.assertion.specs.Meaning.{State, rows_of, plain_answer}
@@ -24,10 +24,10 @@ use Rattle.syntax.specs.declared.trees.Condition.TheFolds.{map-Expression, map-S
 use Rattle.syntax.specs.declared.trees.Expression.{Expression, out-Expression}
 use Rattle.syntax.specs.declared.trees.SelectList.{SelectList, out-SelectList}
 use Rattle.syntax.specs.declared.trees.Query.{Query, out-Query}
-use Rattle.name_check.specs.Scopes as names
-use Rattle.name_check.specs.Scopes.{own_column}
+use Rattle.form_check.specs.Scopes as names
+use Rattle.form_check.specs.Scopes.{own_column}
 use Rattle.value.specs.Results.{and_then, each}
-use Rattle.numbering.specs.Leaves.{Leaf, Leaves, Rows, Of, Exists, Value as Worth}
+use Rattle.form_check.specs.Leaves.{Leaf, Leaves, Rows, Of, Exists, Value as Worth}
 use Rattle.form_check.specs.Queries.{Source, sourced, source_of, row_filter, of_column, aggregate_in, aggregate_selected, selected_aggregate}
 use Rattle.form_check.specs.Forms.{Clauses, plain, plain_by, plain_value}
 use Rattle.meaning.specs.Meaning as written

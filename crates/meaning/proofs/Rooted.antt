@@ -8,20 +8,20 @@ use Rattle.std.proofs.lemmas.Option.{same_Some}
 use Rattle.value.specs.declared.values.Value.{Value}
 use Rattle.value.specs.declared.values.Root.{Root}
 use Rattle.value.specs.declared.values.Root.TheVariants.{Of}
-use Rattle.threeval.specs.declared.Truth.TheVariants.{True}
-use Rattle.threeval.specs.Truths.{is_of}
+use Rattle.value.specs.declared.truths.Truth.TheVariants.{True}
+use Rattle.value.specs.Truths.{is_of}
 use Rattle.table.specs.Rows.{RowValues, Layout, Tables, value_in, layout_of, position_of, layouts_of, names_of}
-use Rattle.cond.specs.declared.conds.Cond.{Cond}
-use Rattle.cond.specs.declared.conds.Cond.TheViews as cond_of
-use Rattle.cond.specs.Eval as resolved
+use Rattle.table.specs.declared.conds.Cond.{Cond}
+use Rattle.table.specs.declared.conds.Cond.TheViews as cond_of
+use Rattle.table.specs.Eval as resolved
 use Rattle.assertion.specs.declared.queries.Query.{Query as Subquery}
 use Rattle.assertion.specs.declared.queries.Link.{Link}
 use Rattle.assertion.specs.Meaning.{State, rows_of, linked_answer, lists_row, row_roots}
 use Rattle.syntax.specs.declared.trees.Condition.{Condition}
-use Rattle.name_check.specs.Scopes as names
-use Rattle.name_check.specs.Scopes.{own_column}
+use Rattle.form_check.specs.Scopes as names
+use Rattle.form_check.specs.Scopes.{own_column}
 use Rattle.value.specs.Results.{each}
-use Rattle.numbering.specs.Leaves.{Leaves}
+use Rattle.form_check.specs.Leaves.{Leaves}
 use Rattle.form_check.specs.Queries.{Source, sourced}
 use Rattle.form_check.specs.Forms.{linked, row_where}
 use Rattle.meaning.specs.Meaning.{References, Valued, Answer, first_value, with_rows, passes, truth, root_of}

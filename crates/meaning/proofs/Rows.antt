@@ -2,19 +2,19 @@
 use Rattle.std.proofs.Common.{◌≡◌, ℕ, Option, Some, None, Result, Ok, Err, List, [], ◌∷◌, map, refl, ap, sym, ◌∙◌, subst}
 use Rattle.std.specs.Prelude.{Bool, true, false, if◌then◌else◌, option_map}
 use Rattle.value.specs.declared.refusals.Refusal.{Refusal}
-use Rattle.threeval.specs.declared.Truth.TheVariants.{True}
-use Rattle.threeval.specs.Truths.{is_of}
+use Rattle.value.specs.declared.truths.Truth.TheVariants.{True}
+use Rattle.value.specs.Truths.{is_of}
 use Rattle.table.specs.Rows.{RowValues, Tables, value_in}
-use Rattle.cond.specs.declared.exprs.Expr.{Expr}
-use Rattle.cond.specs.declared.conds.Cond.{Cond}
-use Rattle.cond.specs.declared.conds.Cond.TheViews as cond_of
-use Rattle.cond.specs.Eval as resolved
+use Rattle.table.specs.declared.exprs.Expr.{Expr}
+use Rattle.table.specs.declared.conds.Cond.{Cond}
+use Rattle.table.specs.declared.conds.Cond.TheViews as cond_of
+use Rattle.table.specs.Eval as resolved
 use Rattle.assertion.specs.Meaning.{State}
 use Rattle.syntax.specs.declared.trees.ColumnName.{ColumnName}
 use Rattle.syntax.specs.declared.trees.Condition.{Condition}
 use Rattle.syntax.specs.declared.trees.Expression.{Expression}
-use Rattle.name_check.specs.Scopes.{Scope, named_in, is_name_of, innermost, own_column}
-use Rattle.numbering.specs.Leaves.{Leaves, numbered, numbered_expression}
+use Rattle.form_check.specs.Scopes.{Scope, named_in, is_name_of, innermost, own_column}
+use Rattle.form_check.specs.Leaves.{Leaves, numbered, numbered_expression}
 use Rattle.form_check.specs.Queries.{alone, row_condition, row_expression, row_filter}
 use Rattle.meaning.specs.Meaning.{Reference, References, column_values, values_at, values_of, first_value, truth, valued, passes}
 use Rattle.meaning.specs.Laws.{seen}

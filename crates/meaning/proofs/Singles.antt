@@ -1,6 +1,6 @@
 -- Single conditions.
 use Rattle.std.proofs.Common.{◌≡◌, ℕ, Some, Ok, List, [], map, sym, ◌∙◌, append-nil}
-use Rattle.cond.specs.declared.conds.Cond.{Cond}
+use Rattle.table.specs.declared.conds.Cond.{Cond}
 use Rattle.assertion.specs.declared.forms.Form.{Form}
 use Rattle.assertion.specs.declared.forms.Form.TheVariants.{Single}
 use Rattle.assertion.specs.declared.queries.Query.{Query as Subquery}
@@ -9,7 +9,7 @@ use Rattle.assertion.specs.Meaning.{State, plain_answer, single_truth}
 use Rattle.table.specs.Rows.{RowValues, Tables, value_in}
 use Rattle.syntax.specs.declared.trees.ColumnName.{ColumnName}
 use Rattle.syntax.specs.declared.trees.Condition.{Condition}
-use Rattle.numbering.specs.Columns.{no_column}
+use Rattle.form_check.specs.Columns.{no_column}
 use Rattle.form_check.specs.Forms.{single, plain}
 use Rattle.meaning.specs.Meaning.{References, column_values, first_value, written_truth}
 use Rattle.meaning.proofs.Made.{single_made}

@@ -3,13 +3,13 @@ use Rattle.std.proofs.Common.{◌≡◌, ℕ, Option, Some, None, Ok, List, [], 
 use Rattle.std.proofs.lemmas.List.{map-append}
 use Rattle.std.specs.Prelude.{IsSome, is_some, flat_map, ◌↔◌}
 use Rattle.value.specs.declared.values.Value.TheVariants as value
-use Rattle.cond.specs.declared.exprs.Expr.{Expr}
-use Rattle.cond.specs.declared.exprs.Expr.TheVariants as expr
-use Rattle.cond.specs.declared.exprs.Expr.TheViews as expr_of
-use Rattle.cond.specs.declared.conds.Cond.{Cond}
-use Rattle.cond.specs.declared.conds.Cond.TheVariants as cond
-use Rattle.cond.specs.declared.conds.Cond.TheViews as cond_of
-use Rattle.cond.specs.Conditions.{between_of, in_of}
+use Rattle.table.specs.declared.exprs.Expr.{Expr}
+use Rattle.table.specs.declared.exprs.Expr.TheVariants as expr
+use Rattle.table.specs.declared.exprs.Expr.TheViews as expr_of
+use Rattle.table.specs.declared.conds.Cond.{Cond}
+use Rattle.table.specs.declared.conds.Cond.TheVariants as cond
+use Rattle.table.specs.declared.conds.Cond.TheViews as cond_of
+use Rattle.table.specs.Conditions.{between_of, in_of}
 use Rattle.syntax.specs.declared.trees.ColumnName.{ColumnName}
 use Rattle.syntax.specs.declared.trees.Condition.{Condition, roll-Condition}
 use Rattle.syntax.specs.declared.trees.Condition.TheOpen.{Condition-F, Expression-F}
@@ -18,9 +18,9 @@ use Rattle.syntax.specs.declared.trees.Expression.{Expression, roll-Expression}
 use Rattle.syntax.specs.declared.trees.SelectList.{SelectList}
 use Rattle.syntax.specs.declared.trees.Query.{Query}
 use Rattle.value.specs.Results.{and_then}
-use Rattle.numbering.specs.Results.{in_class}
-use Rattle.numbering.specs.Leaves.{Leaf, Leaves, Numbered, Rows, Of, Exists, Value as Worth, placed, then_made, both, all, numbered, numbered_expression}
-use Rattle.numbering.specs.Leaves as leaves_of
+use Rattle.form_check.specs.Results.{in_class}
+use Rattle.form_check.specs.Leaves.{Leaf, Leaves, Numbered, Rows, Of, Exists, Value as Worth, placed, then_made, both, all, numbered, numbered_expression}
+use Rattle.form_check.specs.Leaves as leaves_of
 use Rattle.meaning.specs.Class as class
 use Rattle.meaning.specs.Class.{Piece, Pieces, Each, condition_columns, expression_columns, columns_in, condition_pieces, expression_pieces, pieces_in}
 use Rattle.meaning.proofs.Steps.{and_then_ok, in_class_ok, then_ok, ok_pair}

@@ -2,8 +2,8 @@
 use Rattle.std.proofs.Common.{◌≡◌, Result, Ok, Err, Option, Some, None, refl, ap}
 use Rattle.value.specs.declared.refusals.Refusal.{Refusal}
 pub use Rattle.value.proofs.Results.{ok_same, and_then_ok}
-use Rattle.numbering.specs.Results.{in_class, only_if}
-use Rattle.numbering.specs.Leaves.{Leaves, then_made}
+use Rattle.form_check.specs.Results.{in_class, only_if}
+use Rattle.form_check.specs.Leaves.{Leaves, then_made}
 use Rattle.std.specs.Prelude.{Bool, true, false}
 
 -- both parts of a pair

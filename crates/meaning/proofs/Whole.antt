@@ -7,9 +7,9 @@ use Rattle.value.specs.ValueOrder.{root_cmp}
 use Rattle.value.specs.Ordered.{least, lesser}
 use Rattle.value.proofs.OrderedLists.{has, has-itself}
 use Rattle.value.proofs.ValueOrders.{root_cmp_total, root_exact}
-use Rattle.threeval.specs.declared.Truth.{Truth}
-use Rattle.threeval.specs.declared.Truth.TheVariants.{False}
-use Rattle.threeval.specs.Truths.{not_of, is_of, known}
+use Rattle.value.specs.declared.truths.Truth.{Truth}
+use Rattle.value.specs.declared.truths.Truth.TheVariants.{False}
+use Rattle.value.specs.Truths.{not_of, is_of, known}
 use Rattle.table.specs.Rows.{Layout, Tables, layout_of, position_of, layouts_of}
 use Rattle.assertion.specs.declared.forms.Form.{Form}
 use Rattle.assertion.specs.Meaning.{State, rows_of, key_of, bad_roots, verdict_of, truth_of_roots, row_roots}
@@ -22,7 +22,7 @@ use Rattle.syntax.specs.declared.trees.Condition.TheFolds.{map-Condition}
 use Rattle.syntax.specs.declared.trees.Expression.{Expression}
 use Rattle.syntax.specs.declared.trees.SelectList.{SelectList}
 use Rattle.syntax.specs.declared.trees.Query.{Query, out-Query}
-use Rattle.name_check.specs.Scopes.{own_column}
+use Rattle.form_check.specs.Scopes.{own_column}
 use Rattle.form_check.specs.Queries.{Source, source_of}
 use Rattle.form_check.specs.Forms.{Clauses, by_row, by_group, by_clauses, not_exists, single, denied, form_in}
 use Rattle.meaning.specs.Meaning as written

@@ -15,7 +15,7 @@ use Rattle.syntax.specs.declared.trees.Expression.{Expression, out-Expression}
 use Rattle.syntax.specs.declared.trees.SelectList.{SelectList, out-SelectList}
 use Rattle.syntax.specs.declared.trees.Query.{Query, out-Query}
 use Rattle.syntax.specs.Grammar.{and_layer}
-use Rattle.name_check.specs.Scopes.{Scope, is_name_of, own_column}
+use Rattle.form_check.specs.Scopes.{Scope, is_name_of, own_column}
 
 -- each of a list is so
 abbrev pub Each : {X : Type 0} → (X → Type 0) → List X → Type 0

@@ -10,7 +10,7 @@ use Rattle.value.specs.declared.comparisons.Comparison.TheVariants.{Equal}
 use Rattle.table.specs.declared.rows.Change.{Change}
 use Rattle.table.specs.Rows.{RowValues, Tables, layouts_of, position_of, row_at, value_in}
 use Rattle.table.specs.Aggregates.{is_there}
-use Rattle.cond.specs.declared.conds.Cond.{Cond}
+use Rattle.table.specs.declared.conds.Cond.{Cond}
 use Rattle.syntax.specs.declared.trees.ColumnName.{ColumnName}
 use Rattle.syntax.specs.declared.trees.Condition.{Condition, out-Condition}
 use Rattle.syntax.specs.declared.trees.Condition.TheOpen.{Condition-F, Expression-F}
@@ -18,14 +18,14 @@ use Rattle.syntax.specs.declared.trees.Expression.{Expression, out-Expression}
 use Rattle.syntax.specs.declared.trees.SelectList.{SelectList}
 use Rattle.syntax.specs.declared.trees.Query.{Query, out-Query}
 use Rattle.syntax.specs.Grammar.{and_layer}
-use Rattle.statement_syntax.specs.declared.statements.Assignment.{Assignment}
-use Rattle.statement_syntax.specs.declared.statements.Statement.TheVariants as statement
-use Rattle.statement_syntax.specs.declared.statements.Which.{Which}
+use Rattle.syntax.specs.declared.statements.Assignment.{Assignment}
+use Rattle.syntax.specs.declared.statements.Statement.TheVariants as statement
+use Rattle.syntax.specs.declared.statements.Which.{Which}
 use Rattle.assertion.specs.declared.forms.Form.{Form}
 use Rattle.assertion.specs.Declarations.{Declared}
 use Rattle.assertion.specs.Meaning.{State, rows_of}
 use Rattle.assertion.specs.declared.queries.Link.{Link}
-use Rattle.name_check.specs.Scopes.{Scope, own_column}
+use Rattle.form_check.specs.Scopes.{Scope, own_column}
 use Rattle.form_check.specs.Forms.{form_of}
 use Rattle.form_check.specs.Queries.{row_filter}
 use Rattle.assertcheck.specs.declared.deletes.Delete.{Delete}

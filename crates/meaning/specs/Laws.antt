@@ -6,26 +6,26 @@ use Rattle.value.specs.declared.values.Value.{Value}
 use Rattle.value.specs.declared.values.Value.TheVariants as value
 use Rattle.value.specs.declared.values.Root.{Root}
 use Rattle.table.specs.Rows.{RowValues, Tables, layouts_of}
-use Rattle.cond.specs.declared.exprs.Expr.{Expr}
-use Rattle.cond.specs.declared.conds.Cond.{Cond}
-use Rattle.cond.specs.Eval as resolved
+use Rattle.table.specs.declared.exprs.Expr.{Expr}
+use Rattle.table.specs.declared.conds.Cond.{Cond}
+use Rattle.table.specs.Eval as resolved
 use Rattle.assertion.specs.declared.forms.Form.{Form}
 use Rattle.assertion.specs.declared.assertions.Assertion.{Assertion}
 use Rattle.assertion.specs.Meaning.{State, rows_of, filtered_rows, bad_roots, verdict_of, least_bad_of}
 use Rattle.syntax.specs.declared.trees.Condition.{Condition}
 use Rattle.syntax.specs.declared.trees.Expression.{Expression}
-use Rattle.statement_syntax.specs.declared.definitions.Attributes.{Attributes}
-use Rattle.statement_syntax.specs.declared.statements.Assigned.{Assigned}
-use Rattle.statement_syntax.specs.declared.statements.Assigned.TheVariants.{Null, To}
-use Rattle.statement_syntax.specs.declared.statements.Assignment.{Assignment}
-use Rattle.statement_syntax.specs.declared.statements.Which.{Which}
-use Rattle.statement_syntax.specs.declared.statements.Which.TheVariants.{All, Names}
-use Rattle.name_check.specs.Scopes.{Scope, named_in}
-use Rattle.name_check.specs.Names.{condition_fault}
+use Rattle.syntax.specs.declared.definitions.Attributes.{Attributes}
+use Rattle.syntax.specs.declared.statements.Assigned.{Assigned}
+use Rattle.syntax.specs.declared.statements.Assigned.TheVariants.{Null, To}
+use Rattle.syntax.specs.declared.statements.Assignment.{Assignment}
+use Rattle.syntax.specs.declared.statements.Which.{Which}
+use Rattle.syntax.specs.declared.statements.Which.TheVariants.{All, Names}
+use Rattle.form_check.specs.Scopes.{Scope, named_in}
+use Rattle.form_check.specs.Names.{condition_fault}
 use Rattle.form_check.specs.Forms.{form_of}
 use Rattle.form_check.specs.Queries.{row_condition, row_expression}
-use Rattle.type_check.specs.Forms.{is_typed_form}
-use Rattle.type_check.specs.Widths.{is_bounded_form}
+use Rattle.assertcheck.specs.Forms.{is_typed_form}
+use Rattle.assertcheck.specs.Widths.{is_bounded_form}
 use Rattle.assertcheck.specs.declared.deletes.Delete.{Delete}
 use Rattle.assertcheck.specs.declared.selects.Select.{Select}
 use Rattle.assertcheck.specs.declared.updates.Setting.{Setting}

@@ -10,12 +10,12 @@ use Rattle.value.specs.declared.values.Root.TheVariants.{All, Of}
 use Rattle.value.specs.declared.comparisons.Comparison.TheVariants.{Equal, AtMost, AtLeast}
 use Rattle.value.specs.ValueOrder.{value_cmp, root_cmp}
 use Rattle.value.specs.Ordered.{least}
-use Rattle.threeval.specs.declared.Truth.{Truth}
-use Rattle.threeval.specs.declared.Truth.TheVariants.{True, False}
-use Rattle.threeval.specs.Truths.{and_of, not_of, is_of, known}
+use Rattle.value.specs.declared.truths.Truth.{Truth}
+use Rattle.value.specs.declared.truths.Truth.TheVariants.{True, False}
+use Rattle.value.specs.Truths.{and_of, not_of, is_of, known}
 use Rattle.table.specs.Rows.{RowValues, Layout, Tables, value_in, layout_of, position_of}
 use Rattle.table.specs.Aggregates.{is_there, sum_answer}
-use Rattle.cond.specs.Values.{negated, total, compared, is_null, all_of, any_of}
+use Rattle.table.specs.Values.{negated, total, compared, is_null, all_of, any_of}
 use Rattle.syntax.specs.declared.trees.Aggregate.{Aggregate}
 use Rattle.syntax.specs.declared.trees.Aggregate.TheVariants.{Count, Sum, Min, Max}
 use Rattle.syntax.specs.declared.trees.ColumnName.{ColumnName}
@@ -26,7 +26,7 @@ use Rattle.syntax.specs.declared.trees.Expression.{Expression}
 use Rattle.syntax.specs.declared.trees.SelectList.{SelectList}
 use Rattle.syntax.specs.declared.trees.Query.{Query, out-Query}
 use Rattle.assertion.specs.Meaning.{State, rows_of}
-use Rattle.name_check.specs.Scopes.{Scope, named_in, innermost}
+use Rattle.form_check.specs.Scopes.{Scope, named_in, innermost}
 
 -- ---- names (5.4, 6.3, 6.4)
 

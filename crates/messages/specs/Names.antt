@@ -5,7 +5,7 @@ use Rattle.token.specs.declared.kinds.Kind.{Kind}
 use Rattle.token.specs.declared.kinds.Kind.TheVariants as k
 use Rattle.token.specs.declared.spans.Token.{Token}
 use Rattle.token.specs.Lexer.{answer, next_of}
-use Rattle.reading.specs.Reading.{same_kind}
+use Rattle.syntax.specs.Reading.{same_kind}
 
 abbrev pub name_kind : Kind
 name_kind = k.Name

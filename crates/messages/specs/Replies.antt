@@ -2,11 +2,11 @@
 use Rattle.std.specs.Prelude.{ℕ, Bool, true, false, List, [], ◌∷◌, ◌++◌, codes, if◌then◌else◌}
 use Rattle.value.specs.declared.refusals.Refusal.{Refusal}
 use Rattle.table.specs.declared.schemas.Column.{Column}
-use Rattle.statement_syntax.specs.declared.statements.Which.TheVariants as which
-use Rattle.statement_syntax.specs.declared.statements.Statement.TheVariants as statement
-use Rattle.statement_syntax.specs.declared.statements.Event.{Event}
-use Rattle.statement_syntax.specs.declared.statements.Event.TheVariants as event
-use Rattle.statement_syntax.specs.declared.statements.Step.{Step}
+use Rattle.syntax.specs.declared.statements.Which.TheVariants as which
+use Rattle.syntax.specs.declared.statements.Statement.TheVariants as statement
+use Rattle.syntax.specs.declared.statements.Event.{Event}
+use Rattle.syntax.specs.declared.statements.Event.TheVariants as event
+use Rattle.syntax.specs.declared.statements.Step.{Step}
 use Rattle.answer.specs.declared.answers.Reply.{Reply}
 use Rattle.answer.specs.declared.answers.Reply.TheVariants as reply
 use Rattle.answer.specs.declared.answers.Answer.{Answer}

@@ -2,7 +2,7 @@
 
 ghost use Rattle.std.specs.Prelude.{◌≡◌, IfOk, IsOkUnless};
 ghost use Rattle.token.specs.Bytes.{name_of};
-ghost use Rattle.reading.specs.Reading.{same_kind};
+ghost use Rattle.syntax.specs.Reading.{same_kind};
 ghost use Rattle.value.specs.declared.refusals.Refusal.TheVariants.{NoMemory};
 ghost use Rattle.messages.specs.Names as spec;
 
@@ -11,7 +11,7 @@ use token::{Kind, Token, name_bytes, next_token};
 use value::{Refusal, Text};
 
 /// Whether a kind is that of names.
-#[tactic(auto, unfolding(reading::specs::Reading::same_kind))]
+#[tactic(auto, unfolding(syntax::specs::Reading::same_kind))]
 fn is_name_kind(kind: Kind) -> bool
     ensures { result ≡ same_kind kind spec.name_kind }
 {

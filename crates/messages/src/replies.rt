@@ -8,8 +8,8 @@ use crate::lines::line_of;
 use crate::responses::{Misuse, Response};
 use answer::{Answer, Reply};
 use layout::Bytes;
-use statement_syntax::{Event, Statement, Step, Which};
 use std::alloc::{AllocError, Global};
+use syntax::{Event, Statement, Step, Which};
 use table::Column;
 use value::Refusal;
 

@@ -4,7 +4,7 @@ ghost use Rattle.std.specs.Prelude.{◌≡◌};
 ghost use Rattle.messages.specs.Statuses as spec;
 
 use answer::Answer;
-use statement_syntax::Step;
+use syntax::Step;
 use value::{Refusal, Text};
 
 /// What was refused as a whole, and not as an event of a session.

@@ -5,10 +5,10 @@ use Rattle.std.specs.Str.{bytes_eq}
 use Rattle.value.specs.declared.refusals.Refusal.{Refusal}
 use Rattle.value.specs.declared.refusals.Refusal.TheVariants.{UnknownName, NotDeferrable}
 use Rattle.value.specs.Results.{each}
-use Rattle.statement_syntax.specs.declared.statements.Mode.{Mode}
-use Rattle.statement_syntax.specs.declared.statements.Mode.TheVariants.{Deferred, Immediate}
-use Rattle.statement_syntax.specs.declared.statements.Which.{Which}
-use Rattle.statement_syntax.specs.declared.statements.Which.TheVariants.{All, Names}
+use Rattle.syntax.specs.declared.statements.Mode.{Mode}
+use Rattle.syntax.specs.declared.statements.Mode.TheVariants.{Deferred, Immediate}
+use Rattle.syntax.specs.declared.statements.Which.{Which}
+use Rattle.syntax.specs.declared.statements.Which.TheVariants.{All, Names}
 use Rattle.assertion.specs.declared.assertions.Assertion.{Assertion}
 
 -- for each assertion, in the order of their creation, whether it is immediate

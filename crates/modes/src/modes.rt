@@ -6,9 +6,9 @@ ghost use Rattle.modes.specs.Modes.{all_immediate, initial_modes, is_immediate, 
 
 use crate::names::is_named;
 use assertion::Assertion;
-use statement_syntax::Mode;
 use std::alloc::Global;
 use std::marker::Model;
+use syntax::Mode;
 use value::{Refusal, Text};
 
 /// The modes of a transaction: for each assertion, in the order of their creation, whether it is immediate.

@@ -7,8 +7,8 @@ ghost use Rattle.modes.specs.Modes.{assertion_of, deferrable_names, is_named, se
 
 use assertion::Assertion;
 use sqlite_items::Items;
-use statement_syntax::Which;
 use std::alloc::Global;
+use syntax::Which;
 use value::{Refusal, Text};
 
 /// The names of the assertions whose mode SET CONSTRAINTS sets.

@@ -1,1 +1,2 @@
+mod Widths
 mod Telling

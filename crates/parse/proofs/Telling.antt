@@ -5,12 +5,12 @@ use Rattle.value.specs.declared.refusals.Refusal.TheVariants as refusal
 use Rattle.leaf_parser.specs.declared.stops.Stop.{Stop}
 use Rattle.leaf_parser.specs.declared.stops.Stop.TheVariants as stop
 use Rattle.leaf_parser.specs.Reads.{Stops}
-use Rattle.reading.specs.Language.{Lexemes, Language, Some_level}
-use Rattle.reading.specs.Reading.{Reader, Done, Fail, Deep, Outcome, whole}
-use Rattle.reading.specs.Answer.{Fits}
+use Rattle.syntax.specs.Language.{Lexemes, Language, Some_level}
+use Rattle.syntax.specs.Reading.{Reader, Done, Fail, Deep, Outcome, whole}
+use Rattle.syntax.specs.Answer.{Fits}
 use Rattle.token.specs.declared.spans.Token.{Token}
-use Rattle.reading.specs.Lexemes.{lexeme, place}
-use Rattle.reading.proofs.Whole as law
+use Rattle.syntax.specs.Lexemes.{lexeme, place}
+use Rattle.syntax.proofs.Whole as law
 use Rattle.parse.specs.Told.{Told, Refused, Gave, refusal_of}
 
 pub stops_told : {A : Type 0} (outcome : Outcome A) (why : Stop) (new : Lexemes) (end : ℕ) → Stops outcome why new → Told {A = A} outcome end (Err (refusal_of (place end new) why))

@@ -4,10 +4,10 @@ use Rattle.value.specs.declared.refusals.Refusal.{Refusal}
 use Rattle.value.specs.declared.refusals.Refusal.TheVariants as refusal
 use Rattle.leaf_parser.specs.declared.stops.Stop.{Stop}
 use Rattle.leaf_parser.specs.declared.stops.Stop.TheVariants as stop
-use Rattle.reading.specs.Language.{Lexemes, Language}
-use Rattle.reading.specs.Reading.{Outcome, Done, Fail, Deep}
-use Rattle.reading.specs.Answer.{IsWrong, IsTooDeep}
-use Rattle.reading.specs.Lexemes.{place}
+use Rattle.syntax.specs.Language.{Lexemes, Language}
+use Rattle.syntax.specs.Reading.{Outcome, Done, Fail, Deep}
+use Rattle.syntax.specs.Answer.{IsWrong, IsTooDeep}
+use Rattle.syntax.specs.Lexemes.{place}
 
 -- how many parentheses may be open
 abbrev pub most_open : ℕ

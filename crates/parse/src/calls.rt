@@ -1,19 +1,19 @@
 //! The trees of texts.
 
 ghost use Rattle.std.specs.Prelude.{List, length, IfOk, IfErr};
-ghost use Rattle.statement_syntax.specs.declared.statements.Event.{Event};
-ghost use Rattle.statement_syntax.specs.declared.statements.Step.{Step};
-ghost use Rattle.statement_syntax.specs.declared.definitions.Definition.{Definition};
-ghost use Rattle.statement_syntax.specs.Grammar.{IsEvent};
-ghost use Rattle.statement_syntax.specs.SchemaGrammar.{IsSchema, IsScript};
-ghost use Rattle.reading.specs.Answer.{Fits};
-ghost use Rattle.reading.specs.Lexemes.{lexemes};
+ghost use Rattle.syntax.specs.declared.statements.Event.{Event};
+ghost use Rattle.syntax.specs.declared.statements.Step.{Step};
+ghost use Rattle.syntax.specs.declared.definitions.Definition.{Definition};
+ghost use Rattle.syntax.specs.StatementGrammar.{IsEvent};
+ghost use Rattle.syntax.specs.SchemaGrammar.{IsSchema, IsScript};
+ghost use Rattle.syntax.specs.Answer.{Fits};
+ghost use Rattle.syntax.specs.Lexemes.{lexemes};
 ghost use Rattle.parse.specs.Told.{most_open, Refused, Gave};
 
 use crate::wholes::{event_of, schema_of, script_of};
 use sqlite_items::Items;
-use statement_syntax::{Definition, Event, Step};
 use std::alloc::Global;
+use syntax::{Definition, Event, Step};
 use token::read_tokens;
 use value::Refusal;
 

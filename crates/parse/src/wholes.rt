@@ -1,19 +1,21 @@
 //! Whole texts: a reader, and nothing behind it.
 
 ghost use Rattle.std.specs.Prelude.{◌≡◌, map, length};
-ghost use Rattle.statement_syntax.specs.Readers as event;
-ghost use Rattle.statement_syntax.specs.SchemaReaders as schema;
-ghost use Rattle.reading.specs.Reading as rd;
-ghost use Rattle.reading.specs.Lexemes.{lexeme, place};
+ghost use Rattle.syntax.specs.StatementReaders as event;
+ghost use Rattle.syntax.specs.SchemaReaders as schema;
+ghost use Rattle.syntax.specs.Reading as rd;
+ghost use Rattle.syntax.specs.Lexemes.{lexeme, place};
 ghost use Rattle.leaf_parser.specs.Reads.{Reads};
 ghost use Rattle.parse.specs.Told.{Told};
 ghost use Rattle.parse.specs.Told as spec;
 
+use crate::events::parse_event;
+use crate::schemas::parse_definitions;
+use crate::scripts::parse_script;
 use leaf_parser::{Cursor, Stop};
 use sqlite_items::Items;
-use statement_parser::{parse_definitions, parse_event, parse_script};
-use statement_syntax::{Definition, Event, Step};
 use std::alloc::Global;
+use syntax::{Definition, Event, Step};
 use token::Token;
 use value::Refusal;
 

@@ -12,7 +12,7 @@ use crate::legends::add_legend;
 use crate::lists::{add_arrow_list, add_heading};
 use crate::scenes::Scene;
 use history::{History, Source, read_history};
-use running::{ProgramFault, flush, write_all};
+use replay::{ProgramFault, flush, write_all};
 use std::alloc::{AllocError, Global};
 use std::io::Write;
 

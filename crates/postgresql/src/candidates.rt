@@ -7,9 +7,9 @@
 
 use crate::forms::{add_filter, add_source, column_name, key_name};
 use assertion::{Form, Link, Query, Whole};
-use cond::Cond;
 use delta::View;
 use std::alloc::AllocError;
+use table::Cond;
 
 /// Whether an assertion is over a table.
 pub fn is_over(form: &Form, table: usize) -> bool {

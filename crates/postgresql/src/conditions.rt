@@ -4,9 +4,8 @@
 //! of type numeric, which has no bound that a condition of the class could pass.
 
 use crate::words::{ColumnName, Constant, sign};
-use cond::{Cond, Expr};
 use std::alloc::AllocError;
-use table::Column;
+use table::{Column, Cond, Expr};
 
 /// What stands in a slot, as a value and as the test whether there is a row.
 #[derive(Drop)]

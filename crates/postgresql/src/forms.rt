@@ -7,10 +7,9 @@ use crate::conditions::{Scope, Slot, add_condition};
 use crate::totals;
 use crate::words::{ColumnName, Name, SetFunction};
 use assertion::{Form, Link, Query, Whole};
-use cond::Cond;
 use delta::View;
 use std::alloc::{AllocError, Global};
-use table::{Aggregate, Column};
+use table::{Aggregate, Column, Cond};
 use value::ColType;
 
 /// Of what an assertion's roots are.

@@ -9,8 +9,8 @@ use Rattle.token.specs.declared.kinds.Kind.TheVariants as k
 use Rattle.token.specs.declared.spans.Token.{Token}
 use Rattle.token.specs.Bytes.{Text}
 use Rattle.value.specs.declared.values.Value.{Value}
-use Rattle.reading.specs.Language.{Lexemes}
-use Rattle.reading.specs.Lexemes.{lexeme, bytes_of}
+use Rattle.syntax.specs.Language.{Lexemes}
+use Rattle.syntax.specs.Lexemes.{lexeme, bytes_of}
 use Rattle.prepared.specs.Numbers.{is_number, is_text, is_sign, ends_operand, numbers_from, stray_in, stray_at, stray_from}
 use Rattle.prepared.specs.Constants.{constants_of}
 use Rattle.prepared.specs.Written.{AreAll, for_token, behind_token}

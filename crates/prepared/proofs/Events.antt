@@ -3,16 +3,16 @@ use Rattle.std.proofs.Common.{◌≡◌, Bool, true, false, [], ◌∷◌, ◌++
 use Rattle.token.specs.declared.kinds.Kind.TheVariants as k
 use Rattle.value.specs.declared.values.Value.TheVariants as v
 use Rattle.syntax.specs.Grammar as grammar
-use Rattle.statement_syntax.specs.declared.statements.Assigned.TheVariants as to
-use Rattle.statement_syntax.specs.declared.statements.Which.TheVariants as which
-use Rattle.statement_syntax.specs.declared.statements.Mode.TheVariants as mode
-use Rattle.statement_syntax.specs.declared.statements.Statement.TheVariants as s
-use Rattle.statement_syntax.specs.declared.statements.Event.{Event}
-use Rattle.statement_syntax.specs.declared.statements.Event.TheVariants as event
-use Rattle.statement_syntax.specs.Grammar as g
+use Rattle.syntax.specs.declared.statements.Assigned.TheVariants as to
+use Rattle.syntax.specs.declared.statements.Which.TheVariants as which
+use Rattle.syntax.specs.declared.statements.Mode.TheVariants as mode
+use Rattle.syntax.specs.declared.statements.Statement.TheVariants as s
+use Rattle.syntax.specs.declared.statements.Event.{Event}
+use Rattle.syntax.specs.declared.statements.Event.TheVariants as event
+use Rattle.syntax.specs.StatementGrammar as g
 use Rattle.syntax.specs.declared.wants.Found.{Found}
-use Rattle.reading.specs.Language.{Lexeme, Lexemes, Language}
-use Rattle.reading.specs.Language as lang
+use Rattle.syntax.specs.Language.{Lexeme, Lexemes, Language}
+use Rattle.syntax.specs.Language as lang
 use Rattle.prepared.specs.Numerals.{numerals, joined, condition_numerals, expression_numerals, value_numerals, insert_numerals, assigned_numerals, assignment_numerals, where_numerals, statement_numerals, event_numerals}
 use Rattle.prepared.proofs.Yields.{Adds, Silent, yields_token, yields_number, yields_map, yields_then, yields_list, silent_pure, silent_or, silent_seq, silent_map, silent_optional, silent_parens, silent_list, adds_pure, adds_or, adds_seq, adds_parens, adds_map, adds_none, adds_behind}
 use Rattle.prepared.proofs.Rules.{abs_signed, silent_name, found_numerals, inner_expr, inner_cond, nested}

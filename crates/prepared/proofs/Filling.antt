@@ -4,12 +4,12 @@ use Rattle.value.specs.declared.values.Value.{Value}
 use Rattle.value.specs.declared.values.Value.TheVariants as v
 use Rattle.syntax.specs.declared.wants.Found.{Found}
 use Rattle.syntax.specs.Grammar as grammar
-use Rattle.statement_syntax.specs.declared.statements.Insert.{Insert}
-use Rattle.statement_syntax.specs.declared.statements.Statement.TheVariants as s
-use Rattle.statement_syntax.specs.declared.statements.Event.{Event}
-use Rattle.statement_syntax.specs.declared.statements.Event.TheVariants as event
-use Rattle.statement_syntax.specs.Grammar as g
-use Rattle.reading.specs.Language.{Lexeme, Lexemes, Language}
+use Rattle.syntax.specs.declared.statements.Insert.{Insert}
+use Rattle.syntax.specs.declared.statements.Statement.TheVariants as s
+use Rattle.syntax.specs.declared.statements.Event.{Event}
+use Rattle.syntax.specs.declared.statements.Event.TheVariants as event
+use Rattle.syntax.specs.StatementGrammar as g
+use Rattle.syntax.specs.Language.{Lexeme, Lexemes, Language}
 use Rattle.prepared.specs.Constants.{Given, Constants, then_made}
 use Rattle.prepared.specs.Statements.{filled_event}
 use Rattle.prepared.specs.Written.{IsConstant, IsValue, MayStand, Writes, written}

@@ -4,8 +4,8 @@ use Rattle.std.specs.Prelude.{if◌then◌else◌}
 use Rattle.token.specs.declared.kinds.Kind.{Kind}
 use Rattle.token.specs.declared.kinds.Kind.TheVariants as k
 use Rattle.value.specs.declared.values.Value.{Value}
-use Rattle.reading.specs.Language.{Lexeme, Lexemes, Language, Then, Each, Behind}
-use Rattle.reading.specs.Language as lang
+use Rattle.syntax.specs.Language.{Lexeme, Lexemes, Language, Then, Each, Behind}
+use Rattle.syntax.specs.Language as lang
 use Rattle.prepared.specs.declared.faults.FillFault.{FillFault}
 use Rattle.prepared.specs.Numbers.{is_number, is_sign, ends_operand}
 use Rattle.prepared.specs.Constants.{Given, Constants, and_then, then_made, all, Filled}

@@ -2,7 +2,7 @@
 use Rattle.std.proofs.Common.{◌≡◌, ℕ, ℤ, List, [], ◌∷◌, ◌++◌, map, Option, Some, None, refl, sym, ap, ◌∙◌, append-nil}
 use Rattle.std.specs.Prelude.{unsigned_abs}
 use Rattle.std.specs.List.{flat_map}
-use Rattle.threeval.specs.declared.Truth.{Truth}
+use Rattle.value.specs.declared.truths.Truth.{Truth}
 use Rattle.value.specs.declared.comparisons.Comparison.{Comparison}
 use Rattle.syntax.specs.declared.trees.Aggregate.{Aggregate}
 use Rattle.syntax.specs.declared.trees.ColumnName.{ColumnName}

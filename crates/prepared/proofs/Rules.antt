@@ -2,7 +2,7 @@
 use Rattle.std.proofs.Common.{◌≡◌, ℕ, zero, suc, Bool, true, false, List, [], ◌∷◌, ◌++◌, map, Option, Some, None, refl, sym, ap, ◌∙◌, append_assoc}
 use Rattle.std.specs.Prelude.{unsigned_abs}
 use Rattle.token.specs.declared.kinds.Kind.TheVariants as k
-use Rattle.threeval.specs.declared.Truth.TheVariants as t
+use Rattle.value.specs.declared.truths.Truth.TheVariants as t
 use Rattle.value.specs.declared.comparisons.Comparison.TheVariants as c
 use Rattle.syntax.specs.declared.trees.Aggregate.{Aggregate}
 use Rattle.syntax.specs.declared.trees.Aggregate.TheVariants as a
@@ -15,8 +15,8 @@ use Rattle.syntax.specs.declared.trees.SelectList.TheVariants as which
 use Rattle.syntax.specs.declared.wants.Found.{Found}
 use Rattle.syntax.specs.declared.wants.Found.TheVariants as part
 use Rattle.syntax.specs.Grammar as g
-use Rattle.reading.specs.Language.{Lexeme, Lexemes, Language}
-use Rattle.reading.specs.Language as lang
+use Rattle.syntax.specs.Language.{Lexeme, Lexemes, Language}
+use Rattle.syntax.specs.Language as lang
 use Rattle.prepared.specs.Numerals.{Numerals, numerals, joined, condition_numerals, expression_numerals, select_list_numerals, query_numerals}
 use Rattle.prepared.proofs.Yields.{Yields, Adds, Silent, some_numerals, yields_token, yields_number, yields_or, yields_pure, yields_map, yields_seq, yields_then, yields_more, yields_list, silent_pure, silent_or, silent_seq, silent_then, silent_map, silent_optional, silent_parens, adds_pure, adds_or, adds_seq, adds_parens, adds_map, adds_none, adds_optional}
 use Rattle.prepared.proofs.Numerals.{of_number, of_text, of_column, of_countrows, of_aggregate, of_subquery, of_negation, of_not, of_is, of_exists, of_compare, of_isnull, of_between, of_in, of_star, of_one, of_query, of_product, of_sum, of_and, of_or}

@@ -3,7 +3,7 @@ use Rattle.std.proofs.Common.{◌≡◌, ℕ, zero, suc, ℤ, pos, negsuc, Bool,
 use Rattle.std.specs.Prelude.{if◌then◌else◌}
 use Rattle.token.specs.declared.kinds.Kind.{Kind}
 use Rattle.token.specs.declared.kinds.Kind.TheVariants as k
-use Rattle.threeval.specs.declared.Truth.TheVariants as t
+use Rattle.value.specs.declared.truths.Truth.TheVariants as t
 use Rattle.value.specs.declared.comparisons.Comparison.TheVariants as c
 use Rattle.value.specs.declared.values.Value.{Value}
 use Rattle.value.specs.declared.values.Value.TheVariants as v
@@ -17,8 +17,8 @@ use Rattle.syntax.specs.declared.trees.SelectList.{SelectList}
 use Rattle.syntax.specs.declared.trees.SelectList.TheVariants as which
 use Rattle.syntax.specs.declared.wants.Found.{Found}
 use Rattle.syntax.specs.Grammar as g
-use Rattle.reading.specs.Language.{Lexeme, Lexemes, Language, Then, Behind}
-use Rattle.reading.specs.Language as lang
+use Rattle.syntax.specs.Language.{Lexeme, Lexemes, Language, Then, Behind}
+use Rattle.syntax.specs.Language as lang
 use Rattle.prepared.specs.declared.faults.FillFault.TheVariants.{NumberOutOfRange, TextNotPlain}
 use Rattle.prepared.specs.Numbers.{is_number}
 use Rattle.prepared.specs.Constants.{Given, Constants, taken, and_then, then_made, both, all, next_by, constant_by, expression_by, expression_of}

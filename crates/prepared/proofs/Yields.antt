@@ -4,8 +4,8 @@ use Rattle.std.specs.Prelude.{if◌then◌else◌}
 use Rattle.token.specs.declared.kinds.Kind.{Kind}
 use Rattle.token.specs.declared.kinds.Kind.TheVariants as k
 use Rattle.syntax.specs.Grammar.{digits_value}
-use Rattle.reading.specs.Language.{Lexeme, Lexemes, Language, Then, Each, Behind}
-use Rattle.reading.specs.Language as lang
+use Rattle.syntax.specs.Language.{Lexeme, Lexemes, Language, Then, Each, Behind}
+use Rattle.syntax.specs.Language as lang
 use Rattle.prepared.specs.Numbers.{is_number}
 use Rattle.prepared.specs.Numerals.{Numerals, numeral, numerals, joined}
 

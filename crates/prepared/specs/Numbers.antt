@@ -7,7 +7,7 @@ use Rattle.token.specs.declared.kinds.Kind.{Kind}
 use Rattle.token.specs.declared.kinds.Kind.TheVariants as k
 use Rattle.token.specs.declared.spans.Token.{Token}
 use Rattle.token.specs.Bytes.{Text}
-use Rattle.reading.specs.Lexemes.{bytes_of}
+use Rattle.syntax.specs.Lexemes.{bytes_of}
 use Rattle.prepared.specs.Masks.{is_question}
 
 abbrev pub is_number : Kind → Bool

@@ -10,15 +10,15 @@ use Rattle.syntax.specs.declared.trees.Expression.{Expression}
 use Rattle.syntax.specs.declared.trees.SelectList.{SelectList}
 use Rattle.syntax.specs.declared.trees.Query.{Query}
 use Rattle.syntax.specs.Grammar.{digits_value}
-use Rattle.statement_syntax.specs.declared.statements.Insert.{Insert}
-use Rattle.statement_syntax.specs.declared.statements.Assigned.{Assigned}
-use Rattle.statement_syntax.specs.declared.statements.Assigned.TheVariants as to
-use Rattle.statement_syntax.specs.declared.statements.Assignment.{Assignment}
-use Rattle.statement_syntax.specs.declared.statements.Statement.{Statement}
-use Rattle.statement_syntax.specs.declared.statements.Statement.TheVariants as s
-use Rattle.statement_syntax.specs.declared.statements.Event.{Event}
-use Rattle.statement_syntax.specs.declared.statements.Event.TheVariants as event
-use Rattle.reading.specs.Language.{Lexeme, Lexemes}
+use Rattle.syntax.specs.declared.statements.Insert.{Insert}
+use Rattle.syntax.specs.declared.statements.Assigned.{Assigned}
+use Rattle.syntax.specs.declared.statements.Assigned.TheVariants as to
+use Rattle.syntax.specs.declared.statements.Assignment.{Assignment}
+use Rattle.syntax.specs.declared.statements.Statement.{Statement}
+use Rattle.syntax.specs.declared.statements.Statement.TheVariants as s
+use Rattle.syntax.specs.declared.statements.Event.{Event}
+use Rattle.syntax.specs.declared.statements.Event.TheVariants as event
+use Rattle.syntax.specs.Language.{Lexeme, Lexemes}
 use Rattle.prepared.specs.Numbers.{is_number}
 
 abbrev pub Numerals : Type 0

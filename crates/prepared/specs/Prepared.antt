@@ -5,11 +5,11 @@ use Rattle.value.specs.declared.refusals.Refusal.TheVariants.{Syntax}
 use Rattle.value.specs.declared.values.Value.{Value}
 use Rattle.token.specs.Bytes.{Text}
 use Rattle.token.specs.Lexer.{tokens_of}
-use Rattle.reading.specs.Lexemes.{lexemes}
-use Rattle.reading.specs.Answer.{Fits}
+use Rattle.syntax.specs.Lexemes.{lexemes}
+use Rattle.syntax.specs.Answer.{Fits}
 use Rattle.parse.specs.Told.{most_open, Refused}
-use Rattle.statement_syntax.specs.declared.statements.Event.{Event}
-use Rattle.statement_syntax.specs.Grammar.{IsEvent}
+use Rattle.syntax.specs.declared.statements.Event.{Event}
+use Rattle.syntax.specs.StatementGrammar.{IsEvent}
 use Rattle.prepared.specs.declared.faults.FillFault.{FillFault}
 use Rattle.prepared.specs.declared.prepared.Prepared.{Prepared}
 use Rattle.prepared.specs.declared.faults.FillFault.TheVariants.{WrongCount}

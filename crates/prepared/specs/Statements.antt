@@ -9,15 +9,15 @@ use Rattle.syntax.specs.declared.trees.Expression.{Expression, out-Expression}
 use Rattle.syntax.specs.declared.trees.Expression.TheVariants as e
 use Rattle.syntax.specs.declared.trees.SelectList.{SelectList}
 use Rattle.syntax.specs.declared.trees.Query.{Query}
-use Rattle.statement_syntax.specs.declared.statements.Insert.{Insert}
-use Rattle.statement_syntax.specs.declared.statements.Assigned.{Assigned}
-use Rattle.statement_syntax.specs.declared.statements.Assigned.TheVariants as to
-use Rattle.statement_syntax.specs.declared.statements.Assignment.{Assignment}
-use Rattle.statement_syntax.specs.declared.statements.Statement.{Statement}
-use Rattle.statement_syntax.specs.declared.statements.Statement.TheVariants as s
-use Rattle.statement_syntax.specs.declared.statements.Event.{Event}
-use Rattle.statement_syntax.specs.declared.statements.Event.TheVariants as event
-use Rattle.statement_syntax.specs.Grammar.{insert_of, assignment_of}
+use Rattle.syntax.specs.declared.statements.Insert.{Insert}
+use Rattle.syntax.specs.declared.statements.Assigned.{Assigned}
+use Rattle.syntax.specs.declared.statements.Assigned.TheVariants as to
+use Rattle.syntax.specs.declared.statements.Assignment.{Assignment}
+use Rattle.syntax.specs.declared.statements.Statement.{Statement}
+use Rattle.syntax.specs.declared.statements.Statement.TheVariants as s
+use Rattle.syntax.specs.declared.statements.Event.{Event}
+use Rattle.syntax.specs.declared.statements.Event.TheVariants as event
+use Rattle.syntax.specs.StatementGrammar.{insert_of, assignment_of}
 use Rattle.prepared.specs.Constants.{Filled, then_made, same, both, all, if_there, next, constant_of, assigned_of}
 use Rattle.prepared.specs.Conditions.{filled_condition, filled_expression}
 

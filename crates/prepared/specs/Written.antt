@@ -6,12 +6,12 @@ use Rattle.value.specs.declared.values.Value.{Value}
 use Rattle.value.specs.declared.values.Value.TheVariants as v
 use Rattle.value.specs.Texts.{is_plain}
 use Rattle.syntax.specs.Grammar.{digits_value, quoted}
-use Rattle.statement_syntax.specs.declared.statements.Event.{Event}
-use Rattle.statement_syntax.specs.declared.statements.Event.TheVariants as event
-use Rattle.statement_syntax.specs.declared.statements.Statement.TheVariants as s
-use Rattle.statement_syntax.specs.Grammar.{IsEvent}
-use Rattle.reading.specs.Language.{Lexeme, Lexemes}
-use Rattle.reading.specs.Lexemes.{lexemes}
+use Rattle.syntax.specs.declared.statements.Event.{Event}
+use Rattle.syntax.specs.declared.statements.Event.TheVariants as event
+use Rattle.syntax.specs.declared.statements.Statement.TheVariants as s
+use Rattle.syntax.specs.StatementGrammar.{IsEvent}
+use Rattle.syntax.specs.Language.{Lexeme, Lexemes}
+use Rattle.syntax.specs.Lexemes.{lexemes}
 use Rattle.prepared.specs.declared.prepared.Prepared.{Prepared}
 use Rattle.prepared.specs.Masks.{mask}
 use Rattle.prepared.specs.Numbers.{is_number, parameter_count}

@@ -2,15 +2,14 @@
 
 ghost use Rattle.std.specs.Prelude.{◌≡◌, ◌≢◌, IfOk, IfErr, Ok, Err};
 ghost use Rattle.prepared.specs.declared.faults.FillFault.TheVariants.{NoMemory};
-ghost use Rattle.statement_syntax.specs.declared.statements.Assigned.TheVariants as to;
+ghost use Rattle.syntax.specs.declared.statements.Assigned.TheVariants as to;
 ghost use Rattle.syntax.specs.declared.trees.Expression.TheVariants as e;
 ghost use Rattle.value.specs.declared.values.Value.TheVariants as v;
 ghost use Rattle.prepared.specs.Constants as spec;
 
 use crate::faults::FillFault;
-use statement_syntax::Assigned;
 use std::marker::Model;
-use syntax::Expression;
+use syntax::{Assigned, Expression};
 use value::Value;
 
 /// The largest number of the language.

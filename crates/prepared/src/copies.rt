@@ -5,9 +5,8 @@ ghost use Rattle.prepared.specs.declared.faults.FillFault.TheVariants.{NoMemory}
 
 use crate::faults::FillFault;
 use sqlite_items::Items;
-use statement_syntax::Which;
 use std::alloc::Global;
-use syntax::ColumnName;
+use syntax::{ColumnName, Which};
 use value::Text;
 
 /// The fault, once what was made is let go. Here its type is a parameter: that a tree may be dropped is proved dearly.

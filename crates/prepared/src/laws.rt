@@ -1,9 +1,9 @@
 //! What holds of the grammar alone.
 
 ghost use Rattle.std.specs.Prelude.{◌≡◌};
-ghost use Rattle.statement_syntax.specs.declared.statements.Event.{Event};
-ghost use Rattle.statement_syntax.specs.Grammar.{IsEvent};
-ghost use Rattle.reading.specs.Language.{Lexemes};
+ghost use Rattle.syntax.specs.declared.statements.Event.{Event};
+ghost use Rattle.syntax.specs.StatementGrammar.{IsEvent};
+ghost use Rattle.syntax.specs.Language.{Lexemes};
 ghost use Rattle.prepared.specs.Numerals.{event_numerals, numerals};
 ghost use Rattle.prepared.specs.Written.{FilledIsWritten};
 

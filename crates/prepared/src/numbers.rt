@@ -4,7 +4,7 @@ ghost use Rattle.std.specs.Prelude.{◌≡◌, ◌≤◌, ◌<◌, ◌+◌, ◌^
 ghost use Rattle.std.specs.List.{prefix_len};
 ghost use Rattle.value.specs.declared.refusals.Refusal.TheVariants.{NoMemory};
 ghost use Rattle.token.specs.declared.spans.Token.{Token};
-ghost use Rattle.reading.specs.Lexemes.{bytes_of};
+ghost use Rattle.syntax.specs.Lexemes.{bytes_of};
 ghost use Rattle.prepared.specs.Masks.{is_question};
 ghost use Rattle.prepared.specs.Numbers as spec;
 

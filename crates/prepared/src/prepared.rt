@@ -1,10 +1,10 @@
 //! Statements that are parsed once, and filled with values.
 
 ghost use Rattle.std.specs.Prelude.{◌≡◌, ◌≢◌, None, Ok, Err, IfOk, IfErr};
-ghost use Rattle.statement_syntax.specs.declared.statements.Event.{Event};
-ghost use Rattle.statement_syntax.specs.Grammar.{IsEvent};
-ghost use Rattle.reading.specs.Answer.{Fits};
-ghost use Rattle.reading.specs.Lexemes.{lexemes};
+ghost use Rattle.syntax.specs.declared.statements.Event.{Event};
+ghost use Rattle.syntax.specs.StatementGrammar.{IsEvent};
+ghost use Rattle.syntax.specs.Answer.{Fits};
+ghost use Rattle.syntax.specs.Lexemes.{lexemes};
 ghost use Rattle.parse.specs.Told.{Gave, most_open};
 ghost use Rattle.prepared.specs.declared.faults.FillFault.TheVariants.{NoMemory};
 ghost use Rattle.prepared.specs.Masks as masks;
@@ -19,8 +19,8 @@ use crate::numbers::{count_parameters, find_numbers, find_stray};
 use crate::statements::fill_event;
 use parse::parse_statement;
 use sqlite_items::Items;
-use statement_syntax::Event;
 use std::alloc::Global;
+use syntax::Event;
 use token::read_tokens;
 use value::{Refusal, Value};
 

@@ -3,16 +3,15 @@
 ghost use Rattle.std.specs.Prelude.{◌≡◌, ◌≢◌, IfOk, IfErr, Ok, Err};
 ghost use Rattle.prepared.specs.declared.faults.FillFault.TheVariants.{NoMemory};
 ghost use Rattle.prepared.specs.Statements as spec;
-ghost use Rattle.statement_syntax.specs.declared.statements.Statement.TheVariants as s;
+ghost use Rattle.syntax.specs.declared.statements.Statement.TheVariants as s;
 
 use crate::conditions::{fill_condition, fill_expression};
 use crate::constants::Constants;
 use crate::copies::{copy_columns, copy_which, drop_and_fail, put_behind};
 use crate::faults::FillFault;
 use sqlite_items::{Boxed, Items};
-use statement_syntax::{Assigned, Assignment, Event, Insert, Statement};
 use std::alloc::Global;
-use syntax::{Condition, Expression};
+use syntax::{Assigned, Assignment, Condition, Event, Expression, Insert, Statement};
 use value::{Text, Value};
 
 /// A value of an INSERT.

@@ -5,13 +5,14 @@ ghost use Rattle.std.specs.Prelude.{◌<◌, length};
 use crate::prepared::prepare;
 use parse::parse_statement;
 use sqlite_items::Boxed;
-use statement_syntax::{Assigned, Assignment, Event, Insert, Statement, Which};
 use std::alloc::{AllocError, Global};
 use std::process::Abort;
 use std::test::Fail;
-use syntax::{ColumnName, Condition, Expression, Query, SelectList};
-use threeval::Truth;
-use value::{Text, Value};
+use syntax::{
+    Assigned, Assignment, ColumnName, Condition, Event, Expression, Insert, Query, SelectList,
+    Statement, Which,
+};
+use value::{Text, Truth, Value};
 
 /// Lets a value go. Here its type is a parameter: that a large one may be dropped is proved dearly.
 fn let_go<T: Drop>(_value: T) {}

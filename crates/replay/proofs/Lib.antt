@@ -1,2 +1,4 @@
+mod Truths
+pub mod Late
 mod Printing
 mod Reporting

@@ -3,12 +3,12 @@ use Rattle.std.proofs.Common.{◌≡◌, ◌∙◌, ℕ, List, [], ◌∷◌, �
 use Rattle.std.specs.Prelude.{OnOk, Result, Ok, Err}
 use Rattle.std.specs.Io.KnownBytes.{Appends}
 use Rattle.std.proofs.KnownBytes.{Appends-nil, Appends-trans}
-use Rattle.statement_syntax.specs.declared.statements.Step.{Step}
+use Rattle.syntax.specs.declared.statements.Step.{Step}
 use Rattle.answer.specs.declared.answers.Answer.{Answer}
 use Rattle.commit.specs.Events.{EngineState, IsAnswered, after}
 use Rattle.commit.specs.Runs.{AreAnswers, led_to}
 use Rattle.report.specs.Report.{answer_line}
-use Rattle.running.specs.Lines.{lines}
+use Rattle.replay.specs.Reports.{lines}
 use Rattle.replay.specs.Lines.{ending}
 use Rattle.commit.proofs.Answering.{answers_more, led_more}
 use Rattle.replay.specs.Writing.{PrintsAnswer, PrintsAnswers, PrintsBeginning, PrintsRun}

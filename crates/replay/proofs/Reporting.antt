@@ -2,16 +2,16 @@
 use Rattle.std.proofs.Common.{◌≡◌, ℕ, List, Option, Result, Ok, Err, refl, subst}
 use Rattle.std.specs.Prelude.{OnOk, IfErr}
 use Rattle.std.specs.Io.KnownBytes.{Appends}
-use Rattle.statement_syntax.specs.declared.statements.Step.{Step}
+use Rattle.syntax.specs.declared.statements.Step.{Step}
 use Rattle.commit.specs.Events.{EngineState}
 use Rattle.commit.specs.Cores.{IsSerializable}
 use Rattle.commit.specs.Runs.{AreAnswers, InEachRun, beginning, led_to}
 use Rattle.commit.specs.Told.{WereToldAlone}
-use Rattle.running.specs.declared.faults.ProgramFault.{ProgramFault}
-use Rattle.running.specs.declared.faults.ProgramFault.TheVariants.{Stopped}
+use Rattle.replay.specs.declared.faults.ProgramFault.{ProgramFault}
+use Rattle.replay.specs.declared.faults.ProgramFault.TheVariants.{Stopped}
 use Rattle.replay.specs.Lines.{report}
-use Rattle.running.specs.Texts.{IsFirstFault, IsInTheRun, IsRun}
-use Rattle.running.proofs.Late.{late_faults}
+use Rattle.replay.specs.Texts.{IsFirstFault, IsInTheRun, IsRun}
+use Rattle.replay.proofs.Late.{late_faults}
 use Rattle.replay.specs.Replay.{IsBeginning, WritesBeginning, WritesReport}
 use Rattle.replay.specs.Writing.{PrintsBeginning, PrintsRun}
 

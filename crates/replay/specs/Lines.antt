@@ -1,12 +1,12 @@
 -- The lines that a script prints.
 use Rattle.std.specs.Prelude.{ℕ, List, [], ◌∷◌, ◌++◌, Option, Some, None}
-use Rattle.statement_syntax.specs.declared.statements.Step.{Step}
+use Rattle.syntax.specs.declared.statements.Step.{Step}
 use Rattle.answer.specs.declared.answers.Answer.{Answer}
 use Rattle.commit.specs.Transactions.{OpenTransaction}
 use Rattle.commit.specs.declared.seats.Seat.{Seat}
 use Rattle.commit.specs.Events.{EngineState}
 use Rattle.report.specs.Report.{left_open_line}
-use Rattle.running.specs.Lines.{closing, lines}
+use Rattle.replay.specs.Reports.{closing, lines}
 
 -- the line of a session whose transaction is open in the end
 abbrev pub left_line : List ℕ → Option OpenTransaction → List ℕ

@@ -1,7 +1,7 @@
 -- What the engine writes for two texts.
 use Rattle.std.specs.Prelude.{◌≡◌, ℕ, List, Option}
 use Rattle.std.specs.Io.KnownBytes.{Appends}
-use Rattle.statement_syntax.specs.declared.statements.Step.{Step}
+use Rattle.syntax.specs.declared.statements.Step.{Step}
 use Rattle.delta.specs.Views.{Shown}
 use Rattle.answer.specs.declared.answers.Answer.{Answer}
 use Rattle.commit.specs.Alone.{IsSound}
@@ -9,7 +9,7 @@ use Rattle.commit.specs.Cores.{IsSerializable}
 use Rattle.commit.specs.Events.{EngineState}
 use Rattle.commit.specs.Runs.{AreAnswers, beginning, led_to}
 use Rattle.commit.specs.Told.{WereToldAlone}
-use Rattle.running.specs.Texts.{AreReady}
+use Rattle.replay.specs.Texts.{AreReady}
 use Rattle.replay.specs.Lines.{report}
 use Rattle.replay.specs.Writing.{PrintsBeginning}
 

@@ -1,12 +1,12 @@
 -- What a part of the run answers and writes.
 use Rattle.std.specs.Prelude.{◌≡◌, ◌++◌, ℕ, List, Option}
 use Rattle.std.specs.Io.KnownBytes.{Appends}
-use Rattle.statement_syntax.specs.declared.statements.Step.{Step}
+use Rattle.syntax.specs.declared.statements.Step.{Step}
 use Rattle.answer.specs.declared.answers.Answer.{Answer}
 use Rattle.commit.specs.Events.{EngineState, IsAnswered, after}
 use Rattle.commit.specs.Runs.{AreAnswers, led_to}
 use Rattle.report.specs.Report.{answer_line}
-use Rattle.running.specs.Lines.{lines}
+use Rattle.replay.specs.Reports.{lines}
 use Rattle.replay.specs.Lines.{report}
 
 -- an event is answered, and the writer gains the lines of the answer

@@ -18,7 +18,21 @@
 //!
 //! All of these definitions evaluate whole lists of rows from scratch. None of them knows a total or a bad root
 //! that is kept: that evaluating afresh and keeping give the same is the promise of the crate `delta`.
+//!
+//! # Two texts, and the closing part
+//!
+//! On this rests each way to run a script. The definitions say what there is, and the script what sessions do. Both are
+//! read whole before anything runs ([`read_all`], [`read_texts`]). A [`ProgramFault`] is the first fault in the order of the work, which `specs/Texts`
+//! says of the two texts alone: the definitions' grammar, the script's, the definitions themselves, too many sessions;
+//! and then memory or the writer. Behind the replies stands the closing part of the committed transactions
+//! ([`add_closing_part`], `specs/Reports`), however they came to be.
 #![tactic(auto)]
+
+mod closing;
+mod faults;
+mod files;
+mod texts;
+mod writing;
 
 ghost use Rattle.std.specs.Prelude.{◌≡◌, ◌≢◌, ◌≤◌, ◌++◌, true, IfOk, IfErr, OnOk};
 ghost use Rattle.std.specs.Io.KnownBytes.{Appends};
@@ -26,22 +40,26 @@ ghost use Rattle.value.specs.declared.refusals.Refusal.TheVariants.{NoMemory, To
 ghost use Rattle.commit.specs.Alone.{IsSound};
 ghost use Rattle.commit.specs.Runs.{beginning};
 ghost use Rattle.report.specs.Report.{answer_line};
-ghost use Rattle.running.specs.Texts.{HasFewSessions, HasManySessions, IsFirstFault, IsInTheRun, is_before_the_run};
+ghost use Rattle.replay.specs.Texts.{HasFewSessions, HasManySessions, IsFirstFault, IsInTheRun, is_before_the_run};
 ghost use Rattle.replay.specs.Lines.{ending, left_line, left_lines};
-ghost use Rattle.running.specs.declared.faults.ProgramFault.TheVariants.{Output, Stopped};
+ghost use Rattle.replay.specs.declared.faults.ProgramFault.TheVariants.{Output, Stopped};
 ghost use Rattle.replay.specs.Replay.{IsBeginning, WritesBeginning, WritesReport};
 ghost use Rattle.replay.specs.Writing.{PrintsAnswer, PrintsAnswers, PrintsBeginning, PrintsRun};
 
 use answer::Answer;
+pub use closing::add_closing_part;
 use commit::{Engine, Seat, admit, answers_lead_to_a_serial_order, has_few_sessions};
 use delta::View;
+pub use faults::ProgramFault;
+pub use files::{ReadFault, fault_of, read_all};
 use report::Report;
-use running::{MOST_SESSIONS, ProgramFault, add_closing_part, flush, read_texts, write_all};
 use sqlite_items::Items;
-use statement_syntax::Step;
 use std::alloc::{AllocError, Global};
 use std::io::Write;
+use syntax::Step;
+pub use texts::{MOST_SESSIONS, read_texts};
 use value::Refusal;
+pub use writing::{flush, write_all};
 
 /// Replays a script of any sessions on definitions, with at most so many commits, and writes the lines of each
 /// answer as soon as it is answered; then a line for each transaction that is left open, and the closing part.
@@ -59,7 +77,7 @@ use value::Refusal;
 /// these the writer is as it was. Then [`ProgramFault::Stopped`] where there is no memory for the lines of an
 /// answer, or at the end of the run: the writer has then gained the lines of the answers to the first events; and
 /// [`ProgramFault::Output`] at the first fault of the writer, after which nothing is known of the bytes that went out.
-#[tactic(auto, using(crate::proofs::Reporting::stopped, crate::proofs::Reporting::first_fault, running::proofs::Late::nothing_before))]
+#[tactic(auto, using(crate::proofs::Reporting::stopped, crate::proofs::Reporting::first_fault, crate::proofs::Late::nothing_before))]
 pub fn replay_into<W: Write>(
     alloc: Global,
     defs: &[u8],

@@ -1,7 +1,7 @@
 -- The closing part of the report: the commits, their serial order, the COMMITs that were refused, and the assertions.
 use Rattle.std.specs.Prelude.{ℕ, true, List, [], ◌∷◌, ◌++◌, length, codes, decimal}
-use Rattle.threeval.specs.declared.Truth.{Truth}
-use Rattle.threeval.specs.Truths.{name_of}
+use Rattle.value.specs.declared.truths.Truth.{Truth}
+use Rattle.value.specs.Truths.{name_of}
 use Rattle.assertion.specs.declared.assertions.Assertion.{Assertion}
 use Rattle.serial.specs.declared.records.Record.{Record}
 use Rattle.answer.specs.declared.answers.RefusedCommit.{RefusedCommit}

@@ -11,16 +11,16 @@ use Rattle.value.specs.declared.refusals.Excess.{Excess}
 use Rattle.value.specs.declared.refusals.Excess.TheVariants as excess
 use Rattle.value.specs.declared.refusals.Refusal.{Refusal}
 use Rattle.value.specs.declared.refusals.Refusal.TheVariants as refusal
-use Rattle.threeval.specs.Truths.{name_of}
+use Rattle.value.specs.Truths.{name_of}
 use Rattle.table.specs.Rows.{RowValues}
 use Rattle.answer.specs.declared.answers.Reply.{Reply}
 use Rattle.answer.specs.declared.answers.Reply.TheVariants.{Inserted, Updated, Deleted, Rows, ModesSet, Verdict}
 use Rattle.answer.specs.declared.answers.Answer.{Answer}
 use Rattle.answer.specs.declared.answers.Answer.TheVariants.{Begun, Replied, Committed, RolledBack, Refused}
-use Rattle.statement_syntax.specs.declared.statements.Statement.TheVariants as statement
-use Rattle.statement_syntax.specs.declared.statements.Event.{Event}
-use Rattle.statement_syntax.specs.declared.statements.Event.TheVariants as event
-use Rattle.statement_syntax.specs.declared.statements.Step.{Step}
+use Rattle.syntax.specs.declared.statements.Statement.TheVariants as statement
+use Rattle.syntax.specs.declared.statements.Event.{Event}
+use Rattle.syntax.specs.declared.statements.Event.TheVariants as event
+use Rattle.syntax.specs.declared.statements.Step.{Step}
 
 -- a quote twice, every other byte once
 abbrev pub quoted_byte : ℕ → List ℕ

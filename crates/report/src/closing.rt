@@ -11,8 +11,7 @@ use answer::RefusedCommit;
 use assertion::Assertion;
 use serial::Record;
 use std::alloc::AllocError;
-use threeval::Truth;
-use value::Text;
+use value::{Text, Truth};
 
 impl Lines {
     /// The closing part whole.

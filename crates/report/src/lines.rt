@@ -9,9 +9,9 @@ ghost use Rattle.report.specs.Report.{violated_text};
 
 use answer::{Answer, Reply};
 use itoa::Buffer;
-use statement_syntax::{Event, Statement, Step};
 use std::alloc::{AllocError, Global};
 use std::marker::Model;
+use syntax::{Event, Statement, Step};
 use table::Row;
 use value::{Excess, Party, Refusal, Root, Text, Value};
 

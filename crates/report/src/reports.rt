@@ -10,11 +10,10 @@ use crate::lines::Lines;
 use answer::{Answer, RefusedCommit};
 use assertion::Assertion;
 use serial::Record;
-use statement_syntax::Step;
 use std::alloc::{AllocError, Global};
 use std::marker::Model;
-use threeval::Truth;
-use value::{Refusal, Text};
+use syntax::Step;
+use value::{Refusal, Text, Truth};
 
 /// Lines as they grow, in a contract the list of their bytes. A call that finds no memory answers `AllocError`, and the
 /// bytes are as they were.

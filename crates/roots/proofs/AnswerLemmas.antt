@@ -6,10 +6,10 @@ use Rattle.table.specs.declared.aggregates.Aggregate.{Aggregate}
 use Rattle.table.specs.declared.aggregates.Aggregate.TheVariants.{CountRows}
 use Rattle.table.specs.Aggregates.{aggregate}
 use Rattle.table.specs.Rows.{RowValues}
-use Rattle.cond.specs.declared.conds.Cond.{Cond}
-use Rattle.cond.specs.declared.slots.SlotValue.{SlotValue}
-use Rattle.cond.specs.Slots.{SlotValues, IsWithinKind, kind_of, kinds_of, value_of, values_of}
-use Rattle.cond.specs.Kinds.{kind_of_aggregate}
+use Rattle.table.specs.declared.conds.Cond.{Cond}
+use Rattle.table.specs.declared.slots.SlotValue.{SlotValue}
+use Rattle.table.specs.Slots.{SlotValues, IsWithinKind, kind_of, kinds_of, value_of, values_of}
+use Rattle.table.specs.Kinds.{kind_of_aggregate}
 use Rattle.assertion.specs.Meaning.{State}
 use Rattle.assertion.specs.declared.queries.Query.{Query}
 use Rattle.assertion.specs.declared.forms.Form.{Form}

@@ -11,13 +11,13 @@ use Rattle.value.specs.declared.values.Value.TheVariants.{Null}
 use Rattle.value.specs.declared.values.Root.{Root}
 use Rattle.value.specs.declared.values.Root.TheVariants.{All, Of}
 use Rattle.value.specs.ValueOrder.{value_cmp}
-use Rattle.threeval.specs.declared.Truth.TheVariants.{False}
-use Rattle.threeval.specs.Truths.{is_of}
+use Rattle.value.specs.declared.truths.Truth.TheVariants.{False}
+use Rattle.value.specs.Truths.{is_of}
 use Rattle.table.specs.declared.aggregates.Aggregate.{Aggregate}
 use Rattle.table.specs.Aggregates.{is_there, aggregate, rows_of_group}
 use Rattle.table.specs.Rows.{RowValues, Layout, value_in}
-use Rattle.cond.specs.declared.conds.Cond.{Cond}
-use Rattle.cond.specs.Eval.{truth, keeps}
+use Rattle.table.specs.declared.conds.Cond.{Cond}
+use Rattle.table.specs.Eval.{truth, keeps}
 use Rattle.assertion.specs.declared.queries.Query.{Query}
 use Rattle.assertion.specs.declared.queries.Link.{Link}
 use Rattle.assertion.specs.declared.queries.Whole.{Whole as AnyWhole}

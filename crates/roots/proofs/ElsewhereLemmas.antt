@@ -10,8 +10,8 @@ use Rattle.value.proofs.OrderedLists.{has}
 use Rattle.table.specs.declared.rows.Change.{Change}
 use Rattle.table.specs.declared.aggregates.Aggregate.{Aggregate}
 use Rattle.table.specs.Rows.{RowValues, Layout}
-use Rattle.cond.specs.declared.conds.Cond.{Cond}
-use Rattle.cond.specs.Eval.{truth}
+use Rattle.table.specs.declared.conds.Cond.{Cond}
+use Rattle.table.specs.Eval.{truth}
 use Rattle.assertion.specs.declared.queries.Query.{Query}
 use Rattle.assertion.specs.declared.queries.Link.{Link}
 use Rattle.assertion.specs.declared.forms.Form.{Form}

@@ -6,7 +6,7 @@ use Rattle.value.specs.Ordered.{HasKey, HoldsOf}
 use Rattle.value.specs.ValueOrder.{value_cmp}
 use Rattle.table.specs.declared.rows.Change.{Change}
 use Rattle.table.specs.Rows.{RowValues, value_in, row_at, put_row}
-use Rattle.cond.specs.Bounds.{IsSmallRow}
+use Rattle.table.specs.Bounds.{IsSmallRow}
 use Rattle.assertion.specs.Meaning.{State, rows_of}
 use Rattle.assertion.specs.Roots.{IsChangeOf, state_after}
 use Rattle.roots.specs.Maintained.{IsSmallState}

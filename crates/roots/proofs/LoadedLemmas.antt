@@ -14,9 +14,9 @@ use Rattle.value.specs.Ordered.{by_order}
 use Rattle.value.proofs.OrderedLists.{has}
 use Rattle.table.specs.Aggregates.{rows_of_group}
 use Rattle.table.specs.Rows.{RowValues, Layout, value_in, row_at}
-use Rattle.cond.specs.declared.conds.Cond.{Cond}
-use Rattle.cond.specs.Bounds.{IsSmallRow}
-use Rattle.cond.specs.Eval.{keeps}
+use Rattle.table.specs.declared.conds.Cond.{Cond}
+use Rattle.table.specs.Bounds.{IsSmallRow}
+use Rattle.table.specs.Eval.{keeps}
 use Rattle.assertion.specs.declared.forms.Form.{Form}
 use Rattle.assertion.specs.declared.forms.Form.TheVariants.{ByRow, ByGroup, Single}
 use Rattle.assertion.specs.declared.queries.Query.{Query}

@@ -14,8 +14,8 @@ use Rattle.value.proofs.ValueOrders.{root_cmp_total, root_exact}
 use Rattle.value.proofs.OrderedLists.{has, at-put, IsAscending-put, equal_from}
 use Rattle.table.specs.declared.rows.Change.{Change}
 use Rattle.table.specs.Rows.{RowValues, Layout, value_in}
-use Rattle.cond.specs.Bounds.{IsSmallRow}
-use Rattle.cond.specs.Slots.{magnitude}
+use Rattle.table.specs.Bounds.{IsSmallRow}
+use Rattle.table.specs.Slots.{magnitude}
 use Rattle.assertion.specs.declared.forms.Form.{Form}
 use Rattle.assertion.specs.declared.forms.Form.TheVariants.{ByRow, ByGroup, Single}
 use Rattle.assertion.specs.Candidates.{candidates, group_candidates, touched}

@@ -2,8 +2,8 @@
 use Rattle.std.specs.Prelude.{List, map}
 use Rattle.value.specs.declared.values.Value.{Value}
 use Rattle.table.specs.Aggregates.{aggregate}
-use Rattle.cond.specs.declared.slots.SlotKind.{SlotKind}
-use Rattle.cond.specs.Kinds.{kind_of_aggregate}
+use Rattle.table.specs.declared.slots.SlotKind.{SlotKind}
+use Rattle.table.specs.Kinds.{kind_of_aggregate}
 use Rattle.assertion.specs.declared.queries.Query.{Query}
 use Rattle.assertion.specs.Meaning.{State}
 use Rattle.roots.specs.declared.grouped.Grouping.{Grouping}

@@ -7,10 +7,10 @@ use Rattle.value.specs.declared.values.Root.{Root}
 use Rattle.value.specs.declared.values.Root.TheVariants.{All, Of}
 use Rattle.value.specs.ValueOrder.{root_cmp}
 use Rattle.value.specs.Ordered as ordered
-use Rattle.threeval.specs.declared.Truth.{Truth}
+use Rattle.value.specs.declared.truths.Truth.{Truth}
 use Rattle.table.specs.Rows.{RowValues, Layout, row_at, value_in}
-use Rattle.cond.specs.declared.conds.Cond.{Cond}
-use Rattle.cond.specs.Eval.{truth, keeps}
+use Rattle.table.specs.declared.conds.Cond.{Cond}
+use Rattle.table.specs.Eval.{truth, keeps}
 use Rattle.assertion.specs.declared.queries.Query.{Query}
 use Rattle.assertion.specs.declared.forms.Form.{Form}
 use Rattle.assertion.specs.declared.forms.Form.TheVariants.{ByRow, ByGroup, Single}

@@ -2,8 +2,8 @@
 use Rattle.std.specs.Prelude.{◌≡◌, ℕ, ◌<◌, ◌≤◌, ◌^◌, List, length, All, slice_index_or}
 use Rattle.value.specs.declared.values.Root.{Root}
 use Rattle.value.specs.declared.values.Root.TheVariants.{All as Whole, Of}
-use Rattle.cond.specs.Bounds.{IsSmallRow}
-use Rattle.cond.specs.Slots.{magnitude}
+use Rattle.table.specs.Bounds.{IsSmallRow}
+use Rattle.table.specs.Slots.{magnitude}
 use Rattle.assertion.specs.declared.queries.Query.{Query}
 use Rattle.assertion.specs.declared.forms.Form.{Form}
 use Rattle.assertion.specs.declared.forms.Form.TheVariants.{ByRow, ByGroup, Single}

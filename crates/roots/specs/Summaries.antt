@@ -6,8 +6,8 @@ use Rattle.table.specs.declared.aggregates.Aggregate.{Aggregate}
 use Rattle.table.specs.declared.aggregates.Aggregate.TheVariants.{CountRows}
 use Rattle.table.specs.Rows.{RowValues, value_in}
 use Rattle.table.specs.Aggregates.{is_there}
-use Rattle.cond.specs.declared.conds.Cond.{Cond}
-use Rattle.cond.specs.Eval.{keeps}
+use Rattle.table.specs.declared.conds.Cond.{Cond}
+use Rattle.table.specs.Eval.{keeps}
 use Rattle.assertion.specs.declared.queries.Link.{Link}
 use Rattle.assertion.specs.declared.queries.Query.{Query}
 use Rattle.assertion.specs.declared.queries.Whole.{Whole as AnyWhole}

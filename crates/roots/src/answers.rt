@@ -5,7 +5,7 @@ ghost use Rattle.value.specs.declared.refusals.Refusal.TheVariants.{NoMemory};
 ghost use Rattle.value.specs.declared.values.Value.TheVariants.{Null};
 ghost use Rattle.table.specs.declared.aggregates.Aggregate.{Aggregate};
 ghost use Rattle.table.specs.Rows.{value_in};
-ghost use Rattle.cond.specs.Slots.{kinds_of, values_of};
+ghost use Rattle.table.specs.Slots.{kinds_of, values_of};
 ghost use Rattle.assertion.specs.Meaning.{State};
 ghost use Rattle.groups.specs.Totals.{Members, AreTotalsOf};
 ghost use Rattle.roots.specs.Answers.{kinds_in};
@@ -16,10 +16,9 @@ ghost use Rattle.roots.specs.Summaries.{queries_of};
 use crate::grouped::Grouping;
 use crate::summaries::{slot_count, summary_of};
 use assertion::Form;
-use cond::Slots;
 use groups::Totals;
 use std::alloc::Global;
-use table::Row;
+use table::{Row, Slots};
 use value::{Refusal, Value};
 
 /// What the slots hold for the row that the form's condition sees: one of its table, or one of a group's value alone,

@@ -4,11 +4,11 @@ ghost use Rattle.std.specs.Prelude.{◌≡◌, ◌<◌, ◌≤◌, ◌^◌, ◌�
 ghost use Rattle.std.specs.Option.{option_copied};
 ghost use Rattle.value.specs.Ordered.{HoldsOf};
 ghost use Rattle.value.specs.declared.refusals.Refusal.TheVariants.{NoMemory};
-ghost use Rattle.threeval.specs.Truths.{is_of};
-ghost use Rattle.threeval.specs.declared.Truth.TheVariants.{False};
+ghost use Rattle.value.specs.Truths.{is_of};
+ghost use Rattle.value.specs.declared.truths.Truth.TheVariants.{False};
 ghost use Rattle.table.specs.Rows.{Layout};
-ghost use Rattle.cond.specs.Bounds.{IsSmallRow};
-ghost use Rattle.cond.specs.Slots.{magnitude};
+ghost use Rattle.table.specs.Bounds.{IsSmallRow};
+ghost use Rattle.table.specs.Slots.{magnitude};
 ghost use Rattle.assertion.specs.Bounded.{IsBounded, IsBoundedOver};
 ghost use Rattle.assertion.specs.declared.queries.Query.{Query};
 ghost use Rattle.assertion.specs.Meaning.{State, truth_of_roots, verdict_of};
@@ -22,12 +22,10 @@ ghost use Rattle.roots.specs.Summaries.{queries_of, summaries_of};
 use crate::answers::{count_of, slots};
 use crate::lists::BadRoots;
 use assertion::Form;
-use cond::{Cond, eval, keeps};
 use groups::Totals;
 use std::alloc::Global;
-use table::Row;
-use threeval::Truth;
-use value::{Refusal, Root, Value};
+use table::{Cond, Row, eval, keeps};
+use value::{Refusal, Root, Truth, Value};
 
 /// Whether an assertion is false at a root. By rows, `row` is the row under the root's key in the root table, if
 /// there is one; by groups and for a single condition it isn't looked at.

@@ -3,7 +3,7 @@
 ghost use Rattle.std.specs.Prelude.{◌≡◌, [], Some, IfOk, IsOkUnless};
 ghost use Rattle.value.specs.declared.refusals.Refusal.TheVariants.{NoMemory};
 ghost use Rattle.value.specs.Ordered.{HoldsOf};
-ghost use Rattle.cond.specs.Bounds.{IsSmallRow};
+ghost use Rattle.table.specs.Bounds.{IsSmallRow};
 ghost use Rattle.assertion.specs.Bounded.{IsBoundedOver};
 ghost use Rattle.groups.specs.Members.{member_of};
 ghost use Rattle.groups.specs.Answers.{value_for};
@@ -12,10 +12,9 @@ ghost use Rattle.roots.specs.Summaries.{group_of, place as place_of};
 
 use crate::columns::value_at;
 use assertion::Link;
-use cond::{Cond, passes};
 use groups::Member;
 use std::alloc::Global;
-use table::{Aggregate, Row};
+use table::{Aggregate, Cond, Row, passes};
 use value::{Refusal, Value};
 
 /// How rows go into groups.

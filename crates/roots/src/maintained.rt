@@ -4,7 +4,7 @@ ghost use Rattle.std.specs.Prelude.{◌≡◌, ◌<◌, ◌^◌, ◌++◌, ◌�
 ghost use Rattle.value.specs.declared.refusals.Refusal.TheVariants.{NoMemory};
 ghost use Rattle.value.specs.Ordered.{HoldsOf};
 ghost use Rattle.table.specs.Rows.{Layout, RowValues};
-ghost use Rattle.cond.specs.Bounds.{IsSmallRow};
+ghost use Rattle.table.specs.Bounds.{IsSmallRow};
 ghost use Rattle.assertion.specs.Bounded.{IsBounded, IsBoundedOver};
 ghost use Rattle.assertion.specs.Meaning.{State};
 ghost use Rattle.assertion.specs.Roots.{IsChangeOf, state_after};

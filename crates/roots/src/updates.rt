@@ -7,7 +7,7 @@ ghost use Rattle.value.specs.ValueOrder.{root_cmp};
 ghost use Rattle.value.specs.declared.refusals.Refusal.TheVariants.{NoMemory};
 ghost use Rattle.value.specs.declared.values.Root.{Root as roots};
 ghost use Rattle.table.specs.Rows.{row_at};
-ghost use Rattle.cond.specs.Bounds.{IsSmallRow};
+ghost use Rattle.table.specs.Bounds.{IsSmallRow};
 ghost use Rattle.assertion.specs.Bounded.{IsBounded};
 ghost use Rattle.assertion.specs.Candidates.{group_candidates};
 ghost use Rattle.assertion.specs.Meaning.{State, key_of, rows_of};

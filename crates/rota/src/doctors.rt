@@ -2,8 +2,8 @@
 
 use answer::Reply;
 use session::{Manager, Named, Receipt, Session, release, release_refused};
-use statement_syntax::Statement;
 use std::sync::Wait;
+use syntax::Statement;
 use value::{Refusal, Value};
 
 /// So often is the transaction tried. Each refusal for what others did means that another transaction was committed

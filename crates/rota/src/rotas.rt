@@ -7,14 +7,13 @@ use crate::doctors::{Ending, go_off_call, run_once, sum_of};
 use definitions::{Definitions, new_assertions};
 use parse::{parse_schema, parse_statement};
 use session::{History, Limits, Manager, Named, Session, Shelf};
-use statement_syntax::{Event, Statement};
 use std::alloc::Global;
 use std::marker::Brand;
 use std::sync::Wait;
 use std::thread;
 use std::thread::Threads;
-use threeval::Truth;
-use value::{Refusal, Text};
+use syntax::{Event, Statement};
+use value::{Refusal, Text, Truth};
 
 const DEFS: &str = "CREATE TABLE SHIFTS (ID INTEGER PRIMARY KEY);
 CREATE TABLE DUTY (ID INTEGER PRIMARY KEY, SHIFT INTEGER, ONCALL INTEGER);

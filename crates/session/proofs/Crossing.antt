@@ -14,7 +14,7 @@ use Rattle.txn.specs.contracts.closed.Closed as Closed
 use Rattle.value.proofs.texts.Text.TheSendSync as Text
 use Rattle.siread.proofs.keys.LockKey.TheSendSync as LockKey
 use Rattle.siread.proofs.locks.LockTable.TheSendSync as LockTable
-use Rattle.net.proofs.touched.Touched.TheSendSync as Touched
+use Rattle.changes.proofs.touched.Touched.TheSendSync as Touched
 use Rattle.boxcar.proofs.slot.OnceSlot.TheSendSync as OnceSlot
 use Rattle.boxcar.proofs.table.Placed.TheSendSync as Placed
 use Rattle.boxcar.proofs.tag.Tag.TheSendSync as Tag
@@ -26,10 +26,10 @@ use Rattle.table.proofs.rows.Change.TheSendSync as Change
 use Rattle.modes.proofs.modes.Modes.TheSendSync as Modes
 use Rattle.answer.proofs.answers.RefusedCommit.TheSendSync as RefusedCommit
 use Rattle.live.proofs.snapshots.Live.TheSendSync as Live
-use Rattle.cond.proofs.conds.Cond.TheLaws.TheKnot as conds
-use Rattle.cond.proofs.exprs.Expr.TheLaws.TheKnot as exprs
-use Rattle.cond.specs.contracts.conds.Cond as Cond
-use Rattle.cond.specs.contracts.exprs.Expr as Expr
+use Rattle.table.proofs.conds.Cond.TheLaws.TheKnot as conds
+use Rattle.table.proofs.exprs.Expr.TheLaws.TheKnot as exprs
+use Rattle.table.specs.contracts.conds.Cond as Cond
+use Rattle.table.specs.contracts.exprs.Expr as Expr
 use Rattle.delta.specs.contracts.views.View as View
 use Rattle.groups.specs.contracts.indexes.Index as Index
 use Rattle.groups.specs.contracts.key_sets.KeySet as KeySet

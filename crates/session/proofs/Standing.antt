@@ -5,9 +5,9 @@ use Rattle.value.specs.Ordered.{least}
 use Rattle.value.specs.ValueOrder.{root_cmp}
 use Rattle.value.specs.declared.values.Root.{Root}
 use Rattle.value.specs.declared.values.Root.TheVariants.{All}
-use Rattle.threeval.specs.declared.Truth.{Truth}
-use Rattle.threeval.specs.declared.Truth.TheVariants.{True, False, Unknown}
-use Rattle.threeval.specs.Truths.{is_of}
+use Rattle.value.specs.declared.truths.Truth.{Truth}
+use Rattle.value.specs.declared.truths.Truth.TheVariants.{True, False, Unknown}
+use Rattle.value.specs.Truths.{is_of}
 use Rattle.table.specs.Rows.{Layout}
 use Rattle.assertion.specs.declared.assertions.Assertion.{Assertion}
 use Rattle.assertion.specs.declared.forms.Form.{Form}

@@ -38,9 +38,8 @@ use std::alloc::Global;
 use std::marker::{Model, PhantomData};
 use std::mem;
 use std::sync::Wait;
-use threeval::Truth;
 use txn::verdict_on;
-use value::{Party, Refusal, Text};
+use value::{Party, Refusal, Text, Truth};
 
 /// What lies under a manager's lock: the commits, whose they are, a token of the shelf for each number, and how many
 /// sessions were handed out.
@@ -56,8 +55,8 @@ pub struct Book<N: Named> {
 }
 
 impl<N: Named> Model for Book<N> {
-    ghost use Rattle.cond.specs.contracts.conds.Cond as cond_type;
-    ghost use Rattle.cond.specs.contracts.exprs.Expr as expr_type;
+    ghost use Rattle.table.specs.contracts.conds.Cond as cond_type;
+    ghost use Rattle.table.specs.contracts.exprs.Expr as expr_type;
     ghost use Rattle.std.specs.Coded.{codes};
     ghost use Rattle.session.specs.Books.{BookState, IsBook};
 

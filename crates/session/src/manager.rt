@@ -25,8 +25,7 @@ use definitions::{Definitions, NewAssertion};
 use std::alloc::Global;
 use std::mem;
 use std::sync::{Arc, Mutex, Wait};
-use threeval::Truth;
-use value::{Refusal, Text};
+use value::{Refusal, Text, Truth};
 
 /// The manager: the Book of its epoch under its lock, and the shelf beside it. Threads share it.
 #[derive(Drop)]

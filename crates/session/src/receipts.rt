@@ -18,8 +18,8 @@ pub struct Receipt<N: Named> {
 }
 
 impl<N: Named> Model for Receipt<N> {
-    ghost use Rattle.cond.specs.contracts.conds.Cond as cond_type;
-    ghost use Rattle.cond.specs.contracts.exprs.Expr as expr_type;
+    ghost use Rattle.table.specs.contracts.conds.Cond as cond_type;
+    ghost use Rattle.table.specs.contracts.exprs.Expr as expr_type;
     ghost use Rattle.std.specs.Coded.{codes};
     ghost use Rattle.session.specs.Books.{IsReceipt, ReceiptState};
 

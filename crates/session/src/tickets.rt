@@ -18,11 +18,10 @@ use alone::Resolved;
 use answer::Reply;
 use delta::View;
 use siread::LockKey;
-use statement_syntax::Statement;
 use std::marker::{Model, PhantomData};
+use syntax::Statement;
 use table::Change;
-use threeval::Truth;
-use value::{Refusal, Text};
+use value::{Refusal, Text, Truth};
 
 /// What shows a manager that a transaction is its own: whose it is, and the token of its snapshot.
 #[derive(Drop)]
@@ -34,8 +33,8 @@ pub(crate) struct Ticket<N: Named> {
 }
 
 impl<N: Named> Model for Ticket<N> {
-    ghost use Rattle.cond.specs.contracts.conds.Cond as cond_type;
-    ghost use Rattle.cond.specs.contracts.exprs.Expr as expr_type;
+    ghost use Rattle.table.specs.contracts.conds.Cond as cond_type;
+    ghost use Rattle.table.specs.contracts.exprs.Expr as expr_type;
     ghost use Rattle.std.specs.Coded.{codes};
     ghost use Rattle.boxcar.specs.Table.{Shows};
     ghost use Rattle.session.specs.Books.{TicketState};
@@ -71,8 +70,8 @@ pub struct Txn<N: Named> {
 }
 
 impl<N: Named> Model for Txn<N> {
-    ghost use Rattle.cond.specs.contracts.conds.Cond as cond_type;
-    ghost use Rattle.cond.specs.contracts.exprs.Expr as expr_type;
+    ghost use Rattle.table.specs.contracts.conds.Cond as cond_type;
+    ghost use Rattle.table.specs.contracts.exprs.Expr as expr_type;
     ghost use Rattle.std.specs.Coded.{codes};
     ghost use Rattle.session.specs.Books.{IsTicketed, Ticketed};
 
@@ -92,8 +91,8 @@ pub struct Closed<N: Named> {
 }
 
 impl<N: Named> Model for Closed<N> {
-    ghost use Rattle.cond.specs.contracts.conds.Cond as cond_type;
-    ghost use Rattle.cond.specs.contracts.exprs.Expr as expr_type;
+    ghost use Rattle.table.specs.contracts.conds.Cond as cond_type;
+    ghost use Rattle.table.specs.contracts.exprs.Expr as expr_type;
     ghost use Rattle.std.specs.Coded.{codes};
     ghost use Rattle.session.specs.Books.{IsTicketed, Ticketed};
 

@@ -4,15 +4,15 @@ use Rattle.std.specs.Prelude.{OnOk}
 use Rattle.std.proofs.lemmas.List.{length-drop, take_all}
 use Rattle.value.specs.declared.refusals.Refusal.{Refusal}
 use Rattle.value.specs.declared.refusals.Refusal.TheVariants.{NoMemory, Syntax}
-use Rattle.statement_syntax.specs.declared.statements.Event.{Event}
-use Rattle.statement_syntax.specs.declared.statements.Step.{Step}
-use Rattle.statement_syntax.specs.Grammar.{IsEvent}
+use Rattle.syntax.specs.declared.statements.Event.{Event}
+use Rattle.syntax.specs.declared.statements.Step.{Step}
+use Rattle.syntax.specs.StatementGrammar.{IsEvent}
 use Rattle.answer.specs.declared.answers.Answer.{Answer}
 use Rattle.commit.specs.Events.{EngineState}
 use Rattle.report.specs.Report.{answer_line, refusal_line}
 use Rattle.std.specs.Prelude.{codes}
-use Rattle.running.specs.Texts.{IsRead, IsUnread}
-use Rattle.running.specs.declared.faults.ProgramFault.TheVariants.{Output}
+use Rattle.replay.specs.Texts.{IsRead, IsUnread}
+use Rattle.replay.specs.declared.faults.ProgramFault.TheVariants.{Output}
 use Rattle.shell.specs.declared.faults.ShellFault.{ShellFault}
 use Rattle.shell.specs.declared.faults.ShellFault.TheVariants.{Run}
 use Rattle.shell.specs.Cuts.{Piece, forward}

@@ -7,7 +7,7 @@ use Rattle.std.proofs.lemmas.Iterator.Adapters.{position_from-zero}
 use Rattle.std.proofs.lemmas.List.{length-map, map-append, set-append_left}
 use Rattle.std.proofs.lemmas.Option.{same_Some}
 use Rattle.std.proofs.lemmas.Slice.Eq.{bytes_eq-Decides}
-use Rattle.statement_syntax.specs.declared.statements.Step.{Step}
+use Rattle.syntax.specs.declared.statements.Step.{Step}
 use Rattle.answer.specs.declared.answers.Answer.{Answer}
 use Rattle.commit.specs.Transactions.{OpenTransaction}
 use Rattle.commit.specs.declared.seats.Seat.{Seat}
@@ -15,7 +15,7 @@ use Rattle.commit.specs.Cores.{CoreState}
 use Rattle.commit.specs.Events.{EngineState, IsAnswered, IsAnsweredAt, IsReply, after, after_at, core_after, found_no_memory, seat_of, seats_set, takes_memory, takes_memory_at, txn_after, txn_of}
 use Rattle.commit.specs.Runs.{all_seated, free_seat, unless_seated}
 use Rattle.commit.proofs.Running.{HasSeat, has_seat}
-use Rattle.running.specs.Texts.{most_sessions}
+use Rattle.replay.specs.Texts.{most_sessions}
 use Rattle.shell.specs.Seats.{seated_steps, seated_within, welcomed}
 
 abbrev Names : Type 0

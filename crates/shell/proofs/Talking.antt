@@ -3,16 +3,16 @@ use Rattle.std.proofs.Common.{◌≡◌, ℕ, Bool, true, List, [], ◌∷◌, �
 use Rattle.std.specs.Prelude.{IfErr, IfSome, OnOk}
 use Rattle.std.specs.Io.KnownBytes.{Appends, Consumes}
 use Rattle.std.proofs.KnownBytes.{Appends-trans}
-use Rattle.statement_syntax.specs.declared.statements.Step.{Step}
+use Rattle.syntax.specs.declared.statements.Step.{Step}
 use Rattle.commit.specs.Cores.{IsSerializable}
 use Rattle.commit.specs.Events.{EngineState, after}
 use Rattle.commit.specs.Runs.{AreAnswers, InEachRun, beginning, led_to}
 use Rattle.commit.specs.Told.{WereToldAlone}
 use Rattle.delta.specs.Views.{Shown}
 use Rattle.report.specs.Fronts.{BeginsWith}
-use Rattle.running.specs.declared.faults.ProgramFault.{ProgramFault}
-use Rattle.running.specs.declared.faults.ProgramFault.TheVariants.{Defs, Script, Stopped, Output, NoThread}
-use Rattle.running.specs.Texts.{IsInTheRun, is_before_the_run}
+use Rattle.replay.specs.declared.faults.ProgramFault.{ProgramFault}
+use Rattle.replay.specs.declared.faults.ProgramFault.TheVariants.{Defs, Script, Stopped, Output, NoThread}
+use Rattle.replay.specs.Texts.{IsInTheRun, is_before_the_run}
 use Rattle.shell.specs.declared.faults.ShellFault.{ShellFault}
 use Rattle.shell.specs.declared.faults.ShellFault.TheVariants.{Run, Input}
 use Rattle.shell.specs.Cuts.{Piece, Rest, no_rest, piece_of, pieces_of}

@@ -2,12 +2,12 @@
 use Rattle.std.specs.Prelude.{◌≡◌, ◌⊎◌, ℕ, true, false, List, [], ◌∷◌, ◌++◌, codes, length, ⊤}
 use Rattle.value.specs.declared.refusals.Refusal.{Refusal}
 use Rattle.value.specs.declared.refusals.Refusal.TheVariants.{Syntax, TooDeep}
-use Rattle.statement_syntax.specs.declared.statements.Step.{Step}
-use Rattle.statement_syntax.specs.declared.statements.Event.{Event}
-use Rattle.statement_syntax.specs.Grammar.{IsEvent}
+use Rattle.syntax.specs.declared.statements.Step.{Step}
+use Rattle.syntax.specs.declared.statements.Event.{Event}
+use Rattle.syntax.specs.StatementGrammar.{IsEvent}
 use Rattle.answer.specs.declared.answers.Answer.{Answer}
 use Rattle.report.specs.Report.{answer_line, refusal_line}
-use Rattle.running.specs.Texts.{IsRead, IsUnread}
+use Rattle.replay.specs.Texts.{IsRead, IsUnread}
 use Rattle.shell.specs.Cuts.{Piece, forward}
 use Rattle.shell.specs.Headings.{address, event_text, is_blank}
 

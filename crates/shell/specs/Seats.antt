@@ -1,11 +1,11 @@
 -- The sessions that get a seat: the first that come, and no more than so many.
 use Rattle.std.specs.Prelude.{ℕ, List, [], ◌∷◌, length, nat_lt, is_some, if◌then◌else◌}
-use Rattle.statement_syntax.specs.declared.statements.Step.{Step}
+use Rattle.syntax.specs.declared.statements.Step.{Step}
 use Rattle.delta.specs.Views.{Shown}
 use Rattle.commit.specs.declared.seats.Seat.{Seat}
 use Rattle.commit.specs.Events.{EngineState, seat_of}
 use Rattle.commit.specs.Runs.{beginning, seated}
-use Rattle.running.specs.Texts.{most_sessions}
+use Rattle.replay.specs.Texts.{most_sessions}
 
 -- with a seat for a session, if it has none and there is one
 abbrev pub seated_within : List Seat → List ℕ → List Seat

@@ -2,8 +2,8 @@
 use Rattle.std.specs.Prelude.{◌≡◌, ◌++◌, ◌⊎◌, ℕ, Bool, true, false, List, [], Option, Ok, Err, IfSome, ⊤}
 use Rattle.std.specs.Io.KnownBytes.{Appends}
 use Rattle.value.specs.declared.refusals.Refusal.{Refusal}
-use Rattle.statement_syntax.specs.declared.definitions.Definition.{Definition}
-use Rattle.statement_syntax.specs.SchemaGrammar.{IsSchema}
+use Rattle.syntax.specs.declared.definitions.Definition.{Definition}
+use Rattle.syntax.specs.SchemaGrammar.{IsSchema}
 use Rattle.delta.specs.Views.{Shown}
 use Rattle.commit.specs.Admission.{admitted}
 use Rattle.commit.specs.Alone.{IsSound}
@@ -13,9 +13,9 @@ use Rattle.commit.specs.Runs.{AreAnswers, beginning, led_to}
 use Rattle.commit.specs.Told.{WereToldAlone}
 use Rattle.commit.specs.Written.{AreWritten}
 use Rattle.report.specs.Fronts.{BeginsWith}
-use Rattle.running.specs.declared.faults.ProgramFault.{ProgramFault}
-use Rattle.running.specs.declared.faults.ProgramFault.TheVariants.{Defs, Script, Stopped, Output, NoThread}
-use Rattle.running.specs.Texts.{IsInTheRun, IsRead, IsUnread, is_before_the_run}
+use Rattle.replay.specs.declared.faults.ProgramFault.{ProgramFault}
+use Rattle.replay.specs.declared.faults.ProgramFault.TheVariants.{Defs, Script, Stopped, Output, NoThread}
+use Rattle.replay.specs.Texts.{IsInTheRun, IsRead, IsUnread, is_before_the_run}
 use Rattle.shell.specs.declared.faults.ShellFault.{ShellFault}
 use Rattle.shell.specs.declared.faults.ShellFault.TheVariants.{Run, Input}
 use Rattle.shell.specs.Cuts.{Piece, no_rest, piece_of, pieces_of, rest_of}

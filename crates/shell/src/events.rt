@@ -13,10 +13,10 @@ use crate::headings::{is_blank, read_address};
 use answer::Answer;
 use commit::Engine;
 use parse::parse_statement;
+use replay::MOST_SESSIONS;
 use report::Report;
-use running::MOST_SESSIONS;
-use statement_syntax::Step;
 use std::alloc::{AllocError, Global};
+use syntax::Step;
 use value::{Refusal, Text};
 
 /// The name of the input in the line of a piece that is no event.

@@ -1,6 +1,6 @@
 //! Why the shell did not come to its end.
 
-use running::ProgramFault;
+use replay::ProgramFault;
 use thiserror::Error;
 
 /// Why the shell did not come to its end.

@@ -2,7 +2,7 @@
 
 ghost use Rattle.std.specs.Prelude.{◌≡◌, ◌≤◌, ◌<◌, length, IfOk, IfSome, IsOkUnless};
 ghost use Rattle.value.specs.declared.refusals.Refusal.TheVariants.{NoMemory};
-ghost use Rattle.reading.specs.Reading.{same_kind};
+ghost use Rattle.syntax.specs.Reading.{same_kind};
 ghost use Rattle.shell.specs.Headings as spec;
 
 use std::alloc::Global;
@@ -27,7 +27,7 @@ pub fn is_blank(bytes: &[u8]) -> bool
 }
 
 /// Whether two kinds are one.
-#[tactic(auto, unfolding(reading::specs::Reading::same_kind))]
+#[tactic(auto, unfolding(syntax::specs::Reading::same_kind))]
 fn is_same(one: Kind, other: Kind) -> bool
     ensures { result ≡ same_kind one other }
 {

@@ -2,8 +2,8 @@
 
 ghost use Rattle.std.specs.Prelude.{◌≡◌, ◌≢◌, ◌≤◌, [], true, length, IfErr, IfOk, OnOk};
 ghost use Rattle.std.specs.Io.KnownBytes.{Appends};
-ghost use Rattle.running.specs.Texts.{is_before_the_run};
-ghost use Rattle.running.specs.declared.faults.ProgramFault.TheVariants.{Output};
+ghost use Rattle.replay.specs.Texts.{is_before_the_run};
+ghost use Rattle.replay.specs.declared.faults.ProgramFault.TheVariants.{Output};
 ghost use Rattle.shell.specs.declared.faults.ShellFault.TheVariants.{Run};
 ghost use Rattle.shell.specs.declared.cutting.Place.TheVariants.{End};
 ghost use Rattle.shell.specs.Cuts.{forward, no_rest, whole_of};
@@ -15,9 +15,8 @@ use crate::events::{answer_piece, answer_rest};
 use crate::faults::ShellFault;
 use commit::{Engine, admit};
 use parse::parse_schema;
-use replay::add_ending;
+use replay::{ProgramFault, ReadFault, add_ending, fault_of, flush, write_all};
 use report::Report;
-use running::{ProgramFault, ReadFault, fault_of, flush, write_all};
 use std::alloc::{AllocError, Global};
 use std::io;
 use std::io::{BufRead, Write};

@@ -1,12 +1,12 @@
 //! How a run ends: the status, what is said on the second stream, and on a terminal a picture of the fault.
 
 ghost use Rattle.std.specs.Prelude.{◌≡◌, ◌≢◌, ◌≤◌, Err, IfErr, IsOk};
-ghost use Rattle.running.specs.declared.faults.ProgramFault.TheVariants.{Output};
+ghost use Rattle.replay.specs.declared.faults.ProgramFault.TheVariants.{Output};
 
 use crate::files::{OUTSIDE, REFUSED, Streams, WELL, report_refused};
 use crate::texts::Texts;
 use checkup::{Colour, Which, picture_of_refusal};
-use running::ProgramFault;
+use replay::ProgramFault;
 use std::alloc::Global;
 use std::io::Write;
 

@@ -1,12 +1,12 @@
 //! The texts, the streams, and the statuses to end with.
 
 ghost use Rattle.std.specs.Prelude.{◌≡◌, ◌≤◌, ◌⊎◌, IfErr};
-ghost use Rattle.running.specs.declared.files.ReadFault.TheVariants.{NoMemory, Unreadable};
+ghost use Rattle.replay.specs.declared.files.ReadFault.TheVariants.{NoMemory, Unreadable};
 
 use crate::signs::Sign;
 use checkup::{Colour, Named};
+use replay::{ReadFault, fault_of, read_all};
 use report::Report;
-use running::{ReadFault, fault_of, read_all};
 use std::alloc::Global;
 use std::fs::File;
 use std::io::Write;

@@ -10,7 +10,7 @@ use commit::admit;
 use delta::View;
 use parse::parse_schema;
 use postgresql::{PrintFault, print_into};
-use running::ProgramFault;
+use replay::ProgramFault;
 use std::alloc::Global;
 use std::io::Write;
 use std::rt::Files;

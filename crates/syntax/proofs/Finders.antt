@@ -3,7 +3,7 @@ use Rattle.std.proofs.Common.{◌≡◌, ℕ, zero, suc, ◌+◌, ◌≤◌, ◌
 use Rattle.token.specs.declared.kinds.Kind.{Kind}
 use Rattle.token.specs.declared.kinds.Kind.TheVariants as k
 use Rattle.value.specs.declared.comparisons.Comparison.{Comparison}
-use Rattle.threeval.specs.declared.Truth.{Truth}
+use Rattle.value.specs.declared.truths.Truth.{Truth}
 use Rattle.syntax.specs.declared.trees.Aggregate.{Aggregate}
 use Rattle.syntax.specs.declared.trees.Aggregate.TheVariants as a
 use Rattle.syntax.specs.declared.trees.ColumnName.{ColumnName}
@@ -18,19 +18,19 @@ use Rattle.syntax.specs.declared.wants.Found.{Found}
 use Rattle.syntax.specs.declared.wants.Found.TheVariants as part
 use Rattle.syntax.specs.declared.wants.Want.{Want}
 use Rattle.syntax.specs.declared.wants.Want.TheVariants as want
-use Rattle.reading.specs.Language.{Lexeme, Lexemes, kind_at, Language, Then}
-use Rattle.reading.specs.Language as lang
+use Rattle.syntax.specs.Language.{Lexeme, Lexemes, kind_at, Language, Then}
+use Rattle.syntax.specs.Language as lang
 use Rattle.syntax.specs.Grammar as g
 use Rattle.syntax.specs.Readers as r
-use Rattle.reading.specs.Reading.{Reader, pure, refuse, by_kind, parens}
-use Rattle.reading.specs.Reading as rd
-use Rattle.reading.proofs.Laws.{append-nil, Finds, Accepts, finds_pure, finds_then}
-use Rattle.reading.proofs.Loops.{finds_parens, finds_expect, finds_after, Loops, Opening, accepts_through}
+use Rattle.syntax.specs.Reading.{Reader, pure, refuse, by_kind, parens}
+use Rattle.syntax.specs.Reading as rd
+use Rattle.syntax.proofs.WordLaws.{append-nil, Finds, Accepts, finds_pure, finds_then}
+use Rattle.syntax.proofs.Loops.{finds_parens, finds_expect, finds_after, Loops, Opening, accepts_through}
 use Rattle.syntax.proofs.Sounds.{counted_in, cond_at_s}
-use Rattle.reading.proofs.Whole.{Exact}
-use Rattle.reading.proofs.Short.{mapping, mapped, regroup, regroup_left, then_into}
-use Rattle.reading.proofs.Parts.{optional_f, optional_follows, list_f, parens_into, map_parens}
-use Rattle.reading.proofs.Follow.{rank, Opens, opens_then, opens_token, opens_either, Follows, follows_opens, follows_pure, follows_either, follows_then, follows_map, follows_behind, token_opening, then_f, map_f, seq_f, few, lower, all_f, pick, Goes, route}
+use Rattle.syntax.proofs.Whole.{Exact}
+use Rattle.syntax.proofs.Short.{mapping, mapped, regroup, regroup_left, then_into}
+use Rattle.syntax.proofs.Parts.{optional_f, optional_follows, list_f, parens_into, map_parens}
+use Rattle.syntax.proofs.Follow.{rank, Opens, opens_then, opens_token, opens_either, Follows, follows_opens, follows_pure, follows_either, follows_then, follows_map, follows_behind, token_opening, then_f, map_f, seq_f, few, lower, all_f, pick, Goes, route}
 
 -- ---- what has no parentheses in it
 

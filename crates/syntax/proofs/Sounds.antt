@@ -15,15 +15,15 @@ use Rattle.syntax.specs.declared.wants.Found.{Found}
 use Rattle.syntax.specs.declared.wants.Found.TheVariants as part
 use Rattle.syntax.specs.declared.wants.Want.{Want}
 use Rattle.syntax.specs.declared.wants.Want.TheVariants as want
-use Rattle.reading.specs.Language.{Lexeme, Lexemes, Language, Then, Behind, Begins, after_kind}
-use Rattle.reading.specs.Language as lang
+use Rattle.syntax.specs.Language.{Lexeme, Lexemes, Language, Then, Behind, Begins, after_kind}
+use Rattle.syntax.specs.Language as lang
 use Rattle.syntax.specs.Grammar as g
 use Rattle.syntax.specs.Readers as r
-use Rattle.reading.specs.Reading.{Reader, pure, refuse, expect}
-use Rattle.reading.proofs.Laws.{append-nil, begins_first, Sound, sound_pure, sound_refuse, sound_by_kind}
-use Rattle.reading.proofs.Loops.{sound_parens}
-use Rattle.reading.proofs.Parts.{optional_s, list_s, some_list, parens_into, opened_up, parens_either, parens_map, behind}
-use Rattle.reading.proofs.Short.{then_s, map_s, tok_s, seq_s, weak, all_s, token_some, token_either, mapped, mapping, regroup_left, then_into}
+use Rattle.syntax.specs.Reading.{Reader, pure, refuse, expect}
+use Rattle.syntax.proofs.WordLaws.{append-nil, begins_first, Sound, sound_pure, sound_refuse, sound_by_kind}
+use Rattle.syntax.proofs.Loops.{sound_parens}
+use Rattle.syntax.proofs.Parts.{optional_s, list_s, some_list, parens_into, opened_up, parens_either, parens_map, behind}
+use Rattle.syntax.proofs.Short.{then_s, map_s, tok_s, seq_s, weak, all_s, token_some, token_either, mapped, mapping, regroup_left, then_into}
 
 -- ---- what has no parentheses in it
 
@@ -223,7 +223,7 @@ module _ (n : ℕ) (inner : Language Found) (reader : Want → Reader Found) (so
   unfolding g.other_prim
   other_aggregate w x h = inl (inl (inr h))
 
-  aggregate_s : (f : Aggregate) (kind : Kind) → after_kind kind n ≡ Some n → ((w : Lexemes) (x : Expression) → Then (lang.token kind) (λ _. g.of f) w x → g.aggregate w x) → Sound n n (g.other_prim inner) (Rattle.reading.specs.Reading.◌>>◌ (expect kind) (r.aggregate_of n reader f))
+  aggregate_s : (f : Aggregate) (kind : Kind) → after_kind kind n ≡ Some n → ((w : Lexemes) (x : Expression) → Then (lang.token kind) (λ _. g.of f) w x → g.aggregate w x) → Sound n n (g.other_prim inner) (Rattle.syntax.specs.Reading.◌>>◌ (expect kind) (r.aggregate_of n reader f))
   aggregate_s f kind neutral into = weak (λ w x h. other_aggregate w x (into w x h)) (seq_s kind neutral (of_s f))
 
   sum_of_s : Sound n n (g.other_prim inner) (r.other_by n reader k.Sum)

@@ -8,8 +8,8 @@ use Rattle.token.specs.Lexer.{number_value}
 use Rattle.token.specs.Readings.{undoubled, between_quotes}
 use Rattle.value.specs.declared.comparisons.Comparison.{Comparison}
 use Rattle.value.specs.declared.comparisons.Comparison.TheVariants as c
-use Rattle.threeval.specs.declared.Truth.{Truth}
-use Rattle.threeval.specs.declared.Truth.TheVariants as t
+use Rattle.value.specs.declared.truths.Truth.{Truth}
+use Rattle.value.specs.declared.truths.Truth.TheVariants as t
 use Rattle.syntax.specs.declared.trees.Aggregate.{Aggregate}
 use Rattle.syntax.specs.declared.trees.Aggregate.TheVariants as a
 use Rattle.syntax.specs.declared.trees.ColumnName.{ColumnName}
@@ -25,7 +25,7 @@ use Rattle.syntax.specs.declared.wants.Found.{Found}
 use Rattle.syntax.specs.declared.wants.Found.TheVariants as part
 use Rattle.syntax.specs.declared.wants.Want.{Want}
 use Rattle.syntax.specs.declared.wants.Want.TheVariants as want
-use Rattle.reading.specs.Language.{Lexeme, Language, ◌>>=◌, ◌>>◌, ◌<$>◌, ◌∪◌, pure, token, optional, list, parens, Behind, Some_level}
+use Rattle.syntax.specs.Language.{Lexeme, Language, ◌>>=◌, ◌>>◌, ◌<$>◌, ◌∪◌, pure, token, optional, list, parens, Behind, Some_level}
 
 -- ---- trees
 

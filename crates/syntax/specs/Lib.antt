@@ -1,2 +1,10 @@
+pub mod Language
+pub mod Reading
+pub mod Answer
+pub mod Lexemes
 pub mod Grammar
 pub mod Readers
+pub mod StatementGrammar
+pub mod StatementReaders
+pub mod SchemaGrammar
+pub mod SchemaReaders

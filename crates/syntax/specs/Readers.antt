@@ -4,8 +4,8 @@ use Rattle.token.specs.declared.kinds.Kind.{Kind}
 use Rattle.token.specs.declared.kinds.Kind.TheVariants as k
 use Rattle.value.specs.declared.comparisons.Comparison.{Comparison}
 use Rattle.value.specs.declared.comparisons.Comparison.TheVariants as c
-use Rattle.threeval.specs.declared.Truth.{Truth}
-use Rattle.threeval.specs.declared.Truth.TheVariants as t
+use Rattle.value.specs.declared.truths.Truth.{Truth}
+use Rattle.value.specs.declared.truths.Truth.TheVariants as t
 use Rattle.syntax.specs.declared.trees.Aggregate.{Aggregate}
 use Rattle.syntax.specs.declared.trees.Aggregate.TheVariants as a
 use Rattle.syntax.specs.declared.trees.ColumnName.{ColumnName}
@@ -20,8 +20,8 @@ use Rattle.syntax.specs.declared.wants.Found.{Found}
 use Rattle.syntax.specs.declared.wants.Found.TheVariants as part
 use Rattle.syntax.specs.declared.wants.Want.{Want}
 use Rattle.syntax.specs.declared.wants.Want.TheVariants as want
-use Rattle.reading.specs.Language.{Lexeme}
-use Rattle.reading.specs.Reading.{Reader, ◌>>=◌, ◌>>◌, ◌<$>◌, pure, refuse, by_kind, expect, optional, parens, list, all}
+use Rattle.syntax.specs.Language.{Lexeme}
+use Rattle.syntax.specs.Reading.{Reader, ◌>>=◌, ◌>>◌, ◌<$>◌, pure, refuse, by_kind, expect, optional, parens, list, all}
 use Rattle.syntax.specs.Grammar.{product_of, sum_of, and_of, or_of, quoted, name_of, number_of, query_of}
 
 abbrev pub sign_by : Kind → Reader Comparison

@@ -2,7 +2,7 @@
 
 ghost use Rattle.std.specs.Prelude.{◌≡◌};
 ghost use Rattle.syntax.specs.declared.trees.Condition.{Condition};
-ghost use Rattle.reading.specs.Language.{Lexemes};
+ghost use Rattle.syntax.specs.Language.{Lexemes};
 ghost use Rattle.syntax.specs.Grammar.{IsCondition};
 
 /// No text is a condition with two trees.

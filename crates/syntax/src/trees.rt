@@ -1,8 +1,7 @@
 //! The trees of conditions, expressions and queries.
 
 use sqlite_items::{Boxed, Items};
-use threeval::Truth;
-use value::{Comparison, Text};
+use value::{Comparison, Text, Truth};
 
 /// A set function of SQL-92.
 #[derive(Clone, Copy, Debug, PartialEq, Eq)]

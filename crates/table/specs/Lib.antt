@@ -1,3 +1,10 @@
 pub mod Aggregates
 pub mod Faults
 pub mod Rows
+pub mod Values
+pub mod Kinds
+pub mod Slots
+pub mod Bounds
+pub mod Eval
+pub mod Shown
+pub mod Conditions

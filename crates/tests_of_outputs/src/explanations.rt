@@ -2,7 +2,7 @@
 
 use crate::writers::Brittle;
 use explain::{ExplainFault, explain_into};
-use running::ProgramFault;
+use replay::ProgramFault;
 use std::alloc::Global;
 use std::process::Abort;
 use std::test::Fail;

@@ -2,7 +2,7 @@
 
 use crate::writers::Brittle;
 use picture::picture_into;
-use running::ProgramFault;
+use replay::ProgramFault;
 use std::test::Fail;
 
 /// The first lines of the picture. Behind them stands its style.

@@ -1,7 +1,6 @@
 //! Conversations, by the bytes that are written.
 
-use replay::replay_into;
-use running::ProgramFault;
+use replay::{ProgramFault, replay_into};
 use shell::{ShellFault, converse_into, shell_into};
 use std::alloc::Global;
 use std::process::Abort;

@@ -1,8 +1,7 @@
 //! Files, readers and writers that fail.
 
 use crate::texts::{KIM, LEDGER, TABLES};
-use replay::replay_into;
-use running::{ProgramFault, ReadFault, fault_of, read_all};
+use replay::{ProgramFault, ReadFault, fault_of, read_all, replay_into};
 use std::io;
 use std::io::{ErrorKind, Read, Write};
 use std::test::Fail;

@@ -3,8 +3,7 @@
 use crate::texts::{COVER, TABLES, line_of};
 use commit::{Engine, admit};
 use parse::{parse_schema, parse_script};
-use replay::replay_into;
-use running::ProgramFault;
+use replay::{ProgramFault, replay_into};
 use std::alloc::Global;
 use std::io;
 use std::io::{ErrorKind, Write};

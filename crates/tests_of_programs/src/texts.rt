@@ -1,7 +1,7 @@
 //! The texts that the tests share, and the line of a fault.
 
+use replay::ProgramFault;
 use report::Report;
-use running::ProgramFault;
 use std::alloc::Global;
 use std::test::Fail;
 

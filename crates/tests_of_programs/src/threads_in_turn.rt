@@ -9,7 +9,7 @@ use crate::texts::{
 };
 use definitions::Definitions;
 use parse::{parse_schema, parse_script};
-use running::ProgramFault;
+use replay::ProgramFault;
 use session::{Limits, Manager, Named, Shelf};
 use std::alloc::Global;
 use std::marker::Brand;

@@ -3,10 +3,9 @@
 use crate::forms::{all_rows, by_group, by_row, single};
 use crate::shared::let_go;
 use assertion::{Assertion, ConstraintAttributes, Form, kind};
-use cond::SlotKind;
 use std::alloc::Global;
 use std::test::Fail;
-use table::Aggregate;
+use table::{Aggregate, SlotKind};
 use value::{Comparison, Refusal, Text};
 
 /// A copy of the assertion COVER of this form, which is deferred from the start.

@@ -1,18 +1,16 @@
 //! The truth tables and predicates of SQL-92 met through conditions, and the limit of width.
 
 ghost use Rattle.std.specs.Prelude.{◌≡◌, [], ◌∷◌, IfOk};
-ghost use Rattle.cond.specs.Bounds.{IsSmallRow};
-ghost use Rattle.cond.specs.Slots.{kinds_of};
+ghost use Rattle.table.specs.Bounds.{IsSmallRow};
+ghost use Rattle.table.specs.Slots.{kinds_of};
 
 use crate::shared::{let_go, same, text};
-use cond::{Cond, Expr, SlotKind, SlotValue, Slots, bound, eval, is_bounded, keeps};
 use sqlite_items::{Boxed, Items};
 use std::alloc::Global;
 use std::process::Abort;
 use std::test::Fail;
-use table::Row;
-use threeval::Truth;
-use value::{Comparison, Refusal, Value};
+use table::{Cond, Expr, Row, SlotKind, SlotValue, Slots, bound, eval, is_bounded, keeps};
+use value::{Comparison, Refusal, Truth, Value};
 
 /// A number.
 fn number(number: i64) -> Expr {

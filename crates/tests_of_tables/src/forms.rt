@@ -5,10 +5,9 @@ ghost use Rattle.assertion.specs.Bounded.{IsBounded, IsBoundedOver};
 ghost use Rattle.value.specs.declared.values.Value.TheVariants as values;
 
 use assertion::{Form, Link, Query, Whole};
-use cond::{Cond, Expr};
 use sqlite_items::Items;
 use std::alloc::Global;
-use table::Aggregate;
+use table::{Aggregate, Cond, Expr};
 use value::{Comparison, Refusal, Value};
 
 /// A list of one item.

@@ -1,12 +1,11 @@
 //! That calls succeed, and set functions counted by hand.
 
 use crate::shared::let_go;
-use cond::SlotValue;
 use groups::{Member, Total, Totals};
 use std::alloc::Global;
 use std::process::Abort;
 use std::test::Fail;
-use table::Aggregate;
+use table::{Aggregate, SlotValue};
 use value::{Refusal, Value};
 
 /// A number, or NULL where there is none.

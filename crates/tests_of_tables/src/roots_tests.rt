@@ -4,7 +4,7 @@ ghost use Rattle.std.specs.Prelude.{◌≡◌, [], ◌∷◌, None, IfOk};
 ghost use Rattle.value.specs.Ordered.{HasKey, HoldsOf};
 ghost use Rattle.value.specs.ValueOrder.{value_cmp};
 ghost use Rattle.table.specs.Rows.{value_in};
-ghost use Rattle.cond.specs.Bounds.{IsSmallRow};
+ghost use Rattle.table.specs.Bounds.{IsSmallRow};
 ghost use Rattle.assertion.specs.Bounded.{IsBounded};
 ghost use Rattle.assertion.specs.Roots.{state_after};
 ghost use Rattle.roots.specs.Maintained.{AreMaintained, AreOfTables};
@@ -19,8 +19,7 @@ use std::alloc::{AllocError, Global};
 use std::process::Abort;
 use std::test::Fail;
 use table::{Aggregate, Change, Row};
-use threeval::Truth;
-use value::{Comparison, Refusal, Root, Value};
+use value::{Comparison, Refusal, Root, Truth, Value};
 
 /// The row (1, NULL, 101) is put into table 0.
 fn insertion(alloc: Global) -> Result<Change, Refusal>

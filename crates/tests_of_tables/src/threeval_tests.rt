@@ -1,8 +1,8 @@
 //! The tables of the three truth values.
 
 use crate::shared::same;
-use threeval::Truth;
-use threeval::Truth::{False, True, Unknown};
+use value::Truth;
+use value::Truth::{False, True, Unknown};
 
 /// Two truths, and their AND and OR, as the standard prints them.
 const TABLE: &[(Truth, Truth, Truth, Truth)] = &[

@@ -7,11 +7,10 @@ use assertcheck::{
 use assertion::Assertion;
 use parse::parse_schema;
 use sqlite_items::Boxed;
-use statement_syntax::{Assignment, Definition, Event, Insert, Statement, Which};
 use std::alloc::Global;
 use std::process::Abort;
 use std::test::Fail;
-use syntax::Condition;
+use syntax::{Assignment, Condition, Definition, Event, Insert, Statement, Which};
 use table::Catalog;
 use value::{ColType, Refusal, Text, Value};
 

@@ -2,14 +2,13 @@
 
 use crate::shared::{add_table, condition_of, event, expression_of, let_go, same, schema};
 use assertion::Form;
-use form_check::{Source, form, row_condition, row_expression};
-use name_check::Scope;
-use numbering::{Columns, numbered, numbered_expression};
-use statement_syntax::Event;
+use form_check::{
+    Columns, Scope, Source, form, numbered, numbered_expression, row_condition, row_expression,
+};
 use std::alloc::Global;
 use std::process::Abort;
 use std::test::Fail;
-use syntax::{Condition, Expression};
+use syntax::{Condition, Event, Expression};
 use table::Catalog;
 use value::{ColType, Refusal, Text};
 

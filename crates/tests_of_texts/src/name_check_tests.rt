@@ -1,11 +1,10 @@
 //! Names that are found, inside and outside, and names that stand for nothing.
 
 use crate::shared::{add_table, condition_of, event, expression_of, let_go, schema};
-use name_check::{Scope, look_up_condition, look_up_expression};
-use statement_syntax::Event;
+use form_check::{Scope, look_up_condition, look_up_expression};
 use std::alloc::Global;
 use std::test::Fail;
-use syntax::ColumnName;
+use syntax::{ColumnName, Event};
 use table::{Catalog, Schema};
 use value::{ColType, Refusal, Text};
 

@@ -3,10 +3,9 @@
 use crate::shared::{event, let_go};
 use parse::{parse_schema, parse_script, parse_statement};
 use sqlite_items::Items;
-use statement_syntax::{Definition, Event, Mode, Statement, Step};
 use std::alloc::{AllocError, Global};
 use std::test::Fail;
-use syntax::{Condition, Expression};
+use syntax::{Condition, Definition, Event, Expression, Mode, Statement, Step};
 use value::{ColType, Comparison, Refusal, Value};
 
 /// The offset that a refusal names: of Syntax, or of TooDeep.

@@ -4,15 +4,13 @@ use crate::report_tests::reads;
 use crate::shared::let_go;
 use answer::RefusedCommit;
 use assertion::{Assertion, ConstraintAttributes, Form};
-use cond::Cond;
 use report::Report;
 use serial::Record;
 use sqlite_items::Items;
 use std::alloc::{AllocError, Global};
 use std::test::Fail;
-use table::{Change, Row};
-use threeval::Truth;
-use value::{Party, Refusal, Root, Text, Value};
+use table::{Change, Cond, Row};
+use value::{Party, Refusal, Root, Text, Truth, Value};
 
 /// A list of one item.
 fn one<T: Drop>(alloc: Global, item: T) -> Result<Vec<T>, Refusal> {

@@ -5,13 +5,12 @@ use answer::{Answer, Reply};
 use parse::parse_script;
 use report::Report;
 use sqlite_items::Items;
-use statement_syntax::Step;
 use std::alloc::{AllocError, Global};
 use std::process::Abort;
 use std::test::Fail;
+use syntax::Step;
 use table::Row;
-use threeval::Truth;
-use value::{Excess, Party, Refusal, Root, Text, Value};
+use value::{Excess, Party, Refusal, Root, Text, Truth, Value};
 
 /// Ends the test where the report isn't this text.
 pub fn reads(rt: &impl Abort, report: &Report, wanted: &str) {

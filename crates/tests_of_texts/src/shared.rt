@@ -1,10 +1,9 @@
 //! What the tests share: a comparison that ends a test, a catalog, and the trees of texts.
 
 use parse::parse_statement;
-use statement_syntax::{Assigned, Event, Statement};
 use std::alloc::Global;
 use std::process::Abort;
-use syntax::{Condition, Expression};
+use syntax::{Assigned, Condition, Event, Expression, Statement};
 use table::{Catalog, Column, Schema};
 use value::{ColType, Refusal, Text};
 

@@ -1,18 +1,17 @@
 //! Typed and mistyped conditions and forms, and one that is too wide.
 
 use crate::shared::{add_table, columns, condition_of, event, let_go};
+use assertcheck::{
+    DataType, aggregate_type, column_type, expression_type, form_is_bounded, form_is_typed,
+    is_well_typed,
+};
 use assertion::Form;
-use cond::{Cond, Expr};
 use form_check::form;
 use sqlite_items::Items;
 use std::alloc::Global;
 use std::test::Fail;
 use syntax::Condition;
-use table::{Aggregate, Catalog, Column};
-use type_check::{
-    DataType, aggregate_type, column_type, expression_type, form_is_bounded, form_is_typed,
-    is_well_typed,
-};
+use table::{Aggregate, Catalog, Column, Cond, Expr};
 use value::{ColType, Comparison, Refusal, Value};
 
 /// ID INTEGER, which is the key, and OWNER VARCHAR(10).

@@ -1,6 +1,6 @@
 -- What events lead to, each answered after those before it.
 use Rattle.std.proofs.Common.{List, [], ◌∷◌}
-use Rattle.statement_syntax.specs.declared.statements.Step.{Step}
+use Rattle.syntax.specs.declared.statements.Step.{Step}
 use Rattle.answer.specs.declared.answers.Answer.{Answer}
 use Rattle.commit.specs.Events.{EngineState, after}
 use Rattle.commit.specs.Runs.{AreAnswers, led_to}

@@ -2,18 +2,17 @@
 
 ghost use Rattle.std.specs.Prelude.{◌≡◌, ◌∷◌, ◌<◌, All, [], length, IfOk, IsTrue};
 ghost use Rattle.assertcheck.specs.Updates.{IsBoundedSetting};
-ghost use Rattle.cond.specs.Bounds.{is_bounded};
+ghost use Rattle.table.specs.Bounds.{is_bounded};
 
 use crate::texts::{let_go, view_of};
 use assertcheck::Setting;
 use changes::{insertion, removals, renewals, selected_rows};
-use cond::{Cond, Expr, bound, is_bounded};
 use delta::View;
 use sqlite_items::Items;
 use std::alloc::Global;
 use std::process::Abort;
 use std::test::Fail;
-use table::{Change, Row};
+use table::{Change, Cond, Expr, Row, bound, is_bounded};
 use value::{Comparison, Refusal, Text, Value};
 
 /// One person is on duty, in the shift 7.

@@ -12,10 +12,10 @@ use commit::{
 };
 use delta::View;
 use parse::{parse_schema, parse_script};
-use statement_syntax::Step;
 use std::alloc::Global;
 use std::process::Abort;
 use std::test::Fail;
+use syntax::Step;
 use txn::{Closed, Txn, Unclosed};
 use value::{Refusal, Text};
 

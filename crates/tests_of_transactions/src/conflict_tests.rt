@@ -99,8 +99,8 @@ struct History {
 }
 
 impl Model for History {
-    ghost use Rattle.cond.specs.contracts.conds.Cond as cond_type;
-    ghost use Rattle.cond.specs.contracts.exprs.Expr as expr_type;
+    ghost use Rattle.table.specs.contracts.conds.Cond as cond_type;
+    ghost use Rattle.table.specs.contracts.exprs.Expr as expr_type;
     ghost use Rattle.std.specs.Coded.{codes};
     ghost use Rattle.std.specs.Prelude.{List};
     ghost use Rattle.siread.specs.Locks.{readers_at};

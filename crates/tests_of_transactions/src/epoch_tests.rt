@@ -9,9 +9,9 @@ use definitions::{Definitions, NewAssertion, new_assertions};
 use delta::View;
 use parse::{parse_schema, parse_script};
 use report::Report;
-use statement_syntax::Step;
 use std::alloc::Global;
 use std::test::Fail;
+use syntax::Step;
 use value::{Refusal, Text};
 
 /// An account of KIM.

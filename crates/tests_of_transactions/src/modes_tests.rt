@@ -6,10 +6,10 @@ use crate::texts::{let_go, view_of};
 use assertion::Assertion;
 use modes::{Modes, settable_names};
 use sqlite_items::Items;
-use statement_syntax::{Mode, Which};
 use std::alloc::Global;
 use std::process::Abort;
 use std::test::Fail;
+use syntax::{Mode, Which};
 use value::{Refusal, Text};
 
 /// Two assertions that are always satisfied: COVER, which is initially deferred, and FUNDS, which is not deferrable.

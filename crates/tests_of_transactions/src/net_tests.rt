@@ -6,11 +6,11 @@ ghost use Rattle.assertion.specs.Declarations.{layouts_in};
 ghost use Rattle.assertion.specs.Meaning.{rows_of};
 ghost use Rattle.assertion.specs.Roots.{IsChangeOf};
 ghost use Rattle.delta.specs.Views.{IsFitting};
-ghost use Rattle.net.specs.Nets.{DifferAt};
+ghost use Rattle.changes.specs.Nets.{DifferAt};
 
 use crate::texts::{let_go, view_of};
+use changes::{Touched, is_same_there, net_change, row_in};
 use delta::View;
-use net::{Touched, is_same_there, net_change, row_in};
 use siread::Place;
 use std::alloc::Global;
 use std::slice;

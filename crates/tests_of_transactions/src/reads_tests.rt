@@ -4,15 +4,14 @@ ghost use Rattle.std.specs.Prelude.{◌≡◌, length};
 
 use crate::texts::{let_go, view_of};
 use assertion::Assertion;
-use cond::{Cond, Expr};
+use changes::{Equality, checks_read, equality_on, real_changes, tables_read, where_key};
 use delta::View;
-use reads::{Equality, checks_read, equality_on, real_changes, tables_read, where_key};
 use siread::{LockKey, Place};
 use sqlite_items::Items;
 use std::alloc::Global;
 use std::process::Abort;
 use std::test::Fail;
-use table::{Change, Row};
+use table::{Change, Cond, Expr, Row};
 use value::{Comparison, Refusal, Value};
 
 /// An assertion by rows, each beside those that link to it, and one of a single condition.

@@ -6,13 +6,12 @@ use delta::View;
 use parse::parse_script;
 use report::Report;
 use siread::LockKey;
-use statement_syntax::{Event, Step};
 use std::alloc::Global;
 use std::process::Abort;
 use std::test::Fail;
-use threeval::Truth;
+use syntax::{Event, Step};
 use txn::{Closed, Txn, Unclosed};
-use value::Text;
+use value::{Text, Truth};
 
 /// There is at most one leader, and no shift stands twice in DUTY.
 const TABLES: &str = "CREATE TABLE DUTY (ID INTEGER PRIMARY KEY, SHIFT INTEGER, SPARE INTEGER);

@@ -1,10 +1,10 @@
 -- How many scripts there are, and how they are made from the last step to the first and back.
 use Rattle.std.proofs.Common.{◌≡◌, ◌≤◌, ◌<◌, List, [], ◌∷◌, ◌++◌, length, reverse, sym, ap, ◌∙◌, subst}
 use Rattle.std.proofs.lemmas.List.{length-map, reverse-append, reverse-reverse}
-use Rattle.statement_syntax.specs.declared.statements.Step.{Step}
+use Rattle.syntax.specs.declared.statements.Step.{Step}
 use Rattle.commit.specs.Runs.{all_seated}
 use Rattle.workers.specs.declared.scripts.Script.{Script}
-use Rattle.running.specs.Texts.{HasFewSessions, HasManySessions, most_sessions}
+use Rattle.replay.specs.Texts.{HasFewSessions, HasManySessions, most_sessions}
 use Rattle.threads.specs.Adding.{added, all_added}
 use Rattle.threads.specs.Grouping.{grouped, script_for}
 use Rattle.threads.proofs.Adding.{grouped_are}

@@ -5,8 +5,8 @@ use Rattle.std.specs.Io.KnownBytes.{Appends}
 use Rattle.value.specs.Results.{and_then}
 use Rattle.value.specs.declared.refusals.Refusal.{Refusal}
 use Rattle.value.specs.declared.refusals.Refusal.TheVariants.{NoMemory, TooManySessions}
-use Rattle.statement_syntax.specs.declared.definitions.Definition.{Definition}
-use Rattle.statement_syntax.specs.declared.statements.Step.{Step}
+use Rattle.syntax.specs.declared.definitions.Definition.{Definition}
+use Rattle.syntax.specs.declared.statements.Step.{Step}
 use Rattle.commit.specs.Views.{Shown}
 use Rattle.definitions.specs.Taken.{taken}
 use Rattle.definitions.specs.Written.{AreWritten}
@@ -16,11 +16,11 @@ use Rattle.session.specs.Books.{IsOver}
 use Rattle.workers.specs.declared.scripts.Script.{Script}
 use Rattle.workers.specs.declared.scripts.ScriptAnswers.{ScriptAnswers}
 use Rattle.workers.specs.Scripts.{AreAnswered}
-use Rattle.running.specs.declared.faults.ProgramFault.{ProgramFault}
-use Rattle.running.specs.declared.faults.ProgramFault.TheVariants.{Defs, NoThread, Output, Stopped, Script as ScriptFault}
-use Rattle.statement_syntax.specs.SchemaGrammar.{IsScript}
-use Rattle.running.specs.Texts.{AreRead, HasFewSessions, HasManySessions, HasTooManySessions, IsFirstFault, IsInTheRun, IsNoScript, IsRun, IsUnread, is_before_the_run}
-use Rattle.running.proofs.Late.{late_fault}
+use Rattle.replay.specs.declared.faults.ProgramFault.{ProgramFault}
+use Rattle.replay.specs.declared.faults.ProgramFault.TheVariants.{Defs, NoThread, Output, Stopped, Script as ScriptFault}
+use Rattle.syntax.specs.SchemaGrammar.{IsScript}
+use Rattle.replay.specs.Texts.{AreRead, HasFewSessions, HasManySessions, HasTooManySessions, IsFirstFault, IsInTheRun, IsNoScript, IsRun, IsUnread, is_before_the_run}
+use Rattle.replay.proofs.Late.{late_fault}
 use Rattle.threads.specs.Grouping.{grouped}
 use Rattle.threads.specs.Grouped.{AreOpened, IsAdmitted, PrintsGrouped, WritesGrouped, all_ran, grouped_report}
 

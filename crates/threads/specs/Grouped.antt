@@ -2,8 +2,8 @@
 use Rattle.std.specs.Prelude.{◌≡◌, ℕ, Bool, true, false, List, [], ◌∷◌, ◌++◌, Option, Ok}
 use Rattle.std.specs.List.{list_all}
 use Rattle.std.specs.Io.KnownBytes.{Appends}
-use Rattle.statement_syntax.specs.declared.statements.Step.{Step}
-use Rattle.statement_syntax.specs.declared.definitions.Definition.{Definition}
+use Rattle.syntax.specs.declared.statements.Step.{Step}
+use Rattle.syntax.specs.declared.definitions.Definition.{Definition}
 use Rattle.commit.specs.Views.{Shown}
 use Rattle.definitions.specs.Written.{AreWritten}
 use Rattle.commit.specs.Admission.{admitted}
@@ -13,8 +13,8 @@ use Rattle.session.specs.Books.{IsOver}
 use Rattle.workers.specs.declared.scripts.Script.{Script}
 use Rattle.workers.specs.declared.scripts.ScriptAnswers.{ScriptAnswers}
 use Rattle.workers.specs.Scripts.{AreAnswered}
-use Rattle.running.specs.Lines.{closing, lines}
-use Rattle.running.specs.Texts.{AreReady}
+use Rattle.replay.specs.Reports.{closing, lines}
+use Rattle.replay.specs.Texts.{AreReady}
 use Rattle.threads.specs.Grouping.{grouped}
 
 -- the line of a transaction that was rolled back at the end

@@ -3,8 +3,8 @@
 ghost use Rattle.std.specs.Prelude.{◌≡◌, ◌≢◌, ◌≤◌, ◌⊎◌, true, false, Err, IfOk, IfErr, OnOk};
 ghost use Rattle.value.specs.declared.refusals.Refusal.TheVariants.{NoMemory, TooManySessions};
 ghost use Rattle.commit.specs.Admission.{admitted};
-ghost use Rattle.running.specs.declared.faults.ProgramFault.TheVariants.{NoThread, Stopped};
-ghost use Rattle.running.specs.Texts.{HasFewSessions, HasManySessions, IsFirstFault, is_before_the_run, most_sessions};
+ghost use Rattle.replay.specs.declared.faults.ProgramFault.TheVariants.{NoThread, Stopped};
+ghost use Rattle.replay.specs.Texts.{HasFewSessions, HasManySessions, IsFirstFault, is_before_the_run, most_sessions};
 ghost use Rattle.threads.specs.Grouping.{grouped};
 ghost use Rattle.threads.specs.Grouped.{AreOpened, IsAdmitted, WritesGrouped};
 
@@ -12,14 +12,14 @@ use crate::grouping::group_by_session;
 use crate::printing::print_report;
 use commit::has_few_sessions;
 use definitions::Definitions;
-use running::{MOST_SESSIONS, ProgramFault, read_texts};
+use replay::{MOST_SESSIONS, ProgramFault, read_texts};
 use session::{Limits, Manager, Named, Shelf};
 use sqlite_items::Items;
-use statement_syntax::{Definition, Step};
 use std::alloc::Global;
 use std::io::Write;
 use std::sync::Wait;
 use std::thread::Threads;
+use syntax::{Definition, Step};
 use value::Refusal;
 use workers::{Gate, Script, run_sessions};
 

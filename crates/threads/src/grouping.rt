@@ -6,8 +6,8 @@ ghost use Rattle.threads.specs.Adding.{added, first_step, script_of, with_step};
 ghost use Rattle.threads.specs.Grouping.{grouped};
 
 use sqlite_items::Items;
-use statement_syntax::Step;
 use std::alloc::Global;
+use syntax::Step;
 use value::{Refusal, Text};
 use workers::Script;
 

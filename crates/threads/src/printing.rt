@@ -2,19 +2,19 @@
 
 ghost use Rattle.std.specs.Prelude.{◌≡◌, ◌≢◌, ◌++◌, true, false, IfErr, OnOk};
 ghost use Rattle.std.specs.Io.KnownBytes.{Appends};
-ghost use Rattle.running.specs.Lines.{lines};
-ghost use Rattle.running.specs.declared.faults.ProgramFault.TheVariants.{NoThread, Stopped};
-ghost use Rattle.running.specs.Texts.{IsInTheRun};
+ghost use Rattle.replay.specs.Reports.{lines};
+ghost use Rattle.replay.specs.declared.faults.ProgramFault.TheVariants.{NoThread, Stopped};
+ghost use Rattle.replay.specs.Texts.{IsInTheRun};
 ghost use Rattle.threads.specs.Grouped.{PrintsGrouped, all_lines, all_ran, ended_line, grouped_report, script_lines};
 
 use answer::Answer;
 use commit::Core;
+use replay::{ProgramFault, add_closing_part, flush, write_all};
 use report::Report;
-use running::{ProgramFault, add_closing_part, flush, write_all};
 use session::{History, Named};
-use statement_syntax::Step;
 use std::alloc::{AllocError, Global};
 use std::io::Write;
+use syntax::Step;
 use value::Text;
 use workers::{Script, ScriptAnswers};
 

@@ -14,7 +14,7 @@ use Rattle.table.specs.declared.schemas.Column.{Column}
 use Rattle.table.specs.Faults.{are_typed, row_fault, row_refusal}
 use Rattle.table.specs.Rows.{FitsColumns, Layout, RowValues, Tables, layouts_of, put_row, value_in}
 use Rattle.table.proofs.RowLemmas.{FitsColumns-of}
-use Rattle.cond.specs.Eval.{keeps}
+use Rattle.table.specs.Eval.{keeps}
 use Rattle.assertion.specs.Declarations.{Declared, layouts_in}
 use Rattle.assertion.specs.Meaning.{State, key_of, rows_of}
 use Rattle.assertion.specs.Roots.{state_after, state_after_all}

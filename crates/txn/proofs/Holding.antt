@@ -16,7 +16,7 @@ use Rattle.alone.proofs.ReadOnly.{one_more}
 use Rattle.alone.specs.Alone.{Run, Standing, Step, followed, ran, stepped}
 use Rattle.alone.specs.Resolve.{is_read_only}
 use Rattle.delta.specs.Views.{Shown}
-use Rattle.net.specs.Nets.{DifferAt}
+use Rattle.changes.specs.Nets.{DifferAt}
 use Rattle.txn.specs.declared.steps.Done.{Done}
 use Rattle.txn.specs.Held.{IsHeld}
 use Rattle.txn.specs.Steps.{IsDone, IsOf, left_by, rows_left, standing}

@@ -21,7 +21,7 @@ use Rattle.alone.specs.Statements.{Effect}
 use Rattle.alone.proofs.Members.{in_map}
 use Rattle.alone.proofs.Nets.{net_all}
 use Rattle.delta.specs.Views.{Shown}
-use Rattle.net.specs.Nets.{DifferAt}
+use Rattle.changes.specs.Nets.{DifferAt}
 use Rattle.txn.specs.declared.steps.Done.{Done}
 use Rattle.txn.specs.Steps.{ArePut, IsDone, IsLeft, left_by, rows_left, standing}
 

@@ -9,7 +9,7 @@ use Rattle.siread.specs.declared.keys.LockKey.{LockKey}
 use Rattle.siread.specs.declared.keys.Place.{Place}
 use Rattle.alone.specs.Resolve.{is_read_only}
 use Rattle.delta.specs.Views.{Shown}
-use Rattle.net.specs.Nets.{DifferAt}
+use Rattle.changes.specs.Nets.{DifferAt}
 use Rattle.txn.specs.Transactions.{OpenTransaction, keys_of, outcome_of, own_view, run_of, standing_of}
 
 -- its own view, its modes, the places of the rows that it has changed, and what it has read; and a read-only one has

@@ -2,7 +2,7 @@
 -- evaluated without overflow, and an UPDATE leaves the key.
 use Rattle.std.specs.Prelude.{◌≡◌, ◌≢◌, ◌<◌, false, [], All, IsTrue, length}
 use Rattle.value.specs.declared.refusals.Refusal.TheVariants.{NoMemory}
-use Rattle.cond.specs.Bounds.{is_bounded}
+use Rattle.table.specs.Bounds.{is_bounded}
 use Rattle.assertion.specs.Declarations.{Declared, layouts_in}
 use Rattle.assertion.specs.Meaning.{key_of}
 use Rattle.assertcheck.specs.declared.deletes.Delete.{Delete}

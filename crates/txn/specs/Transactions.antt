@@ -1,8 +1,8 @@
 -- An open transaction: what it began on, and what it has run so far. Its own view and its modes are what that leaves.
 use Rattle.std.specs.Prelude.{ℕ, Bool, List, [], ◌∷◌, ◌++◌, flat_map, if◌then◌else◌, Option, Some, None}
-use Rattle.threeval.specs.declared.Truth.{Truth}
-use Rattle.threeval.specs.declared.Truth.TheVariants.{False}
-use Rattle.threeval.specs.Truths.{is_of}
+use Rattle.value.specs.declared.truths.Truth.{Truth}
+use Rattle.value.specs.declared.truths.Truth.TheVariants.{False}
+use Rattle.value.specs.Truths.{is_of}
 use Rattle.assertion.specs.declared.assertions.Assertion.{Assertion}
 use Rattle.assertion.specs.Declarations.{Declared, layouts_in}
 use Rattle.assertion.specs.Meaning.{State, verdict_of}

@@ -13,8 +13,7 @@ ghost use Rattle.txn.specs.Transactions.{false_names, name_if_false, truth_of};
 use assertion::Assertion;
 use delta::View;
 use std::alloc::Global;
-use threeval::Truth;
-use value::{Refusal, Text};
+use value::{Refusal, Text, Truth};
 
 /// The refusal by the first assertion, of those that are meant, that is false on a view, with the least root at
 /// which it is. What is unknown is not false. NoMemory is the only error.

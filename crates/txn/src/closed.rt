@@ -8,9 +8,9 @@ ghost use Rattle.txn.specs.Transactions.{keys_of, outcome_of, own_view};
 
 use crate::txns::Txn;
 use alone::{Resolved, read_only_statements_change_nothing};
+use changes::Touched;
 use delta::View;
 use modes::Modes;
-use net::Touched;
 use siread::LockKey;
 use std::marker::Model;
 use table::Change;
@@ -45,8 +45,8 @@ pub struct Parts {
 }
 
 impl Model for Closed {
-    ghost use Rattle.cond.specs.contracts.conds.Cond as cond_type;
-    ghost use Rattle.cond.specs.contracts.exprs.Expr as expr_type;
+    ghost use Rattle.table.specs.contracts.conds.Cond as cond_type;
+    ghost use Rattle.table.specs.contracts.exprs.Expr as expr_type;
     ghost use Rattle.std.specs.Coded.{codes};
     ghost use Rattle.std.specs.Prelude.{take};
     ghost use Rattle.txn.specs.Held.{IsClosed, IsHeld};

@@ -10,8 +10,8 @@ use alone::{Resolved, updates_leave_the_key};
 use assertcheck::{check_delete, check_insert, check_select, check_update};
 use delta::View;
 use modes::settable_names;
-use statement_syntax::Statement;
 use std::alloc::Global;
+use syntax::Statement;
 use value::Refusal;
 
 /// A statement with its names found among the tables and assertions of a view; one that has a fault of names,

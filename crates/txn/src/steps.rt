@@ -14,7 +14,7 @@ ghost use Rattle.alone.specs.Alone.{effected, modes_step, stepped, verdict_step}
 ghost use Rattle.alone.specs.Reads.{where_key};
 ghost use Rattle.alone.specs.States.{net_change};
 ghost use Rattle.alone.specs.Statements.{found_rows, selected_rows, place_in};
-ghost use Rattle.net.specs.Nets.{DifferAt};
+ghost use Rattle.changes.specs.Nets.{DifferAt};
 ghost use Rattle.txn.specs.Effects.{ArePutIn};
 ghost use Rattle.txn.specs.Runnable.{IsRunnable, IsRunnableDelete, IsRunnableSelect, IsRunnableUpdate};
 ghost use Rattle.txn.specs.Steps.{ArePut, IsDone, IsKnown, IsLeft, IsOf, delete_step, insert_step, left_by, shown_effect, standing, update_step};
@@ -26,17 +26,16 @@ use crate::effects::{
 use alone::Resolved;
 use answer::Reply;
 use assertcheck::{Delete, NewRow, Select, Update};
-use changes::selected_rows;
-use cond::Cond;
+use changes::{
+    Touched, checks_read, net_change, real_changes, selected_rows, tables_read, where_key,
+};
 use delta::View;
 use modes::Modes;
-use net::{Touched, net_change};
-use reads::{checks_read, real_changes, tables_read, where_key};
 use siread::{LockKey, Place};
 use sqlite_items::Items;
-use statement_syntax::Mode;
 use std::alloc::Global;
-use table::Change;
+use syntax::Mode;
+use table::{Change, Cond};
 use value::{Refusal, Text, Value};
 
 /// What a statement answered, a refusal among the answers, what it left where that is another than before, and what

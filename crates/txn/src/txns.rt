@@ -16,17 +16,15 @@ use crate::resolutions::resolve;
 use crate::steps::{Done, append, step};
 use alone::{Resolved, read_only_statements_change_nothing, runs_are_joined};
 use answer::Reply;
+use changes::{Touched, checks_read, net_change};
 use delta::View;
 use modes::Modes;
-use net::{Touched, net_change};
-use reads::checks_read;
 use siread::LockKey;
-use statement_syntax::Statement;
 use std::alloc::Global;
 use std::marker::Model;
+use syntax::Statement;
 use table::Change;
-use threeval::Truth;
-use value::{Refusal, Text};
+use value::{Refusal, Text, Truth};
 
 /// An open transaction: the tables that it began on, its own view of them, its modes, its trace, and what it has
 /// read. It must be spent: by [`Txn::close_check`], or by [`Txn::abandon`].
@@ -51,8 +49,8 @@ struct Closing {
 }
 
 impl Model for Txn {
-    ghost use Rattle.cond.specs.contracts.conds.Cond as cond_type;
-    ghost use Rattle.cond.specs.contracts.exprs.Expr as expr_type;
+    ghost use Rattle.table.specs.contracts.conds.Cond as cond_type;
+    ghost use Rattle.table.specs.contracts.exprs.Expr as expr_type;
     ghost use Rattle.std.specs.Coded.{codes};
     ghost use Rattle.txn.specs.Held.{IsHeld};
     ghost use Rattle.txn.specs.Transactions.{OpenTransaction, opened};

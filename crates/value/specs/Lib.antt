@@ -3,3 +3,4 @@ pub mod Ordered
 pub mod Results
 pub mod Texts
 pub mod ValueOrder
+pub mod Truths

@@ -10,8 +10,8 @@ use Rattle.answer.proofs.answers.Answer.TheSendSync as Answer
 use Rattle.syntax.proofs.trees.Condition.TheLaws.TheKnot as conditions
 use Rattle.syntax.specs.contracts.trees.Condition as Condition
 use Rattle.syntax.specs.contracts.trees.Expression as Expression
-use Rattle.statement_syntax.specs.contracts.statements.Assignment as Assignment
-use Rattle.statement_syntax.specs.contracts.statements.Step as Step
+use Rattle.syntax.specs.contracts.statements.Assignment as Assignment
+use Rattle.syntax.specs.contracts.statements.Step as Step
 use Rattle.workers.specs.contracts.runs.Room as Room
 use Rattle.workers.specs.contracts.scripts.Script as Script
 

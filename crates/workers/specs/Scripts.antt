@@ -1,7 +1,7 @@
 -- What scripts are answered, as far as it is known without what their threads wrote.
 use Rattle.std.specs.Prelude.{◌≡◌, ◌⊎◌, Bool, true, false, List, [], ◌∷◌, length, ⊤}
 use Rattle.value.specs.declared.refusals.Refusal.TheVariants.{NoMemory, TooManySessions}
-use Rattle.statement_syntax.specs.declared.statements.Step.{Step}
+use Rattle.syntax.specs.declared.statements.Step.{Step}
 use Rattle.answer.specs.declared.answers.Answer.{Answer}
 use Rattle.answer.specs.declared.answers.Answer.TheVariants.{Refused}
 use Rattle.workers.specs.declared.scripts.Script.{Script}

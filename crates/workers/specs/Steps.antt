@@ -1,10 +1,10 @@
 -- What a step of a session is answered, as far as it is known without the commits, and which transaction is open then.
 use Rattle.std.specs.Prelude.{◌≡◌, ◌≤◌, ◌<◌, ◌⊎◌, ℕ, Bool, true, false, List, [], ◌∷◌, Option, Some, None, is_some}
 use Rattle.value.specs.declared.refusals.Refusal.TheVariants.{NoMemory, NoTransaction, Stranger, TransactionOpen}
-use Rattle.statement_syntax.specs.declared.statements.Statement.{Statement}
-use Rattle.statement_syntax.specs.declared.statements.Event.{Event}
-use Rattle.statement_syntax.specs.declared.statements.Step.{Step}
-use Rattle.statement_syntax.specs.declared.statements.Event.TheVariants.{Begin, BeginReadOnly, Commit, Rollback, Run}
+use Rattle.syntax.specs.declared.statements.Statement.{Statement}
+use Rattle.syntax.specs.declared.statements.Event.{Event}
+use Rattle.syntax.specs.declared.statements.Step.{Step}
+use Rattle.syntax.specs.declared.statements.Event.TheVariants.{Begin, BeginReadOnly, Commit, Rollback, Run}
 use Rattle.answer.specs.declared.answers.Answer.{Answer}
 use Rattle.answer.specs.declared.answers.Answer.TheVariants.{Begun, Committed, Refused, RolledBack}
 use Rattle.session.specs.Resolve.{resolved}

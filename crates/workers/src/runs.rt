@@ -13,11 +13,11 @@ use crate::steps::{StepOutcome, end, run_event};
 use answer::Answer;
 use session::{Manager, Named, Session, Txn};
 use sqlite_items::Items;
-use statement_syntax::Step;
 use std::alloc::Global;
 use std::sync::Wait;
 use std::thread;
 use std::thread::Threads;
+use syntax::Step;
 use value::Refusal;
 
 /// Where a thread leaves what its script was answered. Until it has run, it says that it got no session.

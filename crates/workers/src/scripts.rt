@@ -2,7 +2,7 @@
 
 use answer::Answer;
 use sqlite_items::Items;
-use statement_syntax::Step;
+use syntax::Step;
 use value::Text;
 
 /// What one session does. Its name is that of its records; the sessions that the steps name are not looked at.

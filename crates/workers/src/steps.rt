@@ -2,14 +2,14 @@
 
 ghost use Rattle.std.specs.Prelude.{◌≡◌, ℕ, is_some};
 ghost use Rattle.answer.specs.declared.answers.Answer.TheVariants.{Refused};
-ghost use Rattle.statement_syntax.specs.declared.statements.Event.TheVariants.{Commit, Rollback};
+ghost use Rattle.syntax.specs.declared.statements.Event.TheVariants.{Commit, Rollback};
 ghost use Rattle.session.specs.Books.{IsFresh};
 ghost use Rattle.workers.specs.Steps.{IsBegun, IsBegunIn, IsRunIn, IsTold, seen_after};
 
 use answer::Answer;
 use session::{CommitFault, Manager, Named, Session, Txn, release};
-use statement_syntax::{Event, Statement};
 use std::sync::Wait;
+use syntax::{Event, Statement};
 use value::Refusal;
 
 /// What a step was answered, and the transaction that is open then, if one is.

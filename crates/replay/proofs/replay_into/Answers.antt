@@ -1,6 +1,6 @@
 use Rattle.std.proofs.Common.{List, subst}
 use Rattle.std.specs.Prelude.{OnOk}
-use Rattle.statement_syntax.specs.declared.statements.Step.{Step}
+use Rattle.syntax.specs.declared.statements.Step.{Step}
 use Rattle.replay.specs.Writing.{PrintsRun}
 use Rattle.replay.proofs.Reporting.{reports}
 use Rattle.replay.proofs.replay_into.Goals as goal

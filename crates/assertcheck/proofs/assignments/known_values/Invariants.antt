@@ -1,5 +1,5 @@
 use Rattle.std.proofs.Common.{◌≡◌, drop}
-use Rattle.name_check.specs.Shown.{shown}
+use Rattle.form_check.specs.ShownScopes.{shown}
 use Rattle.assertcheck.specs.Updates.{values_fault}
 use Rattle.assertcheck.proofs.assignments.known_values.Given as goal
 

@@ -1,5 +1,5 @@
 use Rattle.std.proofs.Common.{◌≡◌, drop}
-use Rattle.name_check.specs.Shown.{shown}
+use Rattle.form_check.specs.ShownScopes.{shown}
 use Rattle.value.specs.Results.{behind}
 use Rattle.assertcheck.specs.Updates.{settings_of}
 use Rattle.assertcheck.proofs.assignments.settings.Given as goal

@@ -1,5 +1,5 @@
 use Rattle.std.proofs.Common.{rules}
-use Rattle.form_check.specs.Shown.{shown_source}
+use Rattle.form_check.specs.ShownSources.{shown_source}
 use Rattle.assertcheck.proofs.Refused.{by_last}
 use Rattle.assertcheck.proofs.updates.update_over.Goals as goal
 

@@ -1,6 +1,6 @@
 use Rattle.std.proofs.Common.{◌≡◌, length}
 use Rattle.std.specs.Prelude.{All}
-use Rattle.cond.specs.Bounds.{IsSmallRow}
+use Rattle.table.specs.Bounds.{IsSmallRow}
 use Rattle.alone.specs.Meaning.{filtered_rows}
 use Rattle.changes.proofs.filtered.next_filtered.Given as goal
 

@@ -2,10 +2,10 @@ use Rattle.std.proofs.Common.{◌≡◌, ◌∙◌, List, Some, None, ap, sym, s
 use Rattle.std.specs.Prelude.{All, option_to_list}
 use Rattle.std.specs.Option.{option_copied}
 use Rattle.table.specs.Rows.{RowValues, FitsColumns, row_at}
-use Rattle.cond.specs.Bounds.{IsSmallRow}
+use Rattle.table.specs.Bounds.{IsSmallRow}
 use Rattle.alone.specs.Meaning.{filtered_rows}
 use Rattle.alone.specs.Reads.{Equality, first_on, top_parts}
-use Rattle.reads.specs.Shown.{shown}
+use Rattle.changes.specs.Shown.{shown}
 use Rattle.changes.specs.Lookups.{looked_at}
 use Rattle.changes.proofs.FilteredUnder.{filtered_under, filtered_on, all_under, one_looked}
 use Rattle.changes.proofs.lookups.look_through.Goals as goal

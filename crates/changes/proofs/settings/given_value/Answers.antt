@@ -2,9 +2,9 @@ use Rattle.std.proofs.Common.{◌≡◌, ◌∙◌, ap, Some, subst, sym}
 use Rattle.std.specs.Prelude.{◌≢◌, IfErr}
 use Rattle.value.specs.declared.values.Value.{Value}
 use Rattle.value.specs.declared.refusals.Refusal.TheVariants.{NoMemory}
-use Rattle.cond.specs.Eval.{answer}
-use Rattle.cond.specs.Shown.{shown}
-use Rattle.cond.specs.Slots.{values_of}
+use Rattle.table.specs.Eval.{answer}
+use Rattle.table.specs.Shown.{shown}
+use Rattle.table.specs.Slots.{values_of}
 use Rattle.alone.specs.Statements.{given_fault, given_value}
 use Rattle.changes.proofs.settings.given_value.Goals as goal
 

@@ -4,9 +4,9 @@ use Rattle.std.proofs.lemmas.List.Elements.{All-nil, All-filter, All-weaker}
 use Rattle.value.specs.Ordered.{HoldsOf}
 use Rattle.table.specs.declared.rows.Change.{Change}
 use Rattle.table.specs.Rows.{RowValues, FitsColumns}
-use Rattle.cond.specs.Bounds.{IsSmallRow}
-use Rattle.cond.specs.Eval.{keeps}
-use Rattle.cond.proofs.SmallRows.{IsSmallRow-fits}
+use Rattle.table.specs.Bounds.{IsSmallRow}
+use Rattle.table.specs.Eval.{keeps}
+use Rattle.table.proofs.SmallRows.{IsSmallRow-fits}
 use Rattle.alone.specs.Meaning.{filtered_rows}
 use Rattle.alone.specs.Statements.{renewal, update_fault}
 use Rattle.changes.proofs.Due.{renewals_due, renewals_fit}

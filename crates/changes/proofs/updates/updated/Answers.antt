@@ -1,4 +1,4 @@
-use Rattle.cond.proofs.SmallRows.{IsSmallRow-fits}
+use Rattle.table.proofs.SmallRows.{IsSmallRow-fits}
 use Rattle.changes.proofs.updates.updated.Goals as goal
 
 pub with_setting-requires-clause-small : goal.with_setting-requires-clause-small

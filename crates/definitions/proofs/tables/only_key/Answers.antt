@@ -1,5 +1,5 @@
 use Rattle.std.proofs.Common.{◌≡◌, ◌∙◌, ap, sym, ℕ, ◌==◌, cond, List, Option, None, count_by, position}
-use Rattle.statement_syntax.specs.declared.definitions.ColumnDefinition.{ColumnDefinition}
+use Rattle.syntax.specs.declared.definitions.ColumnDefinition.{ColumnDefinition}
 use Rattle.definitions.specs.Tables.{only_key}
 use Rattle.definitions.proofs.tables.only_key.Goals as goal
 

@@ -2,7 +2,7 @@ use Rattle.std.proofs.Common.{List, subst}
 use Rattle.std.specs.Prelude.{All}
 use Rattle.std.proofs.lemmas.List.Elements.{All-tail}
 use Rattle.table.specs.Rows.{RowValues}
-use Rattle.cond.specs.Bounds.{IsSmallRow}
+use Rattle.table.specs.Bounds.{IsSmallRow}
 use Rattle.explain.proofs.parts.kept_rows.Goals as goal
 
 -- what holds of the rows to come holds of those behind the next

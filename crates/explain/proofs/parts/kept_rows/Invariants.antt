@@ -1,5 +1,5 @@
 use Rattle.std.specs.Prelude.{All}
-use Rattle.cond.specs.Bounds.{IsSmallRow}
+use Rattle.table.specs.Bounds.{IsSmallRow}
 use Rattle.explain.proofs.parts.kept_rows.Given as goal
 
 -- the numbers of the rows to come are within the bounds of a column

@@ -1,6 +1,6 @@
 use Rattle.std.proofs.Common.{◌≡◌, drop}
 use Rattle.value.specs.Results.{each, behind}
-use Rattle.numbering.specs.Shown.{shown_leaves}
+use Rattle.form_check.specs.ShownLeaves.{shown_leaves}
 use Rattle.form_check.proofs.slots.all_slots.Given as goal
 
 -- what was made so far with what the rest becomes is what all become

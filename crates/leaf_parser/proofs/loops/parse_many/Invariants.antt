@@ -1,5 +1,5 @@
 use Rattle.std.proofs.Common.{◌≡◌, ◌-◌}
-use Rattle.reading.specs.Reading.{all, many}
+use Rattle.syntax.specs.Reading.{all, many}
 use Rattle.leaf_parser.proofs.loops.parse_many.Given as goal
 
 abbrev pub invariant-loop-turn : goal.invariant-loop-turn

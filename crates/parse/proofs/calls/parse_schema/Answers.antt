@@ -1,8 +1,8 @@
 use Rattle.std.proofs.Common.{◌∙◌}
-use Rattle.reading.specs.Reading.{whole}
-use Rattle.statement_syntax.specs.SchemaGrammar as g
-use Rattle.statement_syntax.specs.SchemaReaders as r
-use Rattle.statement_syntax.proofs.SchemaFinders.{exact_schemas}
+use Rattle.syntax.specs.Reading.{whole}
+use Rattle.syntax.specs.SchemaGrammar as g
+use Rattle.syntax.specs.SchemaReaders as r
+use Rattle.syntax.proofs.SchemaFinders.{exact_schemas}
 use Rattle.parse.proofs.Telling.{told_at, told_found, told_only, told_refused}
 use Rattle.parse.proofs.calls.parse_schema.Goals as goal
 

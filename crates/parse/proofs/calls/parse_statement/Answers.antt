@@ -1,8 +1,8 @@
 use Rattle.std.proofs.Common.{◌∙◌}
-use Rattle.reading.specs.Reading.{whole}
-use Rattle.statement_syntax.specs.Grammar as g
-use Rattle.statement_syntax.specs.Readers as r
-use Rattle.statement_syntax.proofs.Finders.{exact_events}
+use Rattle.syntax.specs.Reading.{whole}
+use Rattle.syntax.specs.StatementGrammar as g
+use Rattle.syntax.specs.StatementReaders as r
+use Rattle.syntax.proofs.StatementFinders.{exact_events}
 use Rattle.parse.proofs.Telling.{told_at, told_found, told_only, told_refused}
 use Rattle.parse.proofs.calls.parse_statement.Goals as goal
 

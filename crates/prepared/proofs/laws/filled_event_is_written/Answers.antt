@@ -4,9 +4,9 @@ use Rattle.std.proofs.Common.{eq-eqb}
 use Rattle.token.specs.Bytes.{Text}
 use Rattle.token.specs.Lexer.{tokens_of}
 use Rattle.value.specs.declared.values.Value.{Value}
-use Rattle.reading.specs.Language.{Lexemes}
-use Rattle.reading.specs.Lexemes.{lexemes}
-use Rattle.statement_syntax.specs.declared.statements.Event.{Event}
+use Rattle.syntax.specs.Language.{Lexemes}
+use Rattle.syntax.specs.Lexemes.{lexemes}
+use Rattle.syntax.specs.declared.statements.Event.{Event}
 use Rattle.prepared.specs.declared.faults.FillFault.TheVariants.{WrongCount}
 use Rattle.prepared.specs.declared.prepared.Prepared.{Prepared}
 use Rattle.prepared.specs.Masks.{mask}

@@ -1,8 +1,8 @@
 use Rattle.std.proofs.Common.{◌≡◌, Result, Ok, Err, IsErrAnd, sym, subst, ap, ◌∙◌}
-use Rattle.statement_syntax.specs.Grammar.{IsEvent}
+use Rattle.syntax.specs.StatementGrammar.{IsEvent}
 use Rattle.token.specs.Lexer.{tokens_of}
-use Rattle.reading.specs.Answer.{Fits}
-use Rattle.reading.specs.Lexemes.{lexemes}
+use Rattle.syntax.specs.Answer.{Fits}
+use Rattle.syntax.specs.Lexemes.{lexemes}
 use Rattle.parse.specs.Told.{Gave, most_open}
 use Rattle.value.specs.declared.refusals.Refusal.{Refusal}
 use Rattle.value.specs.declared.refusals.Refusal.TheVariants as refusal

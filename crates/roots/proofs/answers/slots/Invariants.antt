@@ -1,5 +1,5 @@
 use Rattle.std.proofs.Common.{◌≡◌, take}
-use Rattle.cond.specs.Slots.{kinds_of, values_of}
+use Rattle.table.specs.Slots.{kinds_of, values_of}
 use Rattle.assertion.specs.Meaning.{State}
 use Rattle.roots.specs.Answers.{kinds_in}
 use Rattle.roots.specs.Summaries.{queries_of}

@@ -1,6 +1,6 @@
 use Rattle.std.proofs.Common.{◌∷◌, [], sym, ap, get_or}
 use Rattle.std.specs.Prelude.{◌&&◌, length}
-use Rattle.cond.specs.Eval.{keeps}
+use Rattle.table.specs.Eval.{keeps}
 use Rattle.roots.specs.Bad.{answers}
 use Rattle.roots.specs.Summaries.{members, summaries_of, queries_of}
 use Rattle.roots.proofs.BadLemmas.{no-row, some-row}

@@ -1,6 +1,6 @@
 use Rattle.std.proofs.Common.{◌∙◌, sym, ⊎_elim}
 use Rattle.std.proofs.lemmas.Result.{IfOk-weaker}
-use Rattle.threeval.specs.declared.Truth.{Truth}
+use Rattle.value.specs.declared.truths.Truth.{Truth}
 use Rattle.assertion.specs.Laws.{IsByRoots}
 use Rattle.assertion.proofs.LawLemmas.{AnswersVerdict-law}
 use Rattle.roots.proofs.BadLemmas.{whole-verdict}

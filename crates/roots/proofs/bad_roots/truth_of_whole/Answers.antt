@@ -1,5 +1,5 @@
 use Rattle.std.proofs.Common.{◌∙◌, ap}
-use Rattle.cond.specs.Eval.{truth}
+use Rattle.table.specs.Eval.{truth}
 use Rattle.roots.specs.Bad.{answers}
 use Rattle.roots.specs.Summaries.{queries_of}
 use Rattle.roots.proofs.bad_roots.truth_of_whole.Goals as goal

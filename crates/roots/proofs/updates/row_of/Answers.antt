@@ -1,7 +1,7 @@
 use Rattle.value.specs.ValueOrder.{value_cmp}
 use Rattle.value.proofs.OrderedLists.{All-at}
 use Rattle.table.specs.Rows.{value_in}
-use Rattle.cond.specs.Bounds.{IsSmallRow}
+use Rattle.table.specs.Bounds.{IsSmallRow}
 use Rattle.assertion.specs.Meaning.{rows_of, key_of}
 use Rattle.roots.proofs.updates.row_of.Goals as goal
 

@@ -1,7 +1,7 @@
 use Rattle.syntax.specs.Grammar as g
 use Rattle.syntax.specs.Readers as r
 use Rattle.syntax.proofs.Finders.{exact_conditions}
-use Rattle.reading.proofs.Whole as whole
+use Rattle.syntax.proofs.Whole as whole
 use Rattle.syntax.proofs.laws.condition_has_one_tree.Goals as goal
 
 pub returns : goal.returns

@@ -13,8 +13,8 @@ use Rattle.siread.proofs.Members.{in_head}
 use Rattle.alone.specs.States.{row_in, IsPut, IsState}
 use Rattle.alone.proofs.Stores.{row_in-after}
 use Rattle.delta.specs.Views.{Shown}
-use Rattle.net.specs.Nets.{DifferAt}
-use Rattle.net.proofs.Places.{tables_state}
+use Rattle.changes.specs.Nets.{DifferAt}
+use Rattle.changes.proofs.Places.{tables_state}
 use Rattle.tests_of_transactions.proofs.net_tests.put.Goals as goal
 
 -- after one more change a state differs at its place besides

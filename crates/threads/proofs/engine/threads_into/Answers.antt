@@ -1,7 +1,7 @@
 use Rattle.std.proofs.Common.{◌≡◌, true, false, ap, ◌∙◌, subst, rules}
 use Rattle.std.specs.Prelude.{OnOk, IfErr}
-use Rattle.running.specs.declared.faults.ProgramFault.TheVariants.{NoThread}
-use Rattle.running.specs.Texts.{is_before_the_run}
+use Rattle.replay.specs.declared.faults.ProgramFault.TheVariants.{NoThread}
+use Rattle.replay.specs.Texts.{is_before_the_run}
 use Rattle.session.specs.Books.{Token}
 use Rattle.session.specs.Limits.{LimitsState}
 use Rattle.workers.specs.Scripts.{AreAnswered}

@@ -1,5 +1,5 @@
 use Rattle.std.proofs.Common.{◌≡◌, ◌++◌, drop}
-use Rattle.running.specs.Lines.{lines}
+use Rattle.replay.specs.Reports.{lines}
 use Rattle.threads.proofs.printing.add_answers.Given as goal
 
 -- the lines so far, and those of the steps that are left

@@ -6,7 +6,7 @@ use Rattle.modes.specs.Modes.{immediate_ones}
 use Rattle.alone.specs.Checks.{checks_read}
 use Rattle.alone.specs.States.{net_change, IsPut, IsState}
 use Rattle.siread.specs.Keys.{place_of}
-use Rattle.net.specs.Nets.{DifferAt}
+use Rattle.changes.specs.Nets.{DifferAt}
 use Rattle.alone.proofs.Lists.{each_from}
 use Rattle.alone.proofs.Stores.{all_fit}
 use Rattle.alone.proofs.Orders.{due_changes, net_is_real}

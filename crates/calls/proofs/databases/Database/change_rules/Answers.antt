@@ -1,7 +1,7 @@
 use Rattle.std.proofs.Common.{ap, refl, subst, ◌∙◌, inr}
 use Rattle.messages.specs.declared.responses.Response.TheVariants.{Changed}
 use Rattle.commit.specs.Epochs.{IsNextEpoch}
-use Rattle.running.specs.Lines.{closing}
+use Rattle.replay.specs.Reports.{closing}
 use Rattle.calls.proofs.databases.Database.change_rules.Goals as goal
 
 pub returns-in-Ok-checkpoint : goal.returns-in-Ok-checkpoint

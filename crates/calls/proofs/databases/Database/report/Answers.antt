@@ -1,6 +1,6 @@
 use Rattle.std.proofs.Common.{ap, refl, ◌∙◌, inr}
 use Rattle.messages.specs.declared.responses.Response.TheVariants.{Closing}
-use Rattle.running.specs.Lines.{closing}
+use Rattle.replay.specs.Reports.{closing}
 use Rattle.calls.proofs.databases.Database.report.Goals as goal
 
 pub returns-in-Ok : goal.returns-in-Ok

@@ -1,5 +1,5 @@
 use Rattle.std.proofs.Common.{◌≡◌, [], sym, ◌∙◌, subst}
-use Rattle.net.proofs.Places.{tables_state}
+use Rattle.changes.proofs.Places.{tables_state}
 use Rattle.assertion.specs.Declarations.{layouts_in}
 use Rattle.assertion.specs.Roots.{AreChangesOf}
 use Rattle.delta.specs.Views.{AreTables, Shown}

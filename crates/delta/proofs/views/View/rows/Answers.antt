@@ -2,7 +2,7 @@ use Rattle.std.proofs.Common.{◌∙◌, List, [], sym, subst}
 use Rattle.std.specs.Prelude.{All}
 use Rattle.std.proofs.lemmas.List.{get_or_default}
 use Rattle.table.specs.Rows.{RowValues}
-use Rattle.cond.specs.Bounds.{IsSmallRow}
+use Rattle.table.specs.Bounds.{IsSmallRow}
 use Rattle.delta.proofs.TableLemmas.{good_small}
 use Rattle.delta.proofs.views.View.rows.Goals as goal
 

@@ -1,5 +1,5 @@
 use Rattle.std.proofs.Common.{◌≡◌, drop}
-use Rattle.name_check.specs.Shown.{shown}
+use Rattle.form_check.specs.ShownScopes.{shown}
 use Rattle.form_check.specs.Links.{filter_parts}
 use Rattle.value.specs.Results.{behind}
 use Rattle.form_check.proofs.links.LinkedTables.filter_parts.Given as goal

@@ -1,5 +1,5 @@
 use Rattle.std.proofs.Common.{◌≡◌, ◌++◌, drop, option_to_list}
-use Rattle.name_check.specs.Shown.{shown}
+use Rattle.form_check.specs.ShownScopes.{shown}
 use Rattle.form_check.specs.Links.{links_in}
 use Rattle.form_check.proofs.links.LinkedTables.only_link.Given as goal
 

@@ -1,7 +1,7 @@
 use Rattle.std.proofs.Common.{sym, ◌∙◌, ap, subst}
 use Rattle.std.proofs.lemmas.Result.{IfOk-weaker}
-use Rattle.cond.specs.declared.slots.SlotValue.{SlotValue}
-use Rattle.cond.specs.Slots.{value_of, IsWithinKind}
+use Rattle.table.specs.declared.slots.SlotValue.{SlotValue}
+use Rattle.table.specs.Slots.{value_of, IsWithinKind}
 use Rattle.groups.proofs.AnswerLemmas.{answer-right, answer-within}
 use Rattle.groups.proofs.totals.Total.answer.Goals as goal
 

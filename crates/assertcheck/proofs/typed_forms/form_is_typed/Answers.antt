@@ -1,0 +1,7 @@
+use Rattle.std.proofs.Common.{refl}
+use Rattle.assertcheck.proofs.typed_forms.form_is_typed.Goals as goal
+
+pub returns-in_ok-slots-in-ByGroup-clause-exact : goal.returns-in_ok-slots-in-ByGroup-clause-exact
+returns-in_ok-slots-in-ByGroup-clause-exact c =
+    rw (c.in-ByGroup.is, ← c.columns_of-columns-in-ByGroup.ensures, ← c.is_well_typed.ensures, c.if-not-is_well_typed.false)
+    (rw (c.is_typed_over-in-ByGroup.ensures, c.group_columns.ensures, c.in_ok-slots-in-ByGroup.ensures.types, c.as_slice-in-ByGroup.ensures) refl)

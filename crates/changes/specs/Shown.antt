@@ -1,0 +1,8 @@
+-- A lent equality, as the one that it shows.
+use Rattle.std.specs.Prelude.{Option, Some, None}
+use Rattle.alone.specs.Reads.{Equality as AnyEquality}
+use Rattle.changes.specs.declared.wheres.Equality.{Equality}
+
+abbrev pub shown : Option Equality → Option AnyEquality
+shown None = None
+shown (Some equality) = Some (record { column = equality.column; value = equality.value.now })

@@ -1,0 +1,128 @@
+//! The key of a WHERE.
+
+ghost use Rattle.std.specs.Prelude.{◌≡◌, IfOk, IsOkUnless};
+ghost use Rattle.value.specs.declared.refusals.Refusal.TheVariants.{NoMemory};
+ghost use Rattle.table.specs.declared.conds.Cond.TheViews.{out-Cond};
+ghost use Rattle.table.specs.declared.exprs.Expr.TheViews.{out-Expr};
+ghost use Rattle.alone.specs.Reads.{where_key as where_key_of, top_parts as top_parts_of, sides as sides_of, equality_in as equality_of, first_equality as first_of_all, first_on as first_of_column, key_from};
+ghost use Rattle.changes.specs.Shown.{shown};
+
+use siread::{LockKey, Place};
+use std::slice;
+use table::{Cond, Expr};
+use value::{Comparison, Refusal, Value};
+
+/// A column that is set equal to a literal.
+#[derive(Clone, Copy)]
+pub struct Equality<'a> {
+    pub column: usize,
+    pub value: &'a Value,
+}
+
+/// The key under which a WHERE reads a table whose key column is this one: the row of the first `key = literal` that
+/// AND joins at the top, whether it is there or not, else the rows of the first `column = literal`, else the table
+/// (SIREAD locks: Cahill, Röhm and Fekete 2008; keys of a predicate: Ports and Grittner 2012, "index-range and
+/// relation locks"). NoMemory is the only error.
+pub fn where_key(table: usize, key: usize, filter: &Cond) -> Result<LockKey, Refusal>
+    ensures only_memory { IsOkUnless result NoMemory }
+    ensures key { IfOk result (λ read. read ≡ where_key_of table key filter.now) }
+{
+    key_of(
+        table,
+        equality_on(filter, key),
+        first_equality(top_parts(filter)),
+    )
+}
+
+/// The first `column = literal` of this column among the parts that AND joins at the top of a WHERE. A row that the
+/// WHERE keeps has that literal's value there. It takes no memory.
+pub fn equality_on(filter: &Cond, column: usize) -> Option<Equality<'_>>
+    ensures { shown result ≡ first_of_column column (top_parts_of filter.now) }
+{
+    first_on(column, top_parts(filter))
+}
+
+/// The row of the one, else the rows of the other, else the table.
+fn key_of(
+    table: usize,
+    row: Option<Equality<'_>>,
+    rows: Option<Equality<'_>>,
+) -> Result<LockKey, Refusal>
+    ensures only_memory { IsOkUnless result NoMemory }
+    ensures key { IfOk result (λ read. read ≡ key_from table (shown row.entry) (shown rows.entry)) }
+{
+    if let Some(equality) = row {
+        return Ok(LockKey::Row(Place {
+            table,
+            key: equality.value.copy()?,
+        }));
+    }
+    match rows {
+        Some(equality) => Ok(LockKey::Column {
+            table,
+            column: equality.column,
+            value: equality.value.copy()?,
+        }),
+        None => Ok(LockKey::Table(table)),
+    }
+}
+
+/// The parts that AND joins at the top.
+fn top_parts(condition: &Cond) -> &[Cond]
+    ensures { result.now ≡ top_parts_of condition.now }
+{
+    match condition {
+        Cond::And(parts) => parts.as_slice(),
+        other => slice::from_ref(other),
+    }
+}
+
+/// The first equality of the parts on a column.
+fn first_on(column: usize, parts: &[Cond]) -> Option<Equality<'_>>
+    ensures { shown result ≡ first_of_column column parts.now }
+{
+    for part in parts {
+        if let Some(equality) = equality_in(part) {
+            if equality.column == column {
+                return Some(equality);
+            }
+        }
+    }
+    None
+}
+
+/// The first equality of the parts.
+fn first_equality(parts: &[Cond]) -> Option<Equality<'_>>
+    ensures { shown result ≡ first_of_all parts.now }
+{
+    for part in parts {
+        if let Some(equality) = equality_in(part) {
+            return Some(equality);
+        }
+    }
+    None
+}
+
+/// The column that a condition sets equal to a literal, if it is such an equality.
+fn equality_in(condition: &Cond) -> Option<Equality<'_>>
+    ensures { shown result ≡ equality_of (out-Cond condition.now) }
+{
+    match condition {
+        Cond::Compare(Comparison::Equal, left, right) => equality_of(left, right),
+        _ => None,
+    }
+}
+
+/// The column and the literal of which they are, in either order.
+fn equality_of<'a>(left: &'a Expr, right: &'a Expr) -> Option<Equality<'a>>
+    ensures { shown result ≡ sides_of (out-Expr left.now) (out-Expr right.now) }
+{
+    match (left, right) {
+        (Expr::Column(column), Expr::Literal(value))
+        | (Expr::Literal(value), Expr::Column(column)) => Some(Equality {
+            column: *column,
+            value,
+        }),
+        _ => None,
+    }
+}

@@ -1,4 +1,0 @@
-pub mod SlotLemmas
-pub mod EvalLemmas
-pub mod ExprLemmas
-pub mod SmallRows

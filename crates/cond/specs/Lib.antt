@@ -1,7 +1,0 @@
-pub mod Values
-pub mod Kinds
-pub mod Slots
-pub mod Bounds
-pub mod Eval
-pub mod Shown
-pub mod Conditions

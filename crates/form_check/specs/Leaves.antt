@@ -1,0 +1,121 @@
+-- A condition over the columns of one table, with a slot for each set function and query in it.
+use Rattle.std.specs.Prelude.{ℕ, List, [], ◌∷◌, ◌++◌, length, map, Option, Result, Ok}
+use Rattle.value.specs.declared.comparisons.Comparison.{Comparison}
+use Rattle.value.specs.declared.values.Value.TheVariants as value
+use Rattle.value.specs.declared.refusals.Refusal.{Refusal}
+use Rattle.table.specs.declared.exprs.Expr.{Expr}
+use Rattle.table.specs.declared.exprs.Expr.TheVariants as expr
+use Rattle.table.specs.declared.exprs.Expr.TheViews as expr_of
+use Rattle.table.specs.declared.conds.Cond.{Cond}
+use Rattle.table.specs.declared.conds.Cond.TheVariants as cond
+use Rattle.table.specs.declared.conds.Cond.TheViews as cond_of
+use Rattle.table.specs.Conditions.{between_of, in_of}
+use Rattle.syntax.specs.declared.trees.Aggregate.{Aggregate}
+use Rattle.syntax.specs.declared.trees.ColumnName.{ColumnName}
+use Rattle.syntax.specs.declared.trees.Condition.{Condition}
+use Rattle.syntax.specs.declared.trees.Condition.TheOpen.{Condition-F, Expression-F, SelectList-F, Query-F}
+use Rattle.syntax.specs.declared.trees.Condition.TheFolds.{para-Condition, para-Expression}
+use Rattle.syntax.specs.declared.trees.Expression.{Expression}
+use Rattle.syntax.specs.declared.trees.SelectList.{SelectList}
+use Rattle.syntax.specs.declared.trees.Query.{Query}
+use Rattle.value.specs.Results.{and_then}
+use Rattle.form_check.specs.Results.{in_class}
+
+-- what stands in a slot: COUNT(*), a set function of a column, a query under EXISTS, or one that stands for its value
+pub data Leaf : Type 0 where
+  Rows : Leaf
+  Of : Aggregate → ColumnName → Leaf
+  Exists : Query → Leaf
+  Value : Query → Leaf
+
+abbrev pub Leaves : Type 0
+Leaves = List Leaf
+
+-- what a part becomes, behind the slots that were found before it, with the slots then found; or its refusal
+abbrev pub Numbered : Type 0 → Type 0
+Numbered A = Leaves → Result (A × Leaves) Refusal
+
+-- a part made into another
+abbrev pub then_made : {A B : Type 0} → (A → B) → Result (A × Leaves) Refusal → Result (B × Leaves) Refusal
+then_made make made = and_then made (λ m. Ok (make m.0, m.1))
+
+-- two parts from the left
+abbrev pub both : {A B C : Type 0} → (A → B → C) → Numbered A → Numbered B → Numbered C
+both make left right leaves = and_then (left leaves) (λ l. then_made (make l.0) (right l.1))
+
+-- parts from the left, each beside its tree
+abbrev pub all : {X A : Type 0} → List (X × Numbered A) → Numbered (List A)
+all [] leaves = Ok ([], leaves)
+all (part ∷ rest) leaves = and_then (part.1 leaves) (λ first. then_made (λ others. first.0 ∷ others) (all rest first.1))
+
+-- a comparison, BETWEEN and IN by what their expressions become
+abbrev pub compared : Comparison → Numbered Expr → Numbered Expr → Numbered Cond
+compared comparison left right = both (λ a b. cond.Compare comparison a b) left right
+
+abbrev pub between : Numbered Expr → Numbered Expr → Numbered Expr → Numbered Cond
+between subject low high leaves = and_then (subject leaves) (λ s. both (between_of s.0) low high s.1)
+
+abbrev pub listed : Numbered Expr → Numbered (List Expr) → Numbered Cond
+listed subject values = both in_of subject values
+
+-- a column, where it may stand there
+abbrev pub placed : Option ℕ → Numbered Expr
+placed column leaves = in_class column (λ c. Ok (expr.Column c, leaves))
+
+abbrev pub slot : Leaf → Numbered Expr
+slot leaf leaves = Ok (expr.Slot (length leaves), leaves ++ leaf ∷ [])
+
+-- an expression, with each part and what it becomes in its place
+abbrev pub expression_step : (ColumnName → Option ℕ)
+    → Expression-F (Condition × Numbered Cond) (Expression × Numbered Expr) (SelectList × Unit {0}) (Query × Unit {0})
+    → Numbered Expr
+expression_step place (Expression-F.Number n) leaves = Ok (expr.Literal (value.Int n), leaves)
+expression_step place (Expression-F.Text t) leaves = Ok (expr.Literal (value.Text t), leaves)
+expression_step place (Expression-F.Column column) leaves = placed (place column) leaves
+expression_step place Expression-F.CountRows leaves = slot Rows leaves
+expression_step place (Expression-F.Aggregate function column) leaves = slot (Of function column) leaves
+expression_step place (Expression-F.Subquery query) leaves = slot (Value query.0) leaves
+expression_step place (Expression-F.Negation part) leaves = then_made expr_of.Negation (part.1 leaves)
+expression_step place (Expression-F.Sum parts) leaves = then_made expr_of.Sum (all parts leaves)
+expression_step place (Expression-F.Product parts) leaves = then_made expr_of.Product (all parts leaves)
+
+-- a condition, likewise
+abbrev pub condition_step : (ColumnName → Option ℕ)
+    → Condition-F (Condition × Numbered Cond) (Expression × Numbered Expr) (SelectList × Unit {0}) (Query × Unit {0})
+    → Numbered Cond
+condition_step place (Condition-F.Or parts) leaves = then_made cond_of.Or (all parts leaves)
+condition_step place (Condition-F.And parts) leaves = then_made cond_of.And (all parts leaves)
+condition_step place (Condition-F.Not part) leaves = then_made cond_of.Not (part.1 leaves)
+condition_step place (Condition-F.Is part truth) leaves = then_made (λ c. cond_of.Is c truth) (part.1 leaves)
+condition_step place (Condition-F.Exists query) leaves = Ok (cond.Exists (length leaves), leaves ++ Exists query.0 ∷ [])
+condition_step place (Condition-F.Compare left comparison right) leaves = compared comparison left.1 right.1 leaves
+condition_step place (Condition-F.IsNull part) leaves = then_made cond.IsNull (part.1 leaves)
+condition_step place (Condition-F.Between subject low high) leaves = between subject.1 low.1 high.1 leaves
+condition_step place (Condition-F.In subject values) leaves = listed subject.1 (all values) leaves
+
+abbrev pub select_list_step : SelectList-F (Condition × Numbered Cond) (Expression × Numbered Expr) (SelectList
+    × Unit {0}) (Query × Unit {0}) → Unit {0}
+select_list_step select_list = tt
+
+abbrev pub query_step : Query-F (Condition × Numbered Cond) (Expression × Numbered Expr) (SelectList
+    × Unit {0}) (Query × Unit {0}) → Unit {0}
+query_step query = tt
+
+-- a condition with its columns found by their names, and each set function and query in a slot of its own, from the
+-- left; `place` says which column a name means there, if any
+unfoldable pub numbered : (ColumnName → Option ℕ) → Condition → Numbered Cond
+numbered place =
+    para-Condition (Numbered Cond) (Numbered Expr) (Unit {0}) (Unit {0}) (condition_step place) (expression_step place)
+    select_list_step query_step
+
+unfoldable pub numbered_expression : (ColumnName → Option ℕ) → Expression → Numbered Expr
+numbered_expression place =
+    para-Expression (Numbered Cond) (Numbered Expr) (Unit {0}) (Unit {0}) (condition_step place)
+    (expression_step place) select_list_step query_step
+
+-- several conditions, or expressions, from the left
+unfoldable pub numbered_conditions : (ColumnName → Option ℕ) → List Condition → Numbered (List Cond)
+numbered_conditions place parts = all (map (λ part. (part, numbered place part)) parts)
+
+unfoldable pub numbered_expressions : (ColumnName → Option ℕ) → List Expression → Numbered (List Expr)
+numbered_expressions place parts = all (map (λ part. (part, numbered_expression place part)) parts)

@@ -1,0 +1,7 @@
+-- What is lent, as what it shows.
+use Rattle.form_check.specs.ShownScopes.{shown}
+use Rattle.form_check.specs.declared.queries.Source.{Source as LentSource}
+use Rattle.form_check.specs.Queries.{Source}
+
+abbrev pub shown_source : LentSource → Source
+shown_source source = record { table = source.table; scope = shown source.scope }

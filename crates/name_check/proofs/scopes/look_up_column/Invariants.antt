@@ -1,8 +1,0 @@
-use Rattle.std.proofs.Common.{◌≡◌, drop}
-use Rattle.name_check.specs.Scopes.{innermost}
-use Rattle.name_check.specs.Shown.{all_shown}
-use Rattle.name_check.proofs.scopes.look_up_column.Given as goal
-
--- the name is of no table so far
-abbrev pub invariant-loop-scope : goal.invariant-loop-scope
-invariant-loop-scope l = innermost (λ scope. scope) l.column (all_shown (drop l.scope-index l.scopes)) ≡ innermost (λ scope. scope) l.column (all_shown l.scopes)

@@ -1,7 +1,0 @@
-use Rattle.std.proofs.Common.{◌≡◌, ◌∷◌, take}
-use Rattle.name_check.specs.Shown.{shown, all_shown}
-use Rattle.name_check.proofs.scopes.put_inside.Given as goal
-
--- the new scope and the outer ones so far
-abbrev pub invariant-loop-scope : goal.invariant-loop-scope
-invariant-loop-scope l = all_shown l.scopes.items ≡ shown l.initial.inner ∷ all_shown (take l.scope-index l.outer)

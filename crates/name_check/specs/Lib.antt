@@ -1,3 +1,0 @@
-pub mod Scopes
-pub mod Shown
-pub mod Names

@@ -1,6 +1,0 @@
-use Rattle.std.proofs.Common.{sym}
-use Rattle.net.proofs.Places.{longer}
-use Rattle.net.proofs.changes.are_same.Goals as goal
-
-pub returns-then-values-others : goal.returns-then-values-others
-returns-then-values-others c = sym (longer c.args.values.now c.args.others.now c.if-values-others.true)

@@ -1,4 +1,0 @@
-pub mod Results
-pub mod Columns
-pub mod Leaves
-pub mod Shown

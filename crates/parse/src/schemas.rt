@@ -1,0 +1,160 @@
+//! Definitions.
+
+ghost use Rattle.std.specs.Prelude.{◌-◌};
+ghost use Rattle.syntax.specs.Readers as condition;
+ghost use Rattle.syntax.specs.SchemaReaders as reader;
+ghost use Rattle.leaf_parser.specs.Reading as rd;
+ghost use Rattle.leaf_parser.specs.Reads.{Reads};
+
+use crate::attributes::parse_attributes;
+use crate::columns::parse_parens_columns;
+use crate::inserts::parse_insert;
+use condition_parser::parse_condition;
+use leaf_parser::{
+    Cursor, Part, Repeated, Stop, drop_and_stop, expect_after, parse_many, parse_name, parse_parens,
+};
+use sqlite_items::{Boxed, Items};
+use std::alloc::Global;
+use syntax::{Condition, Definition};
+use token::Kind;
+
+/// `TABLE name "(" col { "," col } ")"`
+#[tactic(auto, unfolding(syntax::specs::SchemaReaders::table))]
+fn parse_table(alloc: Global, cursor: &mut Cursor<'_>, depth: usize) -> Result<Definition, Stop>
+    ensures { Reads (reader.table depth cursor.old) result cursor.new }
+{
+    cursor.expect(Kind::Table)?;
+    let name = parse_name(alloc, cursor)?;
+    let columns = parse_parens_columns(alloc, cursor, depth)?;
+    Ok(Definition::Table { name, columns })
+}
+
+/// A condition, where so many parentheses may be opened.
+#[derive(Drop)]
+struct Checked {
+    alloc: Global,
+    depth: usize,
+}
+
+impl Part for Checked {
+    ghost use Rattle.syntax.specs.Readers as condition;
+
+    type Tree = Boxed<Condition>;
+
+    ghost ready = { λ _. Unit {0} };
+
+    ghost reader = { λ c. condition.cond_at c.depth };
+
+    fn parse(&self, cursor: &mut Cursor<'_>) -> Result<Boxed<Condition>, Stop> {
+        parse_condition(self.alloc, cursor, self.depth)
+    }
+}
+
+/// `"(" cond ")"`
+fn parse_parens_condition(
+    alloc: Global,
+    cursor: &mut Cursor<'_>,
+    depth: usize,
+) -> Result<Boxed<Condition>, Stop>
+    ensures { Reads (rd.parens depth (condition.cond_at (depth - 1)) cursor.old) result cursor.new }
+{
+    let checked = Checked {
+        alloc,
+        depth: depth.saturating_sub(1),
+    };
+    parse_parens(&checked, cursor, depth)
+}
+
+/// `ASSERTION name CHECK "(" cond ")" [attrs]`
+#[tactic(auto, unfolding(syntax::specs::SchemaReaders::assertion))]
+fn parse_assertion(alloc: Global, cursor: &mut Cursor<'_>, depth: usize) -> Result<Definition, Stop>
+    ensures { Reads (reader.assertion depth cursor.old) result cursor.new }
+{
+    cursor.expect(Kind::Assertion)?;
+    let name = parse_name(alloc, cursor)?;
+    cursor.expect(Kind::Check)?;
+    let condition = parse_parens_condition(alloc, cursor, depth)?;
+    match parse_attributes(cursor) {
+        Ok(attributes) => Ok(Definition::Assertion {
+            name,
+            condition: condition.into_inner(),
+            attributes,
+        }),
+        Err(stop) => Err(drop_and_stop(stop, (name, condition))),
+    }
+}
+
+/// What follows CREATE.
+#[tactic(auto, unfolding(syntax::specs::SchemaReaders::created))]
+fn parse_created(alloc: Global, cursor: &mut Cursor<'_>, depth: usize) -> Result<Definition, Stop>
+    ensures { Reads (reader.created depth cursor.old) result cursor.new }
+{
+    match cursor.peek() {
+        Kind::Table => parse_table(alloc, cursor, depth),
+        Kind::Assertion => parse_assertion(alloc, cursor, depth),
+        _ => Err(Stop::Syntax),
+    }
+}
+
+/// `CREATE TABLE .. | CREATE ASSERTION .. | INSERT ..`
+#[tactic(auto, unfolding(syntax::specs::SchemaReaders::definition))]
+fn parse_definition(
+    alloc: Global,
+    cursor: &mut Cursor<'_>,
+    depth: usize,
+) -> Result<Definition, Stop>
+    ensures { Reads (reader.definition depth cursor.old) result cursor.new }
+{
+    match cursor.peek() {
+        Kind::Create => {
+            cursor.take(Kind::Create);
+            parse_created(alloc, cursor, depth)
+        }
+        _ => Ok(Definition::Insert(parse_insert(alloc, cursor, depth)?)),
+    }
+}
+
+/// `def ";"`, where so many parentheses may be opened.
+#[derive(Drop)]
+struct EndedDefinition {
+    alloc: Global,
+    depth: usize,
+}
+
+impl Part for EndedDefinition {
+    ghost use Rattle.syntax.specs.SchemaReaders as reader;
+
+    type Tree = Definition;
+
+    ghost ready = { λ _. Unit {0} };
+
+    ghost reader = { λ d. reader.ended_definition d.depth };
+
+    #[tactic(auto, unfolding(syntax::specs::SchemaReaders::ended_definition))]
+    fn parse(&self, cursor: &mut Cursor<'_>) -> Result<Definition, Stop> {
+        let found = parse_definition(self.alloc, cursor, self.depth)?;
+        expect_after(cursor, Kind::Semicolon, found)
+    }
+}
+
+impl Repeated for EndedDefinition {
+    ghost use Rattle.syntax.specs.SchemaReaders as reader;
+
+    ghost begins = { reader.starts_definition };
+
+    fn begins(&self, kind: Kind) -> bool {
+        matches!(kind, Kind::Create | Kind::Insert)
+    }
+}
+
+/// `{ def ";" }`
+#[tactic(auto, unfolding(syntax::specs::SchemaReaders::definitions))]
+pub fn parse_definitions(
+    alloc: Global,
+    cursor: &mut Cursor<'_>,
+    depth: usize,
+) -> Result<Items<Definition>, Stop>
+    ensures { Reads (reader.definitions depth cursor.old) result cursor.new }
+{
+    parse_many(&EndedDefinition { alloc, depth }, cursor, Items::new(alloc))
+}

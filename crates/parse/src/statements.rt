@@ -1,0 +1,202 @@
+//! Statements.
+
+ghost use Rattle.syntax.specs.StatementReaders as reader;
+ghost use Rattle.leaf_parser.specs.Reads.{Reads};
+
+use crate::inserts::parse_insert;
+use condition_parser::{parse_condition, parse_expression};
+use leaf_parser::{Cursor, NamePart, Part, Stop, drop_and_stop, parse_list, parse_name};
+use sqlite_items::Boxed;
+use std::alloc::Global;
+use syntax::{Assigned, Assignment, Condition, Mode, Statement, Which};
+use token::Kind;
+
+/// `DEFERRED | IMMEDIATE`
+#[tactic(auto, unfolding(syntax::specs::StatementReaders::check_time))]
+pub fn parse_check_time(cursor: &mut Cursor<'_>) -> Result<Mode, Stop>
+    ensures { Reads (reader.check_time cursor.old) result cursor.new }
+{
+    match cursor.peek() {
+        Kind::Deferred => {
+            cursor.take(Kind::Deferred);
+            Ok(Mode::Deferred)
+        }
+        Kind::Immediate => {
+            cursor.take(Kind::Immediate);
+            Ok(Mode::Immediate)
+        }
+        _ => Err(Stop::Syntax),
+    }
+}
+
+/// `ALL | name { "," name }`
+#[tactic(auto, unfolding(syntax::specs::StatementReaders::constraints))]
+fn parse_constraints(alloc: Global, cursor: &mut Cursor<'_>) -> Result<Which, Stop>
+    ensures { Reads (reader.constraints cursor.old) result cursor.new }
+{
+    match cursor.peek() {
+        Kind::All => {
+            cursor.take(Kind::All);
+            Ok(Which::All)
+        }
+        _ => Ok(Which::Names(parse_list(alloc, &NamePart(alloc), cursor)?)),
+    }
+}
+
+/// `"*" | name { "," name }`
+#[tactic(auto, unfolding(syntax::specs::StatementReaders::selected))]
+fn parse_selected(alloc: Global, cursor: &mut Cursor<'_>) -> Result<Which, Stop>
+    ensures { Reads (reader.selected cursor.old) result cursor.new }
+{
+    match cursor.peek() {
+        Kind::Star => {
+            cursor.take(Kind::Star);
+            Ok(Which::All)
+        }
+        _ => Ok(Which::Names(parse_list(alloc, &NamePart(alloc), cursor)?)),
+    }
+}
+
+/// `SET CONSTRAINTS (ALL | name { "," name }) (DEFERRED | IMMEDIATE)`
+#[tactic(auto, unfolding(syntax::specs::StatementReaders::set_constraints))]
+fn parse_set_constraints(alloc: Global, cursor: &mut Cursor<'_>) -> Result<Statement, Stop>
+    ensures { Reads (reader.set_constraints cursor.old) result cursor.new }
+{
+    cursor.expect(Kind::Set)?;
+    cursor.expect(Kind::Constraints)?;
+    let assertions = parse_constraints(alloc, cursor)?;
+    let mode = parse_check_time(cursor)?;
+    Ok(Statement::SetConstraints { assertions, mode })
+}
+
+/// `VERDICT name`
+#[tactic(auto, unfolding(syntax::specs::StatementReaders::verdict))]
+fn parse_verdict(alloc: Global, cursor: &mut Cursor<'_>) -> Result<Statement, Stop>
+    ensures { Reads (reader.verdict cursor.old) result cursor.new }
+{
+    cursor.expect(Kind::Verdict)?;
+    let name = parse_name(alloc, cursor)?;
+    Ok(Statement::Verdict(name))
+}
+
+/// `[WHERE cond]`
+#[tactic(auto, unfolding(syntax::specs::StatementReaders::where_clause))]
+fn parse_where(
+    alloc: Global,
+    cursor: &mut Cursor<'_>,
+    depth: usize,
+) -> Result<Option<Boxed<Condition>>, Stop>
+    ensures { Reads (reader.where_clause depth cursor.old) result cursor.new }
+{
+    if !cursor.is(Kind::Where) {
+        return Ok(None);
+    }
+    cursor.expect(Kind::Where)?;
+    Ok(Some(parse_condition(alloc, cursor, depth)?))
+}
+
+/// `NULL | expr`
+#[tactic(auto, unfolding(syntax::specs::StatementReaders::assigned))]
+fn parse_assigned(alloc: Global, cursor: &mut Cursor<'_>, depth: usize) -> Result<Assigned, Stop>
+    ensures { Reads (reader.assigned depth cursor.old) result cursor.new }
+{
+    match cursor.peek() {
+        Kind::Null => {
+            cursor.take(Kind::Null);
+            Ok(Assigned::Null)
+        }
+        _ => Ok(Assigned::To(parse_expression(alloc, cursor, depth)?)),
+    }
+}
+
+/// `name "=" (NULL | expr)`, where so many parentheses may be opened.
+#[derive(Drop)]
+struct Assigning {
+    alloc: Global,
+    depth: usize,
+}
+
+impl Part for Assigning {
+    ghost use Rattle.syntax.specs.StatementReaders as reader;
+
+    type Tree = Assignment;
+
+    ghost ready = { λ _. Unit {0} };
+
+    ghost reader = { λ a. reader.assignment a.depth };
+
+    #[tactic(auto, unfolding(syntax::specs::StatementReaders::assignment))]
+    fn parse(&self, cursor: &mut Cursor<'_>) -> Result<Assignment, Stop> {
+        let column = parse_name(self.alloc, cursor)?;
+        cursor.expect(Kind::Equal)?;
+        let value = parse_assigned(self.alloc, cursor, self.depth)?;
+        Ok(Assignment { column, value })
+    }
+}
+
+/// `UPDATE name SET set { "," set } [WHERE cond]`
+#[tactic(auto, unfolding(syntax::specs::StatementReaders::update))]
+fn parse_update(alloc: Global, cursor: &mut Cursor<'_>, depth: usize) -> Result<Statement, Stop>
+    ensures { Reads (reader.update depth cursor.old) result cursor.new }
+{
+    cursor.expect(Kind::Update)?;
+    let table = parse_name(alloc, cursor)?;
+    cursor.expect(Kind::Set)?;
+    let sets = match parse_list(alloc, &Assigning { alloc, depth }, cursor) {
+        Ok(sets) => sets,
+        Err(stop) => return Err(drop_and_stop(stop, table)),
+    };
+    match parse_where(alloc, cursor, depth) {
+        Ok(keeps) => Ok(Statement::Update { table, sets, keeps }),
+        Err(stop) => Err(drop_and_stop(stop, (table, sets))),
+    }
+}
+
+/// `DELETE FROM name [WHERE cond]`
+#[tactic(auto, unfolding(syntax::specs::StatementReaders::delete))]
+fn parse_delete(alloc: Global, cursor: &mut Cursor<'_>, depth: usize) -> Result<Statement, Stop>
+    ensures { Reads (reader.delete depth cursor.old) result cursor.new }
+{
+    cursor.expect(Kind::Delete)?;
+    cursor.expect(Kind::From)?;
+    let table = parse_name(alloc, cursor)?;
+    let keeps = parse_where(alloc, cursor, depth)?;
+    Ok(Statement::Delete { table, keeps })
+}
+
+/// `SELECT ("*" | name { "," name }) FROM name [WHERE cond]`
+#[tactic(auto, unfolding(syntax::specs::StatementReaders::select))]
+fn parse_select(alloc: Global, cursor: &mut Cursor<'_>, depth: usize) -> Result<Statement, Stop>
+    ensures { Reads (reader.select depth cursor.old) result cursor.new }
+{
+    cursor.expect(Kind::Select)?;
+    let columns = parse_selected(alloc, cursor)?;
+    cursor.expect(Kind::From)?;
+    let table = parse_name(alloc, cursor)?;
+    let keeps = parse_where(alloc, cursor, depth)?;
+    Ok(Statement::Select {
+        columns,
+        table,
+        keeps,
+    })
+}
+
+/// A statement.
+#[tactic(auto, unfolding(syntax::specs::StatementReaders::statement))]
+pub fn parse_statement(
+    alloc: Global,
+    cursor: &mut Cursor<'_>,
+    depth: usize,
+) -> Result<Statement, Stop>
+    ensures { Reads (reader.statement depth cursor.old) result cursor.new }
+{
+    match cursor.peek() {
+        Kind::Insert => Ok(Statement::Insert(parse_insert(alloc, cursor, depth)?)),
+        Kind::Update => parse_update(alloc, cursor, depth),
+        Kind::Delete => parse_delete(alloc, cursor, depth),
+        Kind::Select => parse_select(alloc, cursor, depth),
+        Kind::Set => parse_set_constraints(alloc, cursor),
+        Kind::Verdict => parse_verdict(alloc, cursor),
+        _ => Err(Stop::Syntax),
+    }
+}

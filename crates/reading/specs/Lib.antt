@@ -1,4 +1,0 @@
-pub mod Language
-pub mod Reading
-pub mod Answer
-pub mod Lexemes

@@ -1,0 +1,28 @@
+-- The lines that are the same however a script is run: those of answers, and the closing part.
+use Rattle.std.specs.Prelude.{ℕ, List, [], ◌∷◌, ◌++◌, map}
+use Rattle.value.specs.declared.truths.Truth.{Truth}
+use Rattle.assertion.specs.declared.assertions.Assertion.{Assertion}
+use Rattle.assertion.specs.Declarations.{layouts_in}
+use Rattle.assertion.specs.Meaning.{verdict_of}
+use Rattle.syntax.specs.declared.statements.Step.{Step}
+use Rattle.answer.specs.declared.answers.Answer.{Answer}
+use Rattle.delta.specs.Views.{Shown}
+use Rattle.commit.specs.Cores.{CoreState, newest_tables, order_of}
+use Rattle.report.specs.Report.{answer_line}
+use Rattle.report.specs.Closing.{closing_part}
+
+-- the lines of the answers to some steps
+abbrev pub lines : List Step → List Answer → List ℕ
+lines [] answers = []
+lines (step ∷ rest) [] = []
+lines (step ∷ rest) (answer ∷ more) = answer_line step answer ++ lines rest more
+
+-- the truth of each assertion on some tables
+abbrev pub truths : Shown → List Truth
+truths shown =
+    map (λ (a : Assertion). verdict_of (layouts_in shown.declared) a.form shown.state) shown.declared.assertions
+
+-- the closing part, of the commits and of what they lead to
+abbrev pub closing : CoreState → List ℕ
+closing core =
+    closing_part core.records (order_of core) core.refused core.declared.assertions (truths (newest_tables core))

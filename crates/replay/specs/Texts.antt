@@ -1,0 +1,107 @@
+-- The two texts of a script, and the first fault in them.
+use Rattle.std.specs.Prelude.{◌≡◌, ◌≤◌, ◌<◌, ℕ, Bool, true, false, List, [], Ok, Err, length, ⊤, ◌⊎◌}
+use Rattle.value.specs.declared.refusals.Refusal.{Refusal}
+use Rattle.value.specs.declared.refusals.Refusal.TheVariants.{TooManySessions}
+use Rattle.parse.specs.Language.{Language}
+use Rattle.parse.specs.Lexemes.{lexemes}
+use Rattle.parse.specs.Answer.{Fits}
+use Rattle.syntax.specs.declared.definitions.Definition.{Definition}
+use Rattle.syntax.specs.declared.statements.Step.{Step}
+use Rattle.syntax.specs.SchemaGrammar.{IsSchema, IsScript}
+use Rattle.parse.specs.Told.{Refused, most_open}
+use Rattle.delta.specs.Views.{Shown}
+use Rattle.commit.specs.Written.{AreWritten}
+use Rattle.commit.specs.Admission.{admitted}
+use Rattle.commit.specs.Runs.{all_seated}
+use Rattle.replay.specs.declared.faults.ProgramFault.{ProgramFault}
+use Rattle.replay.specs.declared.faults.ProgramFault.TheVariants.{Defs, Script, Stopped, Output, NoThread}
+
+-- a text has a tree by its grammar, and no parenthesis opens while too many are open
+pub record IsRead {A : Type 0} (L : Language A) (text : List ℕ) (tree : A) : Type 0 where
+  pub has : L (lexemes text) tree
+  pub shallow : Fits most_open (lexemes text)
+
+-- a text has none, for the reason that the refusal gives
+abbrev pub IsUnread : {A : Type 0} → Language A → List ℕ → Refusal → Type 0
+IsUnread L text refusal = Refused L most_open (lexemes text) (length text) refusal
+
+-- both texts are read
+pub record AreRead (defs script : List ℕ) (definitions : List Definition) (steps : List Step) : Type 0 where
+  pub defs_read : IsRead IsSchema defs definitions
+  pub script_read : IsRead IsScript script steps
+
+-- both texts are read, and the definitions are admitted; each assertion means what they write
+pub record AreAdmitted (defs script : List ℕ) (shown : Shown) (steps : List Step) : Type 0 where
+  pub definitions : List Definition
+  pub read : AreRead defs script definitions steps
+  pub admits : admitted definitions ≡ Ok shown
+  pub written : AreWritten definitions shown.declared
+
+-- how many sessions a script may have, and how many are too many
+abbrev pub most_sessions : ℕ
+most_sessions = 256
+
+abbrev pub HasFewSessions : List Step → Type 0
+HasFewSessions steps = length (all_seated [] steps) ≤ most_sessions
+
+abbrev pub HasManySessions : List Step → Type 0
+HasManySessions steps = most_sessions < length (all_seated [] steps)
+
+-- both texts are read, the definitions are admitted, and the script has few sessions
+pub record AreReady (defs script : List ℕ) (shown : Shown) (steps : List Step) : Type 0 where
+  pub admitted : AreAdmitted defs script shown steps
+  pub few : HasFewSessions steps
+
+-- both texts are read, and the definitions are refused so
+pub record AreRefused (defs script : List ℕ) (refusal : Refusal) : Type 0 where
+  pub definitions : List Definition
+  pub steps : List Step
+  pub read : AreRead defs script definitions steps
+  pub refused : admitted definitions ≡ Err refusal
+
+-- the definitions are read, and the script is no text of its grammar
+pub record IsNoScript (defs script : List ℕ) (refusal : Refusal) : Type 0 where
+  pub definitions : List Definition
+  pub defs_read : IsRead IsSchema defs definitions
+  pub refused : IsUnread IsScript script refusal
+
+-- the definitions are admitted, and the script has too many sessions
+pub record HasTooManySessions (defs script : List ℕ) (refusal : Refusal) : Type 0 where
+  pub shown : Shown
+  pub steps : List Step
+  pub taken : AreAdmitted defs script shown steps
+  pub many : HasManySessions steps
+  pub refused : refusal ≡ TooManySessions
+
+-- the script is run
+pub record IsRun (defs script : List ℕ) : Type 0 where
+  pub shown : Shown
+  pub steps : List Step
+  pub ready : AreReady defs script shown steps
+
+-- Why the run did not come to its end, by the first fault in the order of the work: the definitions are no text of
+-- their grammar; or they are, and the script is none of its own; or both are read, and the definitions have a
+-- fault; or they are admitted, and the script has too many sessions; or it is run, and memory or the writer ends
+-- the run. A session that was not run does not end it.
+abbrev pub IsFirstFault : List ℕ → List ℕ → ProgramFault → Type 0
+IsFirstFault defs script (Defs refusal) = IsUnread IsSchema defs refusal ⊎ AreRefused defs script refusal
+IsFirstFault defs script (Script refusal) = IsNoScript defs script refusal ⊎ HasTooManySessions defs script refusal
+IsFirstFault defs script Stopped = IsRun defs script
+IsFirstFault defs script Output = IsRun defs script
+IsFirstFault defs script NoThread = ⊥
+
+-- whether nothing was run
+abbrev pub is_before_the_run : ProgramFault → Bool
+is_before_the_run (Defs refusal) = true
+is_before_the_run (Script refusal) = true
+is_before_the_run Stopped = false
+is_before_the_run Output = false
+is_before_the_run NoThread = false
+
+-- memory or the writer ended the run
+abbrev pub IsInTheRun : ProgramFault → Type 0
+IsInTheRun (Defs refusal) = ⊥
+IsInTheRun (Script refusal) = ⊥
+IsInTheRun Stopped = ⊤
+IsInTheRun Output = ⊤
+IsInTheRun NoThread = ⊥

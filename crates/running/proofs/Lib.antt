@@ -1,2 +1,0 @@
-mod Truths
-pub mod Late

@@ -1,4 +1,0 @@
-pub mod Sounds
-pub mod Finders
-pub mod SchemaSounds
-pub mod SchemaFinders

@@ -1,8 +1,0 @@
-use Rattle.statement_syntax.specs.SchemaGrammar as g
-use Rattle.statement_syntax.specs.SchemaReaders as r
-use Rattle.statement_syntax.proofs.SchemaFinders.{exact_scripts}
-use Rattle.reading.proofs.Whole as whole
-use Rattle.statement_syntax.proofs.laws.script_has_one_tree.Goals as goal
-
-pub returns : goal.returns
-returns c = λ ts a b h k. whole.one_tree g.scripts r.script exact_scripts ts a b h k

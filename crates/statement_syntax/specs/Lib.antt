@@ -1,4 +1,0 @@
-pub mod Grammar
-pub mod Readers
-pub mod SchemaGrammar
-pub mod SchemaReaders

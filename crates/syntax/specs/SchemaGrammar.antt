@@ -1,0 +1,121 @@
+-- The grammar of definitions and scripts: which texts of tokens have which trees.
+use Rattle.std.specs.Prelude.{ℕ, Bool, true, false, ◌&&◌, nat_le, List, [], Option, Some, None}
+use Rattle.token.specs.declared.kinds.Kind.TheVariants as k
+use Rattle.value.specs.declared.values.ColType.{ColType}
+use Rattle.value.specs.declared.values.ColType.TheVariants as kind_of
+use Rattle.syntax.specs.declared.definitions.Marks.{Marks}
+use Rattle.syntax.specs.declared.definitions.ColumnDefinition.{ColumnDefinition}
+use Rattle.syntax.specs.declared.definitions.Attributes.{Attributes}
+use Rattle.syntax.specs.declared.statements.Mode.{Mode}
+use Rattle.syntax.specs.declared.definitions.Definition.{Definition}
+use Rattle.syntax.specs.declared.definitions.Definition.TheVariants as d
+use Rattle.syntax.specs.declared.statements.Step.{Step}
+use Rattle.syntax.specs.declared.statements.Event.{Event}
+use Rattle.syntax.specs.declared.statements.Insert.{Insert}
+use Rattle.syntax.specs.declared.wants.Found.{Found}
+use Rattle.syntax.specs.Grammar.{digits_value, name, inner_cond, nested}
+use Rattle.syntax.specs.StatementGrammar.{insert, check_time, one_event}
+use Rattle.syntax.specs.Language.{Lexeme, Language, ◌>>=◌, ◌>>◌, ◌<$>◌, ◌∪◌, pure, token, token_where, optional, list, parens, Behind, Some_level}
+
+-- a number from 1 to 255
+abbrev pub is_width : Lexeme → Bool
+is_width x = nat_le 1 (digits_value x) && nat_le (digits_value x) 255
+
+abbrev pub varchar_of : Lexeme → ColType
+varchar_of x = kind_of.Varchar (digits_value x)
+
+-- type: INTEGER | INT | VARCHAR "(" number ")"
+unfoldable pub column_type : Language ColType
+column_type =
+    (token k.Integer >> pure kind_of.Integer) ∪ (token k.Int >> pure kind_of.Integer) ∪
+    (token k.Varchar >> parens (varchar_of <$> token_where k.Number is_width))
+
+abbrev pub not_null : Language Lexeme
+not_null = token k.Not >> token k.Null
+
+abbrev pub primary_key : Language Lexeme
+primary_key = token k.Primary >> token k.Key
+
+abbrev pub written : {A : Type 0} → Option A → Bool
+written None = false
+written (Some x) = true
+
+abbrev pub marks_of : Bool → Bool → Marks
+marks_of not_null key = record { not_null = not_null; key = key }
+
+-- [ NOT NULL [PRIMARY KEY] | PRIMARY KEY [NOT NULL] ]
+unfoldable pub marks : Language Marks
+marks =
+    pure (marks_of false false) ∪ (not_null >> ((λ key. marks_of true (written key)) <$> optional primary_key))
+    ∪ (primary_key >> ((λ other. marks_of (written other) true) <$> optional not_null))
+
+abbrev pub column_definition : List ℕ → ColType → Marks → ColumnDefinition
+column_definition name kind marks = record { name = name; kind = kind; marks = marks }
+
+-- col: name type [..]
+unfoldable pub col : Language ColumnDefinition
+col = name >>= (λ name. column_type >>= (λ kind. column_definition name kind <$> marks))
+
+-- when: INITIALLY ( DEFERRED | IMMEDIATE )
+unfoldable pub initially : Language Mode
+initially = token k.Initially >> check_time
+
+-- defer: [NOT] DEFERRABLE
+unfoldable pub deferrable : Language Bool
+deferrable = (token k.Deferrable >> pure true) ∪ (token k.Not >> (token k.Deferrable >> pure false))
+
+abbrev pub attributes_of : Option Mode → Option Bool → Attributes
+attributes_of initially deferrable = record { initially = initially; deferrable = deferrable }
+
+-- [ when [defer] | defer [when] ]
+unfoldable pub attributes : Language Attributes
+attributes =
+    pure (attributes_of None None) ∪ (initially >>= (λ mode. attributes_of (Some mode) <$> optional deferrable))
+    ∪ (deferrable >>= (λ may. (λ mode. attributes_of mode (Some may)) <$> optional initially))
+
+-- CREATE TABLE name "(" col { "," col } ")"
+unfoldable pub table : Language Definition
+table = token k.Create >> (token k.Table >> (name >>= (λ name. d.Table name <$> parens (list col))))
+
+abbrev pub step_of : List ℕ → Event → Step
+step_of session event = record { session = session; event = event }
+
+module _ (inner : Language Found) where
+  -- CREATE ASSERTION name CHECK "(" cond ")" [attrs]
+  unfoldable pub assertion : Language Definition
+  assertion =
+      token k.Create >> (token k.Assertion >> (name >>= (λ name.
+      token k.Check >> (parens (inner_cond inner) >>= (λ c. d.Assertion name c <$> attributes)))))
+
+  unfoldable pub definition : Language Definition
+  definition = table ∪ assertion ∪ (d.Insert <$> insert)
+
+  -- def ";"
+  unfoldable pub ended_definition : Language Definition
+  ended_definition = definition >>= (λ x. token k.Semicolon >> pure x)
+
+  -- { def ";" }
+  unfoldable pub definitions : Language (List Definition)
+  definitions = Behind [] ended_definition
+
+  -- name ":" event ";"
+  unfoldable pub step : Language Step
+  step =
+      name >>= (λ session.
+      token k.Colon >> (one_event inner >>= (λ event. token k.Semicolon >> pure (step_of session event))))
+
+  -- { name ":" event ";" }
+  unfoldable pub script : Language (List Step)
+  script = Behind [] step
+
+abbrev pub schemas : ℕ → Language (List Definition)
+schemas n = definitions (nested n)
+
+abbrev pub scripts : ℕ → Language (List Step)
+scripts n = script (nested n)
+
+abbrev pub IsSchema : Language (List Definition)
+IsSchema = Some_level schemas
+
+abbrev pub IsScript : Language (List Step)
+IsScript = Some_level scripts

@@ -1,0 +1,130 @@
+-- Readers of definitions and scripts, by the next token alone.
+use Rattle.std.specs.Prelude.{ℕ, ◌-◌, Bool, true, false, List, [], Option, Some, None}
+use Rattle.token.specs.declared.kinds.Kind.{Kind}
+use Rattle.token.specs.declared.kinds.Kind.TheVariants as k
+use Rattle.value.specs.declared.values.ColType.{ColType}
+use Rattle.value.specs.declared.values.ColType.TheVariants as kind_of
+use Rattle.syntax.specs.declared.definitions.Marks.{Marks}
+use Rattle.syntax.specs.declared.definitions.ColumnDefinition.{ColumnDefinition}
+use Rattle.syntax.specs.declared.definitions.Attributes.{Attributes}
+use Rattle.syntax.specs.declared.statements.Mode.{Mode}
+use Rattle.syntax.specs.declared.definitions.Definition.{Definition}
+use Rattle.syntax.specs.declared.definitions.Definition.TheVariants as d
+use Rattle.syntax.specs.declared.statements.Step.{Step}
+use Rattle.syntax.specs.declared.statements.Insert.{Insert}
+use Rattle.syntax.specs.Readers.{name, cond_at}
+use Rattle.syntax.specs.SchemaGrammar.{is_width, varchar_of, written, marks_of, column_definition, attributes_of, step_of}
+use Rattle.syntax.specs.StatementReaders.{insert, check_time, one_event}
+use Rattle.syntax.specs.Language.{Lexeme}
+use Rattle.syntax.specs.Reading.{Reader, ◌>>=◌, ◌>>◌, ◌<$>◌, pure, refuse, by_kind, expect, expect_where, optional, list, all, parens}
+
+abbrev pub not_null : Reader Lexeme
+not_null = expect k.Not >> expect k.Null
+
+abbrev pub primary_key : Reader Lexeme
+primary_key = expect k.Primary >> expect k.Key
+
+abbrev pub marks_by : Kind → Reader Marks
+marks_by k.Not = not_null >> ((λ key. marks_of true (written key)) <$> optional k.Primary primary_key)
+marks_by k.Primary = primary_key >> ((λ other. marks_of (written other) true) <$> optional k.Not not_null)
+marks_by _ = pure (marks_of false false)
+
+unfoldable pub marks : Reader Marks
+marks = by_kind marks_by
+
+unfoldable pub initially : Reader Mode
+initially = expect k.Initially >> check_time
+
+abbrev pub deferrable_by : Kind → Reader Bool
+deferrable_by k.Deferrable = expect k.Deferrable >> pure true
+deferrable_by k.Not = expect k.Not >> (expect k.Deferrable >> pure false)
+deferrable_by _ = refuse
+
+unfoldable pub deferrable : Reader Bool
+deferrable = by_kind deferrable_by
+
+abbrev pub may_defer_by : Kind → Reader (Option Bool)
+may_defer_by k.Deferrable = Some <$> deferrable
+may_defer_by k.Not = Some <$> deferrable
+may_defer_by _ = pure None
+
+-- [defer]
+unfoldable pub may_defer : Reader (Option Bool)
+may_defer = by_kind may_defer_by
+
+unfoldable pub initially_first : Reader Attributes
+initially_first = initially >>= (λ mode. attributes_of (Some mode) <$> may_defer)
+
+unfoldable pub deferrable_first : Reader Attributes
+deferrable_first = deferrable >>= (λ may. (λ mode. attributes_of mode (Some may)) <$> optional k.Initially initially)
+
+abbrev pub attributes_by : Kind → Reader Attributes
+attributes_by k.Initially = initially_first
+attributes_by k.Deferrable = deferrable_first
+attributes_by k.Not = deferrable_first
+attributes_by _ = pure (attributes_of None None)
+
+unfoldable pub attributes : Reader Attributes
+attributes = by_kind attributes_by
+
+abbrev pub starts_definition : Kind → Bool
+starts_definition k.Create = true
+starts_definition k.Insert = true
+starts_definition _ = false
+
+abbrev pub starts_step : Kind → Bool
+starts_step k.Name = true
+starts_step _ = false
+
+-- how many parentheses may be opened
+module _ (n : ℕ) where
+  abbrev pub type_by : Kind → Reader ColType
+  type_by k.Integer = expect k.Integer >> pure kind_of.Integer
+  type_by k.Int = expect k.Int >> pure kind_of.Integer
+  type_by k.Varchar = expect k.Varchar >> parens n (varchar_of <$> expect_where k.Number is_width)
+  type_by _ = refuse
+
+  unfoldable pub column_type : Reader ColType
+  column_type = by_kind type_by
+
+  unfoldable pub col : Reader ColumnDefinition
+  col = name >>= (λ name. column_type >>= (λ kind. column_definition name kind <$> marks))
+
+-- what may be opened where no parenthesis of the definition is open
+module _ (n : ℕ) where
+  unfoldable pub table : Reader Definition
+  table = expect k.Table >> (name >>= (λ name. d.Table name <$> parens n (list (col (n - 1)))))
+
+  unfoldable pub assertion : Reader Definition
+  assertion =
+      expect k.Assertion >> (name >>= (λ name.
+      expect k.Check >> (parens n (cond_at (n - 1)) >>= (λ c. d.Assertion name c <$> attributes))))
+
+  abbrev pub created_by : Kind → Reader Definition
+  created_by k.Table = table
+  created_by k.Assertion = assertion
+  created_by _ = refuse
+
+  unfoldable pub created : Reader Definition
+  created = by_kind created_by
+
+  abbrev pub definition_by : Kind → Reader Definition
+  definition_by k.Create = expect k.Create >> created
+  definition_by _ = d.Insert <$> insert n
+
+  unfoldable pub definition : Reader Definition
+  definition = by_kind definition_by
+
+  unfoldable pub ended_definition : Reader Definition
+  ended_definition = definition >>= (λ x. expect k.Semicolon >> pure x)
+
+  unfoldable pub definitions : Reader (List Definition)
+  definitions = all starts_definition ended_definition []
+
+  unfoldable pub step : Reader Step
+  step =
+      name >>= (λ session.
+      expect k.Colon >> (one_event n >>= (λ event. expect k.Semicolon >> pure (step_of session event))))
+
+  unfoldable pub script : Reader (List Step)
+  script = all starts_step step []

@@ -1,0 +1,125 @@
+-- The grammar of statements and events: which texts of tokens have which trees.
+use Rattle.std.specs.Prelude.{ℕ, Bool, true, false, List, Option, Some, None}
+use Rattle.token.specs.declared.kinds.Kind.TheVariants as k
+use Rattle.syntax.specs.declared.trees.Condition.{Condition}
+use Rattle.value.specs.declared.values.Value.{Value}
+use Rattle.value.specs.declared.values.Value.TheVariants as c
+use Rattle.syntax.specs.declared.statements.Insert.{Insert}
+use Rattle.syntax.specs.declared.statements.Assigned.{Assigned}
+use Rattle.syntax.specs.declared.statements.Assigned.TheVariants as to
+use Rattle.syntax.specs.declared.statements.Assignment.{Assignment}
+use Rattle.syntax.specs.declared.statements.Which.{Which}
+use Rattle.syntax.specs.declared.statements.Which.TheVariants as which
+use Rattle.syntax.specs.declared.statements.Mode.{Mode}
+use Rattle.syntax.specs.declared.statements.Mode.TheVariants as mode
+use Rattle.syntax.specs.declared.statements.Statement.{Statement}
+use Rattle.syntax.specs.declared.statements.Statement.TheVariants as s
+use Rattle.syntax.specs.declared.statements.Event.{Event}
+use Rattle.syntax.specs.declared.statements.Event.TheVariants as event
+use Rattle.syntax.specs.declared.wants.Found.{Found}
+use Rattle.syntax.specs.Grammar.{digits_value, signed, quoted, name, inner_cond, inner_expr, nested}
+use Rattle.syntax.specs.Language.{Lexeme, Language, ◌>>=◌, ◌>>◌, ◌<$>◌, ◌∪◌, pure, token, optional, list, parens, Some_level}
+
+abbrev pub number_of : Bool → Lexeme → Value
+number_of is_negative x = c.Int (signed is_negative (digits_value x))
+
+abbrev pub text_of : Lexeme → Value
+text_of x = c.Text (quoted x)
+
+-- const: NULL | text | [sign] number
+unfoldable pub constant : Language Value
+constant =
+    (token k.Null >> pure c.Null) ∪ (text_of <$> token k.Text) ∪ (number_of false <$> token k.Number)
+    ∪ (token k.Plus >> (number_of false <$> token k.Number)) ∪ (token k.Minus >> (number_of true <$> token k.Number))
+
+-- [ "(" name { "," name } ")" ]
+unfoldable pub columns : Language (Option (List (List ℕ)))
+columns = optional (parens (list name))
+
+abbrev pub insert_of : List ℕ → Option (List (List ℕ)) → List Value → Insert
+insert_of table columns values = record { table = table; columns = columns; values = values }
+
+-- INSERT INTO name [ "(" name { "," name } ")" ] VALUES "(" const { "," const } ")"
+unfoldable pub insert : Language Insert
+insert =
+    token k.Insert >> (token k.Into >> (name >>= (λ table.
+    columns >>= (λ columns. token k.Values >> (insert_of table columns <$> parens (list constant))))))
+
+-- DEFERRED | IMMEDIATE
+unfoldable pub check_time : Language Mode
+check_time = (token k.Deferred >> pure mode.Deferred) ∪ (token k.Immediate >> pure mode.Immediate)
+
+-- ALL | name { "," name }
+unfoldable pub constraints : Language Which
+constraints = (token k.All >> pure which.All) ∪ (which.Names <$> list name)
+
+-- "*" | name { "," name }
+unfoldable pub selected : Language Which
+selected = (token k.Star >> pure which.All) ∪ (which.Names <$> list name)
+
+-- SET CONSTRAINTS ( ALL | name { "," name } ) ( DEFERRED | IMMEDIATE )
+unfoldable pub set_constraints : Language Statement
+set_constraints =
+    token k.Set >> (token k.Constraints >> (constraints >>= (λ which. s.SetConstraints which <$> check_time)))
+
+-- VERDICT name
+unfoldable pub verdict : Language Statement
+verdict = token k.Verdict >> (s.Verdict <$> name)
+
+abbrev pub assignment_of : List ℕ → Assigned → Assignment
+assignment_of column value = record { column = column; value = value }
+
+-- [READ ONLY], behind BEGIN
+abbrev pub begin_of : Option Lexeme → Event
+begin_of None = event.Begin
+begin_of (Some only) = event.BeginReadOnly
+
+unfoldable pub access : Language Event
+access = begin_of <$> optional (token k.Read >> token k.Only)
+
+module _ (inner : Language Found) where
+  -- [WHERE cond]
+  unfoldable pub where_clause : Language (Option Condition)
+  where_clause = optional (token k.Where >> inner_cond inner)
+
+  -- NULL | expr
+  unfoldable pub assigned : Language Assigned
+  assigned = (token k.Null >> pure to.Null) ∪ (to.To <$> inner_expr inner)
+
+  -- set: name "=" ( NULL | expr )
+  unfoldable pub assignment : Language Assignment
+  assignment = name >>= (λ column. token k.Equal >> (assignment_of column <$> assigned))
+
+  -- UPDATE name SET set { "," set } [WHERE cond]
+  unfoldable pub update : Language Statement
+  update =
+      token k.Update >> (name >>= (λ table.
+      token k.Set >> (list assignment >>= (λ sets. s.Update table sets <$> where_clause))))
+
+  -- DELETE FROM name [WHERE cond]
+  unfoldable pub delete : Language Statement
+  delete = token k.Delete >> (token k.From >> (name >>= (λ table. s.Delete table <$> where_clause)))
+
+  -- SELECT ( "*" | name { "," name } ) FROM name [WHERE cond]
+  unfoldable pub select : Language Statement
+  select =
+      token k.Select >> (selected >>= (λ which.
+      token k.From >> (name >>= (λ table. s.Select which table <$> where_clause))))
+
+  unfoldable pub statement : Language Statement
+  statement = (s.Insert <$> insert) ∪ update ∪ delete ∪ select ∪ set_constraints ∪ verdict
+
+  -- BEGIN [READ ONLY] | COMMIT [WORK] | ROLLBACK [WORK] | stmt
+  unfoldable pub one_event : Language Event
+  one_event =
+      (token k.Begin >> access)
+      ∪ (token k.Commit >> ((λ _. event.Commit) <$> optional (token k.Work)))
+      ∪ (token k.Rollback >> ((λ _. event.Rollback) <$> optional (token k.Work)))
+      ∪ (event.Run <$> statement)
+
+abbrev pub events : ℕ → Language Event
+events n = one_event (nested n)
+
+-- an event, whose parentheses nest as deep as they like
+abbrev pub IsEvent : Language Event
+IsEvent = Some_level events

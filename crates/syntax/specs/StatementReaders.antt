@@ -1,0 +1,123 @@
+-- Readers of statements and events, by the next token alone.
+use Rattle.std.specs.Prelude.{ℕ, true, false, List, Option}
+use Rattle.token.specs.declared.kinds.Kind.{Kind}
+use Rattle.token.specs.declared.kinds.Kind.TheVariants as k
+use Rattle.syntax.specs.declared.trees.Condition.{Condition}
+use Rattle.value.specs.declared.values.Value.{Value}
+use Rattle.value.specs.declared.values.Value.TheVariants as c
+use Rattle.syntax.specs.declared.statements.Insert.{Insert}
+use Rattle.syntax.specs.declared.statements.Assigned.{Assigned}
+use Rattle.syntax.specs.declared.statements.Assigned.TheVariants as to
+use Rattle.syntax.specs.declared.statements.Assignment.{Assignment}
+use Rattle.syntax.specs.declared.statements.Which.{Which}
+use Rattle.syntax.specs.declared.statements.Which.TheVariants as which
+use Rattle.syntax.specs.declared.statements.Mode.{Mode}
+use Rattle.syntax.specs.declared.statements.Mode.TheVariants as mode
+use Rattle.syntax.specs.declared.statements.Statement.{Statement}
+use Rattle.syntax.specs.declared.statements.Statement.TheVariants as s
+use Rattle.syntax.specs.declared.statements.Event.{Event}
+use Rattle.syntax.specs.declared.statements.Event.TheVariants as event
+use Rattle.syntax.specs.Readers.{name, cond_at, expr_at}
+use Rattle.syntax.specs.StatementGrammar.{number_of, text_of, insert_of, assignment_of, begin_of}
+use Rattle.syntax.specs.Reading.{Reader, ◌>>=◌, ◌>>◌, ◌<$>◌, pure, refuse, by_kind, expect, optional, list, parens}
+
+abbrev pub constant_by : Kind → Reader Value
+constant_by k.Null = expect k.Null >> pure c.Null
+constant_by k.Text = text_of <$> expect k.Text
+constant_by k.Number = number_of false <$> expect k.Number
+constant_by k.Plus = expect k.Plus >> (number_of false <$> expect k.Number)
+constant_by k.Minus = expect k.Minus >> (number_of true <$> expect k.Number)
+constant_by _ = refuse
+
+unfoldable pub constant : Reader Value
+constant = by_kind constant_by
+
+abbrev pub check_time_by : Kind → Reader Mode
+check_time_by k.Deferred = expect k.Deferred >> pure mode.Deferred
+check_time_by k.Immediate = expect k.Immediate >> pure mode.Immediate
+check_time_by _ = refuse
+
+unfoldable pub check_time : Reader Mode
+check_time = by_kind check_time_by
+
+abbrev pub constraints_by : Kind → Reader Which
+constraints_by k.All = expect k.All >> pure which.All
+constraints_by _ = which.Names <$> list name
+
+unfoldable pub constraints : Reader Which
+constraints = by_kind constraints_by
+
+abbrev pub selected_by : Kind → Reader Which
+selected_by k.Star = expect k.Star >> pure which.All
+selected_by _ = which.Names <$> list name
+
+unfoldable pub selected : Reader Which
+selected = by_kind selected_by
+
+unfoldable pub set_constraints : Reader Statement
+set_constraints =
+    expect k.Set >> (expect k.Constraints >> (constraints >>= (λ which. s.SetConstraints which <$> check_time)))
+
+unfoldable pub verdict : Reader Statement
+verdict = expect k.Verdict >> (s.Verdict <$> name)
+
+-- [READ ONLY], behind BEGIN
+unfoldable pub access : Reader Event
+access = begin_of <$> optional k.Read (expect k.Read >> expect k.Only)
+
+-- how many parentheses may be opened
+module _ (n : ℕ) where
+  unfoldable pub columns : Reader (Option (List (List ℕ)))
+  columns = optional k.Open (parens n (list name))
+
+  unfoldable pub insert : Reader Insert
+  insert =
+      expect k.Insert >> (expect k.Into >> (name >>= (λ table.
+      columns >>= (λ columns. expect k.Values >> (insert_of table columns <$> parens n (list constant))))))
+
+  unfoldable pub where_clause : Reader (Option Condition)
+  where_clause = optional k.Where (expect k.Where >> cond_at n)
+
+  abbrev pub assigned_by : Kind → Reader Assigned
+  assigned_by k.Null = expect k.Null >> pure to.Null
+  assigned_by _ = to.To <$> expr_at n
+
+  unfoldable pub assigned : Reader Assigned
+  assigned = by_kind assigned_by
+
+  unfoldable pub assignment : Reader Assignment
+  assignment = name >>= (λ column. expect k.Equal >> (assignment_of column <$> assigned))
+
+  unfoldable pub update : Reader Statement
+  update =
+      expect k.Update >> (name >>= (λ table.
+      expect k.Set >> (list assignment >>= (λ sets. s.Update table sets <$> where_clause))))
+
+  unfoldable pub delete : Reader Statement
+  delete = expect k.Delete >> (expect k.From >> (name >>= (λ table. s.Delete table <$> where_clause)))
+
+  unfoldable pub select : Reader Statement
+  select =
+      expect k.Select >> (selected >>= (λ which.
+      expect k.From >> (name >>= (λ table. s.Select which table <$> where_clause))))
+
+  abbrev pub statement_by : Kind → Reader Statement
+  statement_by k.Insert = s.Insert <$> insert
+  statement_by k.Update = update
+  statement_by k.Delete = delete
+  statement_by k.Select = select
+  statement_by k.Set = set_constraints
+  statement_by k.Verdict = verdict
+  statement_by _ = refuse
+
+  unfoldable pub statement : Reader Statement
+  statement = by_kind statement_by
+
+  abbrev pub event_by : Kind → Reader Event
+  event_by k.Begin = expect k.Begin >> access
+  event_by k.Commit = expect k.Commit >> ((λ _. event.Commit) <$> optional k.Work (expect k.Work))
+  event_by k.Rollback = expect k.Rollback >> ((λ _. event.Rollback) <$> optional k.Work (expect k.Work))
+  event_by _ = event.Run <$> statement
+
+  unfoldable pub one_event : Reader Event
+  one_event = by_kind event_by

@@ -1,3 +1,0 @@
-pub mod TypeLists
-pub mod BoundedForms
-pub mod ExprTypes

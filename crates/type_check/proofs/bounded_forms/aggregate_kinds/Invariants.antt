@@ -1,7 +1,0 @@
-use Rattle.std.proofs.Common.{◌≡◌, take, map}
-use Rattle.cond.specs.Kinds.{kind_of_aggregate}
-use Rattle.type_check.proofs.bounded_forms.aggregate_kinds.Given as goal
-
--- the kinds so far
-abbrev pub invariant-loop-aggregate : goal.invariant-loop-aggregate
-invariant-loop-aggregate l = l.kinds.items ≡ map kind_of_aggregate (take l.aggregate-index l.aggregates)
