@@ -23,7 +23,7 @@ PROGRAM = """//! Commits of one row each, with a checkpoint after so many.
 use commit::{{Engine, admit}};
 use parse::{{parse_schema, parse_script}};
 use sqlite_items::Items;
-use statement_syntax::Step;
+use syntax::Step;
 use std::alloc::Global;
 use value::Refusal;
 
@@ -85,7 +85,7 @@ def program(folder, rows, commits, every):
     if not crate.exists():
         (crate / "src").mkdir(parents=True)
         with open(folder / "crates.txt", "a") as out:
-            out.write("\ncheckpointed: commit parse statement_syntax sqlite_items value\n")
+            out.write("\ncheckpointed: commit parse syntax sqlite_items value\n")
     (crate / "src" / "main.rt").write_text(PROGRAM.format(rows=rows, commits=commits, every=every))
     subprocess.run(["rt", "run"], cwd=crate, check=True, stdout=subprocess.DEVNULL)
     return str(crate / "out" / "checkpointed")

@@ -5,7 +5,7 @@
 //! knows of it.
 //!
 //! - [`diagnose_definitions`]: the first definition that was not taken in. Trees keep no places, so the part at fault
-//!   is found in its tree by the rules of the layers below (names by `name_check`'s scopes, bounds by `table::bound`),
+//!   is found in its tree by the rules of the layers below (names by `form_check`'s scopes, bounds by `table::bound`),
 //!   and its place in the text by counting leaves.
 //! - [`diagnose_false`]: an assertion that is false on the rows that the definitions put in.
 //! - [`diagnose_statement`]: a statement of a script that is refused whatever the rows are.

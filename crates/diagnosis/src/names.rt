@@ -1,6 +1,6 @@
 //! The first name of a condition or an expression that stands for nothing: where it stands, and what was meant.
 //!
-//! The order is that of `name_check`: of a query its table comes first, then its list, WHERE, GROUP BY and HAVING.
+//! The order is that of `form_check`: of a query its table comes first, then its list, WHERE, GROUP BY and HAVING.
 
 use crate::leaves::{clauses_of, of_column};
 use crate::parts::{Node, Part};

@@ -1,6 +1,6 @@
 //! The first part of a condition whose types do not fit: where it stands, and the two types.
 //!
-//! What has which type is told by `type_check`: numbers and texts. Names and shapes are right when this is asked.
+//! What has which type is told by `assertcheck`: numbers and texts. Names and shapes are right when this is asked.
 
 use crate::leaves::{Range, clauses_of, of_condition, of_expression};
 use assertcheck::DataType;

@@ -1,7 +1,7 @@
 //! A cursor over the tokens of a text, and the parser of all that has no parentheses in it.
 //!
 //! The parser is a recursive descent by one token of lookahead. Its contracts name the readers of
-//! the grammar (crates `reading` and `syntax`): a function that parses X ensures `Reads` of X's
+//! the grammar (crate `syntax`): a function that parses X ensures `Reads` of X's
 //! reader, the cursor before it, its answer and the cursor after it. That says all: what was read
 //! and what is left; or that no text goes on with the next token (`Stop::Syntax`), or that a
 //! parenthesis too many stands there (`Stop::Depth`). `Stop::Memory` says nothing of the text, since

@@ -12,7 +12,7 @@
 //!
 //! `skewguard threads` runs each session of a script on a thread of its own, over one manager (`session`), and
 //! prints the same lines by session; what it promises stands at `threads::threads_into`. The texts, the faults and
-//! the closing part are the same for both (`running`).
+//! the closing part are the same for both (`replay`).
 //!
 //! `skewguard shell` answers events from standard input, each at once; what it promises of a pipe, from bytes to bytes,
 //! stands at `shell::shell_into`. On a terminal it talks (`shell::converse_into`).
