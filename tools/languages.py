@@ -134,11 +134,13 @@ def manual(known, library, folder):
     """The manual tells of each call, and its example runs with either library."""
     if untold_calls():
         sys.exit(f"packaging/skewguard.3 does not tell of {', '.join(untold_calls())}")
-    (folder / "first.c").write_text(manual_example(), encoding="utf-8")
+    place = folder / "manual"
+    place.mkdir()
+    (place / "first.c").write_text(manual_example(), encoding="utf-8")
     strict = ["cc", "-std=c99", "-Wall", "-Wextra", "-pedantic", "-Werror", "first.c"]
     for libraries in (["-lskewguard"], [library / "libskewguard.a"]):
-        run([*strict, "-o", "first", *libraries], cwd=folder, env=known)
-        wanted("the manual's example", run(["./first"], cwd=folder, env=known), "KIM: REFUSED 10 23000 COVERED ALL\n")
+        run([*strict, "-o", "first", *libraries], cwd=place, env=known)
+        wanted("the manual's example", run(["./first"], cwd=place, env=known), "KIM: REFUSED 10 23000 COVERED ALL\n")
 
 
 class Way(typing.NamedTuple):
