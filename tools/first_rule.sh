@@ -11,12 +11,15 @@ packages=$(realpath "${1:?a folder with packages}")
 root=''
 [[ ${2:-} != --chroot ]] || root=$(realpath "${3:?a root folder}")
 top=$(cd "$(dirname "${BASH_SOURCE[0]}")/.." && pwd)
-example=$(python3 -c "
-import sys
+example="
+import pathlib, sys
 sys.path.insert(0, '$top/tools')
 sys.dont_write_bytecode = True
 import languages
-print(next(files['first.py'] for name, files, _ in languages.page_sections() if name == 'Python'))")
+way = languages.ways()['first.py']
+for name, text in way.files.items():
+    pathlib.Path(sys.argv[1], name).write_text(text)
+print(way.printed, end='')"
 needed=("$packages"/libskewguard0_*.deb "$packages"/python3-skewguard_*.deb)
 folder=$(mktemp -d ${root:+--tmpdir="$root/tmp"})
 log=$(mktemp)
@@ -49,14 +52,14 @@ unpack_and_run() {
 
 trap purge EXIT
 started=$(date +%s.%N)
-printf '%s\n' "$example" >"$folder/first.py"
+wanted=$(python3 -c "$example" "$folder")
 if [[ -n $root ]]; then
     answer=$(install_and_run)
 else
     answer=$(unpack_and_run)
 fi
 seconds=$(awk -v from="$started" -v to="$(date +%s.%N)" 'BEGIN { print to - from }')
-[[ $answer == "COVERED would be false at ALL" ]] || { echo "it prints $answer" >&2 && exit 1; }
+[[ $answer == "$wanted" ]] || { echo "it prints $answer" >&2 && exit 1; }
 echo "$answer"
 printf 'the first rule was refused after %.1f seconds\n' "$seconds"
 [[ ${seconds%.*} -lt 120 ]]

@@ -1,5 +1,5 @@
 #!/usr/bin/env python3
-"""Gives the program what it should not be given, and looks whether it answers as README.md says.
+"""Gives the program what it should not be given, and looks whether it answers as docs/PROGRAM.md says.
 
     tools/hostile.py PROGRAM        each text, file and limit in turn; prints what was answered, and what differs
 

@@ -15,6 +15,7 @@ import shutil
 import subprocess
 import sys
 import tempfile
+import typing
 
 TOP = pathlib.Path(__file__).resolve().parent.parent
 PYTHON, RUST = TOP / "bindings/python", TOP / "bindings/rust"
@@ -140,38 +141,57 @@ def manual(known, library, folder):
         wanted("the manual's example", run(["./first"], cwd=folder, env=known), "KIM: REFUSED 10 23000 COVERED ALL\n")
 
 
-def page_sections():
-    """Of each section of the README its name, the files that it shows, and its commands with their output."""
-    page = (TOP / "README.md").read_text(encoding="utf-8")
-    for section in re.split(r"^##+ ", page, flags=re.MULTILINE)[1:]:
-        files = re.findall(r"`([\w./]+)`:\n\n```\w+\n(.*?)^```$", section, re.MULTILINE | re.DOTALL)
-        shown = re.findall(r"^```sh\n(.*?)^```$", section, re.MULTILINE | re.DOTALL)
-        if files:
-            yield section.splitlines()[0], dict(files), "".join(shown)
+class Way(typing.NamedTuple):
+    """A way to use the product that a page shows: the files that lie in its folder, a command, and what it prints."""
+    files: dict
+    command: str
+    printed: str
+
+
+def ways(name="README.md"):
+    """Each way of a page, by the file that its command runs.
+
+    Above the text of a file stands a paragraph that ends with its name and, where it is run, with the command. Files
+    without a command lie in the folder of each way. What a script prints stands beside its events; what the others
+    print is said once.
+    """
+    page = (TOP / name).read_text(encoding="utf-8")
+    said = "".join(f"{line}\n" for line in re.findall(r"prints `([^`]+)`\.", page))
+    shared, found = {}, {}
+    for label, text in re.findall(r"^((?:[^\n]+\n)+)\n```\w+\n(.*?)^```$", page, re.MULTILINE | re.DOTALL):
+        end = re.search(r"`([\w./]+)`(?:, run by\s`([^`]+)`)?:\n$", label)
+        if end and end.group(2):
+            beside = "".join(re.findall(r"-- (.+\n)", text)) if end.group(1).endswith(".sql") else said
+            found[end.group(1)] = Way(shared | {end.group(1): text}, end.group(2), beside)
+        elif end:
+            shared[end.group(1)] = text
+    return found
+
+
+def run_way(name, way, place, known):
+    """Runs a way in an empty folder. Of what a script prints the first lines have to be those beside its events."""
+    place.mkdir()
+    for path, text in way.files.items():
+        (place / path).parent.mkdir(exist_ok=True)
+        (place / path).write_text(text, encoding="utf-8")
+    printed = run(["bash", "-ec", way.command], cwd=place, env=known)
+    if name.endswith(".sql"):
+        printed = "".join(printed.splitlines(keepends=True)[:way.printed.count("\n")])
+    wanted(f"{name} of the page", printed, way.printed)
 
 
 def page(known, folder, without_rust):
-    """Runs what the page shows, each section from an empty folder."""
+    """Runs each way that the pages show."""
     (folder / "skewguard").symlink_to(TOP)
-    count = 0
-    for name, files, shown in page_sections():
-        if name == "Rust" and without_rust:
-            continue
-        place = folder / name.replace(" ", "_")
-        place.mkdir()
-        commands = [line[2:] for line in shown.splitlines() if line.startswith("$ ")]
-        before = [command for command in commands if command.startswith("cargo init")]
-        for command in before:
-            run(["bash", "-c", command], cwd=place, env=known)
-        for path, text in files.items():
-            (place / path).parent.mkdir(exist_ok=True)
-            (place / path).write_text(text, encoding="utf-8")
-        found = "".join(run(["bash", "-ec", command], cwd=place, env=known) for command in commands[len(before):])
-        printed = [line for line in shown.splitlines(keepends=True) if not line.startswith("$ ")]
-        wanted(f"README.md, {name},", found, "".join(printed))
-        count += 1
-    if count != 4 - bool(without_rust):
-        sys.exit(f"README.md: {count} sections were run")
+    found, language = ways(), ways("docs/LANGUAGE.md")
+    if list(found) != ["script.sql", "first.c", "first.py", "src/main.rs"] or list(language) != ["script.sql"]:
+        sys.exit(f"README.md shows {', '.join(found)}, and docs/LANGUAGE.md {', '.join(language)}")
+    if without_rust:
+        del found["src/main.rs"]
+    quiet = known | {"CARGO_TERM_QUIET": "true", "CARGO_NET_OFFLINE": "true"}
+    for name, way in found.items():
+        run_way(name, way, folder / name.replace("/", "_"), quiet)
+    run_way("script.sql", language["script.sql"], folder / "language", quiet)
 
 
 def main():

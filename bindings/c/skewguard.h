@@ -171,7 +171,7 @@ typedef struct skewguard_value {
     skewguard_text text;
 } skewguard_value;
 
-/* Why something was refused. The numbers and what each names are those of the report (README, "Refusals"). */
+/* Why something was refused. The numbers and what each names are those of docs/LANGUAGE.md, "The faults". */
 typedef struct skewguard_refusal {
     int number;
     /* Five bytes, and a zero behind them; empty where there is none. */
