@@ -5,8 +5,9 @@
 //! is this project's choice):
 //!
 //! - `Form::ByRow`: `NOT EXISTS (SELECT * FROM t r WHERE c)`. The condition sees the columns of one row of `t` and, in
-//!   its slots, the row's subqueries: `EXISTS (SELECT * FROM d WHERE d.link = r.key AND f)`, which asks whether a
-//!   COUNT(*) is above 0, and `(SELECT aggregate FROM d WHERE d.link = r.key AND f)`.
+//!   its slots, the row's subqueries: `EXISTS (SELECT * FROM d WHERE d.x = r.y AND f)`, which asks whether a COUNT(*) is
+//!   above 0, and `(SELECT aggregate FROM d WHERE d.x = r.y AND f)`. The equality is the *link*; neither side need be a
+//!   key.
 //! - `Form::ByGroup`: `NOT EXISTS (SELECT k FROM t WHERE f GROUP BY k HAVING h)`. The condition `h` sees the group's
 //!   value in column 0 and, in its slots, the aggregates of the group's rows.
 //! - `Form::Single`: a condition that sees no row, and in its slots the subqueries `(SELECT aggregate FROM t WHERE f)`.
@@ -22,19 +23,20 @@
 //!
 //! **Candidates.** A change of one row can turn an assertion only at few roots, its *candidates*:
 //!
-//! - by rows, the key of the changed row if it is of `t`, and, if it is of a subquery's table, each value other than
-//!   NULL that the linked column has in the old or the new row;
+//! - by rows, the key of the changed row if it is of `t`, and, if it is of a subquery's table, for each value other than
+//!   NULL that `x` has in the old or the new row, the value itself where `y` is the key of `t`, and else the keys of the
+//!   rows of `t` that have it in `y` after the change;
 //! - by groups, the value of `k` in the old and in the new row, if it is of `t`;
 //! - of a single condition, the whole, if it is of one of its tables.
 //!
 //! That these are all is the law [`untouched_roots_keep_their_truth`]. At a root, an assertion reads one row and
 //! filters of tables. A change under another key leaves the row; and a filter that neither the old nor the new row
-//! passes keeps the same rows as before. A row passes the filter of a subquery only for the key that its linked
-//! column holds, and that of a group only for its own value of `k`. NULL is linked to no key, since a comparison with
+//! passes keeps the same rows as before. A row passes the filter of a subquery only for the rows that have in `y` what
+//! it has in `x`, and that of a group only for its own value of `k`. NULL is linked to nothing, since a comparison with
 //! it is unknown, and so is no candidate by a link; as a group it is one.
 //!
 //! What the layer above may rest on: a copy is equal to its original, or memory ran out; `kind` is the kind of slot
-//! that a set function fills, by which `cond` bounds its number; and three laws, each the contract of a function that
+//! that a set function fills, by which `table` bounds its number; and three laws, each the contract of a function that
 //! does nothing: [`untouched_roots_keep_their_truth`], [`bad_roots_are_those_that_are_bad`] and
 //! [`bad_roots_answer`].
 //!

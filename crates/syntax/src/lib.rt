@@ -85,7 +85,7 @@
 //! type   = INTEGER | INT | VARCHAR "(" number ")"          (a number from 1 to 255)
 //! attrs  = when [defer] | defer [when]
 //! when   = INITIALLY ( DEFERRED | IMMEDIATE )              defer = [NOT] DEFERRABLE
-//! event  = BEGIN | COMMIT [WORK] | ROLLBACK [WORK] | stmt
+//! event  = BEGIN [READ ONLY] | COMMIT [WORK] | ROLLBACK [WORK] | stmt
 //! stmt   = insert | UPDATE name SET set { "," set } [WHERE cond] | DELETE FROM name [WHERE cond]
 //!        | SELECT ( "*" | name { "," name } ) FROM name [WHERE cond]
 //!        | SET CONSTRAINTS ( ALL | name { "," name } ) ( DEFERRED | IMMEDIATE ) | VERDICT name
