@@ -20,17 +20,20 @@ module _ (key : ℕ) where
   StandIn rows (x ∷ xs) = (row_at key (value_in key x) rows ≡ Some x) × StandIn rows xs
 
   further : (y : RowValues) (rows xs : List RowValues) → AreAbove value_cmp (value_in key) (value_in key y) xs → StandIn rows xs → StandIn (y ∷ rows) xs
+  unfolding StandIn
   further y rows [] above s = tt
   further y rows (x ∷ xs) above s =
       let greater : value_cmp (value_in key x) (value_in key y) ≡ Greater = value_cmp_total.antisymm (value_in key x) (value_in key y) ∙ ap ordering_reverse above.0 in
       (ap (λ c. by_order c None (Some y) (row_at key (value_in key x) rows)) greater ∙ s.0, further y rows xs above.1 s.1)
 
   all_stand : (rows : List RowValues) → IsAscending value_cmp (value_in key) rows → StandIn rows rows
+  unfolding StandIn
   all_stand [] s = tt
   all_stand (y ∷ ys) s =
       (ap (λ c. by_order c None (Some y) (row_at key (value_in key y) ys)) (tied_itself value_cmp_total (value_in key y)), further y ys ys s.0 (all_stand ys s.1))
 
   all_found : (p : RowValues → Bool) (rows xs : List RowValues) → StandIn rows xs → filter_map (λ k. row_at key k rows) (map (value_in key) (filter p xs)) ≡ filter p xs
+  unfolding StandIn
   all_found p rows [] s = refl
   all_found p rows (x ∷ xs) s =
       elim (p x) as (λ b. filter_map (λ k. row_at key k rows) (map (value_in key) (cond b (x ∷ filter p xs) (filter p xs))) ≡ cond b (x ∷ filter p xs) (filter p xs)) [
@@ -52,12 +55,12 @@ module _ (key : ℕ) where
   -- the rows with a key are the one that stands under it
   pub found_by_key : (v : Value) (rows : List RowValues) → IsAscending value_cmp (value_in key) rows → filter (λ row. eq_by_cmp value_cmp v (value_in key row)) rows ≡ option_to_list (row_at key v rows)
   found_by_key v [] s = refl
-  found_by_key v (y ∷ ys) s = case (value_cmp v (value_in key y)) refl
+  found_by_key v (y ∷ ys) s = case (found_by_key v ys s.1) (value_cmp v (value_in key y)) refl
     where
       rest : List RowValues
       rest = filter (λ row. eq_by_cmp value_cmp v (value_in key row)) ys
 
-      case : (c : Ordering) → value_cmp v (value_in key y) ≡ c → cond (is_eq c) (y ∷ rest) rest ≡ option_to_list (by_order c None (Some y) (row_at key v ys))
-      case Less e = none_above v ys (AreAbove-below value_cmp_total (value_in key) v (value_in key y) ys e s.0)
-      case Equal e = ap (λ rows. y ∷ rows) (none_above v ys (AreAbove-tied value_cmp_total (value_in key) (value_in key y) v ys e s.0))
-      case Greater e = found_by_key v ys s.1
+      case : rest ≡ option_to_list (row_at key v ys) → (c : Ordering) → value_cmp v (value_in key y) ≡ c → cond (is_eq c) (y ∷ rest) rest ≡ option_to_list (by_order c None (Some y) (row_at key v ys))
+      case below Less e = none_above v ys (AreAbove-below value_cmp_total (value_in key) v (value_in key y) ys e s.0)
+      case below Equal e = ap (λ rows. y ∷ rows) (none_above v ys (AreAbove-tied value_cmp_total (value_in key) (value_in key y) v ys e s.0))
+      case below Greater e = below

@@ -118,13 +118,15 @@ impl Rows {
     {
         // The proof reads that rows are in the order of the column that they are kept by.
         let is_keyed = is_keyed(&self.pages, self.column, key_column);
-        if is_keyed && column == key_column {
-            return self.row_alone(alloc, key_column, value);
+        if is_keyed {
+            if column == key_column {
+                return self.row_alone(alloc, key_column, value);
+            }
+            if let Some(index) = self.index_for(key_column, column, value) {
+                return self.rows_under(alloc, key_column, index.keys(value));
+            }
         }
-        match self.index_for(key_column, column, value) {
-            Some(index) if is_keyed => self.rows_under(alloc, key_column, index.keys(value)),
-            Some(_) | None => self.scan_rows(alloc, column, value),
-        }
+        self.scan_rows(alloc, column, value)
     }
 
     /// The row under a key, as the only one, if there is one.

@@ -10,8 +10,8 @@ use Rattle.mvrows.proofs.FoundRows.{found_by_key, found_by_keys}
 use Rattle.mvrows.proofs.IndexedRows.{ascending-rows, version_keyed}
 use Rattle.mvrows.proofs.rows.Rows.rows_with.Goals as goal
 
-pub returns-then-is_keyed-clause-rows : goal.returns-then-is_keyed-clause-rows
-returns-then-is_keyed-clause-rows c =
+pub returns-then-column-key_column-clause-rows : goal.returns-then-column-key_column-clause-rows
+returns-then-column-key_column-clause-rows c =
     let key = c.args.key_column in
     let version = version_keyed c.self.inside.column key c.self.inside.pages c.self.inside.indexes (c.is_keyed-is_keyed.ensures.keyed c.if-is_keyed.true) c.self.invariant in
     let ascending : IsAscending value_cmp (value_in key) c.args.self.now =
@@ -24,7 +24,7 @@ returns-then-is_keyed-clause-rows c =
 pub returns-in-Some-clause-rows : goal.returns-in-Some-clause-rows
 returns-in-Some-clause-rows c =
     let key = c.args.key_column in
-    let version = version_keyed c.self.inside.column key c.self.inside.pages c.self.inside.indexes (c.is_keyed-is_keyed.ensures.keyed c.in-Some.guard) c.self.invariant in
+    let version = version_keyed c.self.inside.column key c.self.inside.pages c.self.inside.indexes (c.is_keyed-is_keyed.ensures.keyed c.if-is_keyed.true) c.self.invariant in
     let ascending : IsAscending value_cmp (value_in key) c.args.self.now =
     subst (λ (rows : List RowValues). IsAscending value_cmp (value_in key) rows) c.self.view_is (ascending-rows key c.self.inside.pages version.keyed c.is_keyed-is_keyed.ensures.order) in
     IfOk-weaker c.rows_under.result _ _
