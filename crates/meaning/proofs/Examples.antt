@@ -43,7 +43,7 @@ use Rattle.meaning.specs.Meaning as written
 use Rattle.meaning.specs.Meaning.{References, Valued, Answer, answers, simple, first_value, column_values, rows_counted, set_of_column, only_value, is_any, written_bad_roots, written_truth}
 use Rattle.meaning.specs.Laws.{seen}
 use Rattle.meaning.proofs.Keys.{in_parts, where_key_is, shown_expr, shown_cond}
-use Rattle.meaning.proofs.Nodes.{clauses, number_is, column_is, count_is, set_is, value_is, compare_is, both_is, denies_is, star_is, one_is, filtered_is, grouped_is}
+use Rattle.meaning.proofs.Nodes.{clauses, clauses_as, number_is, column_is, count_is, set_is, value_is, compare_is, both_is, exists_is, denies_is, star_is, one_is, filtered_is, grouped_is}
 
 abbrev column_at : ℕ → Column
 column_at name = record { name = name ∷ []; kind = Integer; nullable = true }
@@ -163,7 +163,7 @@ duty_given state = written.query_step both state (clauses star_value (D ∷ []) 
 
 duty_is : (state : State) → answers both state (roll-Query duty) ≡ duty_given state
 duty_is state =
-    filtered_is both state star (D ∷ []) (roll-Condition (Condition-F.And (compare (column (of D S)) Equal (column (of S I)) ∷ compare (column (of D O)) Equal (literal 1) ∷ []))) star_value duty_where (star_is both state)
+    filtered_is both state star (D ∷ []) None (roll-Condition (Condition-F.And (compare (column (of D S)) Equal (column (of S I)) ∷ compare (column (of D O)) Equal (literal 1) ∷ []))) star_value duty_where (star_is both state)
     (both_is both state (compare (column (of D S)) Equal (column (of S I))) (compare (column (of D O)) Equal (literal 1)) (λ around. compared Equal ((value_named (of D S)).value around) ((value_named (of S I)).value around)) (λ around. compared Equal ((value_named (of D O)).value around) (number 1))
     (compare_is both state (column (of D S)) Equal (column (of S I)) (value_named (of D S)) (value_named (of S I)) (column_is both state (of D S)) (column_is both state (of S I)))
     (compare_is both state (column (of D O)) Equal (literal 1) (value_named (of D O)) (value_number 1) (column_is both state (of D O)) (number_is both state (pos 1))))
@@ -172,7 +172,7 @@ abbrev uncovered_where : State → References → Truth
 uncovered_where state around = not_of (known (is_any (duty_given state around)))
 
 uncovered_is : (state : State) → answers both state (roll-Query uncovered) ≡ written.query_step both state (clauses star_value (S ∷ []) (Some (uncovered_where state)) None None)
-uncovered_is state = filtered_is both state star (S ∷ []) (not_exists (roll-Query duty)) star_value (uncovered_where state) (star_is both state) (denies_is both state (roll-Query duty) (duty_given state) (duty_is state))
+uncovered_is state = filtered_is both state star (S ∷ []) None (not_exists (roll-Query duty)) star_value (uncovered_where state) (star_is both state) (denies_is both state (roll-Query duty) (duty_given state) (duty_is state))
 
 -- shifts 7 and 8; on duty 1 in 7, on call, and 2 in 8, not on call
 abbrev week : State
@@ -222,6 +222,39 @@ crowd = [] ∷ (
 by_groups : written_bad_roots both crowd (not_exists (roll-Query groups)) ≡ root.Of (number 7) ∷ root.Of Null ∷ []
 by_groups = denied crowd groups (groups_given crowd) (groups_are crowd)
 
+-- ---- a condition over both rows
+
+-- NOT EXISTS (SELECT * FROM D X WHERE EXISTS (SELECT * FROM D WHERE D.S = X.S AND D.I > X.I))
+abbrev later : Query-F Condition Expression SelectList Query
+later = clauses star (D ∷ []) (Some (roll-Condition (Condition-F.And (compare (column (of D S)) Equal (column (of X S)) ∷ compare (column (of D I)) Greater (column (of X I)) ∷ [])))) None None
+
+abbrev followed : Query-F Condition Expression SelectList Query
+followed = clauses_as star (D ∷ []) (Some (X ∷ [])) (Some (roll-Condition (Condition-F.Exists (roll-Query later)))) None None
+
+abbrev later_where : References → Truth
+later_where around = and_of (compared Equal ((value_named (of D S)).value around) ((value_named (of X S)).value around)) (and_of (compared Greater ((value_named (of D I)).value around) ((value_named (of X I)).value around)) True)
+
+abbrev later_given : State → References → List Answer
+later_given state = written.query_step both state (clauses star_value (D ∷ []) (Some later_where) None None)
+
+later_is : (state : State) → answers both state (roll-Query later) ≡ later_given state
+later_is state =
+    let sides : (l r : ColumnName) (c : Comparison) → written.truth both state (compare (column l) c (column r)) ≡ (λ around. compared c ((value_named l).value around) ((value_named r).value around))
+    = λ l r c. compare_is both state (column l) c (column r) (value_named l) (value_named r) (column_is both state l) (column_is both state r) in
+    filtered_is both state star (D ∷ []) None (roll-Condition (Condition-F.And (compare (column (of D S)) Equal (column (of X S)) ∷ compare (column (of D I)) Greater (column (of X I)) ∷ []))) star_value later_where (star_is both state)
+    (both_is both state (compare (column (of D S)) Equal (column (of X S))) (compare (column (of D I)) Greater (column (of X I))) (λ around. compared Equal ((value_named (of D S)).value around) ((value_named (of X S)).value around))
+    (λ around. compared Greater ((value_named (of D I)).value around) ((value_named (of X I)).value around)) (sides (of D S) (of X S) Equal) (sides (of D I) (of X I) Greater))
+
+abbrev followed_where : State → References → Truth
+followed_where state around = known (is_any (later_given state around))
+
+followed_is : (state : State) → answers both state (roll-Query followed) ≡ written.query_step both state (clauses_as star_value (D ∷ []) (Some (X ∷ [])) (Some (followed_where state)) None None)
+followed_is state = filtered_is both state star (D ∷ []) (Some (X ∷ [])) (roll-Condition (Condition-F.Exists (roll-Query later))) star_value (followed_where state) (star_is both state) (exists_is both state (roll-Query later) (later_given state) (later_is state))
+
+-- 2 is in the shift of 1, and 4 in that of 3; that 5 and 6 are in the same one is unknown
+by_both : written_bad_roots both crowd (not_exists (roll-Query followed)) ≡ root.Of (number 1) ∷ root.Of (number 3) ∷ []
+by_both = denied crowd followed (written.query_step both crowd (clauses_as star_value (D ∷ []) (Some (X ∷ [])) (Some (followed_where crowd)) None None)) (followed_is crowd)
+
 -- ---- single
 
 -- (SELECT f FROM D WHERE O = 1) <= n
@@ -238,7 +271,7 @@ single_truth : (state : State) (f : Expression) (v : Valued) (n : ℕ) → writt
 single_truth state f v n is =
     ap (λ (t : References → Truth). t [])
     (compare_is both state (roll-Expression (Expression-F.Subquery (taken f))) AtMost (literal n) (simple (λ around. only_value (taken_given state v around))) (value_number n)
-    (value_is both state (taken f) (taken_given state v) (filtered_is both state (roll-SelectList (SelectList-F.One f)) (D ∷ []) on_call v on_call_truth (one_is both state f v is) (on_call_is state))) (number_is both state (pos n)))
+    (value_is both state (taken f) (taken_given state v) (filtered_is both state (roll-SelectList (SelectList-F.One f)) (D ∷ []) None on_call v on_call_truth (one_is both state f v is) (on_call_is state))) (number_is both state (pos n)))
 
 single_roots : (state : State) (f : Expression) (n : ℕ) (t : Truth) → written_truth both state (at_most f n) ≡ t → written_bad_roots both state (at_most f n) ≡ written.roots_of_whole t
 single_roots state f n t e =

@@ -1,6 +1,6 @@
 //! What holds of the written meaning and the resolved one.
 
-ghost use Rattle.meaning.specs.Keys.{CheckReads, DeleteReads, SelectReads, UpdateReads, VerdictReads, WhereReads};
+ghost use Rattle.meaning.specs.Keys.{CheckReads, DeleteReads, HasOneLink, SelectReads, UpdateReads, VerdictReads, WhereReads};
 ghost use Rattle.meaning.specs.Laws.{GivesValues, KeepsRows};
 ghost use Rattle.meaning.specs.Laws.{DeletesRows, ListsColumns, SelectsRows, UpdatesColumns, UpdatesRows};
 ghost use Rattle.meaning.specs.Laws.{HasFormInClass, HasWrittenLeast, HasWrittenRoots, HasWrittenTruth, KeepsForm};
@@ -48,9 +48,11 @@ pub fn assertion_means_what_is_written()
 {}
 
 /// A WHERE over the rows of one table reads under the key of its text, a check of an assertion at a root under the keys
-/// of the assertion's text, and VERDICT the tables of its text.
+/// of the assertion's text, and VERDICT the tables of its text. The text of a query in an assertion by rows has one link,
+/// by which its keys are said.
 pub fn keys_are_as_written()
     ensures conditions { WhereReads }
+    ensures links { HasOneLink }
     ensures checks { CheckReads }
     ensures verdicts { VerdictReads }
 {}
