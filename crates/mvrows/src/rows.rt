@@ -1,6 +1,6 @@
 //! Versions of a table's rows.
 
-ghost use Rattle.std.specs.Prelude.{◌≡◌, ◌<◌, ◌^◌, ◌+◌, ◌⊎◌, [], ◌∷◌, drop, filter_map, length, map, not, Some, IfOk, IfSome, IsOkUnless, IsTrue, if◌then◌else◌};
+ghost use Rattle.std.specs.Prelude.{◌≡◌, ◌<◌, ◌^◌, ◌+◌, ◌⊎◌, [], ◌∷◌, drop, filter_map, length, map, not, option_to_list, Some, IfOk, IfSome, IsOkUnless, IsTrue, if◌then◌else◌};
 ghost use Rattle.std.specs.Option.{option_copied};
 ghost use Rattle.std.specs.Ordering.{eq_by_cmp};
 ghost use Rattle.table.specs.Rows.{value_in, row_at, put_row};
@@ -118,10 +118,26 @@ impl Rows {
     {
         // The proof reads that rows are in the order of the column that they are kept by.
         let is_keyed = is_keyed(&self.pages, self.column, key_column);
+        if is_keyed && column == key_column {
+            return self.row_alone(alloc, key_column, value);
+        }
         match self.index_for(key_column, column, value) {
             Some(index) if is_keyed => self.rows_under(alloc, key_column, index.keys(value)),
             Some(_) | None => self.scan_rows(alloc, column, value),
         }
+    }
+
+    /// The row under a key, as the only one, if there is one.
+    fn row_alone(&self, alloc: Global, key_column: usize, key: &Value) -> Result<Vec<&Row>, Refusal>
+        ensures only_memory { IsOkUnless result NoMemory }
+        ensures row { IfOk result (λ rows.
+            map (λ row. row.now) rows.items ≡ option_to_list (row_at key_column key.now self.now)) }
+    {
+        let mut rows = Vec::new(alloc);
+        if let Some(row) = self.get(key_column, key) {
+            rows.push(row)?;
+        }
+        Ok(rows)
     }
 
     /// The rows under these keys.
