@@ -7,6 +7,7 @@ use Rattle.std.specs.Option.{option_and_then}
 use Rattle.table.specs.declared.exprs.Expr.{Expr}
 use Rattle.table.specs.declared.exprs.Expr.TheVariants as expr
 use Rattle.value.specs.declared.refusals.Refusal.{Refusal}
+use Rattle.value.specs.declared.comparisons.Comparison.{Comparison}
 use Rattle.value.specs.declared.comparisons.Comparison.TheVariants.{Equal, NotEqual, Less, AtMost, Greater, AtLeast}
 use Rattle.table.specs.Rows.{Layout, Tables, layout_of, names_of, position_of}
 use Rattle.table.specs.declared.aggregates.Aggregate.{Aggregate}
@@ -21,7 +22,7 @@ use Rattle.assertion.specs.declared.forms.Form.TheVariants.{ByRow, ByGroup, Sing
 use Rattle.syntax.specs.declared.trees.ColumnName.{ColumnName}
 use Rattle.syntax.specs.declared.trees.Condition.{Condition, out-Condition, roll-out-Condition}
 use Rattle.syntax.specs.declared.trees.Condition.TheOpen.{Condition-F, Expression-F, SelectList-F}
-use Rattle.syntax.specs.declared.trees.Expression.{Expression, out-Expression}
+use Rattle.syntax.specs.declared.trees.Expression.{Expression, out-Expression, roll-out-Expression}
 use Rattle.syntax.specs.declared.trees.SelectList.{SelectList, out-SelectList}
 use Rattle.syntax.specs.declared.trees.Query.{Query, out-Query}
 use Rattle.form_check.specs.Scopes.{Scope, named_in, is_name_of, own_column}
@@ -32,10 +33,10 @@ use Rattle.form_check.specs.Leaves.{Leaf, Leaves, numbered}
 use Rattle.form_check.specs.Queries.{Source, sourced, source_of, alone, aggregate_in, aggregate_selected, expression_may_stand, selection_may_stand, row_condition, joint_condition, row_filter, of_column, selected_aggregate, may_be_selected}
 use Rattle.form_check.specs.Forms.{Clauses, plain, plain_by, plain_value, aggregate_of, row_where, by_row, having_over, by_group, by_clauses, not_exists, single, denied, form_in, form_of, linked}
 use Rattle.meaning.specs.Class as class
-use Rattle.meaning.specs.Class.{Piece, Pieces, Each, IfWritten, columns_in, pieces_in, read_by, named_as, IsColumnAt, IsSimple, IsSimpleList, IsSet, IsSetList, condition_pieces, IsOwn, IsOverRows, IsPlainQuery, IsPlainPiece, IsSingle, IsSetFunction, IsGroupQuery, IsOfEither, IsOverBoth, IsLink, JoinsRow, JoinsKey, NoneOf, IsFirstLink, IsLinkedWhere, IsLinkedPiece, IsRowWhere, IsRowQuery, IsDenied, IsByRows, IsByGroups, IsInClass}
+use Rattle.meaning.specs.Class.{Piece, Pieces, Each, IfWritten, columns_in, pieces_in, read_by, named_as, IsColumnAt, IsSimple, IsSimpleList, IsSet, IsSetList, condition_pieces, expression_pieces, condition_columns, expression_columns, IsOwn, IsOverRows, IsPlainQuery, IsPlainPiece, IsSingle, IsSetFunction, IsGroupQuery, IsOfEither, IsOverBoth, IsLink, JoinsRow, JoinsKey, NoneOf, IsFirstLink, IsLinkedWhere, IsLinkedPiece, IsRowWhere, IsRowQuery, IsDenied, IsByRows, IsByGroups, IsInClass}
 use Rattle.form_check.specs.Links.{top_parts, name_in, link_by, link_of_names, either, link_between, link_in, link_of, is_by, is_link, key_linked, may_link, first_link, beside, filter_parts}
 use Rattle.form_check.specs.Forms.{linked_where}
-use Rattle.syntax.specs.declared.trees.Condition.TheFolds.{map-Condition}
+use Rattle.syntax.specs.declared.trees.Condition.TheFolds.{map-Condition, map-Expression, fold_out-Condition, fold_out-Expression}
 use Rattle.std.proofs.Common.{arith}
 use Rattle.std.proofs.lemmas.Bool.Decides.{nat_tests}
 use Rattle.std.proofs.lemmas.Option.{same_Some}
@@ -49,7 +50,7 @@ use Rattle.meaning.proofs.Queries.{plain_by_ok}
 use Rattle.meaning.proofs.Groups.{in_group_is}
 use Rattle.meaning.proofs.Made.{single_made, row_made, group_made}
 use Rattle.meaning.proofs.Whole.{by_clauses_ok}
-use Rattle.meaning.proofs.Standing.{leaf_of, MayStand, condition_numbers, some_is, pieces_at, condition_pieces_rolled}
+use Rattle.meaning.proofs.Standing.{leaf_of, MayStand, condition_numbers, some_is, columns_of, pieces_at, each_append, condition_pieces_rolled, expression_pieces_rolled}
 
 -- it is answered
 abbrev pub Answers : {A : Type 0} → Result A Refusal → Type 0
@@ -459,6 +460,42 @@ joined passes (part ∷ before) behind link none may =
     let (found, left) = joined passes before behind link none.1 may in
     (ap (λ b. let o : Option Condition = cond b (Some part) (find passes rest) in o) none.0 ∙ found, ap (λ b. cond b rest (part ∷ beside passes rest)) none.0 ∙ ap (λ ps. part ∷ ps) left)
 
+-- ---- what stands in a node
+
+leaves_out : (c : Condition) → pieces_in c ≡ condition_pieces (map-Condition Condition Expression SelectList Query (Condition × Pieces) (Expression × Pieces) (SelectList × Unit {0}) (Query × Unit {0}) (λ c. (c, pieces_in c)) (λ e. (e, pieces_at e)) (λ l. (l, tt)) (λ q. (q, tt)) (out-Condition c))
+leaves_out c = ap pieces_in (sym (roll-out-Condition c)) ∙ condition_pieces_rolled (out-Condition c)
+
+leaves_layer : (c : Condition) (layer : Condition-F Condition Expression SelectList Query) → out-Condition c ≡ layer → pieces_in c ≡ condition_pieces (map-Condition Condition Expression SelectList Query (Condition × Pieces) (Expression × Pieces) (SelectList × Unit {0}) (Query × Unit {0}) (λ c. (c, pieces_in c)) (λ e. (e, pieces_at e)) (λ l. (l, tt)) (λ q. (q, tt)) layer)
+leaves_layer c layer e = leaves_out c ∙ ap (λ layer. condition_pieces (map-Condition Condition Expression SelectList Query (Condition × Pieces) (Expression × Pieces) (SelectList × Unit {0}) (Query × Unit {0}) (λ c. (c, pieces_in c)) (λ e. (e, pieces_at e)) (λ l. (l, tt)) (λ q. (q, tt)) layer)) e
+
+pieces_layer : (x : Expression) (layer : Expression-F Condition Expression SelectList Query) → out-Expression x ≡ layer → pieces_at x ≡ expression_pieces (map-Expression Condition Expression SelectList Query (Condition × Pieces) (Expression × Pieces) (SelectList × Unit {0}) (Query × Unit {0}) (λ c. (c, pieces_in c)) (λ e. (e, pieces_at e)) (λ l. (l, tt)) (λ q. (q, tt)) layer)
+pieces_layer x layer e =
+    ap pieces_at (sym (roll-out-Expression x)) ∙ expression_pieces_rolled (out-Expression x)
+    ∙ ap (λ layer. expression_pieces (map-Expression Condition Expression SelectList Query (Condition × Pieces) (Expression × Pieces) (SelectList × Unit {0}) (Query × Unit {0}) (λ c. (c, pieces_in c)) (λ e. (e, pieces_at e)) (λ l. (l, tt)) (λ q. (q, tt)) layer)) e
+
+name_columns : (x : Expression) (name : ColumnName) → out-Expression x ≡ Expression-F.Column name → columns_of x ≡ name ∷ []
+name_columns x name e =
+    fold_out-Expression (List ColumnName) (List ColumnName) (Unit {0}) (Unit {0}) condition_columns expression_columns (λ l. tt) (λ q. tt) x
+    ∙ ap (λ layer. expression_columns (map-Expression Condition Expression SelectList Query (List ColumnName) (List ColumnName) (Unit {0}) (Unit {0}) columns_in columns_of (λ l. tt) (λ q. tt) layer)) e
+
+sides_columns : (part : Condition) (left right : Expression) (c : Comparison) → out-Condition part ≡ Condition-F.Compare left c right → columns_in part ≡ columns_of left ++ columns_of right
+sides_columns part left right c e =
+    fold_out-Condition (List ColumnName) (List ColumnName) (Unit {0}) (Unit {0}) condition_columns expression_columns (λ l. tt) (λ q. tt) part
+    ∙ ap (λ layer. condition_columns (map-Condition Condition Expression SelectList Query (List ColumnName) (List ColumnName) (Unit {0}) (Unit {0}) columns_in columns_of (λ l. tt) (λ q. tt) layer)) e
+
+-- a comparison of two columns
+pub compares_columns : (child root : Scope) (part : Condition) (left right : Expression) (c : Comparison) (l r : ColumnName) → out-Condition part ≡ Condition-F.Compare left c right → out-Expression left ≡ Expression-F.Column l → out-Expression right ≡ Expression-F.Column r
+    → IsOfEither child root l → IsOfEither child root r → IsOverBoth child root part
+compares_columns child root part left right c l r out is_left is_right on_left on_right =
+    let columns : columns_in part ≡ l ∷ r ∷ [] = sides_columns part left right c out ∙ ap (λ cs. cs ++ columns_of right) (name_columns left l is_left) ∙ ap (λ cs. l ∷ cs) (name_columns right r is_right) in
+    record {
+      columns = subst (Each (IsOfEither child root)) (sym columns) (on_left, (on_right, tt));
+      alone =
+          leaves_layer part (Condition-F.Compare left c right) out
+          ∙ ap (λ ps. ps ++ pieces_at right) (pieces_layer left (Expression-F.Column l) is_left)
+          ∙ pieces_layer right (Expression-F.Column r) is_right;
+    }
+
 -- ---- links
 
 named : (layer : Expression-F Condition Expression SelectList Query) (column : ColumnName) → name_in layer ≡ Some column → layer ≡ Expression-F.Column column
@@ -519,7 +556,7 @@ module _ (child root : Scope) where
   inner_hidden l r c own =
       ap (λ b. link_by (own_column child l) (if b then None else own_column root r)) (one_test (is_name_of r.qualifier r.name child) (named_in r.name child) c own).0 ∙ no_outer (own_column child l)
 
-  of_link : (part : Condition) (c : Link) → IsLink child root c part → link_of child root part ≡ Some c
+  pub of_link : (part : Condition) (c : Link) → IsLink child root c part → link_of child root part ≡ Some c
   of_link part c h =
       ⊎_elim
       (λ one.
@@ -585,13 +622,16 @@ module _ (child root : Scope) where
   abbrev Linked : Link → List Condition → Type 0
   Linked c parts = (first_link child root parts ≡ Some c) × Answers (filter_parts child root parts)
 
+  first_found : (parts : List Condition) (link : Condition) (c : Link) (column : Option ℕ) → key_linked child root parts ≡ column → find (is_link child root column) parts ≡ Some link → link_of child root link ≡ Some c → first_link child root parts ≡ Some c
+  first_found parts link c column keyed found is = ap (λ k. option_and_then (link_of child root) (find (is_link child root k) parts)) keyed ∙ ap (option_and_then (link_of child root)) found ∙ is
+
   linked_parts : (before behind : List Condition) (link : Condition) (c : Link) (column : Option ℕ) → link_of child root link ≡ Some c → Each (IsOverBoth child root) (before ++ behind)
       → key_linked child root (before ++ link ∷ behind) ≡ column → Fail (is_link child root column) before → is_link child root column link ≡ true → Linked c (before ++ link ∷ behind)
   linked_parts before behind link c column is others keyed none may =
       let parts = before ++ link ∷ behind in
       let (found, left) = joined (is_link child root column) before behind link none may in
       let (made, are) = of_each (joint_condition child root) (IsOverBoth child root) (both_over child root) (before ++ behind) others in (
-        ap (λ k. option_and_then (link_of child root) (find (is_link child root k) parts)) keyed ∙ ap (option_and_then (link_of child root)) found ∙ is,
+        first_found parts link c column keyed found is,
         (made, ap (λ k. each (joint_condition child root) (beside (is_link child root k) parts)) keyed ∙ ap (each (joint_condition child root)) left ∙ are),
       )
 
@@ -612,6 +652,55 @@ module _ (child root : Scope) where
 
   class_where : (condition : Condition) (c : Link) → IsLinkedWhere child root c condition → (first_link child root (top_parts condition) ≡ Some c) × Answers (filter_parts child root (top_parts condition))
   class_where condition c h = subst (Linked c) (sym h.parts) (first_parts h.before h.behind h.link c (of_link h.link c h.links) h.others h.first)
+
+-- one is found where one passes, and the others are among all
+some_found : (passes : Condition → Bool) (before behind : List Condition) (part : Condition) → passes part ≡ true → (link : Condition) × (find passes (before ++ part ∷ behind) ≡ Some link)
+some_found passes before behind part may = go (find passes (before ++ part ∷ behind)) refl
+  where
+    in_each : (P : Condition → Type 0) (before behind : List Condition) (part : Condition) → Each P (before ++ part ∷ behind) → P part
+    in_each P [] behind part h = h.0
+    in_each P (x ∷ before) behind part h = in_each P before behind part h.1
+
+    go : (o : Option Condition) → find passes (before ++ part ∷ behind) ≡ o → (link : Condition) × (o ≡ Some link)
+    go (Some link) e = (link, refl)
+    go None e = let k : true ≡ false = sym may ∙ in_each (λ part. passes part ≡ false) before behind part (none_found passes (before ++ part ∷ behind) e) in cc
+
+beside_each : (P : Condition → Type 0) (passes : Condition → Bool) (parts : List Condition) → Each P parts → Each P (beside passes parts)
+beside_each P passes [] h = tt
+beside_each P passes (part ∷ parts) h = go (passes part) (beside_each P passes parts h.1)
+  where
+    go : (b : Bool) → Each P (beside passes parts) → Each P (cond b parts (part ∷ beside passes parts))
+    go true others = h.1
+    go false others = (h.0, others)
+
+-- a link is over both rows too
+pub link_over : (child root : Scope) (part : Condition) → JoinsRow child root part → IsOverBoth child root part
+link_over child root part (c, h) =
+    ⊎_elim
+    (λ one. compares_columns child root part h.left h.right Equal one.0.0 one.1.0 h.equality one.0.1 one.1.1 (inl (ap is_some one.0.2)) (inr (c.outer, one.1.2)))
+    (λ two. compares_columns child root part h.left h.right Equal two.1.0 two.0.0 h.equality two.1.1 two.0.1 (inr (c.outer, two.1.2)) (inl (ap is_some two.0.2)))
+    h.sides
+
+pub HasALink-law : law.HasALink
+HasALink-law child root condition part before behind are joins others =
+    let parts = before ++ part ∷ behind in
+    let (first, last) = (each_append (IsOverBoth child root) before behind).0 others in
+    let over = (each_append (IsOverBoth child root) before (part ∷ behind)).1 (first, (link_over child root part joins, last)) in
+    let (made, filters) = of_each (joint_condition child root) (IsOverBoth child root) (both_over child root) (beside (may_link child root parts) parts) (beside_each (IsOverBoth child root) (may_link child root parts) parts over) in
+    let linked : (link : Link) → first_link child root parts ≡ Some link → (link : Link) × IsLinkedWhere child root link condition
+    = λ link e. (link, where_class child root condition link (ap (first_link child root) are ∙ e) (subst (λ ps. Answers (filter_parts child root ps)) (sym are) (made, filters))) in
+    let go : (o : Option Condition) → find (by_key child root) parts ≡ o → (link : Link) × IsLinkedWhere child root link condition
+    = λ o. elim o as (λ o. find (by_key child root) parts ≡ o → (link : Link) × IsLinkedWhere child root link condition) [
+      | Some link ↦ λ e.
+          let (x, (y, (is, (may, (none, left))))) = split (by_key child root) parts link e in
+          let by = key_joined child root link may in
+          linked by.0 (first_found child root parts link by.0 (Some child.layout.key) (ap (λ o. if is_some o then Some child.layout.key else None) e) e (of_link child root link by.0 by.1))
+      | None ↦ λ e.
+          let (link, found) = some_found (by_any child root) before behind part (joins_any child root part joins) in
+          let (x, (y, (is, (may, (none, left))))) = split (by_any child root) parts link found in
+          let by = any_joined child root link may in
+          linked by.0 (first_found child root parts link by.0 None (ap (λ o. if is_some o then Some child.layout.key else None) e) found (of_link child root link by.0 by.1))
+    ] in go (find (by_key child root) parts) refl
 
 -- the link of a WHERE is the first
 pub HasOneLink-law : HasOneLink
@@ -781,12 +870,6 @@ rows_form tables c h = denied_form tables c h.0 h.1 (class_rows tables h.0 h.2)
 
 pub groups_form : (tables : Tables) (c : Condition) → IsByGroups tables c → Answers (form_of tables c)
 groups_form tables c h = denied_form tables c h.0 h.1 (class_groups tables h.0 h.2)
-
-leaves_out : (c : Condition) → pieces_in c ≡ condition_pieces (map-Condition Condition Expression SelectList Query (Condition × Pieces) (Expression × Pieces) (SelectList × Unit {0}) (Query × Unit {0}) (λ c. (c, pieces_in c)) (λ e. (e, pieces_at e)) (λ l. (l, tt)) (λ q. (q, tt)) (out-Condition c))
-leaves_out c = ap pieces_in (sym (roll-out-Condition c)) ∙ condition_pieces_rolled (out-Condition c)
-
-leaves_layer : (c : Condition) (layer : Condition-F Condition Expression SelectList Query) → out-Condition c ≡ layer → pieces_in c ≡ condition_pieces (map-Condition Condition Expression SelectList Query (Condition × Pieces) (Expression × Pieces) (SelectList × Unit {0}) (Query × Unit {0}) (λ c. (c, pieces_in c)) (λ e. (e, pieces_at e)) (λ l. (l, tt)) (λ q. (q, tt)) layer)
-leaves_layer c layer e = leaves_out c ∙ ap (λ layer. condition_pieces (map-Condition Condition Expression SelectList Query (Condition × Pieces) (Expression × Pieces) (SelectList × Unit {0}) (Query × Unit {0}) (λ c. (c, pieces_in c)) (λ e. (e, pieces_at e)) (λ l. (l, tt)) (λ q. (q, tt)) layer)) e
 
 -- a single condition is no NOT EXISTS
 denied_single : (tables : Tables) (c part : Condition) (layer : Condition-F Condition Expression SelectList Query) → out-Condition c ≡ Condition-F.Not part → out-Condition part ≡ layer → IsSingle tables c → Answers (denied tables c layer)

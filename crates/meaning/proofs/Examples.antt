@@ -1,5 +1,6 @@
 -- Worked rows: names, the written bad roots and truth of an assertion of each form, and the key of a WHERE, computed.
-use Rattle.std.proofs.Common.{◌≡◌, ℕ, pos, true, List, [], ◌∷◌, Option, Some, None, refl, ap, ◌∙◌, sym}
+use Rattle.std.proofs.Common.{◌≡◌, ℕ, pos, true, List, [], ◌∷◌, Option, Some, None, refl, ap, ◌∙◌, sym, inl, inr}
+use Rattle.std.proofs.lemmas.Option.{same_Some}
 use Rattle.std.specs.Prelude.{◌==◌, filter_map, find}
 use Rattle.std.specs.Option.{option_or}
 use Rattle.value.specs.declared.values.Value.{Value}
@@ -25,6 +26,7 @@ use Rattle.table.specs.Eval as resolved
 use Rattle.table.specs.Values.{compared}
 use Rattle.table.proofs.EvalLemmas.{truth-And}
 use Rattle.assertion.specs.Meaning.{State}
+use Rattle.assertion.specs.declared.queries.Link.{Link}
 use Rattle.syntax.specs.declared.trees.Aggregate.TheVariants as function
 use Rattle.syntax.specs.declared.trees.ColumnName.{ColumnName}
 use Rattle.syntax.specs.declared.trees.Condition.{Condition, roll-Condition, out-Condition, out-roll-Condition}
@@ -38,10 +40,12 @@ use Rattle.siread.specs.declared.keys.LockKey.{LockKey}
 use Rattle.siread.specs.declared.keys.LockKey.TheVariants as key
 use Rattle.alone.specs.Reads as reads
 use Rattle.alone.specs.Reads.{Equality}
+use Rattle.meaning.specs.Class.{IsColumnAt, IsOuterColumn, IsLink, IsLinkedWhere}
 use Rattle.meaning.specs.Keys as keys
 use Rattle.meaning.specs.Meaning as written
 use Rattle.meaning.specs.Meaning.{References, Valued, Answer, answers, simple, first_value, column_values, rows_counted, set_of_column, only_value, is_any, written_bad_roots, written_truth}
 use Rattle.meaning.specs.Laws.{seen}
+use Rattle.meaning.proofs.Classes.{of_link, link_over}
 use Rattle.meaning.proofs.Keys.{in_parts, where_key_is, shown_expr, shown_cond}
 use Rattle.meaning.proofs.Nodes.{clauses, clauses_as, number_is, column_is, count_is, set_is, value_is, compare_is, both_is, exists_is, denies_is, star_is, one_is, filtered_is, grouped_is}
 
@@ -294,12 +298,73 @@ single_unknown = single_truth nobody (roll-Expression (Expression-F.Aggregate fu
 single_satisfied : written_bad_roots both nobody (at_most (roll-Expression (Expression-F.Aggregate function.Sum (bare I))) 4) ≡ []
 single_satisfied = single_roots nobody (roll-Expression (Expression-F.Aggregate function.Sum (bare I))) 4 Unknown single_unknown
 
--- ---- keys
+-- ---- the link of two
 
--- WHERE over D, the second table, whose key is I
+-- a row of D inside one of D X
 abbrev d_scope : Scope
 d_scope = record { exposed_name = D ∷ []; layout = of_d }
 
+abbrev x_scope : Scope
+x_scope = record { exposed_name = X ∷ []; layout = of_d }
+
+-- D.inner = X.outer
+abbrev equal_columns : ℕ → ℕ → Condition
+equal_columns inner outer = compare (column (of D inner)) Equal (column (of X outer))
+
+abbrev both_equal : Condition → Condition → Condition
+both_equal a b = roll-Condition (Condition-F.And (a ∷ b ∷ []))
+
+abbrev by : ℕ → ℕ → Link
+by inner outer = record { inner = inner; outer = outer }
+
+equality_joins : (inner outer i o : ℕ) → IsColumnAt d_scope i (of D inner) → IsOuterColumn d_scope x_scope o (of X outer) → IsLink d_scope x_scope (by i o) (equal_columns inner outer)
+equality_joins inner outer i o own around = record {
+  left = column (of D inner);
+  right = column (of X outer);
+  equality = out-roll-Condition (Condition-F.Compare (column (of D inner)) Equal (column (of X outer)));
+  sides = inl ((of D inner, out-roll-Expression (Expression-F.Column (of D inner)), own), (of X outer, out-roll-Expression (Expression-F.Column (of X outer)), around));
+}
+
+-- which is by that column of D alone
+only_by : (inner outer i o : ℕ) → IsLink d_scope x_scope (by i o) (equal_columns inner outer) → (link : Link) → IsLink d_scope x_scope link (equal_columns inner outer) → link ≡ by i o
+only_by inner outer i o is link h = same_Some link (by i o) (sym (of_link d_scope x_scope (equal_columns inner outer) link h) ∙ of_link d_scope x_scope (equal_columns inner outer) (by i o) is)
+
+-- D.S = X.S AND D.I = X.O: the link is the second, by D's key
+link_by_key : IsLinkedWhere d_scope x_scope (by 0 2) (both_equal (equal_columns S S) (equal_columns I O))
+link_by_key =
+    let first = equality_joins S S 1 1 refl (refl, refl) in record {
+      before = equal_columns S S ∷ [];
+      link = equal_columns I O;
+      behind = [];
+      parts = ap (and_layer (both_equal (equal_columns S S) (equal_columns I O))) (out-roll-Condition (Condition-F.And (equal_columns S S ∷ equal_columns I O ∷ [])));
+      links = equality_joins I O 0 2 refl (refl, refl);
+      others = (link_over d_scope x_scope (equal_columns S S) (by 1 1, first), tt);
+      first = inl (refl, (λ h. let e : 0 ≡ 1 = sym h.2 ∙ ap (λ (l : Link). l.inner) (only_by S S 1 1 first h.0 h.1) in cc, tt));
+    }
+
+-- D.S = X.S AND D.O = X.I: neither is by the key, and the link is the first
+link_first : IsLinkedWhere d_scope x_scope (by 1 1) (both_equal (equal_columns S S) (equal_columns O I))
+link_first =
+    let first = equality_joins S S 1 1 refl (refl, refl) in
+    let second = equality_joins O I 2 0 refl (refl, refl) in record {
+      before = [];
+      link = equal_columns S S;
+      behind = equal_columns O I ∷ [];
+      parts = ap (and_layer (both_equal (equal_columns S S) (equal_columns O I))) (out-roll-Condition (Condition-F.And (equal_columns S S ∷ equal_columns O I ∷ [])));
+      links = first;
+      others = (link_over d_scope x_scope (equal_columns O I) (by 2 0, second), tt);
+      first = inr (
+        (
+          λ h. let e : 0 ≡ 1 = sym h.2 ∙ ap (λ (l : Link). l.inner) (only_by S S 1 1 first h.0 h.1) in cc,
+          (λ h. let e : 0 ≡ 2 = sym h.2 ∙ ap (λ (l : Link). l.inner) (only_by O I 2 0 second h.0 h.1) in cc, tt),
+        ),
+        tt,
+      );
+    }
+
+-- ---- keys
+
+-- WHERE over D, the second table, whose key is I
 abbrev name_layer : ℕ → Expression-F Condition Expression SelectList Query
 name_layer name = Expression-F.Column (bare name)
 

@@ -1,5 +1,5 @@
 -- A condition is numbered exactly where its columns may stand there, and its slots are then its set functions and queries.
-use Rattle.std.proofs.Common.{◌≡◌, ℕ, Option, Some, None, Ok, List, [], ◌∷◌, ◌++◌, length, map, refl, ap, sym, ◌∙◌, subst, append-nil, append_assoc}
+use Rattle.std.proofs.Common.{◌≡◌, Option, Some, None, Ok, List, [], ◌∷◌, ◌++◌, length, map, refl, ap, sym, ◌∙◌, subst, append-nil, append_assoc}
 use Rattle.std.proofs.lemmas.List.{map-append}
 use Rattle.std.specs.Prelude.{IsSome, is_some, flat_map, ◌↔◌}
 use Rattle.value.specs.declared.values.Value.TheVariants as value
@@ -37,7 +37,7 @@ pub condition_pieces_rolled : (layer : Condition-F Condition Expression SelectLi
 unfolding pieces_in pieces_at
 condition_pieces_rolled layer = para-roll-Condition Pieces Pieces (Unit {0}) (Unit {0}) condition_pieces expression_pieces (λ l. tt) (λ q. tt) layer
 
-expression_pieces_rolled : (layer : Expression-F Condition Expression SelectList Query) → pieces_at (roll-Expression layer) ≡ expression_pieces (map-Expression Condition Expression SelectList Query (Condition × Pieces) (Expression × Pieces) (SelectList × Unit {0}) (Query × Unit {0}) (λ c. (c, pieces_in c)) (λ e. (e, pieces_at e)) (λ l. (l, tt)) (λ q. (q, tt)) layer)
+pub expression_pieces_rolled : (layer : Expression-F Condition Expression SelectList Query) → pieces_at (roll-Expression layer) ≡ expression_pieces (map-Expression Condition Expression SelectList Query (Condition × Pieces) (Expression × Pieces) (SelectList × Unit {0}) (Query × Unit {0}) (λ c. (c, pieces_in c)) (λ e. (e, pieces_at e)) (λ l. (l, tt)) (λ q. (q, tt)) layer)
 unfolding pieces_in pieces_at
 expression_pieces_rolled layer = para-roll-Expression Pieces Pieces (Unit {0}) (Unit {0}) condition_pieces expression_pieces (λ l. tt) (λ q. tt) layer
 

@@ -213,7 +213,7 @@ pub record IsLink (child root : Scope) (link : Link) (part : Condition) : Type 0
   pub equality : out-Condition part ≡ Condition-F.Compare left Equal right
   pub sides : Joins child root link left right ⊎ Joins child root link right left
 
--- a part joins the two; it joins the child's key with the row around
+-- a part joins the two, by some columns; and one joins the child's key with the row around
 abbrev pub JoinsRow : Scope → Scope → Condition → Type 0
 JoinsRow child root part = (link : Link) × IsLink child root link part
 
@@ -233,7 +233,7 @@ pub record IsOverBoth (child root : Scope) (condition : Condition) : Type 0 wher
 abbrev pub NoneOf : (Condition → Type 0) → List Condition → Type 0
 NoneOf P parts = Each (λ part. P part → ⊥) parts
 
--- the link of these columns, behind the parts before it: the first part that joins the child's key with the row; or,
+-- the link of these columns, behind the parts before it, is the first part that joins the child's key with the row; or,
 -- where none of all does, the first that joins the two
 abbrev pub IsFirstLink : Scope → Scope → Link → List Condition → List Condition → Type 0
 IsFirstLink child root columns before all =
@@ -241,7 +241,7 @@ IsFirstLink child root columns before all =
     ⊎ (NoneOf (JoinsKey child root) all × NoneOf (JoinsRow child root) before)
 
 -- a WHERE of which AND joins a link, of these columns, and conditions over both rows. Such a condition may join the two
--- as well: which of several such parts is the link makes no difference to the class, but to the keys of reads
+-- as well; which of several is the link bears on the keys of reads, and not on what is in the class
 pub record IsLinkedWhere (child root : Scope) (columns : Link) (condition : Condition) : Type 0 where
   pub before : List Condition
   pub link : Condition

@@ -3,7 +3,7 @@
 ghost use Rattle.meaning.specs.Keys.{CheckReads, DeleteReads, HasOneLink, SelectReads, UpdateReads, VerdictReads, WhereReads};
 ghost use Rattle.meaning.specs.Laws.{GivesValues, KeepsRows};
 ghost use Rattle.meaning.specs.Laws.{DeletesRows, ListsColumns, SelectsRows, UpdatesColumns, UpdatesRows};
-ghost use Rattle.meaning.specs.Laws.{HasFormInClass, HasWrittenLeast, HasWrittenRoots, HasWrittenTruth, KeepsForm};
+ghost use Rattle.meaning.specs.Laws.{HasALink, HasFormInClass, HasWrittenLeast, HasWrittenRoots, HasWrittenTruth, KeepsForm};
 ghost use Rattle.meaning.specs.Laws.{StaysWritten, TakesExactly, TakesWritten};
 
 /// A condition over the rows of one table is true, false or unknown of a row as it is written, and an expression has
@@ -23,9 +23,11 @@ pub fn statements_keep_written_rows()
     ensures columns { UpdatesColumns }
 {}
 
-/// A condition has a form exactly where it is by rows, by groups or single.
+/// A condition has a form exactly where it is by rows, by groups or single. In one by rows, a query has a link wherever
+/// one of the parts that AND joins in its WHERE joins the two rows, and the others are over both.
 pub fn class_has_forms()
-    ensures { HasFormInClass }
+    ensures forms { HasFormInClass }
+    ensures links { HasALink }
 {}
 
 /// An assertion that has a form is false at the roots that its text names, and true, false or unknown as its text is;
