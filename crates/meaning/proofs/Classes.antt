@@ -33,7 +33,7 @@ use Rattle.form_check.specs.Leaves.{Leaf, Leaves, numbered}
 use Rattle.form_check.specs.Queries.{Source, sourced, source_of, alone, aggregate_in, aggregate_selected, expression_may_stand, selection_may_stand, row_condition, joint_condition, row_filter, of_column, selected_aggregate, may_be_selected}
 use Rattle.form_check.specs.Forms.{Clauses, plain, plain_by, plain_value, aggregate_of, row_where, by_row, having_over, by_group, by_clauses, not_exists, single, denied, form_in, form_of, linked}
 use Rattle.meaning.specs.Class as class
-use Rattle.meaning.specs.Class.{Piece, Pieces, Each, IfWritten, columns_in, pieces_in, read_by, named_as, IsColumnAt, IsSimple, IsSimpleList, IsSet, IsSetList, condition_pieces, expression_pieces, condition_columns, expression_columns, IsOwn, IsOverRows, IsPlainQuery, IsPlainPiece, IsSingle, IsSetFunction, IsGroupQuery, IsOfEither, IsOverBoth, IsLink, JoinsRow, JoinsKey, NoneOf, IsFirstLink, IsLinkedWhere, IsLinkedPiece, IsRowWhere, IsRowQuery, IsDenied, IsByRows, IsByGroups, IsInClass}
+use Rattle.meaning.specs.Class.{Piece, Pieces, Each, IfWritten, columns_in, pieces_in, read_by, named_as, IsColumnAt, IsSimple, IsSimpleList, IsSet, IsSetList, condition_pieces, expression_pieces, condition_columns, expression_columns, IsOwn, IsOverRows, IsPlainQuery, IsPlainPiece, IsSingle, IsSetFunction, IsGroupQuery, IsOfEither, IsOverBoth, IsLink, JoinsRow, JoinsKey, IsFirstLink, IsLinkedWhere, IsLinkedPiece, IsRowWhere, IsRowQuery, IsDenied, IsByRows, IsByGroups, IsInClass}
 use Rattle.form_check.specs.Links.{top_parts, name_in, link_by, link_of_names, either, link_between, link_in, link_of, is_by, is_link, key_linked, may_link, first_link, beside, filter_parts}
 use Rattle.form_check.specs.Forms.{linked_where}
 use Rattle.syntax.specs.declared.trees.Condition.TheFolds.{map-Condition, map-Expression, fold_out-Condition, fold_out-Expression}
@@ -50,7 +50,8 @@ use Rattle.meaning.proofs.Queries.{plain_by_ok}
 use Rattle.meaning.proofs.Groups.{in_group_is}
 use Rattle.meaning.proofs.Made.{single_made, row_made, group_made}
 use Rattle.meaning.proofs.Whole.{by_clauses_ok}
-use Rattle.meaning.proofs.Standing.{leaf_of, MayStand, condition_numbers, some_is, columns_of, pieces_at, each_append, condition_pieces_rolled, expression_pieces_rolled}
+use Rattle.meaning.proofs.Parts.{Fail, fail_none, none_fail, none_found, none_finds, split, joined, some_found, beside_each}
+use Rattle.meaning.proofs.Standing.{leaf_of, MayStand, each_other, condition_numbers, some_is, columns_of, pieces_at, each_append, condition_pieces_rolled, expression_pieces_rolled}
 
 -- it is answered
 abbrev pub Answers : {A : Type 0} → Result A Refusal → Type 0
@@ -62,8 +63,11 @@ none_is (Some a) h = cc
 
 -- ---- conditions of one table
 
-equal_itself : (n : ℕ) → n == n ≡ true
-equal_itself n = grind (arith, nat_tests)
+equal_numbers : (m n : ℕ) → m == n ≡ true → m ≡ n
+equal_numbers m n e = grind (arith, nat_tests)
+
+numbers_equal : (m n : ℕ) → m ≡ n → m == n ≡ true
+numbers_equal m n e = grind (arith, nat_tests)
 
 no_pieces : (ps : Pieces) → map leaf_of ps ≡ [] → ps ≡ []
 no_pieces [] e = refl
@@ -72,10 +76,6 @@ no_pieces (p ∷ ps) e = cc
 some_mapped : {A B : Type 0} (f : A → B) (o : Option A) → is_some (option_map f o) ≡ is_some o
 some_mapped f None = refl
 some_mapped f (Some a) = refl
-
-each_other : {X : Type 0} (P Q : X → Type 0) → ((x : X) → P x → Q x) → (xs : List X) → Each P xs → Each Q xs
-each_other P Q one [] h = tt
-each_other P Q one (x ∷ xs) h = (one x h.0, each_other P Q one xs h.1)
 
 -- a column of the row at hand may stand there, where it has a place
 at_stands : (place : ColumnName → Option ℕ) (c : ColumnName) → IsSome (at_place place c) → IsSome (place c)
@@ -236,7 +236,7 @@ grouped_at : (group : ℕ) (o : Option ℕ) → IsSome (in_group group o) → o 
 grouped_at group o h = let (c, is) = some_is (in_group group o) h in (in_group_is group o c is).0
 
 at_group : (group : ℕ) (o : Option ℕ) → o ≡ Some group → IsSome (in_group group o)
-at_group group o e = ap (λ o. is_some (in_group group o)) e ∙ ap (λ b. let o : Option ℕ = cond b (Some 0) None in is_some o) (equal_itself group)
+at_group group o e = ap (λ o. is_some (in_group group o)) e ∙ ap (λ b. let o : Option ℕ = cond b (Some 0) None in is_some o) (numbers_equal group group refl)
 
 group_list : (scope : Scope) (group : ℕ) (list : SelectList) → may_be_selected (grouping_column scope group) list ≡ true → IsSimpleList (IsColumnAt scope group) (out-SelectList list)
 group_list scope group list e = simple_list (grouping_column scope group) (IsColumnAt scope group) (λ c h. grouped_at group (own_column scope c) h) (λ c h. at_group group (own_column scope c) h) list e
@@ -403,62 +403,6 @@ over_both child root c h =
 
 both_over : (child root : Scope) (c : Condition) → IsOverBoth child root c → Answers (joint_condition child root c)
 both_over child root c over = over_alone (of_both child root) (IsOfEither child root) (both_stands child root) (stands_both child root) c over.columns over.alone
-
--- ---- the first that passes a test
-
-equal_numbers : (m n : ℕ) → m == n ≡ true → m ≡ n
-equal_numbers m n e = grind (arith, nat_tests)
-
-numbers_equal : (m n : ℕ) → m ≡ n → m == n ≡ true
-numbers_equal m n e = grind (arith, nat_tests)
-
--- the parts that fail a test
-abbrev Fail : (Condition → Bool) → List Condition → Type 0
-Fail passes parts = Each (λ part. passes part ≡ false) parts
-
-fail_none : (passes : Condition → Bool) (P : Condition → Type 0) → ((part : Condition) → P part → passes part ≡ true) → (parts : List Condition) → Fail passes parts → NoneOf P parts
-fail_none passes P to parts h = each_other (λ part. passes part ≡ false) (λ part. P part → ⊥) (λ part fails is. let k : true ≡ false = sym (to part is) ∙ fails in cc) parts h
-
-not_true : (b : Bool) → (b ≡ true → ⊥) → b ≡ false
-not_true true never = absurd (never refl)
-not_true false never = refl
-
-none_fail : (passes : Condition → Bool) (P : Condition → Type 0) → ((part : Condition) → passes part ≡ true → P part) → (parts : List Condition) → NoneOf P parts → Fail passes parts
-none_fail passes P of parts h = each_other (λ part. P part → ⊥) (λ part. passes part ≡ false) (λ part never. not_true (passes part) (λ e. never (of part e))) parts h
-
-none_found : (passes : Condition → Bool) (parts : List Condition) → find passes parts ≡ None → Fail passes parts
-none_found passes [] e = tt
-none_found passes (part ∷ parts) e =
-    let case : (b : Bool) → passes part ≡ b → cond b (Some part) (find passes parts) ≡ None → Fail passes (part ∷ parts) = λ b. elim b as (λ b. passes part ≡ b → cond b (Some part) (find passes parts) ≡ None → Fail passes (part ∷ parts)) [ true ↦ λ t e. cc | false ↦ λ t e. (t, none_found passes parts e) ]
-    in case (passes part) refl e
-
-none_finds : (passes : Condition → Bool) (parts : List Condition) → Fail passes parts → find passes parts ≡ None
-none_finds passes [] h = refl
-none_finds passes (part ∷ parts) h = ap (λ b. let o : Option Condition = cond b (Some part) (find passes parts) in o) h.0 ∙ none_finds passes parts h.1
-
--- the first that passes, with those before it and behind it
-abbrev Split : (Condition → Bool) → Condition → List Condition → Type 0
-Split passes link parts = (before : List Condition) × ((behind : List Condition) × ((parts ≡ before ++ link ∷ behind) × ((passes link ≡ true) × (Fail passes before × (beside passes parts ≡ before ++ behind)))))
-
-split : (passes : Condition → Bool) (parts : List Condition) (link : Condition) → find passes parts ≡ Some link → Split passes link parts
-split passes [] link e = cc
-split passes (part ∷ parts) link e =
-    let case : (b : Bool) → passes part ≡ b → cond b (Some part) (find passes parts) ≡ Some link → Split passes link (part ∷ parts) = λ b. elim b as (λ b. passes part ≡ b → cond b (Some part) (find passes parts) ≡ Some link → Split passes link (part ∷ parts)) [
-      | true ↦ λ t e.
-          let same : part ≡ link = same_Some part link e in
-          let nothing : List Condition = [] in
-          (nothing, (parts, (ap (λ l. l ∷ parts) same, (ap passes (sym same) ∙ t, (tt, ap (λ b. cond b parts (part ∷ beside passes parts)) t)))))
-      | false ↦ λ t e.
-          let (before, (behind, (is, (may, (none, left))))) = split passes parts link e in
-          (part ∷ before, (behind, (ap (λ ps. part ∷ ps) is, (may, ((t, none), ap (λ b. cond b parts (part ∷ beside passes parts)) t ∙ ap (λ ps. part ∷ ps) left)))))
-    ] in case (passes part) refl e
-
-joined : (passes : Condition → Bool) (before behind : List Condition) (link : Condition) → Fail passes before → passes link ≡ true → (find passes (before ++ link ∷ behind) ≡ Some link) × (beside passes (before ++ link ∷ behind) ≡ before ++ behind)
-joined passes [] behind link none may = (ap (λ b. let o : Option Condition = cond b (Some link) (find passes behind) in o) may, ap (λ b. cond b behind (link ∷ beside passes behind)) may)
-joined passes (part ∷ before) behind link none may =
-    let rest = before ++ link ∷ behind in
-    let (found, left) = joined passes before behind link none.1 may in
-    (ap (λ b. let o : Option Condition = cond b (Some part) (find passes rest) in o) none.0 ∙ found, ap (λ b. cond b rest (part ∷ beside passes rest)) none.0 ∙ ap (λ ps. part ∷ ps) left)
 
 -- ---- what stands in a node
 
@@ -652,26 +596,6 @@ module _ (child root : Scope) where
 
   class_where : (condition : Condition) (c : Link) → IsLinkedWhere child root c condition → (first_link child root (top_parts condition) ≡ Some c) × Answers (filter_parts child root (top_parts condition))
   class_where condition c h = subst (Linked c) (sym h.parts) (first_parts h.before h.behind h.link c (of_link h.link c h.links) h.others h.first)
-
--- one is found where one passes, and the others are among all
-some_found : (passes : Condition → Bool) (before behind : List Condition) (part : Condition) → passes part ≡ true → (link : Condition) × (find passes (before ++ part ∷ behind) ≡ Some link)
-some_found passes before behind part may = go (find passes (before ++ part ∷ behind)) refl
-  where
-    in_each : (P : Condition → Type 0) (before behind : List Condition) (part : Condition) → Each P (before ++ part ∷ behind) → P part
-    in_each P [] behind part h = h.0
-    in_each P (x ∷ before) behind part h = in_each P before behind part h.1
-
-    go : (o : Option Condition) → find passes (before ++ part ∷ behind) ≡ o → (link : Condition) × (o ≡ Some link)
-    go (Some link) e = (link, refl)
-    go None e = let k : true ≡ false = sym may ∙ in_each (λ part. passes part ≡ false) before behind part (none_found passes (before ++ part ∷ behind) e) in cc
-
-beside_each : (P : Condition → Type 0) (passes : Condition → Bool) (parts : List Condition) → Each P parts → Each P (beside passes parts)
-beside_each P passes [] h = tt
-beside_each P passes (part ∷ parts) h = go (passes part) (beside_each P passes parts h.1)
-  where
-    go : (b : Bool) → Each P (beside passes parts) → Each P (cond b parts (part ∷ beside passes parts))
-    go true others = h.1
-    go false others = (h.0, others)
 
 -- a link is over both rows too
 pub link_over : (child root : Scope) (part : Condition) → JoinsRow child root part → IsOverBoth child root part

@@ -103,6 +103,10 @@ inner_name = refl
 qualified_name : column_values (of S I) (inside D S) ≡ number 5 ∷ []
 qualified_name = refl
 
+-- and without one, a name that only the outer table has
+outer_name : column_values (bare O) (seen (record { exposed_name = S ∷ []; layout = of_s }) ((number 5 ∷ []) ∷ []) ∷ seen (record { exposed_name = D ∷ []; layout = of_d }) ((number 1 ∷ number 7 ∷ number 0 ∷ []) ∷ []) ∷ []) ≡ number 0 ∷ []
+outer_name = refl
+
 -- a column is not a table: S without a qualifier is D's column
 column_name : column_values (bare S) (inside D S) ≡ number 7 ∷ []
 column_name = refl

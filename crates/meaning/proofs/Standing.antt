@@ -55,6 +55,10 @@ pub each_append : {X : Type 0} (P : X → Type 0) (xs ys : List X) → Each P (x
 each_append P [] ys = (λ h. (tt, h), λ h. h.1)
 each_append P (x ∷ xs) ys = (λ h. let more = (each_append P xs ys).0 h.1 in ((h.0, more.0), more.1), λ h. (h.0.0, (each_append P xs ys).1 (h.0.1, h.1)))
 
+pub each_other : {X : Type 0} (P Q : X → Type 0) → ((x : X) → P x → Q x) → (xs : List X) → Each P xs → Each Q xs
+each_other P Q one [] h = tt
+each_other P Q one (x ∷ xs) h = (one x h.0, each_other P Q one xs h.1)
+
 pub some_is : {A : Type 0} (o : Option A) → IsSome o → (a : A) × (o ≡ Some a)
 some_is None h = cc
 some_is (Some a) h = (a, refl)

@@ -257,7 +257,7 @@ looks_of tables form = record {
   finds = finding_keys (layouts_of tables) form;
 }
 
--- a WHERE has one link, so what is read for the link of a query is what is read for this one
+-- a WHERE has one link alone, so that `IsOfLink` leaves no choice of what is read
 abbrev pub HasOneLink : Type 0
 HasOneLink = (child root : Scope) (condition : Condition) (link other : Link)
     → IsLinkedWhere child root link condition → IsLinkedWhere child root other condition → link ≡ other

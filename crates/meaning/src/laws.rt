@@ -1,9 +1,11 @@
 //! What holds of the written meaning and the resolved one.
 
-ghost use Rattle.meaning.specs.Keys.{CheckReads, DeleteReads, HasOneLink, SelectReads, UpdateReads, VerdictReads, WhereReads};
+ghost use Rattle.meaning.specs.Keys.{CheckReads, DeleteReads, HasOneLink, SelectReads, UpdateReads};
+ghost use Rattle.meaning.specs.Keys.{VerdictReads, WhereReads};
 ghost use Rattle.meaning.specs.Laws.{GivesValues, KeepsRows};
 ghost use Rattle.meaning.specs.Laws.{DeletesRows, ListsColumns, SelectsRows, UpdatesColumns, UpdatesRows};
-ghost use Rattle.meaning.specs.Laws.{HasALink, HasFormInClass, HasWrittenLeast, HasWrittenRoots, HasWrittenTruth, KeepsForm};
+ghost use Rattle.meaning.specs.Laws.{HasALink, HasFormInClass, HasWrittenLeast, HasWrittenRoots};
+ghost use Rattle.meaning.specs.Laws.{HasWrittenTruth, KeepsForm};
 ghost use Rattle.meaning.specs.Laws.{StaysWritten, TakesExactly, TakesWritten};
 
 /// A condition over the rows of one table is true, false or unknown of a row as it is written, and an expression has
@@ -50,8 +52,8 @@ pub fn assertion_means_what_is_written()
 {}
 
 /// A WHERE over the rows of one table reads under the key of its text, a check of an assertion at a root under the keys
-/// of the assertion's text, and VERDICT the tables of its text. The text of a query in an assertion by rows has one link,
-/// by which its keys are said.
+/// of the assertion's text, and VERDICT the tables of its text. Of the parts of a WHERE that join the two rows, one
+/// alone is its link, by which the keys of its query are said.
 pub fn keys_are_as_written()
     ensures conditions { WhereReads }
     ensures links { HasOneLink }
