@@ -28,6 +28,6 @@ returns-in-Some-clause-rows c =
     let ascending : IsAscending value_cmp (value_in key) c.args.self.now =
     subst (λ (rows : List RowValues). IsAscending value_cmp (value_in key) rows) c.self.view_is (ascending-rows key c.self.inside.pages version.keyed c.is_keyed-is_keyed.ensures.order) in
     IfOk-weaker c.rows_under.result _ _
-    (λ rows h. h ∙ ap (λ (keys : List Value). filter_map (λ k. row_at key k c.args.self.now) keys) (c.keys.ensures ∙ c.index_for.ensures)
+    (λ rows h. h ∙ ap (λ (keys : List Value). filter_map (λ k. row_at key k c.args.self.now) keys) (c.keys.ensures.value ∙ c.in-Some.ensures)
     ∙ found_by_keys key (λ row. eq_by_cmp value_cmp c.args.value.now (value_in c.args.column row)) c.args.self.now ascending)
     c.rows_under.ensures.rows
