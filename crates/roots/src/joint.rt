@@ -97,18 +97,18 @@ fn rows_equal_to<'a>(
 fn kept_rows<'a>(
     alloc: Global,
     rows: &[&'a Row],
-    filter: &Cond,
+    condition: &Cond,
     slots: &Slots,
 ) -> Result<Vec<&'a Row>, Refusal>
-    requires bounded { IsBoundedOver (kinds_of slots.now) filter.now }
+    requires bounded { IsBoundedOver (kinds_of slots.now) condition.now }
     requires small { All IsSmallRow (map (λ row. row.now) rows.now) }
     ensures only_memory { IsOkUnless result NoMemory }
     ensures kept { IfOk result (λ kept. map (λ row. row.now) kept.items
-        ≡ filter (λ row. keeps_of row (values_of slots.now) filter.now) (map (λ row. row.now) rows.now)) }
+        ≡ filter (λ row. keeps_of row (values_of slots.now) condition.now) (map (λ row. row.now) rows.now)) }
 {
     let mut kept = Vec::new(alloc);
     for row in rows {
-        if keeps(filter, row, slots) {
+        if keeps(condition, row, slots) {
             kept.push(*row)?;
         }
     }
