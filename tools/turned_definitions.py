@@ -57,16 +57,20 @@ TURNS = [
     ("slots are put in the other order", "specs/Leaves", [
         ("both make left right leaves = and_then (left leaves) (λ l. then_made (make l.0) (right l.1))",
          "both make left right leaves = and_then (right leaves) (λ r. then_made (λ l. make l r.0) (left r.1))")]),
-    ("the second of two links is dropped", "specs/Links", [
-        ("only_one (link ∷ other ∷ rest) = None", "only_one (link ∷ other ∷ rest) = Some link")]),
-    ("a part about the root filters the child", "specs/Links", [
-        ("each (row_condition child) (own_parts child root parts)",
-         "each (row_condition root) (own_parts child root parts)")]),
+    ("a second link is dropped", "specs/Links", [
+        ("if passes part then rest else part ∷", "if passes part then beside passes rest else part ∷")]),
+    ("the parts beside a link are forgotten", "specs/Links", [
+        ("(beside (may_link child root parts) parts)", "[]")]),
+    ("the child's key goes before no other link", "specs/Links", [
+        ("then Some child.layout.key else None", "then None else None")]),
+    ("a column of the root is taken for the child's", "specs/Columns", [
+        ("in_both None outer = option_map Slot outer", "in_both None outer = option_map Column outer")]),
     ("HAVING is of unfiltered rows", "specs/Forms", [
         ("and_then (row_filter source.scope query.keeps) (λ restriction. having_over source group restriction having)",
          "and_then (row_filter source.scope None) (λ restriction. having_over source group restriction having)")]),
-    ("a name of both tables is the root's", "specs/Links", [
-        ("if is_name_of name.qualifier name.name child then None else own_column root name", "own_column root name")]),
+    ("a name of both tables is the root's", "specs/Columns", [
+        ("if is_name_of column.qualifier column.name child then None else own_column root column",
+         "own_column root column")]),
     ("NOT is lost", "specs/Leaves", [
         ("then_made cond_of.Not (part.1 leaves)", "part.1 leaves")]),
     ("EXISTS may list COUNT(*)", "specs/Queries", [
@@ -141,8 +145,8 @@ TURNS = [
     ("a check by groups reads the whole table", "specs/Checks", [
         ("(Of v) = InColumn table group v ∷ []", "(Of v) = WholeTable table ∷ []")]),
     ("a single condition reads a row of each group too", "specs/Checks", [
-        ("keys_for (Single condition queries) (Of v) = []",
-         "keys_for (Single condition queries) (Of v) = map WholeTable (map (λ q. q.table) queries)")]),
+        ("keys_for layouts state (Single condition queries) (Of v) = []",
+         "keys_for layouts state (Single condition queries) (Of v) = map WholeTable (map (λ q. q.table) queries)")]),
 ]
 
 

@@ -1,13 +1,37 @@
--- A house with rooms. A slot is one room at one time, written as one number: room 12 at 9 o'clock is 1209.
-CREATE TABLE BOOKING (
-    ID    INTEGER PRIMARY KEY,
-    SLOT  INTEGER NOT NULL,
-    GUEST VARCHAR(20)
+-- A house with rooms, and stays in them from a day to a day: the guests of the first stay leave on the day on which
+-- those of the next one come.
+CREATE TABLE ROOMS (
+    ID   INTEGER PRIMARY KEY,
+    BEDS INTEGER NOT NULL
+);
+CREATE TABLE STAYS (
+    ID       INTEGER PRIMARY KEY,
+    ROOM     INTEGER NOT NULL,
+    FROM_DAY INTEGER NOT NULL,
+    TO_DAY   INTEGER NOT NULL,
+    GUESTS   INTEGER NOT NULL
 );
 
--- No room twice: each slot is booked once at most.
+-- No room twice: no two stays in one room have a night in common.
 CREATE ASSERTION NOTWICE CHECK (NOT EXISTS (
-    SELECT SLOT FROM BOOKING GROUP BY SLOT HAVING COUNT(*) > 1
+    SELECT * FROM STAYS A WHERE EXISTS (
+        SELECT * FROM STAYS B
+        WHERE B.ROOM = A.ROOM AND B.ID <> A.ID AND B.FROM_DAY < A.TO_DAY AND A.FROM_DAY < B.TO_DAY
+    )
 ));
+-- No more guests than the room has beds.
+CREATE ASSERTION BEDS CHECK (NOT EXISTS (
+    SELECT * FROM STAYS S WHERE EXISTS (
+        SELECT * FROM ROOMS R WHERE R.ID = S.ROOM AND R.BEDS < S.GUESTS
+    )
+));
+-- The room is there.
+CREATE ASSERTION THEREIS CHECK (NOT EXISTS (
+    SELECT * FROM STAYS S WHERE NOT EXISTS (SELECT * FROM ROOMS R WHERE R.ID = S.ROOM)
+));
+-- A stay has a night.
+CREATE ASSERTION ANIGHT CHECK (NOT EXISTS (SELECT * FROM STAYS WHERE TO_DAY <= FROM_DAY));
 
-INSERT INTO BOOKING VALUES (1, 1209, 'KIM');
+INSERT INTO ROOMS VALUES (12, 2);
+INSERT INTO ROOMS VALUES (13, 3);
+INSERT INTO STAYS VALUES (1, 12, 3, 5, 2);

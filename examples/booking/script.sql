@@ -1,20 +1,25 @@
--- Ann and Bob find the same room free, each in tables of their own.
+-- Ann and Bob find room 12 free from day 5 on, each in tables of their own.
 ANN: BEGIN;
 BOB: BEGIN;
-ANN: SELECT GUEST FROM BOOKING WHERE SLOT = 1210;
-BOB: SELECT GUEST FROM BOOKING WHERE SLOT = 1210;
-ANN: INSERT INTO BOOKING VALUES (2, 1209, 'ANN');       -- Kim is in that room: refused at once
-ANN: INSERT INTO BOOKING VALUES (2, 1210, 'ANN');
-BOB: INSERT INTO BOOKING VALUES (3, 1210, 'BOB');       -- he doesn't see Ann's row, so no rule is broken yet
+ANN: SELECT FROM_DAY, TO_DAY FROM STAYS WHERE ROOM = 12;
+BOB: SELECT FROM_DAY, TO_DAY FROM STAYS WHERE ROOM = 12;
+ANN: INSERT INTO STAYS VALUES (2, 12, 4, 7, 1);   -- the night from 4 to 5 is taken: refused at once
+ANN: INSERT INTO STAYS VALUES (2, 12, 5, 7, 3);   -- two beds, three guests
+ANN: INSERT INTO STAYS VALUES (2, 14, 5, 7, 1);   -- there is no such room
+ANN: INSERT INTO STAYS VALUES (2, 12, 5, 7, 1);
+BOB: INSERT INTO STAYS VALUES (3, 12, 6, 8, 2);   -- he doesn't see Ann's row, so no rule is broken yet
 BOB: VERDICT NOTWICE;
 ANN: COMMIT;
-BOB: COMMIT;                                            -- both would be one booking too many
+BOB: COMMIT;                                      -- both would be one stay too many
 
--- Bob looks again and takes the next hour, while Cleo books another room.
+-- Bob looks again and takes the other room, while Cleo takes a bed out of it.
 BOB: BEGIN;
 CLEO: BEGIN;
-BOB: SELECT GUEST FROM BOOKING WHERE SLOT = 1210;
-BOB: INSERT INTO BOOKING VALUES (3, 1211, 'BOB');
-CLEO: INSERT INTO BOOKING VALUES (4, 1311, 'CLEO');
+BOB: SELECT FROM_DAY, TO_DAY FROM STAYS WHERE ROOM = 12;
+BOB: INSERT INTO STAYS VALUES (3, 13, 6, 8, 3);
+CLEO: UPDATE ROOMS SET BEDS = 2 WHERE ID = 13;    -- nobody is in it, as far as she sees
 CLEO: COMMIT;
+BOB: COMMIT;                                      -- three guests, and two beds
+BOB: BEGIN;
+BOB: INSERT INTO STAYS VALUES (3, 13, 6, 8, 2);
 BOB: COMMIT;

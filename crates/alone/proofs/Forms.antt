@@ -48,9 +48,9 @@ module _ (layouts : List Layout) (one other : State) (f : IsOrdered layouts one)
   linked_under : (q : Query Link) (row : RowValues) (key : LockKey)
       → ((linked : RowValues) → value_in q.grouping.outer row ≡ value_in q.grouping.inner linked → is_under key (record { table = q.table; key = value_in (key_of q.table layouts) linked }) linked ≡ true)
       → Same key → linked_answer one row q ≡ linked_answer other row q
-  linked_under q row key under h = ap (aggregate q.aggregate) (filtered_same layouts one other f g q.table key (λ linked. links q.grouping row linked && keeps linked [] q.filter)
+  linked_under q row key under h = ap (aggregate q.aggregate) (filtered_same layouts one other f g q.table key (λ linked. links q.grouping row linked && keeps linked row q.filter)
       (λ linked on.
-      let joined : links q.grouping row linked ≡ true = (and_parts (links q.grouping row linked) (keeps linked [] q.filter) on).0 in
+      let joined : links q.grouping row linked ≡ true = (and_parts (links q.grouping row linked) (keeps linked row q.filter) on).0 in
       let parts = and_parts (is_there (value_in q.grouping.inner linked)) (same_value (value_in q.grouping.outer row) (value_in q.grouping.inner linked)) (sym (links-there q.grouping row linked) ∙ joined) in
       under linked (same_value-true (value_in q.grouping.outer row) (value_in q.grouping.inner linked) parts.1)) h)
 
@@ -58,7 +58,7 @@ module _ (layouts : List Layout) (one other : State) (f : IsOrdered layouts one)
   none_linked : (q : Query Link) (row : RowValues) → is_there (value_in q.grouping.outer row) ≡ false → linked_answer one row q ≡ linked_answer other row q
   none_linked q row e = ap (aggregate q.aggregate) (go (value_in q.grouping.outer row) e (rows_of q.table one) ∙ sym (go (value_in q.grouping.outer row) e (rows_of q.table other)))
     where
-      go : (v : Value) → is_there v ≡ false → (rows : List RowValues) → filter (λ linked. is_of (compared Equal v (value_in q.grouping.inner linked)) True && keeps linked [] q.filter) rows ≡ []
+      go : (v : Value) → is_there v ≡ false → (rows : List RowValues) → filter (λ linked. is_of (compared Equal v (value_in q.grouping.inner linked)) True && keeps linked row q.filter) rows ≡ []
       go Null e rows = none_filtered rows
       go (Int n) e rows = cc
       go (Text t) e rows = cc
@@ -155,7 +155,7 @@ module _ (layouts : List Layout) (one other : State) (f : IsOrdered layouts one)
   linked_whole row [] h = refl
   linked_whole row (q ∷ rest) h =
       let e : linked_answer one row q ≡ linked_answer other row q =
-      ap (λ rows. aggregate q.aggregate (filter (λ linked. links q.grouping row linked && keeps linked [] q.filter) rows)) (table_same layouts one other f g q.table (h q (in_head q rest))) in
+      ap (λ rows. aggregate q.aggregate (filter (λ linked. links q.grouping row linked && keeps linked row q.filter) rows)) (table_same layouts one other f g q.table (h q (in_head q rest))) in
       let es : map (linked_answer one row) rest ≡ map (linked_answer other row) rest = linked_whole row rest (λ r m. h r (in_tail q rest r m)) in
       λ i. e i ∷ es i
 

@@ -9,7 +9,7 @@ use Rattle.assertion.specs.declared.queries.Link.{Link}
 use Rattle.assertion.specs.declared.forms.Form.{Form}
 use Rattle.assertion.specs.declared.forms.Form.TheVariants.{ByRow, ByGroup, Single}
 use Rattle.assertcheck.specs.declared.data_types.DataType.{DataType}
-use Rattle.assertcheck.specs.Types.{column_type, are_comparable, aggregate_type, is_typed_condition}
+use Rattle.assertcheck.specs.Types.{type_of, column_type, are_comparable, aggregate_type, is_typed_condition}
 
 -- the columns of a table, if there is one
 abbrev pub columns_in : Option Layout → List Column
@@ -24,20 +24,28 @@ columns_of layouts table = columns_in (slice_get layouts table)
 abbrev pub group_columns : List Column → ℕ → List Column
 group_columns columns group = option_to_list (slice_get columns group)
 
--- what a subquery gives, if its WHERE is typed
-abbrev pub query_type : {G : Type 0} → List Layout → Query G → Option DataType
-query_type layouts q =
-    if is_typed_condition (columns_of layouts q.table) [] q.filter
+-- the types of what a row holds
+abbrev pub types_of : List Column → List DataType
+types_of columns = map (λ c. type_of c.kind) columns
+
+-- what a subquery gives, if its WHERE is typed over slots of these types
+abbrev pub query_type : {G : Type 0} → List Layout → List DataType → Query G → Option DataType
+query_type layouts slots q =
+    if is_typed_condition (columns_of layouts q.table) slots q.filter
     then aggregate_type (columns_of layouts q.table) q.aggregate
     else None
 
--- what a subquery of a row with these columns gives, if its link compares columns of one type
-abbrev pub linked_type : List Layout → List Column → Query Link → Option DataType
-linked_type layouts columns q =
+-- what a subquery of a row with these columns gives, if its link compares columns of one type; what the row holds
+-- stands in the slots of its WHERE
+abbrev pub linked_type_over : List Layout → List Column → List DataType → Query Link → Option DataType
+linked_type_over layouts columns types q =
     if are_comparable (column_type columns q.grouping.outer)
     (column_type (columns_of layouts q.table) q.grouping.inner)
-    then query_type layouts q
+    then query_type layouts types q
     else None
+
+abbrev pub linked_type : List Layout → List Column → Query Link → Option DataType
+linked_type layouts columns q = linked_type_over layouts columns (types_of columns) q
 
 -- the types of a list, if each is there
 abbrev pub all_types : List (Option DataType) → Option (List DataType)
@@ -60,4 +68,4 @@ is_typed_form layouts (ByGroup table restriction group having aggregates) =
     && is_typed_over (group_columns (columns_of layouts table) group)
     (all_types (map (aggregate_type (columns_of layouts table)) aggregates)) having
 is_typed_form layouts (Single condition queries) =
-    is_typed_over [] (all_types (map (query_type layouts) queries)) condition
+    is_typed_over [] (all_types (map (query_type layouts []) queries)) condition

@@ -1,10 +1,10 @@
 //! Which forms of assertions are typed.
 
-ghost use Rattle.std.specs.Prelude.{◌≡◌, map, IfOk, IsOkUnless};
+ghost use Rattle.std.specs.Prelude.{◌≡◌, [], map, IfOk, IsOkUnless};
 ghost use Rattle.value.specs.declared.refusals.Refusal.TheVariants.{NoMemory};
 ghost use Rattle.table.specs.Rows.{layouts_of};
 ghost use Rattle.assertcheck.specs.Types.{aggregate_type as aggregate_type_of};
-ghost use Rattle.assertcheck.specs.Forms.{all_types, columns_of as columns_of_layouts, group_columns as group_columns_of, is_typed_form, is_typed_over as is_typed_over_types, linked_type, query_type as query_type_of};
+ghost use Rattle.assertcheck.specs.Forms.{all_types, columns_of as columns_of_layouts, group_columns as group_columns_of, is_typed_form, is_typed_over as is_typed_over_types, linked_type_over, query_type as query_type_of, types_of};
 
 use crate::data_types::{DataType, aggregate_type, are_comparable, column_type};
 use crate::typed_trees::is_well_typed;
@@ -32,7 +32,12 @@ pub fn form_is_typed(alloc: Global, catalog: &Catalog, form: &Form) -> Result<bo
             queries,
         } => {
             let columns = columns_of(catalog, *table);
-            let of = LinkedQueries { catalog, columns };
+            let types = row_types(alloc, columns)?;
+            let of = LinkedQueries {
+                catalog,
+                columns,
+                types: types.as_slice(),
+            };
             let slots = slot_types(alloc, &of, queries.as_slice())?;
             Ok(is_typed_over(condition, columns, &slots))
         }
@@ -120,24 +125,37 @@ fn slot_types<T: SlotTypes>(
     Ok(Some(Items::from_vec(types)))
 }
 
-/// The subqueries of a row with these columns.
+/// The types of what a row with these columns holds.
+fn row_types(alloc: Global, columns: &[Column]) -> Result<Items<DataType>, Refusal>
+    ensures only_memory { IsOkUnless result NoMemory }
+    ensures types { IfOk result (λ types. types ≡ types_of columns.now) }
+{
+    let mut types = Vec::new(alloc);
+    for column in columns {
+        types.push(DataType::from(column.kind))?;
+    }
+    Ok(Items::from_vec(types))
+}
+
+/// The subqueries of a row with these columns, and of these types.
 #[derive(Clone, Copy)]
 struct LinkedQueries<'a> {
     catalog: &'a Catalog,
     columns: &'a [Column],
+    types: &'a [DataType],
 }
 
 impl<'a> SlotTypes for LinkedQueries<'a> {
     type Slot = Query<Link>;
 
-    ghost slot_type = { λ s. linked_type (layouts_of s.catalog.now) s.columns.now };
+    ghost slot_type = { λ s. linked_type_over (layouts_of s.catalog.now) s.columns.now s.types.now };
 
     fn slot_type(&self, query: &Query<Link>) -> Option<DataType> {
         let columns = columns_of(self.catalog, query.table);
         let inner = column_type(columns, query.grouping.inner);
         let outer = column_type(self.columns, query.grouping.outer);
         if are_comparable(outer, inner) {
-            query_type(self.catalog, query)
+            query_type(self.catalog, self.types, query)
         } else {
             None
         }
@@ -153,10 +171,10 @@ struct WholeQueries<'a> {
 impl<'a> SlotTypes for WholeQueries<'a> {
     type Slot = Query<Whole>;
 
-    ghost slot_type = { λ s. query_type_of (layouts_of s.catalog.now) };
+    ghost slot_type = { λ s. query_type_of (layouts_of s.catalog.now) [] };
 
     fn slot_type(&self, query: &Query<Whole>) -> Option<DataType> {
-        query_type(self.catalog, query)
+        query_type(self.catalog, &[], query)
     }
 }
 
@@ -176,12 +194,12 @@ impl<'a> SlotTypes for Aggregates<'a> {
     }
 }
 
-/// The type of what a subquery gives, if its WHERE is typed.
-fn query_type<G>(catalog: &Catalog, query: &Query<G>) -> Option<DataType>
-    ensures { result ≡ query_type_of (layouts_of catalog.now) query.now }
+/// The type of what a subquery gives, if its WHERE is typed over slots of these types.
+fn query_type<G>(catalog: &Catalog, slots: &[DataType], query: &Query<G>) -> Option<DataType>
+    ensures { result ≡ query_type_of (layouts_of catalog.now) slots.now query.now }
 {
     let columns = columns_of(catalog, query.table);
-    if is_well_typed(&query.filter, columns, &[]) {
+    if is_well_typed(&query.filter, columns, slots) {
         aggregate_type(columns, query.aggregate)
     } else {
         None

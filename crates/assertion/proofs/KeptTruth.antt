@@ -45,7 +45,7 @@ is_of-known : (b : Bool) → is_of (known b) True ≡ b
 is_of-known true = refl
 is_of-known false = refl
 
-equals-there : (key w : Value) → is_of (compared Equal key w) True ≡ is_there w && eq_by_cmp value_cmp key w
+pub equals-there : (key w : Value) → is_of (compared Equal key w) True ≡ is_there w && eq_by_cmp value_cmp key w
 equals-there Null Null = refl
 equals-there Null (Int n) = refl
 equals-there Null (Text t) = refl
@@ -102,14 +102,14 @@ module _ (key : ℕ) (link : Link) (v : Value) (rows : List RowValues) (asc : or
         in case (link.outer == key) refl (ap (is_linked w) (sym stands) ∙ sym (linked-has w) ∙ h)
 
     -- where no linked column of some rows holds the value of the root's row, the subquery's filter drops each of them
-    pub not_linked : (restriction : Cond) (touched : List RowValues) → has root_cmp (Of v) (flat_map (linked_roots key link rows) (linked_values link touched)) ≡ false → DropsAll (λ linked. links link row linked && keeps linked [] restriction) touched
+    pub not_linked : (restriction : Cond) (touched : List RowValues) → has root_cmp (Of v) (flat_map (linked_roots key link rows) (linked_values link touched)) ≡ false → DropsAll (λ linked. links link row linked && keeps linked row restriction) touched
     not_linked restriction [] h = tt
     not_linked restriction (linked ∷ more) h =
         let w : Value = value_in link.inner linked in
         let rest : List Value = linked_values link more in
-        let unlinked : is_there w && eq_by_cmp value_cmp (value_in link.outer row) w ≡ false → links link row linked && keeps linked [] restriction ≡ false = λ e. ap (λ b. b && keeps linked [] restriction) (links-there link row linked ∙ e) in
-        let case : (b : Bool) → is_there w ≡ b → has root_cmp (Of v) (flat_map (linked_roots key link rows) (cond b (w ∷ rest) rest)) ≡ false → DropsAll (λ linked. links link row linked && keeps linked [] restriction) (linked ∷ more)
-        = λ b. elim b as (λ b. is_there w ≡ b → has root_cmp (Of v) (flat_map (linked_roots key link rows) (cond b (w ∷ rest) rest)) ≡ false → DropsAll (λ linked. links link row linked && keeps linked [] restriction) (linked ∷ more)) [
+        let unlinked : is_there w && eq_by_cmp value_cmp (value_in link.outer row) w ≡ false → links link row linked && keeps linked row restriction ≡ false = λ e. ap (λ b. b && keeps linked row restriction) (links-there link row linked ∙ e) in
+        let case : (b : Bool) → is_there w ≡ b → has root_cmp (Of v) (flat_map (linked_roots key link rows) (cond b (w ∷ rest) rest)) ≡ false → DropsAll (λ linked. links link row linked && keeps linked row restriction) (linked ∷ more)
+        = λ b. elim b as (λ b. is_there w ≡ b → has root_cmp (Of v) (flat_map (linked_roots key link rows) (cond b (w ∷ rest) rest)) ≡ false → DropsAll (λ linked. links link row linked && keeps linked row restriction) (linked ∷ more)) [
           | true ↦ λ e h.
               let parts : (has root_cmp (Of v) (linked_roots key link rows w) ≡ false) × (has root_cmp (Of v) (flat_map (linked_roots key link rows) rest) ≡ false)
               = has-neither root_cmp (Of v) (linked_roots key link rows w) (flat_map (linked_roots key link rows) rest) h in
@@ -172,7 +172,7 @@ module _ (layouts : List Layout) (change : Change) (state : State) where
 
     linked-same : IsChangeOf layouts change state → (q : Query Link) → has root_cmp (Of v) (query_candidates (key_of table layouts) stored change q) ≡ false → linked_answer (state_after layouts change state) row q ≡ linked_answer state row q
     linked-same is q h =
-        ap (aggregate q.aggregate) (filtered-same is q.table (λ linked. links q.grouping row linked && keeps linked [] q.filter)
+        ap (aggregate q.aggregate) (filtered-same is q.table (λ linked. links q.grouping row linked && keeps linked row q.filter)
         (λ e. not_linked (key_of table layouts) q.grouping v stored (asc table) row stands q.filter (touched change)
         (under (Of v) (q.table == change.table) (flat_map (linked_roots (key_of table layouts) q.grouping stored) (linked_values q.grouping (touched change))) h e)))
 

@@ -36,11 +36,12 @@ key_of table layouts = (slice_index_or layouts table (record { columns = []; key
 abbrev pub links : Link → RowValues → RowValues → Bool
 links link row linked = is_of (compared Equal (value_in link.outer row) (value_in link.inner linked)) True
 
--- what a subquery gives for a row: SELECT aggregate FROM d WHERE outer = inner AND filter
+-- what a subquery gives for a row: SELECT aggregate FROM d WHERE outer = inner AND filter; what the row around has in
+-- its columns stands in the slots of the filter
 abbrev pub linked_answer : State → RowValues → Query Link → Value
 linked_answer state row q =
     aggregate q.aggregate
-    (filter (λ linked. links q.grouping row linked && keeps linked [] q.filter) (rows_of q.table state))
+    (filter (λ linked. links q.grouping row linked && keeps linked row q.filter) (rows_of q.table state))
 
 -- what a subquery of its own gives: SELECT aggregate FROM t WHERE filter
 abbrev pub plain_answer : State → Query Whole → Value

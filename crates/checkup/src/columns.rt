@@ -3,6 +3,14 @@
 use std::alloc::AllocError;
 use table::{Cond, Expr};
 
+/// Which columns of a condition are asked for: those of its own row, or those of the row around it, which stand in its
+/// slots.
+#[derive(Clone, Copy)]
+pub enum Looked {
+    Own,
+    Around,
+}
+
 /// Puts a column among others, in their order, if it is not there.
 pub fn add_column(columns: &mut Vec<usize>, column: usize) -> Result<(), AllocError> {
     let mut at = 0usize;
@@ -21,18 +29,22 @@ pub fn add_column(columns: &mut Vec<usize>, column: usize) -> Result<(), AllocEr
 }
 
 /// Puts the columns of a condition among others.
-pub fn add_condition(columns: &mut Vec<usize>, condition: &Cond) -> Result<(), AllocError> {
+pub fn add_condition(
+    columns: &mut Vec<usize>,
+    condition: &Cond,
+    looked: Looked,
+) -> Result<(), AllocError> {
     match condition {
         Cond::Compare(_, left, right) => {
-            add_expression(columns, left)?;
-            add_expression(columns, right)
+            add_expression(columns, left, looked)?;
+            add_expression(columns, right, looked)
         }
-        Cond::IsNull(part) => add_expression(columns, part),
+        Cond::IsNull(part) => add_expression(columns, part, looked),
         Cond::Exists(_) => Ok(()),
-        Cond::Is(part, _) | Cond::Not(part) => add_condition(columns, part.get()),
+        Cond::Is(part, _) | Cond::Not(part) => add_condition(columns, part.get(), looked),
         Cond::And(parts) | Cond::Or(parts) => {
             for part in parts.as_slice() {
-                add_condition(columns, part)?;
+                add_condition(columns, part, looked)?;
             }
             Ok(())
         }
@@ -40,14 +52,20 @@ pub fn add_condition(columns: &mut Vec<usize>, condition: &Cond) -> Result<(), A
 }
 
 /// Puts the columns of an expression among others.
-fn add_expression(columns: &mut Vec<usize>, expression: &Expr) -> Result<(), AllocError> {
-    match expression {
-        Expr::Literal(_) | Expr::Slot(_) => Ok(()),
-        Expr::Column(column) => add_column(columns, *column),
-        Expr::Negation(part) => add_expression(columns, part.get()),
-        Expr::Sum(parts) | Expr::Product(parts) => {
+fn add_expression(
+    columns: &mut Vec<usize>,
+    expression: &Expr,
+    looked: Looked,
+) -> Result<(), AllocError> {
+    match (expression, looked) {
+        (Expr::Column(column), Looked::Own) | (Expr::Slot(column), Looked::Around) => {
+            add_column(columns, *column)
+        }
+        (Expr::Literal(_) | Expr::Column(_) | Expr::Slot(_), _) => Ok(()),
+        (Expr::Negation(part), _) => add_expression(columns, part.get(), looked),
+        (Expr::Sum(parts) | Expr::Product(parts), _) => {
             for part in parts.as_slice() {
-                add_expression(columns, part)?;
+                add_expression(columns, part, looked)?;
             }
             Ok(())
         }

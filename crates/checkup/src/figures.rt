@@ -4,10 +4,11 @@
 //! All of it is taken from the resolved form (`assertion::Form`) and from the rows of a view. A form has a total for
 //! each query or set function in its condition (`roots`), and one of COUNT(*) where a HAVING has none.
 
-use crate::columns::{add_column, add_condition};
+use crate::columns::{Looked, add_column, add_condition};
 use assertion::{Form, Link, Query, Whole};
 use changes::selected_rows;
 use delta::View;
+use sqlite_items::Items;
 use std::alloc::{AllocError, Global};
 use table::{Aggregate, Cond, Row, is_bounded};
 use value::Value;
@@ -57,6 +58,10 @@ pub struct Kept {
     pub grouping: Grouping,
     /// The columns that its WHERE looks at.
     pub filter: Vec<usize>,
+    /// Those of the row around that it looks at. Where there is one, nothing is maintained: the set function is made of
+    /// the linked rows for each row around.
+    pub beside: Vec<usize>,
+    /// Where nothing is maintained, of all rows that are linked.
     pub counts: Counts,
 }
 
@@ -118,18 +123,42 @@ fn by_row(
     let key = view.key_column(table);
     let mut columns = Vec::new(alloc);
     add_column(&mut columns, key)?;
-    add_condition(&mut columns, condition)?;
+    add_condition(&mut columns, condition, Looked::Own)?;
+    for query in queries {
+        add_condition(&mut columns, &query.filter, Looked::Around)?;
+    }
     put_reading(&mut figures.readings, table, Some(key), columns)?;
+    let all = Cond::And(Items::new(alloc));
     for query in queries {
         let rows = Selection {
             table: query.table,
-            filter: &query.filter,
+            filter: if query.filter.has_slots() {
+                &all
+            } else {
+                &query.filter
+            },
             grouping: Grouping::Linked(query.grouping),
         };
-        let kept = kept_of(alloc, view, rows, query.aggregate)?;
+        let counts = count(alloc, view, rows)?;
+        let kept = linked_of(alloc, query, counts)?;
         put_kept(alloc, &mut figures, kept)?;
     }
     Ok(figures)
+}
+
+/// What a linked query looks at, over so many rows.
+fn linked_of(alloc: Global, query: &Query<Link>, counts: Counts) -> Result<Kept, AllocError> {
+    let (mut filter, mut beside) = (Vec::new(alloc), Vec::new(alloc));
+    add_condition(&mut filter, &query.filter, Looked::Own)?;
+    add_condition(&mut beside, &query.filter, Looked::Around)?;
+    Ok(Kept {
+        function: query.aggregate,
+        table: query.table,
+        grouping: Grouping::Linked(query.grouping),
+        filter,
+        beside,
+        counts,
+    })
 }
 
 fn by_group(
@@ -235,12 +264,13 @@ fn kept_of(
     function: Aggregate,
 ) -> Result<Kept, AllocError> {
     let mut filter = Vec::new(alloc);
-    add_condition(&mut filter, rows.filter)?;
+    add_condition(&mut filter, rows.filter, Looked::Own)?;
     Ok(Kept {
         function,
         table: rows.table,
         grouping: rows.grouping,
         filter,
+        beside: Vec::new(alloc),
         counts: count(alloc, view, rows)?,
     })
 }

@@ -140,7 +140,7 @@ fn asserted(
     let deferrable = assertion.attributes.deferrable;
     let deferred = assertion.attributes.initially_deferred;
     let (verdict, root) = truth(alloc, view, place)?;
-    let kept = Value::Array(all_kept(alloc, view, &figures)?);
+    let kept = Value::Array(all_kept(alloc, view, &assertion.form, &figures)?);
     let reads = Value::Array(all_readings(alloc, view, &figures)?);
     let rows = figures.counts.rows;
     let groups = figures.counts.groups;
@@ -174,21 +174,31 @@ fn root_text(alloc: Global, root: &Root) -> Result<Value, AllocError> {
     Ok(Value::String(format!(in alloc; "{root}")?))
 }
 
-fn all_kept(alloc: Global, view: &View, figures: &Figures) -> Result<Vec<Value>, AllocError> {
+fn all_kept(
+    alloc: Global,
+    view: &View,
+    form: &Form,
+    figures: &Figures,
+) -> Result<Vec<Value>, AllocError> {
     let mut made = Vec::new(alloc);
     for kept in &figures.kept {
-        made.push(one_kept(alloc, view, kept)?)?;
+        made.push(one_kept(alloc, view, form, kept)?)?;
     }
     Ok(made)
 }
 
-fn one_kept(alloc: Global, view: &View, kept: &Kept) -> Result<Value, AllocError> {
+fn one_kept(alloc: Global, view: &View, form: &Form, kept: &Kept) -> Result<Value, AllocError> {
     let catalog = view.catalog();
     let function = function_name(alloc, catalog, kept.table, kept.function)?;
     let table = table_name(alloc, catalog, kept.table)?;
     let by = column_or_null(alloc, view, kept.table, kept.grouping.column())?;
     let names = column_names(alloc, catalog, kept.table, &kept.filter)?;
     let filter = Value::Array(texts(alloc, &names)?);
+    let beside = match form {
+        Form::ByRow { table, .. } => column_names(alloc, catalog, *table, &kept.beside)?,
+        Form::ByGroup { .. } | Form::Single { .. } => Vec::new(alloc),
+    };
+    let beside = Value::Array(texts(alloc, &beside)?);
     let rows = kept.counts.rows;
     let groups = kept.counts.groups;
     let (function, table) = (function.as_str(), table.as_str());
@@ -197,6 +207,7 @@ fn one_kept(alloc: Global, view: &View, kept: &Kept) -> Result<Value, AllocError
         "table": table,
         "by": by,
         "where": filter,
+        "beside": beside,
         "rows": rows,
         "groups": groups
     })

@@ -212,7 +212,12 @@ fn show_kept(
     let table = table_name(alloc, catalog, kept.table)?;
     let function = function.as_str();
     let table = table.as_str();
-    write!(shown, "  kept     {function} of {table}")?;
+    let word = if kept.beside.is_empty() {
+        "kept"
+    } else {
+        "each"
+    };
+    write!(shown, "  {word}     {function} of {table}")?;
     if let Some(column) = kept.grouping.column() {
         let by = column_name(alloc, catalog, kept.table, column)?;
         let by = by.as_str();
@@ -229,6 +234,12 @@ fn show_kept(
         let names = names.join(alloc, ", ")?;
         let names = names.as_str();
         write!(shown, ", WHERE on {names}")?;
+    }
+    if let (false, Form::ByRow { table, .. }) = (kept.beside.is_empty(), form) {
+        let names = column_names(alloc, catalog, *table, &kept.beside)?;
+        let names = names.join(alloc, ", ")?;
+        let names = names.as_str();
+        write!(shown, ", beside {names}")?;
     }
     let (rows, groups) = (kept.counts.rows, kept.counts.groups);
     writeln!(shown, ": rows {rows}, groups {groups}")

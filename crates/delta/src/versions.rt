@@ -120,7 +120,7 @@ pub fn index_tables(
     Ok(made)
 }
 
-/// Indexes the rows of a form's table by each column that links a subquery to them.
+/// Indexes the rows of a form's table by each column that links a subquery to them, and those of joint subqueries.
 fn index_form(tables: &mut [Rows], schemas: &[Schema], form: &Form) -> Result<(), Refusal>
     ensures only_memory { IsOkUnless result NoMemory }
     ensures same { tables.new ≡ tables.old }
@@ -130,6 +130,23 @@ fn index_form(tables: &mut [Rows], schemas: &[Schema], form: &Form) -> Result<()
             let key = key_column(schemas, *table);
             index_links(&mut tables[*table], key, queries.as_slice())?;
         }
+        for query in queries.as_slice() {
+            index_joint(tables, schemas, query)?;
+        }
+    }
+    Ok(())
+}
+
+/// Indexes the rows of a subquery's table by the column of its link, other than their key, where its filter asks what
+/// the row around holds: they are looked at for each such row.
+fn index_joint(tables: &mut [Rows], schemas: &[Schema], query: &Query<Link>) -> Result<(), Refusal>
+    ensures only_memory { IsOkUnless result NoMemory }
+    ensures same { tables.new ≡ tables.old }
+{
+    let (table, column) = (query.table, query.grouping.inner);
+    let key = key_column(schemas, table);
+    if table < tables.len() && column != key && query.filter.has_slots() {
+        tables[table] = tables[table].indexed(key, column)?;
     }
     Ok(())
 }

@@ -39,7 +39,7 @@ impl Watch {
     {
         let totals = totals_of(alloc, form, tables)?;
         let bad = bad_of(alloc, schemas, tables, form, &totals)?;
-        let truth = truth_of(alloc, form, &totals, &bad)?;
+        let truth = truth_of(alloc, schemas, tables, form, &totals, &bad)?;
         Ok(Watch { truth, totals, bad })
     }
 
@@ -59,7 +59,7 @@ impl Watch {
     {
         let totals = totals_after(alloc, form, &self.totals, change)?;
         let bad = bad_after(alloc, schemas, tables, form, &totals, &self.bad, change)?;
-        let truth = truth_of(alloc, form, &totals, &bad)?;
+        let truth = truth_of(alloc, schemas, tables, form, &totals, &bad)?;
         Ok(Watch { totals, bad, truth })
     }
 }

@@ -23,10 +23,6 @@ pub enum Rule {
     ColumnInHaving,
     /// A subquery has no WHERE, or no part of it is a link.
     NoLink,
-    /// A subquery has two links.
-    TwoLinks,
-    /// A part of a subquery's WHERE besides the link looks at the row around it.
-    OuterColumn,
     /// A subquery has a GROUP BY or a HAVING.
     GroupInSubquery,
     /// A query that stands for a value lists no set function.
@@ -50,8 +46,6 @@ pub fn wrong(rule: Rule) -> &'static str {
         Rule::QueryInHaving => "no query may stand in a HAVING",
         Rule::ColumnInHaving => "this column is not the one of GROUP BY",
         Rule::NoLink => "this query is not linked to the row around it",
-        Rule::TwoLinks => "this is a second link",
-        Rule::OuterColumn => "this looks at the row around the query",
         Rule::GroupInSubquery => "this query may have neither GROUP BY nor HAVING",
         Rule::ValueOfRow => "a query that stands for a value lists one set function",
         Rule::ExistsAlone => "EXISTS stands in a rule as NOT EXISTS (..), with nothing beside it",
@@ -79,8 +73,6 @@ fn form_of(rule: Rule) -> &'static str {
         Rule::QueryInHaving => QUERY_IN_HAVING,
         Rule::ColumnInHaving => COLUMN_IN_HAVING,
         Rule::NoLink => LINK,
-        Rule::TwoLinks => TWO_LINKS,
-        Rule::OuterColumn => OUTER_COLUMN,
         Rule::GroupInSubquery => GROUP_IN_SUBQUERY,
         Rule::ValueOfRow => VALUE_OF_ROW,
         Rule::ExistsAlone => EXISTS_ALONE,
@@ -114,12 +106,6 @@ const COLUMN_IN_HAVING: &str = "Of the other columns a group has many values: ta
      MAX(..), SUM(..) or COUNT(..) of it, or put the test into WHERE.";
 
 const LINK: &str = "A link is a part D.X = R.Y of its WHERE.";
-
-const TWO_LINKS: &str = "A query in a rule is linked once, by one equality with a column of the \
-     row around it. Its other parts look at its own rows.";
-
-const OUTER_COLUMN: &str = "Besides its one link a query looks at its own rows. Compare what it \
-     gives outside: (SELECT MAX(D.X) FROM D WHERE D.COLUMN = R.KEY) > R.Y.";
 
 const GROUP_IN_SUBQUERY: &str =
     "The link makes the group: (SELECT COUNT(*) FROM D WHERE D.COLUMN = R.KEY) > 2.";

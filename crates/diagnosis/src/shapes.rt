@@ -314,51 +314,14 @@ fn linked<'a>(
         from: at,
         to: clauses_of(query, at).end,
     };
-    match amiss(&conjuncts, outer, whole) {
-        Some(found) => Ok(Some(found)),
-        None => outer_column(alloc, inner, &conjuncts),
+    if conjuncts.iter().any(|part| part.is_link) {
+        return Ok(None);
     }
-}
-
-/// No link, or two.
-fn amiss<'a>(conjuncts: &[Conjunct], outer: Scope<'a>, query: Range) -> Option<Outside<'a>> {
-    let mut links = conjuncts.iter().filter(|part| part.is_link);
-    if links.next().is_none() {
-        return Some(Outside {
-            rule: Rule::NoLink,
-            range: query,
-            root: Some(outer),
-        });
-    }
-    let second = links.next()?;
-    broken(Rule::TwoLinks, second.range)
-}
-
-/// The first part besides the link that looks at the row around.
-fn outer_column<'a>(
-    alloc: Global,
-    inner: Scope,
-    conjuncts: &[Conjunct],
-) -> Result<Option<Outside<'a>>, AllocError> {
-    for conjunct in conjuncts {
-        if !conjunct.is_link && looks_outside(alloc, inner, conjunct)? {
-            return Ok(broken(Rule::OuterColumn, conjunct.range));
-        }
-    }
-    Ok(None)
-}
-
-/// Whether a part has a column that is not of this table.
-fn looks_outside(alloc: Global, scope: Scope, conjunct: &Conjunct) -> Result<bool, AllocError> {
-    let parts = parts_of_condition(alloc, conjunct.condition, conjunct.range.from)?;
-    for part in &parts {
-        if let Node::Column(column) = part.node {
-            if scope.own(column).is_none() {
-                return Ok(true);
-            }
-        }
-    }
-    Ok(false)
+    Ok(Some(Outside {
+        rule: Rule::NoLink,
+        range: whole,
+        root: Some(outer),
+    }))
 }
 
 /// A condition of its own, over queries.

@@ -3,37 +3,39 @@
 use delta::View;
 use history::column_name;
 use std::alloc::AllocError;
-use table::{Cond, Expr};
+use table::{Cond, Expr, Row};
 use value::Comparison;
 
-/// Adds a condition without slots over the columns of a table. BETWEEN and IN are written as what they abbreviate.
+/// Adds a condition over the columns of a table. What the row around holds is written as the value that it has there.
+/// BETWEEN and IN are written as what they abbreviate.
 pub fn add_condition(
     condition: &Cond,
     view: &View,
     table: usize,
+    around: Option<&Row>,
     out: &mut String,
 ) -> Result<(), AllocError> {
     match condition {
         Cond::Compare(comparison, left, right) => {
-            add_expression(left, view, table, out)?;
+            add_expression(left, view, table, around, out)?;
             let sign = sign_of(*comparison);
             write!(out, " {sign} ")?;
-            add_expression(right, view, table, out)
+            add_expression(right, view, table, around, out)
         }
         Cond::IsNull(part) => {
-            add_expression(part, view, table, out)?;
+            add_expression(part, view, table, around, out)?;
             out.push_str(" IS NULL")
         }
         Cond::Exists(_) => out.push_str("EXISTS (..)"),
         Cond::Is(part, wanted) => {
             out.push_str("(")?;
-            add_condition(part.get(), view, table, out)?;
+            add_condition(part.get(), view, table, around, out)?;
             let word = wanted.name();
             write!(out, ") IS {word}")
         }
         Cond::Not(part) => {
             out.push_str("NOT (")?;
-            add_condition(part.get(), view, table, out)?;
+            add_condition(part.get(), view, table, around, out)?;
             out.push_str(")")
         }
         Cond::And(parts) | Cond::Or(parts) => {
@@ -43,7 +45,7 @@ pub fn add_condition(
                 if place > 0 {
                     out.push_str(word)?;
                 }
-                add_condition(part, view, table, out)?;
+                add_condition(part, view, table, around, out)?;
             }
             out.push_str(close)
         }
@@ -63,6 +65,7 @@ fn add_expression(
     expression: &Expr,
     view: &View,
     table: usize,
+    around: Option<&Row>,
     out: &mut String,
 ) -> Result<(), AllocError> {
     match expression {
@@ -71,10 +74,13 @@ fn add_expression(
             Some(name) => write!(out, "{name}"),
             None => Ok(()),
         },
-        Expr::Slot(_) => out.push_str("(..)"),
+        Expr::Slot(slot) => match around.and_then(|row| row.values().get(*slot)) {
+            Some(value) => write!(out, "{value}"),
+            None => out.push_str("(..)"),
+        },
         Expr::Negation(part) => {
             out.push_str("-")?;
-            add_expression(part.get(), view, table, out)
+            add_expression(part.get(), view, table, around, out)
         }
         Expr::Sum(parts) | Expr::Product(parts) => {
             let sign = sign_between(expression);
@@ -83,7 +89,7 @@ fn add_expression(
                 if place > 0 {
                     out.push_str(sign)?;
                 }
-                add_expression(part, view, table, out)?;
+                add_expression(part, view, table, around, out)?;
             }
             out.push_str(")")
         }

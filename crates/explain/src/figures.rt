@@ -138,7 +138,11 @@ fn add_scope(view: &View, form: &Form, part: Part<'_>, out: &mut String) -> Resu
         return Ok(());
     }
     out.push_str(" where ")?;
-    add_condition(part.filter, view, part.table, out)
+    let around = match part.around {
+        Some(around) => around.row(view),
+        None => None,
+    };
+    add_condition(part.filter, view, part.table, around, out)
 }
 
 /// Adds a table, and the value that its rows have in the column that links them.

@@ -1,7 +1,9 @@
 //! The set functions of an assertion, each with the rows that it is of at a root.
 
 ghost use Rattle.std.specs.Prelude.{[], All, IsTrue};
+ghost use Rattle.std.specs.Option.{option_copied};
 ghost use Rattle.table.specs.Bounds.{IsSmallRow, is_bounded};
+ghost use Rattle.value.specs.Ordered.{HoldsOf};
 
 use assertion::{Form, Link, Query};
 use delta::View;
@@ -10,7 +12,7 @@ use mvrows::Rows;
 use roots::value_at;
 use siread::is_same;
 use std::alloc::{AllocError, Global};
-use table::{Aggregate, Cond, Row, SlotValue, is_bounded, passes};
+use table::{Aggregate, Cond, Row, SlotValue, Slots, is_bounded, keeps, passes};
 use value::{Refusal, Root, Value};
 
 /// Which rows of a table go to a root.
@@ -23,6 +25,27 @@ pub enum Share<'a> {
     None,
 }
 
+/// The row around a subquery: the one under a key of a table, if there is one.
+#[derive(Clone, Copy)]
+pub struct Around<'a> {
+    table: usize,
+    key: &'a Value,
+}
+
+impl<'a> Around<'a> {
+    /// The row.
+    pub fn row(self, view: &'a View) -> Option<&'a Row>
+        ensures { HoldsOf IsSmallRow (option_copied result) }
+    {
+        if self.table < view.catalog().len() {
+            view.rows(self.table)
+                .get(view.key_column(self.table), self.key)
+        } else {
+            None
+        }
+    }
+}
+
 /// A set function of an assertion at a root: over the rows of a table that a condition keeps and that go to the root.
 #[derive(Clone, Copy)]
 pub struct Part<'a> {
@@ -30,16 +53,19 @@ pub struct Part<'a> {
     pub table: usize,
     pub filter: &'a Cond,
     pub share: Share<'a>,
+    /// The row that holds what stands in the slots of the condition.
+    pub around: Option<Around<'a>>,
 }
 
 impl<'a> Part<'a> {
     /// The set function of a subquery, over these of its rows.
-    fn of_query<G>(query: &'a Query<G>, share: Share<'a>) -> Part<'a> {
+    fn of_query<G>(query: &'a Query<G>, share: Share<'a>, around: Option<Around<'a>>) -> Part<'a> {
         Part {
             aggregate: query.aggregate,
             table: query.table,
             filter: &query.filter,
             share,
+            around,
         }
     }
 }
@@ -56,7 +82,7 @@ pub fn parts_of<'a>(
         Form::ByRow { table, queries, .. } => {
             for query in queries.as_slice() {
                 let share = linked_share(view, *table, query.grouping, root);
-                parts.push(Part::of_query(query, share))?;
+                parts.push(Part::of_query(query, share, around(*table, root)))?;
             }
         }
         Form::ByGroup {
@@ -72,16 +98,25 @@ pub fn parts_of<'a>(
                     table: *table,
                     filter,
                     share: group_share(*group, root),
+                    around: None,
                 })?;
             }
         }
         Form::Single { queries, .. } => {
             for query in queries.as_slice() {
-                parts.push(Part::of_query(query, Share::All))?;
+                parts.push(Part::of_query(query, Share::All, None))?;
             }
         }
     }
     Ok(parts)
+}
+
+/// Where the row of a root stands.
+fn around(table: usize, root: &Root) -> Option<Around<'_>> {
+    match root {
+        Root::Of(key) => Some(Around { table, key }),
+        Root::All => None,
+    }
 }
 
 /// The rows that are linked to the row of a root: by what stands there in the column of the link, or by the key itself
@@ -134,35 +169,56 @@ pub fn lists_of<'a>(
         table: *table,
         filter,
         share: group_share(*group, root),
+        around: None,
     })?;
     Ok(lists)
 }
 
 /// The rows of a table that a condition keeps and that go to the root.
-pub fn rows_at<'a>(
-    alloc: Global,
-    view: &'a View,
-    part: Part<'_>,
-) -> Result<Vec<&'a Row>, AllocError> {
-    if part.table < view.catalog().len() && is_bounded(part.filter, &[]) {
-        kept_rows(alloc, view.rows(part.table), part)
-    } else {
-        Ok(Vec::new(alloc))
+pub fn rows_at<'a>(alloc: Global, view: &'a View, part: Part<'_>) -> Result<Vec<&'a Row>, Refusal> {
+    if part.table >= view.catalog().len() || !is_bounded(part.filter, &[]) {
+        return Ok(Vec::new(alloc));
     }
+    let around = match part.around {
+        Some(around) => around.row(view),
+        None => None,
+    };
+    kept_rows(alloc, view.rows(part.table), part, around)
 }
 
-/// The same, of these rows.
-fn kept_rows<'a>(alloc: Global, rows: &'a Rows, part: Part<'_>) -> Result<Vec<&'a Row>, AllocError>
+/// The same, of these rows, with the row around.
+fn kept_rows<'a>(
+    alloc: Global,
+    rows: &'a Rows,
+    part: Part<'_>,
+    around: Option<&Row>,
+) -> Result<Vec<&'a Row>, Refusal>
     requires bounded { IsTrue (is_bounded [] part.filter.now) }
     requires small { All IsSmallRow rows.now }
+    requires around_small { HoldsOf IsSmallRow (option_copied around) }
 {
     let mut found = Vec::new(alloc);
     for row in rows.iter() {
-        if passes(alloc, part.filter, row) && is_among(row, part.share) {
+        if is_among(row, part.share) && is_kept(alloc, part.filter, row, around)? {
             found.push(row)?;
         }
     }
     Ok(found)
+}
+
+/// Whether a condition keeps a row, beside the one around it.
+fn is_kept(alloc: Global, filter: &Cond, row: &Row, around: Option<&Row>) -> Result<bool, Refusal>
+    requires bounded { IsTrue (is_bounded [] filter.now) }
+    requires small { IsSmallRow row.now }
+    requires around_small { HoldsOf IsSmallRow (option_copied around) }
+{
+    match around {
+        Some(around) => {
+            let slots = Slots::of_row(alloc, around)?;
+            Ok(keeps(filter, row, &slots))
+        }
+        None => Ok(passes(alloc, filter, row)),
+    }
 }
 
 /// Whether a row is one of those that go to a root.

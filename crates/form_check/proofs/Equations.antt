@@ -22,83 +22,83 @@ use Rattle.table.specs.declared.conds.Cond.TheViews as cond_of
 use Rattle.form_check.specs.Leaves.{Leaves, Numbered, Rows, Of, Exists, Value, placed, slot, then_made, compared, between, listed, all, numbered, numbered_expression, numbered_conditions, numbered_expressions, expression_step, condition_step, select_list_step, query_step}
 
 -- an expression by its layer
-expression_rolled : (place : ColumnName → Option ℕ) (layer : Expression-F Condition Expression SelectList Query) (leaves : Leaves)
+expression_rolled : (place : ColumnName → Option Expr) (layer : Expression-F Condition Expression SelectList Query) (leaves : Leaves)
     → numbered_expression place (roll-Expression layer) leaves ≡ expression_step place (map-Expression Condition Expression SelectList Query (Condition × Numbered Cond) (Expression × Numbered Expr) (SelectList × Unit {0}) (Query × Unit {0}) (λ c. (c, numbered place c)) (λ e. (e, numbered_expression place e)) (λ l. (l, tt)) (λ q. (q, tt)) layer) leaves
 unfolding numbered numbered_expression
 expression_rolled place layer leaves = ap (λ made. made leaves) (para-roll-Expression (Numbered Cond) (Numbered Expr) (Unit {0}) (Unit {0}) (condition_step place) (expression_step place) select_list_step query_step layer)
 
 -- a condition by its layer
-condition_rolled : (place : ColumnName → Option ℕ) (layer : Condition-F Condition Expression SelectList Query) (leaves : Leaves)
+condition_rolled : (place : ColumnName → Option Expr) (layer : Condition-F Condition Expression SelectList Query) (leaves : Leaves)
     → numbered place (roll-Condition layer) leaves ≡ condition_step place (map-Condition Condition Expression SelectList Query (Condition × Numbered Cond) (Expression × Numbered Expr) (SelectList × Unit {0}) (Query × Unit {0}) (λ c. (c, numbered place c)) (λ e. (e, numbered_expression place e)) (λ l. (l, tt)) (λ q. (q, tt)) layer) leaves
 unfolding numbered numbered_expression
 condition_rolled place layer leaves = ap (λ made. made leaves) (para-roll-Condition (Numbered Cond) (Numbered Expr) (Unit {0}) (Unit {0}) (condition_step place) (expression_step place) select_list_step query_step layer)
 
-pub expression_number : (place : ColumnName → Option ℕ) (n : ℤ) (leaves : Leaves) → numbered_expression place (e.Number n) leaves ≡ Ok (expr.Literal (value.Int n), leaves)
+pub expression_number : (place : ColumnName → Option Expr) (n : ℤ) (leaves : Leaves) → numbered_expression place (e.Number n) leaves ≡ Ok (expr.Literal (value.Int n), leaves)
 expression_number place n leaves = ap (λ x. numbered_expression place x leaves) (sym (e.rolls-Number n)) ∙ expression_rolled place (Expression-F.Number n) leaves
 
-pub expression_text : (place : ColumnName → Option ℕ) (t : List ℕ) (leaves : Leaves) → numbered_expression place (e.Text t) leaves ≡ Ok (expr.Literal (value.Text t), leaves)
+pub expression_text : (place : ColumnName → Option Expr) (t : List ℕ) (leaves : Leaves) → numbered_expression place (e.Text t) leaves ≡ Ok (expr.Literal (value.Text t), leaves)
 expression_text place t leaves = ap (λ x. numbered_expression place x leaves) (sym (e.rolls-Text t)) ∙ expression_rolled place (Expression-F.Text t) leaves
 
-pub expression_column : (place : ColumnName → Option ℕ) (column : ColumnName) (leaves : Leaves) → numbered_expression place (e.Column column) leaves ≡ placed (place column) leaves
+pub expression_column : (place : ColumnName → Option Expr) (column : ColumnName) (leaves : Leaves) → numbered_expression place (e.Column column) leaves ≡ placed (place column) leaves
 expression_column place column leaves = ap (λ x. numbered_expression place x leaves) (sym (e.rolls-Column column)) ∙ expression_rolled place (Expression-F.Column column) leaves
 
-pub expression_countrows : (place : ColumnName → Option ℕ) (leaves : Leaves) → numbered_expression place e.CountRows leaves ≡ slot Rows leaves
+pub expression_countrows : (place : ColumnName → Option Expr) (leaves : Leaves) → numbered_expression place e.CountRows leaves ≡ slot Rows leaves
 expression_countrows place leaves = ap (λ x. numbered_expression place x leaves) (sym e.rolls-CountRows) ∙ expression_rolled place Expression-F.CountRows leaves
 
-pub expression_aggregate : (place : ColumnName → Option ℕ) (function : Aggregate) (column : ColumnName) (leaves : Leaves) → numbered_expression place (e.Aggregate function column) leaves ≡ slot (Of function column) leaves
+pub expression_aggregate : (place : ColumnName → Option Expr) (function : Aggregate) (column : ColumnName) (leaves : Leaves) → numbered_expression place (e.Aggregate function column) leaves ≡ slot (Of function column) leaves
 expression_aggregate place function column leaves = ap (λ x. numbered_expression place x leaves) (sym (e.rolls-Aggregate function column)) ∙ expression_rolled place (Expression-F.Aggregate function column) leaves
 
-pub expression_subquery : (place : ColumnName → Option ℕ) (query : Query) (leaves : Leaves) → numbered_expression place (e.Subquery query) leaves ≡ slot (Value query) leaves
+pub expression_subquery : (place : ColumnName → Option Expr) (query : Query) (leaves : Leaves) → numbered_expression place (e.Subquery query) leaves ≡ slot (Value query) leaves
 expression_subquery place query leaves = ap (λ x. numbered_expression place x leaves) (sym (e.rolls-Subquery query)) ∙ expression_rolled place (Expression-F.Subquery query) leaves
 
-pub expression_negation : (place : ColumnName → Option ℕ) (part : Expression) (leaves : Leaves) → numbered_expression place (e.Negation part) leaves ≡ then_made expr_of.Negation (numbered_expression place part leaves)
+pub expression_negation : (place : ColumnName → Option Expr) (part : Expression) (leaves : Leaves) → numbered_expression place (e.Negation part) leaves ≡ then_made expr_of.Negation (numbered_expression place part leaves)
 expression_negation place part leaves = ap (λ x. numbered_expression place x leaves) (sym (e.rolls-Negation part)) ∙ expression_rolled place (Expression-F.Negation part) leaves
 
-pub expression_sum : (place : ColumnName → Option ℕ) (parts : List Expression) (leaves : Leaves) → numbered_expression place (e.Sum parts) leaves ≡ then_made expr_of.Sum (numbered_expressions place parts leaves)
+pub expression_sum : (place : ColumnName → Option Expr) (parts : List Expression) (leaves : Leaves) → numbered_expression place (e.Sum parts) leaves ≡ then_made expr_of.Sum (numbered_expressions place parts leaves)
 unfolding numbered_expressions
 expression_sum place parts leaves = ap (λ x. numbered_expression place x leaves) (sym (e.rolls-Sum parts)) ∙ expression_rolled place (Expression-F.Sum parts) leaves
 
-pub expression_product : (place : ColumnName → Option ℕ) (parts : List Expression) (leaves : Leaves) → numbered_expression place (e.Product parts) leaves ≡ then_made expr_of.Product (numbered_expressions place parts leaves)
+pub expression_product : (place : ColumnName → Option Expr) (parts : List Expression) (leaves : Leaves) → numbered_expression place (e.Product parts) leaves ≡ then_made expr_of.Product (numbered_expressions place parts leaves)
 unfolding numbered_expressions
 expression_product place parts leaves = ap (λ x. numbered_expression place x leaves) (sym (e.rolls-Product parts)) ∙ expression_rolled place (Expression-F.Product parts) leaves
 
-pub condition_or : (place : ColumnName → Option ℕ) (parts : List Condition) (leaves : Leaves) → numbered place (b.Or parts) leaves ≡ then_made cond_of.Or (numbered_conditions place parts leaves)
+pub condition_or : (place : ColumnName → Option Expr) (parts : List Condition) (leaves : Leaves) → numbered place (b.Or parts) leaves ≡ then_made cond_of.Or (numbered_conditions place parts leaves)
 unfolding numbered_conditions
 condition_or place parts leaves = ap (λ x. numbered place x leaves) (sym (b.rolls-Or parts)) ∙ condition_rolled place (Condition-F.Or parts) leaves
 
-pub condition_and : (place : ColumnName → Option ℕ) (parts : List Condition) (leaves : Leaves) → numbered place (b.And parts) leaves ≡ then_made cond_of.And (numbered_conditions place parts leaves)
+pub condition_and : (place : ColumnName → Option Expr) (parts : List Condition) (leaves : Leaves) → numbered place (b.And parts) leaves ≡ then_made cond_of.And (numbered_conditions place parts leaves)
 unfolding numbered_conditions
 condition_and place parts leaves = ap (λ x. numbered place x leaves) (sym (b.rolls-And parts)) ∙ condition_rolled place (Condition-F.And parts) leaves
 
-pub condition_not : (place : ColumnName → Option ℕ) (part : Condition) (leaves : Leaves) → numbered place (b.Not part) leaves ≡ then_made cond_of.Not (numbered place part leaves)
+pub condition_not : (place : ColumnName → Option Expr) (part : Condition) (leaves : Leaves) → numbered place (b.Not part) leaves ≡ then_made cond_of.Not (numbered place part leaves)
 condition_not place part leaves = ap (λ x. numbered place x leaves) (sym (b.rolls-Not part)) ∙ condition_rolled place (Condition-F.Not part) leaves
 
-pub condition_is : (place : ColumnName → Option ℕ) (part : Condition) (truth : Truth) (leaves : Leaves) → numbered place (b.Is part truth) leaves ≡ then_made (λ c. cond_of.Is c truth) (numbered place part leaves)
+pub condition_is : (place : ColumnName → Option Expr) (part : Condition) (truth : Truth) (leaves : Leaves) → numbered place (b.Is part truth) leaves ≡ then_made (λ c. cond_of.Is c truth) (numbered place part leaves)
 condition_is place part truth leaves = ap (λ x. numbered place x leaves) (sym (b.rolls-Is part truth)) ∙ condition_rolled place (Condition-F.Is part truth) leaves
 
-pub condition_exists : (place : ColumnName → Option ℕ) (query : Query) (leaves : Leaves) → numbered place (b.Exists query) leaves ≡ Ok (cond.Exists (length leaves), leaves ++ Exists query ∷ [])
+pub condition_exists : (place : ColumnName → Option Expr) (query : Query) (leaves : Leaves) → numbered place (b.Exists query) leaves ≡ Ok (cond.Exists (length leaves), leaves ++ Exists query ∷ [])
 condition_exists place query leaves = ap (λ x. numbered place x leaves) (sym (b.rolls-Exists query)) ∙ condition_rolled place (Condition-F.Exists query) leaves
 
-pub condition_compare : (place : ColumnName → Option ℕ) (left : Expression) (comparison : Comparison) (right : Expression) (leaves : Leaves) → numbered place (b.Compare left comparison right) leaves ≡ compared comparison (numbered_expression place left) (numbered_expression place right) leaves
+pub condition_compare : (place : ColumnName → Option Expr) (left : Expression) (comparison : Comparison) (right : Expression) (leaves : Leaves) → numbered place (b.Compare left comparison right) leaves ≡ compared comparison (numbered_expression place left) (numbered_expression place right) leaves
 condition_compare place left comparison right leaves = ap (λ x. numbered place x leaves) (sym (b.rolls-Compare left comparison right)) ∙ condition_rolled place (Condition-F.Compare left comparison right) leaves
 
-pub condition_isnull : (place : ColumnName → Option ℕ) (part : Expression) (leaves : Leaves) → numbered place (b.IsNull part) leaves ≡ then_made cond.IsNull (numbered_expression place part leaves)
+pub condition_isnull : (place : ColumnName → Option Expr) (part : Expression) (leaves : Leaves) → numbered place (b.IsNull part) leaves ≡ then_made cond.IsNull (numbered_expression place part leaves)
 condition_isnull place part leaves = ap (λ x. numbered place x leaves) (sym (b.rolls-IsNull part)) ∙ condition_rolled place (Condition-F.IsNull part) leaves
 
-pub condition_between : (place : ColumnName → Option ℕ) (subject low high : Expression) (leaves : Leaves) → numbered place (b.Between subject low high) leaves ≡ between (numbered_expression place subject) (numbered_expression place low) (numbered_expression place high) leaves
+pub condition_between : (place : ColumnName → Option Expr) (subject low high : Expression) (leaves : Leaves) → numbered place (b.Between subject low high) leaves ≡ between (numbered_expression place subject) (numbered_expression place low) (numbered_expression place high) leaves
 condition_between place subject low high leaves = ap (λ x. numbered place x leaves) (sym (b.rolls-Between subject low high)) ∙ condition_rolled place (Condition-F.Between subject low high) leaves
 
-pub condition_in : (place : ColumnName → Option ℕ) (subject : Expression) (values : List Expression) (leaves : Leaves) → numbered place (b.In subject values) leaves ≡ listed (numbered_expression place subject) (numbered_expressions place values) leaves
+pub condition_in : (place : ColumnName → Option Expr) (subject : Expression) (values : List Expression) (leaves : Leaves) → numbered place (b.In subject values) leaves ≡ listed (numbered_expression place subject) (numbered_expressions place values) leaves
 unfolding numbered_expressions
 condition_in place subject values leaves = ap (λ x. numbered place x leaves) (sym (b.rolls-In subject values)) ∙ condition_rolled place (Condition-F.In subject values) leaves
 
 -- several of them, as parts from the left
-pub expressions_are : (place : ColumnName → Option ℕ) (parts : List Expression) (leaves : Leaves)
+pub expressions_are : (place : ColumnName → Option Expr) (parts : List Expression) (leaves : Leaves)
     → numbered_expressions place parts leaves ≡ all (map (λ part. (part, numbered_expression place part)) parts) leaves
 unfolding numbered_expressions
 expressions_are place parts leaves = refl
 
-pub conditions_are : (place : ColumnName → Option ℕ) (parts : List Condition) (leaves : Leaves)
+pub conditions_are : (place : ColumnName → Option Expr) (parts : List Condition) (leaves : Leaves)
     → numbered_conditions place parts leaves ≡ all (map (λ part. (part, numbered place part)) parts) leaves
 unfolding numbered_conditions
 conditions_are place parts leaves = refl

@@ -1,7 +1,10 @@
--- Which column of a row a name means, where only some may stand.
+-- What a column's name means in a condition, where only some may stand.
 use Rattle.std.specs.Prelude.{ℕ, ◌==◌, Option, Some, None, if◌then◌else◌}
+use Rattle.std.specs.Option.{option_map}
+use Rattle.table.specs.declared.exprs.Expr.{Expr}
+use Rattle.table.specs.declared.exprs.Expr.TheVariants.{Column, Slot}
 use Rattle.syntax.specs.declared.trees.ColumnName.{ColumnName}
-use Rattle.form_check.specs.Scopes.{Scope, own_column}
+use Rattle.form_check.specs.Scopes.{Scope, is_name_of, own_column}
 
 -- no column may stand there
 abbrev pub no_column : ColumnName → Option ℕ
@@ -15,3 +18,19 @@ in_group group (Some column) = if column == group then Some 0 else None
 -- the grouping column alone
 abbrev pub grouping_column : Scope → ℕ → ColumnName → Option ℕ
 grouping_column scope group column = in_group group (own_column scope column)
+
+-- the column of the row at hand at a place
+abbrev pub at_place : (ColumnName → Option ℕ) → ColumnName → Option Expr
+at_place place column = option_map Column (place column)
+
+-- the column of the row around that a name means, if the name is not of the child, which stands further in
+abbrev pub outer_column : Scope → Scope → ColumnName → Option ℕ
+outer_column child root column = if is_name_of column.qualifier column.name child then None else own_column root column
+
+-- a column of the child; or the slot that holds what the row around it has in a column of its own
+abbrev pub in_both : Option ℕ → Option ℕ → Option Expr
+in_both (Some own) outer = Some (Column own)
+in_both None outer = option_map Slot outer
+
+abbrev pub of_both : Scope → Scope → ColumnName → Option Expr
+of_both child root column = in_both (own_column child column) (outer_column child root column)

@@ -21,10 +21,10 @@ use Rattle.assertion.specs.declared.forms.Form.TheVariants.{ByRow, ByGroup, Sing
 use Rattle.form_check.specs.Scopes.{Scope, own_column}
 use Rattle.value.specs.Results.{and_then, each}
 use Rattle.form_check.specs.Results.{in_class, only_if}
-use Rattle.form_check.specs.Columns.{no_column, grouping_column}
+use Rattle.form_check.specs.Columns.{no_column, grouping_column, at_place}
 use Rattle.form_check.specs.Leaves.{Leaf, Leaves, Rows, Of, Exists, Value, numbered}
 use Rattle.form_check.specs.Queries.{Source, source_of, row_filter, of_column, selected_aggregate, may_be_selected}
-use Rattle.form_check.specs.Links.{top_parts, links_in, only_one, filter_parts}
+use Rattle.form_check.specs.Links.{top_parts, first_link, filter_parts}
 
 -- a query's clauses, with its conditions and its list as trees
 abbrev pub Clauses : Type 0
@@ -34,7 +34,7 @@ Clauses = Query-F Condition Expression SelectList Query
 
 abbrev pub linked_by : Source → Scope → Aggregate → Condition → Result (Subquery Link) Refusal
 linked_by child root aggregate condition =
-    in_class (only_one (links_in child.scope root (top_parts condition))) (λ link.
+    in_class (first_link child.scope root (top_parts condition)) (λ link.
     and_then (filter_parts child.scope root (top_parts condition)) (λ filters.
     Ok (record { table = child.table; filter = cond_of.And filters; grouping = link; aggregate = aggregate })))
 
@@ -100,7 +100,7 @@ aggregate_of scope (Value query) = Err OutsideClass
 -- a condition over the rows of one table with its slots; a missing one keeps every row
 abbrev pub row_where : Scope → Option Condition → Result (Cond × Leaves) Refusal
 row_where scope None = Ok (cond_of.And [], [])
-row_where scope (Some condition) = numbered (own_column scope) condition []
+row_where scope (Some condition) = numbered (at_place (own_column scope)) condition []
 
 abbrev pub by_row : Tables → Source → Clauses → Result Form Refusal
 by_row tables source query =
@@ -110,7 +110,7 @@ by_row tables source query =
 
 abbrev pub having_over : Source → ℕ → Cond → Condition → Result Form Refusal
 having_over source group restriction having =
-    and_then (numbered (grouping_column source.scope group) having []) (λ made.
+    and_then (numbered (at_place (grouping_column source.scope group)) having []) (λ made.
     and_then (each (aggregate_of source.scope) made.1) (λ aggregates.
     Ok (ByGroup source.table restriction group made.0 aggregates)))
 
@@ -134,7 +134,7 @@ not_exists tables query =
 
 abbrev pub single : Tables → Condition → Result Form Refusal
 single tables condition =
-    and_then (numbered no_column condition []) (λ made.
+    and_then (numbered (at_place no_column) condition []) (λ made.
     and_then (each (plain tables) made.1) (λ queries. Ok (Single made.0 queries)))
 
 -- the condition under a NOT

@@ -58,15 +58,15 @@ between subject low high leaves = and_then (subject leaves) (λ s. both (between
 abbrev pub listed : Numbered Expr → Numbered (List Expr) → Numbered Cond
 listed subject values = both in_of subject values
 
--- a column, where it may stand there
-abbrev pub placed : Option ℕ → Numbered Expr
-placed column leaves = in_class column (λ c. Ok (expr.Column c, leaves))
+-- what a column's name means, where it may stand there
+abbrev pub placed : Option Expr → Numbered Expr
+placed meant leaves = in_class meant (λ e. Ok (e, leaves))
 
 abbrev pub slot : Leaf → Numbered Expr
 slot leaf leaves = Ok (expr.Slot (length leaves), leaves ++ leaf ∷ [])
 
 -- an expression, with each part and what it becomes in its place
-abbrev pub expression_step : (ColumnName → Option ℕ)
+abbrev pub expression_step : (ColumnName → Option Expr)
     → Expression-F (Condition × Numbered Cond) (Expression × Numbered Expr) (SelectList × Unit {0}) (Query × Unit {0})
     → Numbered Expr
 expression_step place (Expression-F.Number n) leaves = Ok (expr.Literal (value.Int n), leaves)
@@ -80,7 +80,7 @@ expression_step place (Expression-F.Sum parts) leaves = then_made expr_of.Sum (a
 expression_step place (Expression-F.Product parts) leaves = then_made expr_of.Product (all parts leaves)
 
 -- a condition, likewise
-abbrev pub condition_step : (ColumnName → Option ℕ)
+abbrev pub condition_step : (ColumnName → Option Expr)
     → Condition-F (Condition × Numbered Cond) (Expression × Numbered Expr) (SelectList × Unit {0}) (Query × Unit {0})
     → Numbered Cond
 condition_step place (Condition-F.Or parts) leaves = then_made cond_of.Or (all parts leaves)
@@ -102,20 +102,20 @@ abbrev pub query_step : Query-F (Condition × Numbered Cond) (Expression × Numb
 query_step query = tt
 
 -- a condition with its columns found by their names, and each set function and query in a slot of its own, from the
--- left; `place` says which column a name means there, if any
-unfoldable pub numbered : (ColumnName → Option ℕ) → Condition → Numbered Cond
+-- left; `place` says what a column's name means there, if anything
+unfoldable pub numbered : (ColumnName → Option Expr) → Condition → Numbered Cond
 numbered place =
     para-Condition (Numbered Cond) (Numbered Expr) (Unit {0}) (Unit {0}) (condition_step place) (expression_step place)
     select_list_step query_step
 
-unfoldable pub numbered_expression : (ColumnName → Option ℕ) → Expression → Numbered Expr
+unfoldable pub numbered_expression : (ColumnName → Option Expr) → Expression → Numbered Expr
 numbered_expression place =
     para-Expression (Numbered Cond) (Numbered Expr) (Unit {0}) (Unit {0}) (condition_step place)
     (expression_step place) select_list_step query_step
 
 -- several conditions, or expressions, from the left
-unfoldable pub numbered_conditions : (ColumnName → Option ℕ) → List Condition → Numbered (List Cond)
+unfoldable pub numbered_conditions : (ColumnName → Option Expr) → List Condition → Numbered (List Cond)
 numbered_conditions place parts = all (map (λ part. (part, numbered place part)) parts)
 
-unfoldable pub numbered_expressions : (ColumnName → Option ℕ) → List Expression → Numbered (List Expr)
+unfoldable pub numbered_expressions : (ColumnName → Option Expr) → List Expression → Numbered (List Expr)
 numbered_expressions place parts = all (map (λ part. (part, numbered_expression place part)) parts)

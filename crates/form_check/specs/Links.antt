@@ -1,6 +1,7 @@
 -- Queries that are linked to the row around them: one of the parts that AND joins in WHERE is an equality of a column
--- of the query's table and a column of the row, and the others are over the query's table alone.
-use Rattle.std.specs.Prelude.{ℕ, List, [], ◌∷◌, ◌++◌, filter, Option, Some, None, is_none, option_to_list, Result, if◌then◌else◌}
+-- of the query's table and a column of the row, and the others are over a row of the query's table and that row.
+use Rattle.std.specs.Prelude.{ℕ, ◌==◌, Bool, true, false, List, [], ◌∷◌, find, Option, Some, None, is_some, Result, if◌then◌else◌}
+use Rattle.std.specs.Option.{option_and_then}
 use Rattle.value.specs.declared.refusals.Refusal.{Refusal}
 use Rattle.value.specs.declared.comparisons.Comparison.TheVariants.{Equal}
 use Rattle.table.specs.declared.conds.Cond.{Cond}
@@ -11,9 +12,10 @@ use Rattle.syntax.specs.declared.trees.Condition.TheOpen.{Condition-F, Expressio
 use Rattle.syntax.specs.declared.trees.Expression.{Expression, out-Expression}
 use Rattle.syntax.specs.declared.trees.SelectList.{SelectList}
 use Rattle.syntax.specs.declared.trees.Query.{Query}
-use Rattle.form_check.specs.Scopes.{Scope, is_name_of, own_column}
+use Rattle.form_check.specs.Scopes.{Scope, own_column}
+use Rattle.form_check.specs.Columns.{outer_column}
 use Rattle.value.specs.Results.{each}
-use Rattle.form_check.specs.Queries.{row_condition}
+use Rattle.form_check.specs.Queries.{joint_condition}
 
 -- the parts that AND joins at the top of a condition
 abbrev pub parts_in : Condition → Condition-F Condition Expression SelectList Query → List Condition
@@ -27,10 +29,6 @@ top_parts condition = parts_in condition (out-Condition condition)
 abbrev pub name_in : Expression-F Condition Expression SelectList Query → Option ColumnName
 name_in (Expression-F.Column column) = Some column
 name_in other = None
-
--- the column of the row around that a name means, if the name is not of the child, which stands further in
-abbrev pub outer_column : Scope → Scope → ColumnName → Option ℕ
-outer_column child root name = if is_name_of name.qualifier name.name child then None else own_column root name
 
 -- the link of two columns, if both are there
 abbrev pub link_by : Option ℕ → Option ℕ → Option Link
@@ -62,21 +60,33 @@ link_in child root other = None
 abbrev pub link_of : Scope → Scope → Condition → Option Link
 link_of child root part = link_in child root (out-Condition part)
 
--- all links
-abbrev pub links_in : Scope → Scope → List Condition → List Link
-links_in child root [] = []
-links_in child root (part ∷ rest) = option_to_list (link_of child root part) ++ links_in child root rest
+-- whether a link is by this column of the child, if one is given
+abbrev pub is_by : Option ℕ → Option Link → Bool
+is_by column None = false
+is_by None (Some link) = true
+is_by (Some column) (Some link) = link.inner == column
 
--- the one of a list that has one
-abbrev pub only_one : List Link → Option Link
-only_one [] = None
-only_one (link ∷ []) = Some link
-only_one (link ∷ other ∷ rest) = None
+abbrev pub is_link : Scope → Scope → Option ℕ → Condition → Bool
+is_link child root column part = is_by column (link_of child root part)
 
--- the parts that are no links
-abbrev pub own_parts : Scope → Scope → List Condition → List Condition
-own_parts child root parts = filter (λ part. is_none (link_of child root part)) parts
+-- the child's key, if one of the parts is a link by it
+abbrev pub key_linked : Scope → Scope → List Condition → Option ℕ
+key_linked child root parts =
+    if is_some (find (is_link child root (Some child.layout.key)) parts) then Some child.layout.key else None
 
--- the parts that are no links, as conditions over the child's rows
+-- whether a part may be the link among these: one by the child's key, if there is one
+abbrev pub may_link : Scope → Scope → List Condition → Condition → Bool
+may_link child root parts = is_link child root (key_linked child root parts)
+
+-- the link among the parts: the first of the child's key, and else the first of all
+abbrev pub first_link : Scope → Scope → List Condition → Option Link
+first_link child root parts = option_and_then (link_of child root) (find (may_link child root parts) parts)
+
+-- all but the first that passes a test
+abbrev pub beside : (Condition → Bool) → List Condition → List Condition
+beside passes [] = []
+beside passes (part ∷ rest) = if passes part then rest else part ∷ beside passes rest
+
+-- the parts beside the link, as conditions over a row of the child and the row around it
 abbrev pub filter_parts : Scope → Scope → List Condition → Result (List Cond) Refusal
-filter_parts child root parts = each (row_condition child) (own_parts child root parts)
+filter_parts child root parts = each (joint_condition child root) (beside (may_link child root parts) parts)

@@ -18,6 +18,7 @@ use Rattle.table.specs.declared.exprs.Expr.{Expr}
 use Rattle.table.specs.declared.conds.Cond.{Cond}
 use Rattle.table.specs.declared.conds.Cond.TheViews as cond_of
 use Rattle.form_check.specs.Scopes.{Scope, own_column}
+use Rattle.form_check.specs.Columns.{at_place, of_both}
 use Rattle.value.specs.Results.{and_then}
 use Rattle.form_check.specs.Leaves.{Leaves, numbered, numbered_expression}
 
@@ -43,12 +44,17 @@ alone made (leaf ∷ rest) = Err OutsideClass
 
 -- a condition over the rows of one table: no set function, no query and no column of another table
 abbrev pub row_condition : Scope → Condition → Result Cond Refusal
-row_condition scope condition = and_then (numbered (own_column scope) condition []) (λ made. alone made.0 made.1)
+row_condition scope condition = and_then (numbered (at_place (own_column scope)) condition []) (λ made. alone made.0 made.1)
+
+-- a condition over a row of the child and the row around it, likewise
+abbrev pub joint_condition : Scope → Scope → Condition → Result Cond Refusal
+joint_condition child root condition =
+    and_then (numbered (of_both child root) condition []) (λ made. alone made.0 made.1)
 
 -- an expression over the rows of one table, likewise
 abbrev pub row_expression : Scope → Expression → Result Expr Refusal
 row_expression scope expression =
-    and_then (numbered_expression (own_column scope) expression []) (λ made. alone made.0 made.1)
+    and_then (numbered_expression (at_place (own_column scope)) expression []) (λ made. alone made.0 made.1)
 
 -- a condition that may be missing, and then keeps every row
 abbrev pub row_filter : Scope → Option Condition → Result Cond Refusal

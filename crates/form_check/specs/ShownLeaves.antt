@@ -1,9 +1,10 @@
 -- What is lent, as what it shows.
 use Rattle.std.specs.Prelude.{ℕ, List, map, Option}
 use Rattle.syntax.specs.declared.trees.ColumnName.{ColumnName}
+use Rattle.table.specs.declared.exprs.Expr.{Expr}
 use Rattle.form_check.specs.Scopes.{own_column}
 use Rattle.form_check.specs.ShownScopes.{shown}
-use Rattle.form_check.specs.Columns.{no_column, grouping_column}
+use Rattle.form_check.specs.Columns.{no_column, grouping_column, at_place, of_both}
 use Rattle.form_check.specs.declared.leaves.Leaf.{Leaf as Lent}
 use Rattle.form_check.specs.declared.leaves.Leaf.TheVariants as lent
 use Rattle.form_check.specs.declared.leaves.Columns.{Columns}
@@ -19,8 +20,16 @@ shown_leaf (lent.Value query) = Value query.now
 abbrev pub shown_leaves : List Lent → Leaves
 shown_leaves leaves = map shown_leaf leaves
 
--- the column that a name means, of those that may stand there
+-- the column of the row at hand that a name means, of those that may stand there
 abbrev pub place : Columns → ColumnName → Option ℕ
 place columns.None = no_column
 place (columns.Own scope) = own_column (shown scope)
 place (columns.Grouping scope group) = grouping_column (shown scope) group
+place (columns.Both child root) = own_column (shown child)
+
+-- what a name means, where it may stand there
+abbrev pub meant : Columns → ColumnName → Option Expr
+meant columns.None = at_place no_column
+meant (columns.Own scope) = at_place (own_column (shown scope))
+meant (columns.Grouping scope group) = at_place (grouping_column (shown scope) group)
+meant (columns.Both child root) = of_both (shown child) (shown root)

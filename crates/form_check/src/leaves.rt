@@ -3,7 +3,7 @@
 ghost use Rattle.std.specs.Prelude.{◌≡◌, ◌≢◌, ◌++◌, ◌∷◌, [], length, IfOk, IfErr, OnOk, IsOkUnless, Ok, Err};
 ghost use Rattle.value.specs.declared.refusals.Refusal.TheVariants.{NoMemory};
 ghost use Rattle.form_check.specs.Leaves.{between, compared, listed, numbered, numbered_conditions, numbered_expression, numbered_expressions, slot};
-ghost use Rattle.form_check.specs.ShownLeaves.{shown_leaf, shown_leaves, place};
+ghost use Rattle.form_check.specs.ShownLeaves.{shown_leaf, shown_leaves, place, meant};
 
 use crate::scopes::Scope;
 use sqlite_items::{Boxed, Items};
@@ -33,16 +33,31 @@ pub enum Columns<'a> {
     Own(Scope<'a>),
     /// The grouping column of a table alone. It stands in column 0 of a group's row.
     Grouping(Scope<'a>, usize),
+    /// Those of a query's table, and in slots what the row around has in its columns, the table of which is the second.
+    Both(Scope<'a>, Scope<'a>),
 }
 
 impl<'a> Columns<'a> {
-    /// The place of the column that a name means, if it may stand there.
+    /// What a name means, if it may stand there.
+    fn meant(&self, column: &ColumnName) -> Option<Expr>
+        ensures { result ≡ meant self.now column.now }
+    {
+        if let Some(own) = self.place(column) {
+            return Some(Expr::Column(own));
+        }
+        match self {
+            Columns::Both(child, root) => Some(Expr::Slot(child.outer(root, column)?)),
+            Columns::None | Columns::Own(_) | Columns::Grouping(_, _) => None,
+        }
+    }
+
+    /// The place of the column of the row at hand that a name means, if it may stand there.
     pub fn place(&self, column: &ColumnName) -> Option<usize>
         ensures { result ≡ place self.now column.now }
     {
         match self {
             Columns::None => None,
-            Columns::Own(scope) => scope.own(column),
+            Columns::Own(scope) | Columns::Both(scope, _) => scope.own(column),
             Columns::Grouping(scope, group) => match scope.own(column) {
                 Some(found) if found == *group => Some(0),
                 Some(_) | None => None,
@@ -67,10 +82,10 @@ pub fn numbered<'a>(
     leaves: &mut Vec<Leaf<'a>>,
 ) -> Result<Cond, Refusal>
     ensures made { IfOk result (λ made.
-        numbered (place columns.now) condition.now (shown_leaves leaves.old.items)
+        numbered (meant columns.now) condition.now (shown_leaves leaves.old.items)
         ≡ Ok (made, shown_leaves leaves.new.items)) }
     ensures refused { IfErr result (λ refusal. refusal ≢ NoMemory
-        → numbered (place columns.now) condition.now (shown_leaves leaves.old.items) ≡ Err refusal) }
+        → numbered (meant columns.now) condition.now (shown_leaves leaves.old.items) ≡ Err refusal) }
 {
     match condition {
         Condition::Or(parts) => {
@@ -115,12 +130,12 @@ fn compared<'a>(
     leaves: &mut Vec<Leaf<'a>>,
 ) -> Result<Cond, Refusal>
     ensures made { IfOk result (λ made.
-        compared comparison (numbered_expression (place columns.now) left.now)
-        (numbered_expression (place columns.now) right.now) (shown_leaves leaves.old.items)
+        compared comparison (numbered_expression (meant columns.now) left.now)
+        (numbered_expression (meant columns.now) right.now) (shown_leaves leaves.old.items)
         ≡ Ok (made, shown_leaves leaves.new.items)) }
     ensures refused { IfErr result (λ refusal. refusal ≢ NoMemory
-        → compared comparison (numbered_expression (place columns.now) left.now)
-        (numbered_expression (place columns.now) right.now) (shown_leaves leaves.old.items) ≡ Err refusal) }
+        → compared comparison (numbered_expression (meant columns.now) left.now)
+        (numbered_expression (meant columns.now) right.now) (shown_leaves leaves.old.items) ≡ Err refusal) }
 {
     let left = numbered_expression(alloc, columns, left, leaves)?;
     let right = numbered_expression(alloc, columns, right, leaves)?;
@@ -137,12 +152,12 @@ fn between<'a>(
     leaves: &mut Vec<Leaf<'a>>,
 ) -> Result<Cond, Refusal>
     ensures made { IfOk result (λ made.
-        between (numbered_expression (place columns.now) subject.now)
-        (numbered_expression (place columns.now) low.now) (numbered_expression (place columns.now) high.now)
+        between (numbered_expression (meant columns.now) subject.now)
+        (numbered_expression (meant columns.now) low.now) (numbered_expression (meant columns.now) high.now)
         (shown_leaves leaves.old.items) ≡ Ok (made, shown_leaves leaves.new.items)) }
     ensures refused { IfErr result (λ refusal. refusal ≢ NoMemory
-        → between (numbered_expression (place columns.now) subject.now)
-        (numbered_expression (place columns.now) low.now) (numbered_expression (place columns.now) high.now)
+        → between (numbered_expression (meant columns.now) subject.now)
+        (numbered_expression (meant columns.now) low.now) (numbered_expression (meant columns.now) high.now)
         (shown_leaves leaves.old.items) ≡ Err refusal) }
 {
     let subject = numbered_expression(alloc, columns, subject, leaves)?;
@@ -160,12 +175,12 @@ fn listed<'a>(
     leaves: &mut Vec<Leaf<'a>>,
 ) -> Result<Cond, Refusal>
     ensures made { IfOk result (λ made.
-        listed (numbered_expression (place columns.now) subject.now)
-        (numbered_expressions (place columns.now) values.now) (shown_leaves leaves.old.items)
+        listed (numbered_expression (meant columns.now) subject.now)
+        (numbered_expressions (meant columns.now) values.now) (shown_leaves leaves.old.items)
         ≡ Ok (made, shown_leaves leaves.new.items)) }
     ensures refused { IfErr result (λ refusal. refusal ≢ NoMemory
-        → listed (numbered_expression (place columns.now) subject.now)
-        (numbered_expressions (place columns.now) values.now) (shown_leaves leaves.old.items) ≡ Err refusal) }
+        → listed (numbered_expression (meant columns.now) subject.now)
+        (numbered_expressions (meant columns.now) values.now) (shown_leaves leaves.old.items) ≡ Err refusal) }
 {
     let subject = numbered_expression(alloc, columns, subject, leaves)?;
     let values = all_expressions(alloc, columns, values, leaves)?;
@@ -182,10 +197,10 @@ fn all_numbered<'a>(
     leaves: &mut Vec<Leaf<'a>>,
 ) -> Result<Vec<Cond>, Refusal>
     ensures made { IfOk result (λ made.
-        numbered_conditions (place columns.now) parts.now (shown_leaves leaves.old.items)
+        numbered_conditions (meant columns.now) parts.now (shown_leaves leaves.old.items)
         ≡ Ok (made.items, shown_leaves leaves.new.items)) }
     ensures refused { IfErr result (λ refusal. refusal ≢ NoMemory
-        → numbered_conditions (place columns.now) parts.now (shown_leaves leaves.old.items) ≡ Err refusal) }
+        → numbered_conditions (meant columns.now) parts.now (shown_leaves leaves.old.items) ≡ Err refusal) }
 {
     let mut made = Vec::new(alloc);
     for part in parts {
@@ -204,16 +219,16 @@ pub fn numbered_expression<'a>(
     leaves: &mut Vec<Leaf<'a>>,
 ) -> Result<Expr, Refusal>
     ensures made { IfOk result (λ made.
-        numbered_expression (place columns.now) expression.now (shown_leaves leaves.old.items)
+        numbered_expression (meant columns.now) expression.now (shown_leaves leaves.old.items)
         ≡ Ok (made, shown_leaves leaves.new.items)) }
     ensures refused { IfErr result (λ refusal. refusal ≢ NoMemory
-        → numbered_expression (place columns.now) expression.now (shown_leaves leaves.old.items) ≡ Err refusal) }
+        → numbered_expression (meant columns.now) expression.now (shown_leaves leaves.old.items) ≡ Err refusal) }
 {
     match expression {
         Expression::Number(number) => Ok(Expr::Literal(Value::Int(*number))),
         Expression::Text(text) => Ok(Expr::Literal(Value::Text(text.copy()?))),
-        Expression::Column(column) => match columns.place(column) {
-            Some(place) => Ok(Expr::Column(place)),
+        Expression::Column(column) => match columns.meant(column) {
+            Some(meant) => Ok(meant),
             None => Err(Refusal::OutsideClass),
         },
         Expression::CountRows => slot(leaves, Leaf::Rows),
@@ -244,10 +259,10 @@ fn all_expressions<'a>(
     leaves: &mut Vec<Leaf<'a>>,
 ) -> Result<Vec<Expr>, Refusal>
     ensures made { IfOk result (λ made.
-        numbered_expressions (place columns.now) parts.now (shown_leaves leaves.old.items)
+        numbered_expressions (meant columns.now) parts.now (shown_leaves leaves.old.items)
         ≡ Ok (made.items, shown_leaves leaves.new.items)) }
     ensures refused { IfErr result (λ refusal. refusal ≢ NoMemory
-        → numbered_expressions (place columns.now) parts.now (shown_leaves leaves.old.items) ≡ Err refusal) }
+        → numbered_expressions (meant columns.now) parts.now (shown_leaves leaves.old.items) ≡ Err refusal) }
 {
     let mut made = Vec::new(alloc);
     for part in parts {

@@ -140,7 +140,7 @@ fn linked_by(
         root,
     };
     let parts = top_parts(condition);
-    let Some(link) = tables.only_link(parts) else {
+    let Some(link) = tables.first_link(parts) else {
         return Err(Refusal::OutsideClass);
     };
     let filters = tables.filter_parts(alloc, parts)?;

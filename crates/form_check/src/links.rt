@@ -1,11 +1,11 @@
 //! Queries that are linked to the row around them.
 
-ghost use Rattle.std.specs.Prelude.{◌≡◌, ◌≢◌, ◌++◌, IfOk, IfErr, Ok, Err, List};
+ghost use Rattle.std.specs.Prelude.{◌≡◌, ◌≢◌, IfOk, IfErr, Ok, Err};
 ghost use Rattle.value.specs.declared.refusals.Refusal.TheVariants.{NoMemory};
 ghost use Rattle.form_check.specs.ShownScopes.{shown};
-ghost use Rattle.form_check.specs.Links.{link_of_names, outer_column, link_of, links_in, only_one, filter_parts};
+ghost use Rattle.form_check.specs.Links.{link_of_names, link_of, first_link, filter_parts, key_linked, is_link};
 
-use crate::queries::row_condition;
+use crate::queries::joint_condition;
 use crate::scopes::Scope;
 use assertion::Link;
 use std::alloc::Global;
@@ -21,23 +21,20 @@ pub struct LinkedTables<'a> {
 }
 
 impl<'a> LinkedTables<'a> {
-    /// The link that is one of these parts, if exactly one is a link.
-    pub fn only_link(&self, parts: &[Condition]) -> Option<Link>
-        ensures { result ≡ only_one (links_in (shown self.now.child) (shown self.now.root) parts.now) }
+    /// The link among these parts: the first of the child's key, and else the first of all.
+    pub fn first_link(&self, parts: &[Condition]) -> Option<Link>
+        ensures { result ≡ first_link (shown self.now.child) (shown self.now.root) parts.now }
     {
-        let mut only = None;
+        let column = self.key_linked(parts);
         for part in parts {
-            if let Some(link) = self.link(part) {
-                if only.is_some() {
-                    return None;
-                }
-                only = Some(link);
+            if self.is_link(column, part) {
+                return self.link(part);
             }
         }
-        only
+        None
     }
 
-    /// The parts that are no links, as conditions over the child's rows.
+    /// The parts beside the link, as conditions over a row of the child and the row around it.
     #[tactic(auto, using(value::proofs::Results::behind_next, value::proofs::Results::behind_none))]
     pub fn filter_parts(&self, alloc: Global, parts: &[Condition]) -> Result<Vec<Cond>, Refusal>
         ensures made { IfOk result (λ made.
@@ -45,13 +42,41 @@ impl<'a> LinkedTables<'a> {
         ensures refused { IfErr result (λ refusal.
             refusal ≢ NoMemory → filter_parts (shown self.now.child) (shown self.now.root) parts.now ≡ Err refusal) }
     {
+        let column = self.key_linked(parts);
         let mut made = Vec::new(alloc);
+        let mut is_found = false;
         for part in parts {
-            if self.link(part).is_none() {
-                made.push(row_condition(alloc, self.child, part)?)?;
+            if !is_found && self.is_link(column, part) {
+                is_found = true;
+            } else {
+                made.push(joint_condition(alloc, self.child, self.root, part)?)?;
             }
         }
         Ok(made)
+    }
+
+    /// The child's key, if one of these parts is a link by it.
+    fn key_linked(&self, parts: &[Condition]) -> Option<usize>
+        ensures { result ≡ key_linked (shown self.now.child) (shown self.now.root) parts.now }
+    {
+        let key = Some(self.child.schema.key());
+        for part in parts {
+            if self.is_link(key, part) {
+                return key;
+            }
+        }
+        None
+    }
+
+    /// Whether a part is a link, by this column of the child if one is given.
+    fn is_link(&self, column: Option<usize>, part: &Condition) -> bool
+        ensures { result ≡ is_link (shown self.now.child) (shown self.now.root) column part.now }
+    {
+        match (self.link(part), column) {
+            (Some(link), Some(column)) => link.inner == column,
+            (Some(_), None) => true,
+            (None, _) => false,
+        }
     }
 
     /// The columns of the child and of the root that a part joins, if it is a link: an equality of the two, either way
@@ -76,19 +101,9 @@ impl<'a> LinkedTables<'a> {
     fn link_of_names(&self, inner: &ColumnName, outer: &ColumnName) -> Option<Link>
         ensures { result ≡ link_of_names (shown self.now.child) (shown self.now.root) inner.now outer.now }
     {
-        match (self.child.own(inner), self.outer(outer)) {
+        match (self.child.own(inner), self.child.outer(&self.root, outer)) {
             (Some(inner), Some(outer)) => Some(Link { inner, outer }),
             (None, _) | (Some(_), None) => None,
         }
-    }
-
-    /// The root's column that a name means, if the name is not of the child, which stands further in.
-    fn outer(&self, name: &ColumnName) -> Option<usize>
-        ensures { result ≡ outer_column (shown self.now.child) (shown self.now.root) name.now }
-    {
-        if self.child.is_named(name) {
-            return None;
-        }
-        self.root.own(name)
     }
 }

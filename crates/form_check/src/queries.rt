@@ -5,7 +5,7 @@ ghost use Rattle.table.specs.Rows.{layout_of, position_of};
 ghost use Rattle.std.specs.Option.{option_map};
 ghost use Rattle.value.specs.declared.refusals.Refusal.TheVariants.{NoMemory};
 ghost use Rattle.form_check.specs.ShownScopes.{shown};
-ghost use Rattle.form_check.specs.Queries.{alone, source_of, sourced, row_condition, row_expression, row_filter, of_column, selected_aggregate, may_be_selected};
+ghost use Rattle.form_check.specs.Queries.{alone, source_of, sourced, row_condition, joint_condition, row_expression, row_filter, of_column, selected_aggregate, may_be_selected};
 ghost use Rattle.form_check.specs.ShownSources.{shown_source};
 ghost use Rattle.form_check.specs.ShownLeaves.{shown_leaves, place};
 
@@ -78,6 +78,28 @@ pub fn row_condition(alloc: Global, scope: Scope, condition: &Condition) -> Resu
     require_own_columns(made, &leaves)
 }
 
+/// A condition over a row of a query's table, and the row around it, which holds what stands in the slots.
+///
+/// # Errors
+///
+/// [`Refusal::OutsideClass`] where it holds a set function, a query or a column of a third table; or
+/// [`Refusal::NoMemory`].
+pub fn joint_condition(
+    alloc: Global,
+    child: Scope,
+    root: Scope,
+    condition: &Condition,
+) -> Result<Cond, Refusal>
+    ensures made { IfOk result (λ made.
+        joint_condition (shown child.entry) (shown root.entry) condition.now ≡ Ok made) }
+    ensures refused { IfErr result (λ refusal. refusal ≢ NoMemory
+        → joint_condition (shown child.entry) (shown root.entry) condition.now ≡ Err refusal) }
+{
+    let mut leaves = Vec::new(alloc);
+    let made = numbered(alloc, &Columns::Both(child, root), condition, &mut leaves)?;
+    require_own_columns(made, &leaves)
+}
+
 /// An expression over the rows of one table.
 ///
 /// # Errors
@@ -94,7 +116,7 @@ pub fn row_expression(alloc: Global, scope: Scope, expression: &Expression) -> R
     require_own_columns(made, &leaves)
 }
 
-/// What was made, if nothing but the row's own columns stood there.
+/// What was made, if nothing but columns and literals stood there.
 fn require_own_columns<T: Drop>(made: T, leaves: &[Leaf]) -> Result<T, Refusal>
     ensures { result ≡ alone made (shown_leaves leaves.now) }
 {

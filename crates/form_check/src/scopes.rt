@@ -2,6 +2,7 @@
 
 ghost use Rattle.std.specs.Prelude.{◌≡◌, ◌≢◌, ◌∷◌, IfOk, IfErr, IsOkUnless, Some, None, unwrap_or};
 ghost use Rattle.value.specs.declared.refusals.Refusal.TheVariants.{NoMemory};
+ghost use Rattle.form_check.specs.Columns.{outer_column};
 ghost use Rattle.form_check.specs.Scopes.{column_error, column_fault, is_name_of, own_column};
 ghost use Rattle.form_check.specs.ShownScopes.{shown, all_shown};
 
@@ -39,6 +40,16 @@ impl<'a> Scope<'a> {
         } else {
             None
         }
+    }
+
+    /// The place of the column of another table, further out, that a name means, if the name is not of this one.
+    pub fn outer(&self, root: &Scope, column: &ColumnName) -> Option<usize>
+        ensures { result ≡ outer_column (shown self.now) (shown root.now) column.now }
+    {
+        if self.is_named(column) {
+            return None;
+        }
+        root.own(column)
     }
 }
 

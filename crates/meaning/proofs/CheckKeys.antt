@@ -23,7 +23,7 @@ use Rattle.syntax.specs.declared.trees.Query.{Query, out-Query}
 use Rattle.form_check.specs.Scopes.{Scope, own_column}
 use Rattle.value.specs.Results.{each}
 use Rattle.form_check.specs.Results.{in_class, only_if}
-use Rattle.form_check.specs.Columns.{no_column}
+use Rattle.form_check.specs.Columns.{no_column, at_place}
 use Rattle.form_check.specs.Leaves.{Leaf, Leaves}
 use Rattle.form_check.specs.Queries.{Source, source_of, selected_aggregate, may_be_selected}
 use Rattle.form_check.specs.Forms.{form_of, plain, plain_by, row_where, by_row, by_group, by_clauses, not_exists, single, linked, linked_where}
@@ -83,7 +83,7 @@ whole_read tables (class.Value query) q e =
 single_reads : (tables : Tables) (c : Condition) (form : Form) → single tables c ≡ Ok form → Reads tables c form
 single_reads tables c form e =
     let m = single_made tables c form e in
-    let (columns, leaves) = (condition_numbers no_column c).says [] m.made m.leaves m.numbers in
+    let (columns, leaves) = (condition_numbers (at_place no_column) c).says [] m.made m.leaves m.numbers in
     let places : List ℕ = map (λ (q : Subquery Whole). q.table) m.queries in
     let queried = pairs_mapped (InSingle (IsTableKey tables)) key.Table (pieces_in c) places (pieces_made (plain tables) (λ p t. InSingle (IsTableKey tables) p (key.Table t)) (λ (q : Subquery Whole). q.table) (whole_read tables) m.leaves (pieces_in c) m.queries leaves m.are) in
     subst (Reads tables c) m.is (inr (inr (record { queried = λ state. queried; none = λ state v. refl; finding = λ change. refl })), inr queried)
@@ -103,14 +103,14 @@ link_read : (tables : Tables) (root : Scope) (reads : ℕ → Scope → Link →
     → linked_where child root a (out-Query query).keeps (out-Query query).group (out-Query query).having ≡ Ok q → IsOfLink tables root reads query (read q)
 link_read tables root reads read same query child a q found e =
     let c = out-Query query in
-    let (no_group, (no_having, (condition, (keeps, (link, (one, (restriction, (are, makes)))))))) = linked_where_ok child root a c.keeps c.group c.having q e in record {
+    let (no_group, (no_having, (condition, (keeps, (link, (first, (restriction, (are, makes)))))))) = linked_where_ok child root a c.keeps c.group c.having q e in record {
       table = child.table;
       scope = child.scope;
       of_table = table_is tables c.table c.correlation_name child found;
       condition = condition;
       filter = keeps;
       link = link;
-      linked = where_class child.scope root condition link one (restriction, are);
+      linked = where_class child.scope root condition link first (restriction, are);
       is =
           same child q (key_is tables c.table c.correlation_name child found) (ap (λ (q : Subquery Link). q.table) (sym makes))
           ∙ ap (λ (q : Subquery Link). reads child.table child.scope q.grouping) (sym makes);
@@ -144,7 +144,7 @@ link_table : (tables : Tables) (root : Scope) (query : Query) (child : Source) (
     → linked_where child root a (out-Query query).keeps (out-Query query).group (out-Query query).having ≡ Ok q → IsTableKey tables query (key.Table q.table)
 link_table tables root query child a q found e =
     let c = out-Query query in
-    let (no_group, (no_having, (condition, (keeps, (link, (one, (restriction, (are, makes)))))))) = linked_where_ok child root a c.keeps c.group c.having q e in
+    let (no_group, (no_having, (condition, (keeps, (link, (first, (restriction, (are, makes)))))))) = linked_where_ok child root a c.keeps c.group c.having q e in
     (child.table, (table_is tables c.table c.correlation_name child found).placed, ap (λ (q : Subquery Link). key.Table q.table) (sym makes))
 
 mapped_tables : (queries : List (Subquery Link)) → map key.Table (map (λ (q : Subquery Link). q.table) queries) ≡ map (λ (q : Subquery Link). key.Table q.table) queries
@@ -174,7 +174,7 @@ module _ {Read : Type 0} (tables : Tables) (root : Scope) (P : Query → Read �
       let none : Leaves = [] in
       pieces_made (linked tables root) (InWhere P) read linked_read leaves [] queries (sym (ok_pair (cond_of.And []) made none leaves is).1) are
   where_reads (Some c) made leaves queries is are =
-      pieces_made (linked tables root) (InWhere P) read linked_read leaves (pieces_in c) queries ((condition_numbers (own_column root) c).says [] made leaves is).1 are
+      pieces_made (linked tables root) (InWhere P) read linked_read leaves (pieces_in c) queries ((condition_numbers (at_place (own_column root)) c).says [] made leaves is).1 are
 
 row_reads : (tables : Tables) (c : Condition) (query : Query) → IsDenied c query → (source : Source) → source_of tables (out-Query query).table (out-Query query).correlation_name ≡ Some source → (out-Query query).group ≡ None → (form : Form) → by_row tables source (out-Query query) ≡ Ok form
     → Reads tables c form

@@ -2,8 +2,12 @@
 use Rattle.std.proofs.Common.{◌≡◌, ℕ, suc, ◌+◌, Bool, true, false, cond, map, length, nat_eq, Option, Some, None, Result, Ok, List, [], ◌∷◌, ◌++◌, refl, ap, sym, ◌∙◌, subst, ⊎_elim, inl, inr}
 use Rattle.std.specs.List.{position_or_len}
 use Rattle.std.specs.Cmp.Lexicographic.{pointwise}
-use Rattle.std.specs.Prelude.{◌⊎◌, IsNone, IsSome, not, nat_lt, option_map, unwrap_or, is_some, is_none, ◌==◌, option_to_list, if◌then◌else◌}
+use Rattle.std.specs.Prelude.{◌⊎◌, IsNone, IsSome, not, nat_lt, option_map, unwrap_or, is_some, ◌==◌, find, if◌then◌else◌}
+use Rattle.std.specs.Option.{option_and_then}
+use Rattle.table.specs.declared.exprs.Expr.{Expr}
+use Rattle.table.specs.declared.exprs.Expr.TheVariants as expr
 use Rattle.value.specs.declared.refusals.Refusal.{Refusal}
+use Rattle.value.specs.declared.comparisons.Comparison.{Comparison}
 use Rattle.value.specs.declared.comparisons.Comparison.TheVariants.{Equal, NotEqual, Less, AtMost, Greater, AtLeast}
 use Rattle.table.specs.Rows.{Layout, Tables, layout_of, names_of, position_of}
 use Rattle.table.specs.declared.aggregates.Aggregate.{Aggregate}
@@ -18,34 +22,36 @@ use Rattle.assertion.specs.declared.forms.Form.TheVariants.{ByRow, ByGroup, Sing
 use Rattle.syntax.specs.declared.trees.ColumnName.{ColumnName}
 use Rattle.syntax.specs.declared.trees.Condition.{Condition, out-Condition, roll-out-Condition}
 use Rattle.syntax.specs.declared.trees.Condition.TheOpen.{Condition-F, Expression-F, SelectList-F}
-use Rattle.syntax.specs.declared.trees.Expression.{Expression, out-Expression}
+use Rattle.syntax.specs.declared.trees.Expression.{Expression, out-Expression, roll-out-Expression}
 use Rattle.syntax.specs.declared.trees.SelectList.{SelectList, out-SelectList}
 use Rattle.syntax.specs.declared.trees.Query.{Query, out-Query}
 use Rattle.form_check.specs.Scopes.{Scope, named_in, is_name_of, own_column}
 use Rattle.value.specs.Results.{and_then, each}
 use Rattle.form_check.specs.Results.{in_class, only_if}
-use Rattle.form_check.specs.Columns.{no_column, in_group, grouping_column}
+use Rattle.form_check.specs.Columns.{no_column, in_group, grouping_column, at_place, outer_column, in_both, of_both}
 use Rattle.form_check.specs.Leaves.{Leaf, Leaves, numbered}
-use Rattle.form_check.specs.Queries.{Source, sourced, source_of, alone, aggregate_in, aggregate_selected, expression_may_stand, selection_may_stand, row_condition, row_filter, of_column, selected_aggregate, may_be_selected}
+use Rattle.form_check.specs.Queries.{Source, sourced, source_of, alone, aggregate_in, aggregate_selected, expression_may_stand, selection_may_stand, row_condition, joint_condition, row_filter, of_column, selected_aggregate, may_be_selected}
 use Rattle.form_check.specs.Forms.{Clauses, plain, plain_by, plain_value, aggregate_of, row_where, by_row, having_over, by_group, by_clauses, not_exists, single, denied, form_in, form_of, linked}
 use Rattle.meaning.specs.Class as class
-use Rattle.meaning.specs.Class.{Piece, Pieces, Each, IfWritten, columns_in, pieces_in, read_by, named_as, IsColumnAt, IsSimple, IsSimpleList, IsSet, IsSetList, condition_pieces, condition_columns, expression_columns, IsOwn, IsOverRows, IsPlainQuery, IsPlainPiece, IsSingle, IsSetFunction, IsGroupQuery, IsLink, IsLinkedWhere, IsLinkedPiece, IsRowWhere, IsRowQuery, IsDenied, IsByRows, IsByGroups, IsInClass}
-use Rattle.form_check.specs.Links.{top_parts, name_in, link_by, link_of_names, either, link_between, link_in, link_of, links_in, only_one, own_parts, filter_parts}
+use Rattle.meaning.specs.Class.{Piece, Pieces, Each, IfWritten, columns_in, pieces_in, read_by, named_as, IsColumnAt, IsSimple, IsSimpleList, IsSet, IsSetList, condition_pieces, expression_pieces, condition_columns, expression_columns, IsOwn, IsOverRows, IsPlainQuery, IsPlainPiece, IsSingle, IsSetFunction, IsGroupQuery, IsOfEither, IsOverBoth, IsLink, JoinsRow, JoinsKey, IsFirstLink, IsLinkedWhere, IsLinkedPiece, IsRowWhere, IsRowQuery, IsDenied, IsByRows, IsByGroups, IsInClass}
+use Rattle.form_check.specs.Links.{top_parts, name_in, link_by, link_of_names, either, link_between, link_in, link_of, is_by, is_link, key_linked, may_link, first_link, beside, filter_parts}
 use Rattle.form_check.specs.Forms.{linked_where}
 use Rattle.syntax.specs.declared.trees.Condition.TheFolds.{map-Condition, map-Expression, fold_out-Condition, fold_out-Expression}
 use Rattle.std.proofs.Common.{arith}
 use Rattle.std.proofs.lemmas.Bool.Decides.{nat_tests}
 use Rattle.std.proofs.lemmas.Option.{same_Some}
-use Rattle.meaning.proofs.Links.{one_test, link_names_are, either_is, linked_where_ok, only_one_is}
+use Rattle.meaning.proofs.Links.{one_test, link_names_are, either_is, first_link_is, linked_where_ok}
+use Rattle.meaning.specs.Keys.{HasOneLink}
 use Rattle.meaning.specs.Laws as law
 use Rattle.meaning.specs.Laws.{Pairs}
 use Rattle.meaning.proofs.Steps.{and_then_ok, in_class_ok, only_if_ok, ok_same}
-use Rattle.meaning.proofs.Rows.{alone_ok}
+use Rattle.meaning.proofs.Rows.{alone_ok, outer_column_is, both_cases}
 use Rattle.meaning.proofs.Queries.{plain_by_ok}
 use Rattle.meaning.proofs.Groups.{in_group_is}
 use Rattle.meaning.proofs.Made.{single_made, row_made, group_made}
 use Rattle.meaning.proofs.Whole.{by_clauses_ok}
-use Rattle.meaning.proofs.Standing.{leaf_of, MayStand, condition_numbers, some_is, columns_of, pieces_at, each_append, condition_pieces_rolled}
+use Rattle.meaning.proofs.Parts.{Fail, fail_none, none_fail, none_found, none_finds, split, joined, some_found, beside_each}
+use Rattle.meaning.proofs.Standing.{leaf_of, MayStand, each_other, condition_numbers, some_is, columns_of, pieces_at, each_append, condition_pieces_rolled, expression_pieces_rolled}
 
 -- it is answered
 abbrev pub Answers : {A : Type 0} → Result A Refusal → Type 0
@@ -57,24 +63,48 @@ none_is (Some a) h = cc
 
 -- ---- conditions of one table
 
-equal_itself : (n : ℕ) → n == n ≡ true
-equal_itself n = grind (arith, nat_tests)
+equal_numbers : (m n : ℕ) → m == n ≡ true → m ≡ n
+equal_numbers m n e = grind (arith, nat_tests)
+
+numbers_equal : (m n : ℕ) → m ≡ n → m == n ≡ true
+numbers_equal m n e = grind (arith, nat_tests)
 
 no_pieces : (ps : Pieces) → map leaf_of ps ≡ [] → ps ≡ []
 no_pieces [] e = refl
 no_pieces (p ∷ ps) e = cc
 
+some_mapped : {A B : Type 0} (f : A → B) (o : Option A) → is_some (option_map f o) ≡ is_some o
+some_mapped f None = refl
+some_mapped f (Some a) = refl
+
+-- a column of the row at hand may stand there, where it has a place
+at_stands : (place : ColumnName → Option ℕ) (c : ColumnName) → IsSome (at_place place c) → IsSome (place c)
+at_stands place c h = sym (some_mapped expr.Column (place c)) ∙ h
+
+stands_at : (place : ColumnName → Option ℕ) (c : ColumnName) → IsSome (place c) → IsSome (at_place place c)
+stands_at place c h = some_mapped expr.Column (place c) ∙ h
+
+-- conditions in which columns alone stand
+module _ (place : ColumnName → Option Expr) (P : ColumnName → Type 0) (of_place : (c : ColumnName) → IsSome (place c) → P c) (to_place : (c : ColumnName) → P c → IsSome (place c)) where
+  alone_over : (c : Condition) → Answers (and_then (numbered place c []) (λ m. alone m.0 m.1)) → Each P (columns_in c) × (pieces_in c ≡ [])
+  alone_over c (made, e) =
+      let (m, (is, rest)) = and_then_ok (numbered place c []) (λ m. alone m.0 m.1) made e in
+      let (same, none) = alone_ok m.0 m.1 made rest in
+      let (columns, leaves) = (condition_numbers place c).says [] m.0 m.1 is in
+      (each_other (MayStand place) P of_place (columns_in c) columns, no_pieces (pieces_in c) (sym leaves ∙ none))
+
+  over_alone : (c : Condition) → Each P (columns_in c) → pieces_in c ≡ [] → Answers (and_then (numbered place c []) (λ m. alone m.0 m.1))
+  over_alone c columns none =
+      let (made, is) = (condition_numbers place c).finds [] (each_other P (MayStand place) to_place (columns_in c) columns) in
+      (made, ap (λ r. and_then r (λ m. alone m.0 m.1)) is ∙ ap (λ ps. alone made (map leaf_of ps)) none)
+
 over_rows : (scope : Scope) (c : Condition) → Answers (row_condition scope c) → IsOverRows scope c
-over_rows scope c (made, e) =
-    let (m, (is, rest)) = and_then_ok (numbered (own_column scope) c []) (λ m. alone m.0 m.1) made e in
-    let (same, none) = alone_ok m.0 m.1 made rest in
-    let (columns, leaves) = (condition_numbers (own_column scope) c).says [] m.0 m.1 is in
-    record { columns = columns; alone = no_pieces (pieces_in c) (sym leaves ∙ none) }
+over_rows scope c h =
+    let (columns, none) = alone_over (at_place (own_column scope)) (IsOwn scope) (at_stands (own_column scope)) (stands_at (own_column scope)) c h in
+    record { columns = columns; alone = none }
 
 rows_over : (scope : Scope) (c : Condition) → IsOverRows scope c → Answers (row_condition scope c)
-rows_over scope c over =
-    let (made, is) = (condition_numbers (own_column scope) c).finds [] over.columns in
-    (made, ap (λ r. and_then r (λ m. alone m.0 m.1)) is ∙ ap (λ ps. alone made (map leaf_of ps)) over.alone)
+rows_over scope c over = over_alone (at_place (own_column scope)) (IsOwn scope) (at_stands (own_column scope)) (stands_at (own_column scope)) c over.columns over.alone
 
 pub over_filter : (scope : Scope) (c : Option Condition) → Answers (row_filter scope c) → IfWritten (IsOverRows scope) c
 over_filter scope None h = tt
@@ -118,10 +148,6 @@ pieces_of make P one leaves ps same (made, e) = each_of (λ p. make (leaf_of p))
 
 of_pieces : {A : Type 0} (make : Leaf → Result A Refusal) (P : Piece → Type 0) → ((p : Piece) → P p → Answers (make (leaf_of p))) → (ps : Pieces) → Each P ps → Answers (each make (map leaf_of ps))
 of_pieces make P one ps h = let (made, is) = of_each (λ p. make (leaf_of p)) P one ps h in (made, each_mapped make leaf_of ps ∙ is)
-
-each_other : {X : Type 0} (P Q : X → Type 0) → ((x : X) → P x → Q x) → (xs : List X) → Each P xs → Each Q xs
-each_other P Q one [] h = tt
-each_other P Q one (x ∷ xs) h = (one x h.0, each_other P Q one xs h.1)
 
 -- ---- the table that a query reads
 
@@ -207,10 +233,10 @@ list_own scope list h = list_simple (own_column scope) (IsOwn scope) (λ c h. h)
 
 -- the grouping column
 grouped_at : (group : ℕ) (o : Option ℕ) → IsSome (in_group group o) → o ≡ Some group
-grouped_at group o h = let (c, is) = some_is no_column (in_group group o) h in (in_group_is group o c is).0
+grouped_at group o h = let (c, is) = some_is (in_group group o) h in (in_group_is group o c is).0
 
 at_group : (group : ℕ) (o : Option ℕ) → o ≡ Some group → IsSome (in_group group o)
-at_group group o e = ap (λ o. is_some (in_group group o)) e ∙ ap (λ b. let o : Option ℕ = cond b (Some 0) None in is_some o) (equal_itself group)
+at_group group o e = ap (λ o. is_some (in_group group o)) e ∙ ap (λ b. let o : Option ℕ = cond b (Some 0) None in is_some o) (numbers_equal group group refl)
 
 group_list : (scope : Scope) (group : ℕ) (list : SelectList) → may_be_selected (grouping_column scope group) list ≡ true → IsSimpleList (IsColumnAt scope group) (out-SelectList list)
 group_list scope group list e = simple_list (grouping_column scope group) (IsColumnAt scope group) (λ c h. grouped_at group (own_column scope c) h) (λ c h. at_group group (own_column scope c) h) list e
@@ -219,10 +245,6 @@ list_group : (scope : Scope) (group : ℕ) (list : SelectList) → IsSimpleList 
 list_group scope group list h = list_simple (grouping_column scope group) (IsColumnAt scope group) (λ c h. grouped_at group (own_column scope c) h) (λ c h. at_group group (own_column scope c) h) list h
 
 -- one set function
-some_mapped : {A B : Type 0} (f : A → B) (o : Option A) → is_some (option_map f o) ≡ is_some o
-some_mapped f None = refl
-some_mapped f (Some a) = refl
-
 set_layer : (scope : Scope) (layer : Expression-F Condition Expression SelectList Query) → is_some (aggregate_in scope layer) ≡ true → IsSet scope layer
 set_layer scope (Expression-F.Number n) e = cc
 set_layer scope (Expression-F.Text t) e = cc
@@ -274,7 +296,7 @@ query_plain tables query is =
     let scope = is.scope in
     let (t, reads) = scope_reads tables query scope is.reads in
     let source : Source = record { table = t; scope = scope } in
-    let (a, lists) = some_is no_column (selected_aggregate scope q.select_list) (list_set scope q.select_list is.lists) in
+    let (a, lists) = some_is (selected_aggregate scope q.select_list) (list_set scope q.select_list is.lists) in
     let (restriction, filters) = filter_over scope q.keeps is.filter in
     let make : Aggregate → Cond → Subquery Whole = λ a restriction. record { table = t; filter = restriction; grouping = record {}; aggregate = a } in (
       make a restriction,
@@ -297,19 +319,19 @@ leaf_is_plain tables (class.Of f c) h = absurd h
 leaf_is_plain tables (class.Exists query) h = absurd h
 leaf_is_plain tables (class.Value query) h = query_plain tables query h
 
-no_columns : (cs : List ColumnName) → Each (MayStand no_column) cs → cs ≡ []
+no_columns : (cs : List ColumnName) → Each (MayStand (at_place no_column)) cs → cs ≡ []
 no_columns [] h = refl
 no_columns (c ∷ cs) h = let k : false ≡ true = h.0 in cc
 
 pub single_class : (tables : Tables) (c : Condition) → Answers (single tables c) → IsSingle tables c
 single_class tables c (form, e) =
     let m = single_made tables c form e in
-    let (columns, leaves) = (condition_numbers no_column c).says [] m.made m.leaves m.numbers in
+    let (columns, leaves) = (condition_numbers (at_place no_column) c).says [] m.made m.leaves m.numbers in
     record { columns = no_columns (columns_in c) columns; queries = pieces_of (plain tables) (IsPlainPiece tables) (plain_leaf_is tables) m.leaves (pieces_in c) leaves (m.queries, m.are) }
 
 pub class_single : (tables : Tables) (c : Condition) → IsSingle tables c → Answers (single tables c)
 class_single tables c h =
-    let (made, is) = (condition_numbers no_column c).finds [] (subst (Each (MayStand no_column)) (sym h.columns) tt) in
+    let (made, is) = (condition_numbers (at_place no_column) c).finds [] (subst (Each (MayStand (at_place no_column))) (sym h.columns) tt) in
     let (queries, are) = of_pieces (plain tables) (IsPlainPiece tables) (leaf_is_plain tables) (pieces_in c) h.queries in (
       Single made queries,
       ap (λ r. and_then r (λ m. and_then (each (plain tables) m.1) (λ queries. let r : Result Form Refusal = Ok (Single m.0 queries) in r))) is
@@ -328,7 +350,7 @@ set_leaf scope (class.Value query) (a, e) = cc
 leaf_set : (scope : Scope) (p : Piece) → IsSetFunction scope p → Answers (aggregate_of scope (leaf_of p))
 leaf_set scope class.Rows h = (CountRows, refl)
 leaf_set scope (class.Of f column) h =
-    let (c, is) = some_is no_column (own_column scope column) h in
+    let (c, is) = some_is (own_column scope column) h in
     (of_column f c, ap (λ o. in_class o (λ c. let r : Result Aggregate Refusal = Ok (of_column f c) in r)) is)
 leaf_set scope (class.Exists query) h = absurd h
 leaf_set scope (class.Value query) h = absurd h
@@ -339,15 +361,15 @@ group_class source query column having (form, e) =
     let scope = source.scope in
     let m = group_made source query column having form e in
     let group = m.group in
-    let (columns, leaves) = (condition_numbers (grouping_column scope group) having).says [] m.made m.leaves m.numbers in
-    (group, (m.own, (group_list scope group query.select_list m.lists, (over_filter scope query.keeps (m.restriction, m.keeps), (each_other (MayStand (grouping_column scope group)) (IsColumnAt scope group) (λ c h. grouped_at group (own_column scope c) h) (columns_in having) columns, pieces_of (aggregate_of scope) (IsSetFunction scope) (set_leaf scope) m.leaves (pieces_in having) leaves (m.aggregates, m.are))))))
+    let (columns, leaves) = (condition_numbers (at_place (grouping_column scope group)) having).says [] m.made m.leaves m.numbers in
+    (group, (m.own, (group_list scope group query.select_list m.lists, (over_filter scope query.keeps (m.restriction, m.keeps), (each_other (MayStand (at_place (grouping_column scope group))) (IsColumnAt scope group) (λ c h. grouped_at group (own_column scope c) (at_stands (grouping_column scope group) c h)) (columns_in having) columns, pieces_of (aggregate_of scope) (IsSetFunction scope) (set_leaf scope) m.leaves (pieces_in having) leaves (m.aggregates, m.are))))))
 
 class_group : (source : Source) (query : Clauses) (column : ColumnName) (having : Condition) (group : ℕ) → own_column source.scope column ≡ Some group → IsSimpleList (IsColumnAt source.scope group) (out-SelectList query.select_list) → IfWritten (IsOverRows source.scope) query.keeps
     → Each (IsColumnAt source.scope group) (columns_in having) → Each (IsSetFunction source.scope) (pieces_in having) → Answers (by_group source query column having)
 class_group source query column having group own lists keeps columns leaves =
     let scope = source.scope in
     let (restriction, filters) = filter_over scope query.keeps keeps in
-    let (made, is) = (condition_numbers (grouping_column scope group) having).finds [] (each_other (IsColumnAt scope group) (MayStand (grouping_column scope group)) (λ c h. at_group group (own_column scope c) h) (columns_in having) columns) in
+    let (made, is) = (condition_numbers (at_place (grouping_column scope group)) having).finds [] (each_other (IsColumnAt scope group) (MayStand (at_place (grouping_column scope group))) (λ c h. stands_at (grouping_column scope group) c (at_group group (own_column scope c) h)) (columns_in having) columns) in
     let (aggregates, are) = of_pieces (aggregate_of scope) (IsSetFunction scope) (leaf_set scope) (pieces_in having) leaves in (
       ByGroup source.table restriction group made aggregates,
       ap (λ o. in_class o (λ group. only_if (may_be_selected (grouping_column scope group) query.select_list) (and_then (row_filter scope query.keeps) (λ restriction. having_over source group restriction having)))) own
@@ -356,6 +378,67 @@ class_group source query column having group own lists keeps columns leaves =
           ∙ ap (λ r. and_then r (λ made. and_then (each (aggregate_of scope) made.1) (λ aggregates. let r : Result Form Refusal = Ok (ByGroup source.table restriction group made.0 aggregates) in r))) is
           ∙ ap (λ r. and_then r (λ aggregates. let r : Result Form Refusal = Ok (ByGroup source.table restriction group made aggregates) in r)) are,
     )
+
+-- ---- conditions over both rows
+
+-- a name may stand over both rows where it is of the child, or else of the row around
+both_stands : (child root : Scope) (column : ColumnName) → IsSome (of_both child root column) → IsOfEither child root column
+both_stands child root column h =
+    let (e, is) = some_is (of_both child root column) h in
+    ⊎_elim (λ own. inl (ap is_some own.1.0)) (λ around. inr (around.0, outer_column_is child root column around.0 around.1.0)) (both_cases child root column e is)
+
+stands_both : (child root : Scope) (column : ColumnName) → IsOfEither child root column → IsSome (of_both child root column)
+stands_both child root column h =
+    ⊎_elim
+    (λ own. let (c, is) = some_is (own_column child column) own in ap (λ o. is_some (in_both o (outer_column child root column))) is)
+    (λ around.
+    ap (λ b. is_some (in_both (if b then named_in column.name child else None) (if b then None else own_column root column))) around.1.0
+    ∙ ap (λ o. is_some (in_both None o)) around.1.1)
+    h
+
+over_both : (child root : Scope) (c : Condition) → Answers (joint_condition child root c) → IsOverBoth child root c
+over_both child root c h =
+    let (columns, none) = alone_over (of_both child root) (IsOfEither child root) (both_stands child root) (stands_both child root) c h in
+    record { columns = columns; alone = none }
+
+both_over : (child root : Scope) (c : Condition) → IsOverBoth child root c → Answers (joint_condition child root c)
+both_over child root c over = over_alone (of_both child root) (IsOfEither child root) (both_stands child root) (stands_both child root) c over.columns over.alone
+
+-- ---- what stands in a node
+
+leaves_out : (c : Condition) → pieces_in c ≡ condition_pieces (map-Condition Condition Expression SelectList Query (Condition × Pieces) (Expression × Pieces) (SelectList × Unit {0}) (Query × Unit {0}) (λ c. (c, pieces_in c)) (λ e. (e, pieces_at e)) (λ l. (l, tt)) (λ q. (q, tt)) (out-Condition c))
+leaves_out c = ap pieces_in (sym (roll-out-Condition c)) ∙ condition_pieces_rolled (out-Condition c)
+
+leaves_layer : (c : Condition) (layer : Condition-F Condition Expression SelectList Query) → out-Condition c ≡ layer → pieces_in c ≡ condition_pieces (map-Condition Condition Expression SelectList Query (Condition × Pieces) (Expression × Pieces) (SelectList × Unit {0}) (Query × Unit {0}) (λ c. (c, pieces_in c)) (λ e. (e, pieces_at e)) (λ l. (l, tt)) (λ q. (q, tt)) layer)
+leaves_layer c layer e = leaves_out c ∙ ap (λ layer. condition_pieces (map-Condition Condition Expression SelectList Query (Condition × Pieces) (Expression × Pieces) (SelectList × Unit {0}) (Query × Unit {0}) (λ c. (c, pieces_in c)) (λ e. (e, pieces_at e)) (λ l. (l, tt)) (λ q. (q, tt)) layer)) e
+
+pieces_layer : (x : Expression) (layer : Expression-F Condition Expression SelectList Query) → out-Expression x ≡ layer → pieces_at x ≡ expression_pieces (map-Expression Condition Expression SelectList Query (Condition × Pieces) (Expression × Pieces) (SelectList × Unit {0}) (Query × Unit {0}) (λ c. (c, pieces_in c)) (λ e. (e, pieces_at e)) (λ l. (l, tt)) (λ q. (q, tt)) layer)
+pieces_layer x layer e =
+    ap pieces_at (sym (roll-out-Expression x)) ∙ expression_pieces_rolled (out-Expression x)
+    ∙ ap (λ layer. expression_pieces (map-Expression Condition Expression SelectList Query (Condition × Pieces) (Expression × Pieces) (SelectList × Unit {0}) (Query × Unit {0}) (λ c. (c, pieces_in c)) (λ e. (e, pieces_at e)) (λ l. (l, tt)) (λ q. (q, tt)) layer)) e
+
+name_columns : (x : Expression) (name : ColumnName) → out-Expression x ≡ Expression-F.Column name → columns_of x ≡ name ∷ []
+name_columns x name e =
+    fold_out-Expression (List ColumnName) (List ColumnName) (Unit {0}) (Unit {0}) condition_columns expression_columns (λ l. tt) (λ q. tt) x
+    ∙ ap (λ layer. expression_columns (map-Expression Condition Expression SelectList Query (List ColumnName) (List ColumnName) (Unit {0}) (Unit {0}) columns_in columns_of (λ l. tt) (λ q. tt) layer)) e
+
+sides_columns : (part : Condition) (left right : Expression) (c : Comparison) → out-Condition part ≡ Condition-F.Compare left c right → columns_in part ≡ columns_of left ++ columns_of right
+sides_columns part left right c e =
+    fold_out-Condition (List ColumnName) (List ColumnName) (Unit {0}) (Unit {0}) condition_columns expression_columns (λ l. tt) (λ q. tt) part
+    ∙ ap (λ layer. condition_columns (map-Condition Condition Expression SelectList Query (List ColumnName) (List ColumnName) (Unit {0}) (Unit {0}) columns_in columns_of (λ l. tt) (λ q. tt) layer)) e
+
+-- a comparison of two columns
+pub compares_columns : (child root : Scope) (part : Condition) (left right : Expression) (c : Comparison) (l r : ColumnName) → out-Condition part ≡ Condition-F.Compare left c right → out-Expression left ≡ Expression-F.Column l → out-Expression right ≡ Expression-F.Column r
+    → IsOfEither child root l → IsOfEither child root r → IsOverBoth child root part
+compares_columns child root part left right c l r out is_left is_right on_left on_right =
+    let columns : columns_in part ≡ l ∷ r ∷ [] = sides_columns part left right c out ∙ ap (λ cs. cs ++ columns_of right) (name_columns left l is_left) ∙ ap (λ cs. l ∷ cs) (name_columns right r is_right) in
+    record {
+      columns = subst (Each (IsOfEither child root)) (sym columns) (on_left, (on_right, tt));
+      alone =
+          leaves_layer part (Condition-F.Compare left c right) out
+          ∙ ap (λ ps. ps ++ pieces_at right) (pieces_layer left (Expression-F.Column l) is_left)
+          ∙ pieces_layer right (Expression-F.Column r) is_right;
+    }
 
 -- ---- links
 
@@ -417,8 +500,8 @@ module _ (child root : Scope) where
   inner_hidden l r c own =
       ap (λ b. link_by (own_column child l) (if b then None else own_column root r)) (one_test (is_name_of r.qualifier r.name child) (named_in r.name child) c own).0 ∙ no_outer (own_column child l)
 
-  is_link : (part : Condition) (c : Link) → IsLink child root c part → link_of child root part ≡ Some c
-  is_link part c h =
+  pub of_link : (part : Condition) (c : Link) → IsLink child root c part → link_of child root part ≡ Some c
+  of_link part c h =
       ⊎_elim
       (λ one.
       let l = one.0.0 in let r = one.1.0 in
@@ -430,86 +513,123 @@ module _ (child root : Scope) where
       ∙ ap (λ o. either o (link_of_names child root r l)) (inner_hidden l r c.inner two.0.2) ∙ inner_first r l c two.0.2 two.1.2.0 two.1.2.1)
       h.sides
 
-  -- a link names a column that is not the child's, so it is not over the child's rows
-  name_columns : (x : Expression) (name : ColumnName) → out-Expression x ≡ Expression-F.Column name → columns_of x ≡ name ∷ []
-  name_columns x name e =
-      fold_out-Expression (List ColumnName) (List ColumnName) (Unit {0}) (Unit {0}) condition_columns expression_columns (λ l. tt) (λ q. tt) x
-      ∙ ap (λ layer. expression_columns (map-Expression Condition Expression SelectList Query (List ColumnName) (List ColumnName) (Unit {0}) (Unit {0}) columns_in columns_of (λ l. tt) (λ q. tt) layer)) e
+  -- ---- which part is the link
 
-  sides_columns : (part : Condition) (left right : Expression) → out-Condition part ≡ Condition-F.Compare left Equal right → columns_in part ≡ columns_of left ++ columns_of right
-  sides_columns part left right e =
-      fold_out-Condition (List ColumnName) (List ColumnName) (Unit {0}) (Unit {0}) condition_columns expression_columns (λ l. tt) (λ q. tt) part
-      ∙ ap (λ layer. condition_columns (map-Condition Condition Expression SelectList Query (List ColumnName) (List ColumnName) (Unit {0}) (Unit {0}) columns_in columns_of (λ l. tt) (λ q. tt) layer)) e
+  abbrev by_key : Condition → Bool
+  by_key = is_link child root (Some child.layout.key)
 
-  hidden : (name : ColumnName) → IsOwn child name → is_name_of name.qualifier name.name child ≡ false → ⊥
-  hidden name own none = let e : is_some (own_column child name) ≡ false = ap (λ b. is_some (if b then named_in name.name child else None)) none in let k : true ≡ false = sym own ∙ e in cc
+  abbrev by_any : Condition → Bool
+  by_any = is_link child root None
 
-  not_both : (part : Condition) (c : Link) → IsOverRows child part → IsLink child root c part → ⊥
-  not_both part c over h =
-      let (on_left, on_right) = (each_append (IsOwn child) (columns_of h.left) (columns_of h.right)).0 (subst (Each (IsOwn child)) (sides_columns part h.left h.right h.equality) over.columns) in
-      ⊎_elim
-      (λ one. hidden one.1.0 (subst (Each (IsOwn child)) (name_columns h.right one.1.0 one.1.1) on_right).0 one.1.2.0)
-      (λ two. hidden two.1.0 (subst (Each (IsOwn child)) (name_columns h.left two.1.0 two.1.1) on_left).0 two.1.2.0)
-      h.sides
+  key_joined : (part : Condition) → by_key part ≡ true → JoinsKey child root part
+  key_joined part e = go (link_of child root part) refl e
+    where
+      go : (o : Option Link) → link_of child root part ≡ o → is_by (Some child.layout.key) o ≡ true → JoinsKey child root part
+      go None is e = cc
+      go (Some c) is e = (c, link_is part c is, equal_numbers c.inner child.layout.key e)
 
-  no_link : (part : Condition) → IsOverRows child part → link_of child root part ≡ None
-  no_link part over =
-      let case : (o : Option Link) → link_of child root part ≡ o → o ≡ None = λ o. elim o as (λ o. link_of child root part ≡ o → o ≡ None) [ None ↦ λ e. refl | Some c ↦ λ e. absurd (not_both part c over (link_is part c e)) ]
-      in case (link_of child root part) refl
+  joins_key : (part : Condition) → JoinsKey child root part → by_key part ≡ true
+  joins_key part h = ap (is_by (Some child.layout.key)) (of_link part h.0 h.1) ∙ numbers_equal h.0.inner child.layout.key h.2
 
-  -- ---- the parts of a linked WHERE
+  any_joined : (part : Condition) → by_any part ≡ true → JoinsRow child root part
+  any_joined part e = go (link_of child root part) refl e
+    where
+      go : (o : Option Link) → link_of child root part ≡ o → is_by None o ≡ true → JoinsRow child root part
+      go None is e = cc
+      go (Some c) is e = (c, link_is part c is)
 
-  none_left : (parts : List Condition) → links_in child root parts ≡ [] → own_parts child root parts ≡ parts
-  none_left [] e = refl
-  none_left (part ∷ parts) e =
-      let case : (o : Option Link) → option_to_list o ++ links_in child root parts ≡ [] → cond (is_none o) (part ∷ own_parts child root parts) (own_parts child root parts) ≡ part ∷ parts = λ o. elim o as (λ o. option_to_list o ++ links_in child root parts ≡ [] → cond (is_none o) (part ∷ own_parts child root parts) (own_parts child root parts) ≡ part ∷ parts) [
-        | None ↦ λ e. ap (λ ps. part ∷ ps) (none_left parts e)
-        | Some c ↦ λ e. cc
-      ] in case (link_of child root part) e
+  joins_any : (part : Condition) → JoinsRow child root part → by_any part ≡ true
+  joins_any part h = ap (is_by None) (of_link part h.0 h.1)
 
-  abbrev Split : Link → List Condition → Type 0
-  Split c parts = (before : List Condition) × ((link : Condition) × ((behind : List Condition) × ((parts ≡ before ++ link ∷ behind) × (IsLink child root c link × Each (IsOverRows child) (before ++ behind)))))
+  -- the first part that may be the link
+  first_is : (parts before : List Condition) (link : Condition) (c : Link) → link_of child root link ≡ Some c → may_link child root parts link ≡ true → Fail (may_link child root parts) before → IsFirstLink child root c before parts
+  first_is parts before link c is may none = go (find by_key parts) refl may none
+    where
+      go : (o : Option Condition) → find by_key parts ≡ o → is_link child root (if is_some o then Some child.layout.key else None) link ≡ true → Fail (is_link child root (if is_some o then Some child.layout.key else None)) before → IsFirstLink child root c before parts
+      go (Some first) found may none = inl (equal_numbers c.inner child.layout.key (sym (ap (is_by (Some child.layout.key)) is) ∙ may), fail_none by_key (JoinsKey child root) joins_key before none)
+      go None found may none = inr (fail_none by_key (JoinsKey child root) joins_key parts (none_found by_key parts found), fail_none by_any (JoinsRow child root) joins_any before none)
 
-  split : (parts : List Condition) (c : Link) → links_in child root parts ≡ c ∷ [] → Each (IsOverRows child) (own_parts child root parts) → Split c parts
-  split [] c e h = cc
-  split (part ∷ parts) c e h =
-      let case : (o : Option Link) → link_of child root part ≡ o → option_to_list o ++ links_in child root parts ≡ c ∷ [] → Each (IsOverRows child) (cond (is_none o) (part ∷ own_parts child root parts) (own_parts child root parts)) → Split c (part ∷ parts) = λ o. elim o as (λ o. link_of child root part ≡ o → option_to_list o ++ links_in child root parts ≡ c ∷ [] → Each (IsOverRows child) (cond (is_none o) (part ∷ own_parts child root parts) (own_parts child root parts)) → Split c (part ∷ parts)) [
-        | None ↦ λ n e h. let (before, (link, (behind, (is, (links, others))))) = split parts c e h.1 in (part ∷ before, (link, (behind, (ap (λ ps. part ∷ ps) is, (links, (h.0, others))))))
-        | Some d ↦ λ s e h.
-            let rest : links_in child root parts ≡ [] = ap (λ (cs : List Link). elim cs [ [] ↦ [] | x ∷ xs ↦ xs ]) e in
-            let same : d ≡ c = ap (λ (cs : List Link). elim cs [ [] ↦ c | x ∷ xs ↦ x ]) e in
-            let nothing : List Condition = [] in
-            (nothing, (part, (parts, (refl, (subst (λ c. IsLink child root c part) same (link_is part d s), subst (Each (IsOverRows child)) (none_left parts rest) h)))))
-      ] in case (link_of child root part) refl e h
+  pub where_class : (condition : Condition) (c : Link) → first_link child root (top_parts condition) ≡ Some c → Answers (filter_parts child root (top_parts condition)) → IsLinkedWhere child root c condition
+  where_class condition c first restriction =
+      let parts = top_parts condition in
+      let (link, (found, is)) = first_link_is child root parts c first in
+      let (before, (behind, (are, (may, (none, left))))) = split (may_link child root parts) parts link found in record {
+        before = before;
+        link = link;
+        behind = behind;
+        parts = are;
+        links = link_is link c is;
+        others = subst (Each (IsOverBoth child root)) left (each_of (joint_condition child root) (IsOverBoth child root) (over_both child root) (beside (may_link child root parts) parts) restriction);
+        first = subst (IsFirstLink child root c before) are (first_is parts before link c is may none);
+      }
 
-  own_lists : (parts : List Condition) → Each (IsOverRows child) parts → (links_in child root parts ≡ []) × (own_parts child root parts ≡ parts)
-  own_lists [] h = (refl, refl)
-  own_lists (part ∷ parts) h =
-      let (links, own) = own_lists parts h.1 in
-      let none = no_link part h.0 in
-      (ap (λ o. option_to_list o ++ links_in child root parts) none ∙ links, ap (λ o. cond (is_none o) (part ∷ own_parts child root parts) (own_parts child root parts)) none ∙ ap (λ ps. part ∷ ps) own)
+  abbrev Linked : Link → List Condition → Type 0
+  Linked c parts = (first_link child root parts ≡ Some c) × Answers (filter_parts child root parts)
 
-  join : (before behind : List Condition) (link : Condition) (c : Link) → link_of child root link ≡ Some c → Each (IsOverRows child) (before ++ behind) → (links_in child root (before ++ link ∷ behind) ≡ c ∷ []) × (own_parts child root (before ++ link ∷ behind) ≡ before ++ behind)
-  join [] behind link c is h =
-      let (links, own) = own_lists behind h in
-      (ap (λ o. option_to_list o ++ links_in child root behind) is ∙ ap (λ cs. c ∷ cs) links, ap (λ o. cond (is_none o) (link ∷ own_parts child root behind) (own_parts child root behind)) is ∙ own)
-  join (part ∷ before) behind link c is h =
-      let (links, own) = join before behind link c is h.1 in
-      let none = no_link part h.0 in
-      let rest = before ++ link ∷ behind in
-      (ap (λ o. option_to_list o ++ links_in child root rest) none ∙ links, ap (λ o. cond (is_none o) (part ∷ own_parts child root rest) (own_parts child root rest)) none ∙ ap (λ ps. part ∷ ps) own)
+  first_found : (parts : List Condition) (link : Condition) (c : Link) (column : Option ℕ) → key_linked child root parts ≡ column → find (is_link child root column) parts ≡ Some link → link_of child root link ≡ Some c → first_link child root parts ≡ Some c
+  first_found parts link c column keyed found is = ap (λ k. option_and_then (link_of child root) (find (is_link child root k) parts)) keyed ∙ ap (option_and_then (link_of child root)) found ∙ is
 
-  pub where_class : (condition : Condition) (c : Link) → only_one (links_in child root (top_parts condition)) ≡ Some c → Answers (filter_parts child root (top_parts condition)) → IsLinkedWhere child root c condition
-  where_class condition c one restriction =
-      let (before, (link, (behind, (is, (links, others))))) = split (top_parts condition) c (only_one_is (links_in child root (top_parts condition)) c one) (each_of (row_condition child) (IsOverRows child) (over_rows child) (own_parts child root (top_parts condition)) restriction) in
-      record { before = before; link = link; behind = behind; parts = is; links = links; others = others }
-
-  class_where : (condition : Condition) (c : Link) → IsLinkedWhere child root c condition → (only_one (links_in child root (top_parts condition)) ≡ Some c) × Answers (filter_parts child root (top_parts condition))
-  class_where condition c h =
-      let (links, own) = join h.before h.behind h.link c (is_link h.link c h.links) h.others in (
-        ap (λ ps. only_one (links_in child root ps)) h.parts ∙ ap only_one links,
-        subst (λ ps. Answers (each (row_condition child) (own_parts child root ps))) (sym h.parts) (subst (λ ps. Answers (each (row_condition child) ps)) (sym own) (of_each (row_condition child) (IsOverRows child) (rows_over child) (h.before ++ h.behind) h.others)),
+  linked_parts : (before behind : List Condition) (link : Condition) (c : Link) (column : Option ℕ) → link_of child root link ≡ Some c → Each (IsOverBoth child root) (before ++ behind)
+      → key_linked child root (before ++ link ∷ behind) ≡ column → Fail (is_link child root column) before → is_link child root column link ≡ true → Linked c (before ++ link ∷ behind)
+  linked_parts before behind link c column is others keyed none may =
+      let parts = before ++ link ∷ behind in
+      let (found, left) = joined (is_link child root column) before behind link none may in
+      let (made, are) = of_each (joint_condition child root) (IsOverBoth child root) (both_over child root) (before ++ behind) others in (
+        first_found parts link c column keyed found is,
+        (made, ap (λ k. each (joint_condition child root) (beside (is_link child root k) parts)) keyed ∙ ap (each (joint_condition child root)) left ∙ are),
       )
+
+  first_parts : (before behind : List Condition) (link : Condition) (c : Link) → link_of child root link ≡ Some c → Each (IsOverBoth child root) (before ++ behind) → IsFirstLink child root c before (before ++ link ∷ behind) → Linked c (before ++ link ∷ behind)
+  first_parts before behind link c is others first =
+      let parts = before ++ link ∷ behind in
+      let key = child.layout.key in
+      ⊎_elim
+      (λ by.
+      let none = none_fail by_key (JoinsKey child root) key_joined before by.1 in
+      let may = ap (is_by (Some key)) is ∙ numbers_equal c.inner key by.0 in
+      let keyed = ap (λ o. if is_some o then Some key else None) (joined by_key before behind link none may).0 in
+      linked_parts before behind link c (Some key) is others keyed none may)
+      (λ by.
+      let keyed = ap (λ o. if is_some o then Some key else None) (none_finds by_key parts (none_fail by_key (JoinsKey child root) key_joined parts by.0)) in
+      linked_parts before behind link c None is others keyed (none_fail by_any (JoinsRow child root) any_joined before by.1) (ap (is_by None) is))
+      first
+
+  class_where : (condition : Condition) (c : Link) → IsLinkedWhere child root c condition → (first_link child root (top_parts condition) ≡ Some c) × Answers (filter_parts child root (top_parts condition))
+  class_where condition c h = subst (Linked c) (sym h.parts) (first_parts h.before h.behind h.link c (of_link h.link c h.links) h.others h.first)
+
+-- a link is over both rows too
+pub link_over : (child root : Scope) (part : Condition) → JoinsRow child root part → IsOverBoth child root part
+link_over child root part (c, h) =
+    ⊎_elim
+    (λ one. compares_columns child root part h.left h.right Equal one.0.0 one.1.0 h.equality one.0.1 one.1.1 (inl (ap is_some one.0.2)) (inr (c.outer, one.1.2)))
+    (λ two. compares_columns child root part h.left h.right Equal two.1.0 two.0.0 h.equality two.1.1 two.0.1 (inr (c.outer, two.1.2)) (inl (ap is_some two.0.2)))
+    h.sides
+
+pub HasALink-law : law.HasALink
+HasALink-law child root condition part before behind are joins others =
+    let parts = before ++ part ∷ behind in
+    let (first, last) = (each_append (IsOverBoth child root) before behind).0 others in
+    let over = (each_append (IsOverBoth child root) before (part ∷ behind)).1 (first, (link_over child root part joins, last)) in
+    let (made, filters) = of_each (joint_condition child root) (IsOverBoth child root) (both_over child root) (beside (may_link child root parts) parts) (beside_each (IsOverBoth child root) (may_link child root parts) parts over) in
+    let linked : (link : Link) → first_link child root parts ≡ Some link → (link : Link) × IsLinkedWhere child root link condition
+    = λ link e. (link, where_class child root condition link (ap (first_link child root) are ∙ e) (subst (λ ps. Answers (filter_parts child root ps)) (sym are) (made, filters))) in
+    let go : (o : Option Condition) → find (by_key child root) parts ≡ o → (link : Link) × IsLinkedWhere child root link condition
+    = λ o. elim o as (λ o. find (by_key child root) parts ≡ o → (link : Link) × IsLinkedWhere child root link condition) [
+      | Some link ↦ λ e.
+          let (x, (y, (is, (may, (none, left))))) = split (by_key child root) parts link e in
+          let by = key_joined child root link may in
+          linked by.0 (first_found child root parts link by.0 (Some child.layout.key) (ap (λ o. if is_some o then Some child.layout.key else None) e) e (of_link child root link by.0 by.1))
+      | None ↦ λ e.
+          let (link, found) = some_found (by_any child root) before behind part (joins_any child root part joins) in
+          let (x, (y, (is, (may, (none, left))))) = split (by_any child root) parts link found in
+          let by = any_joined child root link may in
+          linked by.0 (first_found child root parts link by.0 None (ap (λ o. if is_some o then Some child.layout.key else None) e) found (of_link child root link by.0 by.1))
+    ] in go (find (by_key child root) parts) refl
+
+-- the link of a WHERE is the first
+pub HasOneLink-law : HasOneLink
+HasOneLink-law child root condition link other is are =
+    same_Some link other (sym (class_where child root condition link is).0 ∙ (class_where child root condition other are).0)
 
 -- ---- by rows
 
@@ -518,16 +638,16 @@ Made child root keeps g h = (condition : Condition) × ((keeps ≡ Some conditio
 
 linked_where_class : (child : Source) (root : Scope) (a : Aggregate) (keeps : Option Condition) (g : Option ColumnName) (h : Option Condition) → Answers (linked_where child root a keeps g h) → Made child root keeps g h
 linked_where_class child root a keeps g h (q, e) =
-    let (no_group, (no_having, (condition, (is, (link, (one, (restriction, (are, makes)))))))) = linked_where_ok child root a keeps g h q e in
-    (condition, (is, (link, (where_class child.scope root condition link one (restriction, are), (ap is_some no_group, ap is_some no_having)))))
+    let (no_group, (no_having, (condition, (is, (link, (first, (restriction, (are, makes)))))))) = linked_where_ok child root a keeps g h q e in
+    (condition, (is, (link, (where_class child.scope root condition link first (restriction, are), (ap is_some no_group, ap is_some no_having)))))
 
 class_linked_where : (child : Source) (root : Scope) (a : Aggregate) (keeps : Option Condition) (g : Option ColumnName) (h : Option Condition) → Made child root keeps g h → Answers (linked_where child root a keeps g h)
 class_linked_where child root a keeps g h (condition, (is, (link, (linked, (no_group, no_having))))) =
-    let (one, (restriction, are)) = class_where child.scope root condition link linked in
+    let (first, (restriction, are)) = class_where child.scope root condition link linked in
     let make : Link → List Cond → Subquery Link = λ link restriction. record { table = child.table; filter = cond_of.And restriction; grouping = link; aggregate = a } in (
       make link restriction,
       ap (λ k. linked_where child root a k g h) is ∙ ap (λ g. linked_where child root a (Some condition) g h) (none_is g no_group) ∙ ap (λ h. linked_where child root a (Some condition) None h) (none_is h no_having)
-          ∙ ap (λ o. in_class o (λ link. and_then (filter_parts child.scope root (top_parts condition)) (λ restriction. let r : Result (Subquery Link) Refusal = Ok (make link restriction) in r))) one
+          ∙ ap (λ o. in_class o (λ link. and_then (filter_parts child.scope root (top_parts condition)) (λ restriction. let r : Result (Subquery Link) Refusal = Ok (make link restriction) in r))) first
           ∙ ap (λ r. and_then r (λ restriction. let r : Result (Subquery Link) Refusal = Ok (make link restriction) in r)) are,
     )
 
@@ -563,7 +683,7 @@ class_linked_leaf tables root (class.Value query) h =
     let c = out-Query query in
     let (t, reads) = scope_reads tables query h.scope h.reads in
     let child : Source = record { table = t; scope = h.scope } in
-    let (a, lists) = some_is no_column (selected_aggregate h.scope c.select_list) (list_set h.scope c.select_list h.lists) in
+    let (a, lists) = some_is (selected_aggregate h.scope c.select_list) (list_set h.scope c.select_list h.lists) in
     let (q, is) = class_linked_where child root a c.keeps c.group c.having (h.condition, (h.filter, (h.link, (h.linked, (h.ungrouped, h.whole))))) in (
       q,
       ap (λ o. in_class o (λ child. in_class (selected_aggregate child.scope c.select_list) (λ a. linked_where child root a c.keeps c.group c.having))) reads
@@ -573,13 +693,13 @@ class_linked_leaf tables root (class.Value query) h =
 row_where_class : (tables : Tables) (root : Scope) (keeps : Option Condition) (made : Cond) (leaves : Leaves) → row_where root keeps ≡ Ok (made, leaves) → Answers (each (linked tables root) leaves) → IfWritten (IsRowWhere tables root) keeps
 row_where_class tables root None made leaves e h = tt
 row_where_class tables root (Some c) made leaves e h =
-    let (columns, are) = (condition_numbers (own_column root) c).says [] made leaves e in
-    record { columns = columns; queries = pieces_of (linked tables root) (IsLinkedPiece tables root) (linked_leaf_class tables root) leaves (pieces_in c) are h }
+    let (columns, are) = (condition_numbers (at_place (own_column root)) c).says [] made leaves e in
+    record { columns = each_other (MayStand (at_place (own_column root))) (IsOwn root) (at_stands (own_column root)) (columns_in c) columns; queries = pieces_of (linked tables root) (IsLinkedPiece tables root) (linked_leaf_class tables root) leaves (pieces_in c) are h }
 
 class_row_where : (tables : Tables) (root : Scope) (keeps : Option Condition) → IfWritten (IsRowWhere tables root) keeps → (made : Cond) × ((leaves : Leaves) × ((row_where root keeps ≡ Ok (made, leaves)) × Answers (each (linked tables root) leaves)))
 class_row_where tables root None h = let none : Leaves = [] in let no_queries : List (Subquery Link) = [] in (cond_of.And [], (none, (refl, (no_queries, refl))))
 class_row_where tables root (Some c) h =
-    let (made, is) = (condition_numbers (own_column root) c).finds [] h.columns in
+    let (made, is) = (condition_numbers (at_place (own_column root)) c).finds [] (each_other (IsOwn root) (MayStand (at_place (own_column root))) (stands_at (own_column root)) (columns_in c) h.columns) in
     (made, (map leaf_of (pieces_in c), (is, of_pieces (linked tables root) (IsLinkedPiece tables root) (class_linked_leaf tables root) (pieces_in c) h.queries)))
 
 row_class : (tables : Tables) (source : Source) (query : Clauses) → Answers (by_row tables source query) → IsSimpleList (IsOwn source.scope) (out-SelectList query.select_list) × IfWritten (IsRowWhere tables source.scope) query.keeps
@@ -674,12 +794,6 @@ rows_form tables c h = denied_form tables c h.0 h.1 (class_rows tables h.0 h.2)
 
 pub groups_form : (tables : Tables) (c : Condition) → IsByGroups tables c → Answers (form_of tables c)
 groups_form tables c h = denied_form tables c h.0 h.1 (class_groups tables h.0 h.2)
-
-leaves_out : (c : Condition) → pieces_in c ≡ condition_pieces (map-Condition Condition Expression SelectList Query (Condition × Pieces) (Expression × Pieces) (SelectList × Unit {0}) (Query × Unit {0}) (λ c. (c, pieces_in c)) (λ e. (e, pieces_at e)) (λ l. (l, tt)) (λ q. (q, tt)) (out-Condition c))
-leaves_out c = ap pieces_in (sym (roll-out-Condition c)) ∙ condition_pieces_rolled (out-Condition c)
-
-leaves_layer : (c : Condition) (layer : Condition-F Condition Expression SelectList Query) → out-Condition c ≡ layer → pieces_in c ≡ condition_pieces (map-Condition Condition Expression SelectList Query (Condition × Pieces) (Expression × Pieces) (SelectList × Unit {0}) (Query × Unit {0}) (λ c. (c, pieces_in c)) (λ e. (e, pieces_at e)) (λ l. (l, tt)) (λ q. (q, tt)) layer)
-leaves_layer c layer e = leaves_out c ∙ ap (λ layer. condition_pieces (map-Condition Condition Expression SelectList Query (Condition × Pieces) (Expression × Pieces) (SelectList × Unit {0}) (Query × Unit {0}) (λ c. (c, pieces_in c)) (λ e. (e, pieces_at e)) (λ l. (l, tt)) (λ q. (q, tt)) layer)) e
 
 -- a single condition is no NOT EXISTS
 denied_single : (tables : Tables) (c part : Condition) (layer : Condition-F Condition Expression SelectList Query) → out-Condition c ≡ Condition-F.Not part → out-Condition part ≡ layer → IsSingle tables c → Answers (denied tables c layer)

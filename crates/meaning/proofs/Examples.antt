@@ -1,5 +1,6 @@
 -- Worked rows: names, the written bad roots and truth of an assertion of each form, and the key of a WHERE, computed.
-use Rattle.std.proofs.Common.{◌≡◌, ℕ, pos, true, List, [], ◌∷◌, Option, Some, None, refl, ap, ◌∙◌, sym}
+use Rattle.std.proofs.Common.{◌≡◌, ℕ, pos, true, List, [], ◌∷◌, Option, Some, None, refl, ap, ◌∙◌, sym, inl, inr}
+use Rattle.std.proofs.lemmas.Option.{same_Some}
 use Rattle.std.specs.Prelude.{◌==◌, filter_map, find}
 use Rattle.std.specs.Option.{option_or}
 use Rattle.value.specs.declared.values.Value.{Value}
@@ -25,6 +26,7 @@ use Rattle.table.specs.Eval as resolved
 use Rattle.table.specs.Values.{compared}
 use Rattle.table.proofs.EvalLemmas.{truth-And}
 use Rattle.assertion.specs.Meaning.{State}
+use Rattle.assertion.specs.declared.queries.Link.{Link}
 use Rattle.syntax.specs.declared.trees.Aggregate.TheVariants as function
 use Rattle.syntax.specs.declared.trees.ColumnName.{ColumnName}
 use Rattle.syntax.specs.declared.trees.Condition.{Condition, roll-Condition, out-Condition, out-roll-Condition}
@@ -38,12 +40,14 @@ use Rattle.siread.specs.declared.keys.LockKey.{LockKey}
 use Rattle.siread.specs.declared.keys.LockKey.TheVariants as key
 use Rattle.alone.specs.Reads as reads
 use Rattle.alone.specs.Reads.{Equality}
+use Rattle.meaning.specs.Class.{IsColumnAt, IsOuterColumn, IsLink, IsLinkedWhere}
 use Rattle.meaning.specs.Keys as keys
 use Rattle.meaning.specs.Meaning as written
 use Rattle.meaning.specs.Meaning.{References, Valued, Answer, answers, simple, first_value, column_values, rows_counted, set_of_column, only_value, is_any, written_bad_roots, written_truth}
 use Rattle.meaning.specs.Laws.{seen}
+use Rattle.meaning.proofs.Classes.{of_link, link_over}
 use Rattle.meaning.proofs.Keys.{in_parts, where_key_is, shown_expr, shown_cond}
-use Rattle.meaning.proofs.Nodes.{clauses, number_is, column_is, count_is, set_is, value_is, compare_is, both_is, denies_is, star_is, one_is, filtered_is, grouped_is}
+use Rattle.meaning.proofs.Nodes.{clauses, clauses_as, number_is, column_is, count_is, set_is, value_is, compare_is, both_is, exists_is, denies_is, star_is, one_is, filtered_is, grouped_is}
 
 abbrev column_at : ℕ → Column
 column_at name = record { name = name ∷ []; kind = Integer; nullable = true }
@@ -98,6 +102,10 @@ inner_name = refl
 -- a qualifier reaches the outer table
 qualified_name : column_values (of S I) (inside D S) ≡ number 5 ∷ []
 qualified_name = refl
+
+-- and without one, a name that only the outer table has
+outer_name : column_values (bare O) (seen (record { exposed_name = S ∷ []; layout = of_s }) ((number 5 ∷ []) ∷ []) ∷ seen (record { exposed_name = D ∷ []; layout = of_d }) ((number 1 ∷ number 7 ∷ number 0 ∷ []) ∷ []) ∷ []) ≡ number 0 ∷ []
+outer_name = refl
 
 -- a column is not a table: S without a qualifier is D's column
 column_name : column_values (bare S) (inside D S) ≡ number 7 ∷ []
@@ -163,7 +171,7 @@ duty_given state = written.query_step both state (clauses star_value (D ∷ []) 
 
 duty_is : (state : State) → answers both state (roll-Query duty) ≡ duty_given state
 duty_is state =
-    filtered_is both state star (D ∷ []) (roll-Condition (Condition-F.And (compare (column (of D S)) Equal (column (of S I)) ∷ compare (column (of D O)) Equal (literal 1) ∷ []))) star_value duty_where (star_is both state)
+    filtered_is both state star (D ∷ []) None (roll-Condition (Condition-F.And (compare (column (of D S)) Equal (column (of S I)) ∷ compare (column (of D O)) Equal (literal 1) ∷ []))) star_value duty_where (star_is both state)
     (both_is both state (compare (column (of D S)) Equal (column (of S I))) (compare (column (of D O)) Equal (literal 1)) (λ around. compared Equal ((value_named (of D S)).value around) ((value_named (of S I)).value around)) (λ around. compared Equal ((value_named (of D O)).value around) (number 1))
     (compare_is both state (column (of D S)) Equal (column (of S I)) (value_named (of D S)) (value_named (of S I)) (column_is both state (of D S)) (column_is both state (of S I)))
     (compare_is both state (column (of D O)) Equal (literal 1) (value_named (of D O)) (value_number 1) (column_is both state (of D O)) (number_is both state (pos 1))))
@@ -172,7 +180,7 @@ abbrev uncovered_where : State → References → Truth
 uncovered_where state around = not_of (known (is_any (duty_given state around)))
 
 uncovered_is : (state : State) → answers both state (roll-Query uncovered) ≡ written.query_step both state (clauses star_value (S ∷ []) (Some (uncovered_where state)) None None)
-uncovered_is state = filtered_is both state star (S ∷ []) (not_exists (roll-Query duty)) star_value (uncovered_where state) (star_is both state) (denies_is both state (roll-Query duty) (duty_given state) (duty_is state))
+uncovered_is state = filtered_is both state star (S ∷ []) None (not_exists (roll-Query duty)) star_value (uncovered_where state) (star_is both state) (denies_is both state (roll-Query duty) (duty_given state) (duty_is state))
 
 -- shifts 7 and 8; on duty 1 in 7, on call, and 2 in 8, not on call
 abbrev week : State
@@ -222,6 +230,39 @@ crowd = [] ∷ (
 by_groups : written_bad_roots both crowd (not_exists (roll-Query groups)) ≡ root.Of (number 7) ∷ root.Of Null ∷ []
 by_groups = denied crowd groups (groups_given crowd) (groups_are crowd)
 
+-- ---- a condition over both rows
+
+-- NOT EXISTS (SELECT * FROM D X WHERE EXISTS (SELECT * FROM D WHERE D.S = X.S AND D.I > X.I))
+abbrev later : Query-F Condition Expression SelectList Query
+later = clauses star (D ∷ []) (Some (roll-Condition (Condition-F.And (compare (column (of D S)) Equal (column (of X S)) ∷ compare (column (of D I)) Greater (column (of X I)) ∷ [])))) None None
+
+abbrev followed : Query-F Condition Expression SelectList Query
+followed = clauses_as star (D ∷ []) (Some (X ∷ [])) (Some (roll-Condition (Condition-F.Exists (roll-Query later)))) None None
+
+abbrev later_where : References → Truth
+later_where around = and_of (compared Equal ((value_named (of D S)).value around) ((value_named (of X S)).value around)) (and_of (compared Greater ((value_named (of D I)).value around) ((value_named (of X I)).value around)) True)
+
+abbrev later_given : State → References → List Answer
+later_given state = written.query_step both state (clauses star_value (D ∷ []) (Some later_where) None None)
+
+later_is : (state : State) → answers both state (roll-Query later) ≡ later_given state
+later_is state =
+    let sides : (l r : ColumnName) (c : Comparison) → written.truth both state (compare (column l) c (column r)) ≡ (λ around. compared c ((value_named l).value around) ((value_named r).value around))
+    = λ l r c. compare_is both state (column l) c (column r) (value_named l) (value_named r) (column_is both state l) (column_is both state r) in
+    filtered_is both state star (D ∷ []) None (roll-Condition (Condition-F.And (compare (column (of D S)) Equal (column (of X S)) ∷ compare (column (of D I)) Greater (column (of X I)) ∷ []))) star_value later_where (star_is both state)
+    (both_is both state (compare (column (of D S)) Equal (column (of X S))) (compare (column (of D I)) Greater (column (of X I))) (λ around. compared Equal ((value_named (of D S)).value around) ((value_named (of X S)).value around))
+    (λ around. compared Greater ((value_named (of D I)).value around) ((value_named (of X I)).value around)) (sides (of D S) (of X S) Equal) (sides (of D I) (of X I) Greater))
+
+abbrev followed_where : State → References → Truth
+followed_where state around = known (is_any (later_given state around))
+
+followed_is : (state : State) → answers both state (roll-Query followed) ≡ written.query_step both state (clauses_as star_value (D ∷ []) (Some (X ∷ [])) (Some (followed_where state)) None None)
+followed_is state = filtered_is both state star (D ∷ []) (Some (X ∷ [])) (roll-Condition (Condition-F.Exists (roll-Query later))) star_value (followed_where state) (star_is both state) (exists_is both state (roll-Query later) (later_given state) (later_is state))
+
+-- 2 is in the shift of 1, and 4 in that of 3; that 5 and 6 are in the same one is unknown
+by_both : written_bad_roots both crowd (not_exists (roll-Query followed)) ≡ root.Of (number 1) ∷ root.Of (number 3) ∷ []
+by_both = denied crowd followed (written.query_step both crowd (clauses_as star_value (D ∷ []) (Some (X ∷ [])) (Some (followed_where crowd)) None None)) (followed_is crowd)
+
 -- ---- single
 
 -- (SELECT f FROM D WHERE O = 1) <= n
@@ -238,7 +279,7 @@ single_truth : (state : State) (f : Expression) (v : Valued) (n : ℕ) → writt
 single_truth state f v n is =
     ap (λ (t : References → Truth). t [])
     (compare_is both state (roll-Expression (Expression-F.Subquery (taken f))) AtMost (literal n) (simple (λ around. only_value (taken_given state v around))) (value_number n)
-    (value_is both state (taken f) (taken_given state v) (filtered_is both state (roll-SelectList (SelectList-F.One f)) (D ∷ []) on_call v on_call_truth (one_is both state f v is) (on_call_is state))) (number_is both state (pos n)))
+    (value_is both state (taken f) (taken_given state v) (filtered_is both state (roll-SelectList (SelectList-F.One f)) (D ∷ []) None on_call v on_call_truth (one_is both state f v is) (on_call_is state))) (number_is both state (pos n)))
 
 single_roots : (state : State) (f : Expression) (n : ℕ) (t : Truth) → written_truth both state (at_most f n) ≡ t → written_bad_roots both state (at_most f n) ≡ written.roots_of_whole t
 single_roots state f n t e =
@@ -261,12 +302,73 @@ single_unknown = single_truth nobody (roll-Expression (Expression-F.Aggregate fu
 single_satisfied : written_bad_roots both nobody (at_most (roll-Expression (Expression-F.Aggregate function.Sum (bare I))) 4) ≡ []
 single_satisfied = single_roots nobody (roll-Expression (Expression-F.Aggregate function.Sum (bare I))) 4 Unknown single_unknown
 
--- ---- keys
+-- ---- the link of two
 
--- WHERE over D, the second table, whose key is I
+-- a row of D inside one of D X
 abbrev d_scope : Scope
 d_scope = record { exposed_name = D ∷ []; layout = of_d }
 
+abbrev x_scope : Scope
+x_scope = record { exposed_name = X ∷ []; layout = of_d }
+
+-- D.inner = X.outer
+abbrev equal_columns : ℕ → ℕ → Condition
+equal_columns inner outer = compare (column (of D inner)) Equal (column (of X outer))
+
+abbrev both_equal : Condition → Condition → Condition
+both_equal a b = roll-Condition (Condition-F.And (a ∷ b ∷ []))
+
+abbrev by : ℕ → ℕ → Link
+by inner outer = record { inner = inner; outer = outer }
+
+equality_joins : (inner outer i o : ℕ) → IsColumnAt d_scope i (of D inner) → IsOuterColumn d_scope x_scope o (of X outer) → IsLink d_scope x_scope (by i o) (equal_columns inner outer)
+equality_joins inner outer i o own around = record {
+  left = column (of D inner);
+  right = column (of X outer);
+  equality = out-roll-Condition (Condition-F.Compare (column (of D inner)) Equal (column (of X outer)));
+  sides = inl ((of D inner, out-roll-Expression (Expression-F.Column (of D inner)), own), (of X outer, out-roll-Expression (Expression-F.Column (of X outer)), around));
+}
+
+-- which is by that column of D alone
+only_by : (inner outer i o : ℕ) → IsLink d_scope x_scope (by i o) (equal_columns inner outer) → (link : Link) → IsLink d_scope x_scope link (equal_columns inner outer) → link ≡ by i o
+only_by inner outer i o is link h = same_Some link (by i o) (sym (of_link d_scope x_scope (equal_columns inner outer) link h) ∙ of_link d_scope x_scope (equal_columns inner outer) (by i o) is)
+
+-- D.S = X.S AND D.I = X.O: the link is the second, by D's key
+link_by_key : IsLinkedWhere d_scope x_scope (by 0 2) (both_equal (equal_columns S S) (equal_columns I O))
+link_by_key =
+    let first = equality_joins S S 1 1 refl (refl, refl) in record {
+      before = equal_columns S S ∷ [];
+      link = equal_columns I O;
+      behind = [];
+      parts = ap (and_layer (both_equal (equal_columns S S) (equal_columns I O))) (out-roll-Condition (Condition-F.And (equal_columns S S ∷ equal_columns I O ∷ [])));
+      links = equality_joins I O 0 2 refl (refl, refl);
+      others = (link_over d_scope x_scope (equal_columns S S) (by 1 1, first), tt);
+      first = inl (refl, (λ h. let e : 0 ≡ 1 = sym h.2 ∙ ap (λ (l : Link). l.inner) (only_by S S 1 1 first h.0 h.1) in cc, tt));
+    }
+
+-- D.S = X.S AND D.O = X.I: neither is by the key, and the link is the first
+link_first : IsLinkedWhere d_scope x_scope (by 1 1) (both_equal (equal_columns S S) (equal_columns O I))
+link_first =
+    let first = equality_joins S S 1 1 refl (refl, refl) in
+    let second = equality_joins O I 2 0 refl (refl, refl) in record {
+      before = [];
+      link = equal_columns S S;
+      behind = equal_columns O I ∷ [];
+      parts = ap (and_layer (both_equal (equal_columns S S) (equal_columns O I))) (out-roll-Condition (Condition-F.And (equal_columns S S ∷ equal_columns O I ∷ [])));
+      links = first;
+      others = (link_over d_scope x_scope (equal_columns O I) (by 2 0, second), tt);
+      first = inr (
+        (
+          λ h. let e : 0 ≡ 1 = sym h.2 ∙ ap (λ (l : Link). l.inner) (only_by S S 1 1 first h.0 h.1) in cc,
+          (λ h. let e : 0 ≡ 2 = sym h.2 ∙ ap (λ (l : Link). l.inner) (only_by O I 2 0 second h.0 h.1) in cc, tt),
+        ),
+        tt,
+      );
+    }
+
+-- ---- keys
+
+-- WHERE over D, the second table, whose key is I
 abbrev name_layer : ℕ → Expression-F Condition Expression SelectList Query
 name_layer name = Expression-F.Column (bare name)
 

@@ -29,7 +29,7 @@ use Rattle.syntax.specs.declared.trees.Condition.{Condition}
 use Rattle.form_check.specs.Scopes as names
 use Rattle.form_check.specs.Scopes.{own_column}
 use Rattle.value.specs.Results.{each}
-use Rattle.form_check.specs.Columns.{in_group, grouping_column}
+use Rattle.form_check.specs.Columns.{in_group, grouping_column, at_place}
 use Rattle.form_check.specs.Leaves.{Leaf, Leaves, Rows, Of as SetOf, Exists, Value as Worth, numbered}
 use Rattle.form_check.specs.Queries.{row_filter, of_column}
 use Rattle.form_check.specs.Forms.{aggregate_of}
@@ -37,7 +37,7 @@ use Rattle.meaning.specs.Meaning as written
 use Rattle.meaning.specs.Meaning.{References, Valued, Answer, column_values, first_value, with_rows, passes, distinct, truth, root_of}
 use Rattle.meaning.specs.Laws.{seen}
 use Rattle.meaning.proofs.Steps.{in_class_ok, ok_same}
-use Rattle.meaning.proofs.Numbering.{leaf_value, condition_faithful}
+use Rattle.meaning.proofs.Numbering.{leaf_value, condition_faithful, at_place_means}
 use Rattle.meaning.proofs.Rows.{own_value, own_values, row_filter_keeps}
 use Rattle.meaning.proofs.Queries.{answers_by, each_leaf, set_function_of}
 
@@ -148,13 +148,13 @@ group_value scope group v rows is column c e =
     ap first_value (own_values scope rows [] column group own) ∙ is ∙ ap (λ n. value_in n (v ∷ [])) (sym zero)
 
 -- HAVING keeps the group of a value exactly where its resolved condition does
-pub having_keeps : (tables : Tables) (state : State) (scope : names.Scope) (group : ℕ) (having : Condition) (made : Cond) (leaves : Leaves) (aggregates : List Aggregate) → numbered (grouping_column scope group) having [] ≡ Ok (made, leaves) → each (aggregate_of scope) leaves ≡ Ok aggregates
+pub having_keeps : (tables : Tables) (state : State) (scope : names.Scope) (group : ℕ) (having : Condition) (made : Cond) (leaves : Leaves) (aggregates : List Aggregate) → numbered (at_place (grouping_column scope group)) having [] ≡ Ok (made, leaves) → each (aggregate_of scope) leaves ≡ Ok aggregates
     → (rows : List RowValues) (v : Value) → first_value (map (value_in group) rows) ≡ v → truth tables state having (seen scope rows ∷ []) ≡ resolved.truth (v ∷ []) (map (λ a. aggregate a rows) aggregates) made
 having_keeps tables state scope group having made leaves aggregates is are rows v named =
     let scopes : References = seen scope rows ∷ [] in
     let slots = map (λ a. aggregate a rows) aggregates in
     let fits = each_leaf tables state scopes (aggregate_of scope) (λ a. aggregate a rows) (aggregate_leaf tables state scope rows) leaves aggregates are ∙ sym (append-nil (map (leaf_value tables state scopes) leaves)) in
-    (condition_faithful tables state scopes (v ∷ []) slots (grouping_column scope group) (group_value scope group v rows named) having [] made leaves is ([], fits)).0
+    (condition_faithful tables state scopes (v ∷ []) slots (at_place (grouping_column scope group)) (at_place_means tables state scopes (v ∷ []) slots (grouping_column scope group) (group_value scope group v rows named)) having [] made leaves is ([], fits)).0
 
 -- ---- the roots
 
@@ -169,7 +169,7 @@ regrouped f g same p rows =
 
 -- the groups that a query with GROUP BY and HAVING gives are those that the form lists
 pub group_roots_are : (tables : Tables) (state : State) (scope : names.Scope) (rows : List RowValues) (l : ℕ) (list : Valued) (keeps : Option Condition) (restriction : Cond) (column : ColumnName) (group : ℕ) (having : Condition) (made : Cond) (leaves : Leaves) (aggregates : List Aggregate)
-    → row_filter scope keeps ≡ Ok restriction → own_column scope column ≡ Some group → numbered (grouping_column scope group) having [] ≡ Ok (made, leaves) → each (aggregate_of scope) leaves ≡ Ok aggregates → (r : Root)
+    → row_filter scope keeps ≡ Ok restriction → own_column scope column ≡ Some group → numbered (at_place (grouping_column scope group)) having [] ≡ Ok (made, leaves) → each (aggregate_of scope) leaves ≡ Ok aggregates → (r : Root)
     → has root_cmp r (map (root_of (written.grouping (Some column) (seen scope rows) []) l) (answers_by (seen scope rows) list (option_map (truth tables state) keeps) (Some column) (Some (truth tables state having)) []))
     ≡ has root_cmp r (group_roots (filtered_rows restriction rows) group made aggregates)
 group_roots_are tables state scope rows l list keeps restriction column group having made leaves aggregates filters own is are r =

@@ -20,7 +20,7 @@ use Rattle.syntax.specs.declared.trees.SelectList.{SelectList}
 use Rattle.syntax.specs.declared.trees.Query.{Query, out-Query}
 use Rattle.form_check.specs.Scopes.{Scope, own_column}
 use Rattle.form_check.specs.Results.{in_class, only_if}
-use Rattle.form_check.specs.Columns.{no_column}
+use Rattle.form_check.specs.Columns.{no_column, at_place}
 use Rattle.form_check.specs.Leaves.{Leaf, Rows, Of, Exists, Value, numbered}
 use Rattle.form_check.specs.Queries.{Source, sourced, source_of, selected_aggregate, may_be_selected}
 use Rattle.form_check.specs.Forms.{Clauses, linked_where, linked, plain_by, plain, row_where, by_row, by_clauses, not_exists, single, denied, form_in}
@@ -118,7 +118,7 @@ module _ (tables more : Tables) where
 
   single_grown : (c : Condition) (form : Form) → single tables c ≡ Ok form → single (tables ++ more) c ≡ Ok form
   single_grown c form e =
-      let (m, (is, next)) = and_then_ok (numbered no_column c []) (λ m. and_then (each (plain tables) m.1) (λ queries. let r : Result Form Refusal = Ok (Single m.0 queries) in r)) form e in
+      let (m, (is, next)) = and_then_ok (numbered (at_place no_column) c []) (λ m. and_then (each (plain tables) m.1) (λ queries. let r : Result Form Refusal = Ok (Single m.0 queries) in r)) form e in
       let (queries, (are, makes)) = and_then_ok (each (plain tables) m.1) (λ queries. let r : Result Form Refusal = Ok (Single m.0 queries) in r) form next in
       ap (λ r. and_then r (λ m. and_then (each (plain (tables ++ more)) m.1) (λ queries. let r : Result Form Refusal = Ok (Single m.0 queries) in r))) is
       ∙ ap (λ r. and_then r (λ queries. let r : Result Form Refusal = Ok (Single m.0 queries) in r)) (each_grown (plain tables) (plain (tables ++ more)) plain_grown m.1 queries are) ∙ makes

@@ -28,11 +28,12 @@ use Rattle.syntax.specs.Grammar.{and_layer}
 use Rattle.form_check.specs.Scopes.{Scope, own_column}
 use Rattle.form_check.specs.Leaves.{Leaves, Numbered, Rows, Of, Exists, Value as Worth, then_made, both, all, numbered, numbered_expression}
 use Rattle.form_check.specs.Leaves as leaves_of
+use Rattle.form_check.specs.Columns.{at_place}
 use Rattle.form_check.specs.Queries.{alone, row_filter}
 use Rattle.alone.specs.Reads as reads
 use Rattle.alone.specs.Reads.{Equality}
 use Rattle.meaning.specs.Keys as written
-use Rattle.meaning.proofs.Steps.{and_then_ok, in_class_ok, then_ok, ok_pair, ok_same}
+use Rattle.meaning.proofs.Steps.{and_then_ok, in_class_ok, then_ok, ok_pair, ok_same, mapped_some}
 use Rattle.meaning.proofs.Numbering.{expression_rolled, condition_rolled}
 use Rattle.meaning.proofs.Rows.{alone_ok}
 
@@ -118,8 +119,8 @@ abbrev ConditionLayer : Type 0
 ConditionLayer = Condition-F Condition Expression SelectList Query
 
 module _ (scope : Scope) where
-  abbrev place : ColumnName → Option ℕ
-  place = own_column scope
+  abbrev place : ColumnName → Option Expr
+  place = at_place (own_column scope)
 
   abbrev made_expression : ExpressionLayer → Numbered Expr
   made_expression layer = leaves_of.expression_step place (map-Expression Condition Expression SelectList Query (Condition × Numbered Cond) (Expression × Numbered Expr) (SelectList × Unit {0}) (Query × Unit {0}) (λ c. (c, numbered place c)) (λ e. (e, numbered_expression place e)) (λ l. (l, tt)) (λ q. (q, tt)) layer)
@@ -138,8 +139,9 @@ module _ (scope : Scope) where
   expression_layer (Expression-F.Number n) before made after e = alike (Expression-F.Number n) (Expr-F.Literal (value.Int n)) made refl refl (expr.rolls-Literal (value.Int n) ∙ (ok_pair (expr.Literal (value.Int n)) made before after e).0)
   expression_layer (Expression-F.Text t) before made after e = alike (Expression-F.Text t) (Expr-F.Literal (value.Text t)) made refl refl (expr.rolls-Literal (value.Text t) ∙ (ok_pair (expr.Literal (value.Text t)) made before after e).0)
   expression_layer (Expression-F.Column name) before made after e =
-      let (c, (is, more)) = in_class_ok (place name) (λ c. Ok (expr.Column c, before)) (made, after) e in
-      alike (Expression-F.Column name) (Expr-F.Column c) made is refl (expr.rolls-Column c ∙ (ok_pair (expr.Column c) made before after more).0)
+      let (x, (is, more)) = in_class_ok (place name) (λ x. Ok (x, before)) (made, after) e in
+      let (c, (own, makes)) = mapped_some expr.Column (own_column scope name) x is in
+      alike (Expression-F.Column name) (Expr-F.Column c) made own refl (expr.rolls-Column c ∙ makes ∙ (ok_pair x made before after more).0)
   expression_layer Expression-F.CountRows before made after e = alike Expression-F.CountRows (Expr-F.Slot (length before)) made refl refl (expr.rolls-Slot (length before) ∙ (ok_pair (expr.Slot (length before)) made (before ++ Rows ∷ []) after e).0)
   expression_layer (Expression-F.Aggregate function name) before made after e =
       alike (Expression-F.Aggregate function name) (Expr-F.Slot (length before)) made refl refl (expr.rolls-Slot (length before) ∙ (ok_pair (expr.Slot (length before)) made (before ++ Of function name ∷ []) after e).0)
@@ -292,7 +294,7 @@ module _ (scope : Scope) where
 filter_equalities : (scope : Scope) (condition : Option Condition) (made : Cond) → row_filter scope condition ≡ Ok made → written.equalities scope condition ≡ in_parts (reads.top_parts made)
 filter_equalities scope None made e = sym (no_parts scope made (ok_same (cond_of.And []) made e))
 filter_equalities scope (Some c) made e =
-    let (m, (is, rest)) = and_then_ok (numbered (own_column scope) c []) (λ m. alone m.0 m.1) made e in
+    let (m, (is, rest)) = and_then_ok (numbered (at_place (own_column scope)) c []) (λ m. alone m.0 m.1) made e in
     let (same, none) = alone_ok m.0 m.1 made rest in
     equalities_are scope c [] m.0 m.1 is ∙ ap (λ made. in_parts (reads.top_parts made)) same
 

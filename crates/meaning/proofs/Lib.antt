@@ -11,6 +11,7 @@ pub mod Links
 pub mod Rooted
 pub mod Whole
 pub mod Standing
+pub mod Parts
 pub mod Grown
 pub mod Checked
 pub mod Classes

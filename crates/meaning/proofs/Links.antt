@@ -1,10 +1,10 @@
 -- Queries that are linked to the row around them.
-use Rattle.std.proofs.Common.{◌≡◌, ℕ, Bool, true, false, cond, pos, Option, Some, None, Result, Ok, List, [], ◌∷◌, ◌++◌, map, filter, length, suc, refl, ap, sym, ◌∙◌, arith, ⊎_elim, inl, inr}
-use Rattle.std.specs.Prelude.{◌⊎◌, ◌&&◌, is_none, option_map, option_to_list, if◌then◌else◌}
+use Rattle.std.proofs.Common.{◌≡◌, ℕ, Bool, true, false, cond, pos, Option, Some, None, Result, Ok, List, [], ◌∷◌, map, filter, length, suc, refl, ap, sym, ◌∙◌, ⊎_elim, inl, inr}
+use Rattle.std.specs.Prelude.{◌⊎◌, ◌&&◌, find, option_map, if◌then◌else◌}
+use Rattle.std.specs.Option.{option_and_then}
 use Rattle.std.specs.List.{list_all}
 use Rattle.std.proofs.lemmas.List.Elements.{filter_agree}
 use Rattle.std.specs.Ordering.{eq_by_cmp}
-use Rattle.std.proofs.lemmas.Bool.Decides.{nat_tests}
 use Rattle.std.proofs.lemmas.Option.{same_Some}
 use Rattle.value.specs.declared.values.Value.{Value}
 use Rattle.value.specs.declared.values.Value.TheVariants.{Null, Int, Text}
@@ -37,15 +37,16 @@ use Rattle.form_check.specs.Scopes.{is_name_of, own_column}
 use Rattle.value.specs.Results.{and_then, each}
 use Rattle.form_check.specs.Results.{in_class, only_if}
 use Rattle.form_check.specs.Leaves.{Leaf, Rows, Of, Exists, Value as Worth}
-use Rattle.form_check.specs.Queries.{Source, source_of, row_condition, selected_aggregate, may_be_selected, selection_may_stand, expression_may_stand}
-use Rattle.form_check.specs.Links.{parts_in, top_parts, name_in, outer_column, link_by, link_of_names, either, link_between, link_in, link_of, links_in, only_one, own_parts, filter_parts}
+use Rattle.form_check.specs.Columns.{outer_column}
+use Rattle.form_check.specs.Queries.{Source, source_of, joint_condition, selected_aggregate, may_be_selected, selection_may_stand, expression_may_stand}
+use Rattle.form_check.specs.Links.{parts_in, top_parts, name_in, link_by, link_of_names, either, link_between, link_in, link_of, may_link, first_link, beside, filter_parts}
 use Rattle.form_check.specs.Forms.{linked_where, linked_exists, linked_value, linked}
 use Rattle.meaning.specs.Meaning as written
 use Rattle.meaning.specs.Meaning.{References, Valued, Answer, column_values, first_value, only_value, with_rows, passes, truth, valued, select_list, answers}
 use Rattle.meaning.specs.Laws.{seen}
 use Rattle.meaning.proofs.Steps.{and_then_ok, in_class_ok, only_if_ok, ok_same}
 use Rattle.meaning.proofs.Numbering.{leaf_value, truth-And}
-use Rattle.meaning.proofs.Rows.{own_value, outer_values, row_condition_truth}
+use Rattle.meaning.proofs.Rows.{own_value, outer_column_is, outer_value, joint_condition_truth}
 use Rattle.meaning.proofs.Queries.{answers_by, answers_at, list_set, only_set}
 use Rattle.meaning.proofs.Groups.{map_twice, same_value, itself}
 
@@ -90,17 +91,9 @@ equal_either (Text s) (Text t) = ap known (equal_back (Text s) (Text t) (eq_by_c
 
 -- ---- what a link's names are
 
-none_of : {A : Type 0} (o : Option A) → is_none o ≡ true → o ≡ None
-none_of None e = refl
-none_of (Some a) e = cc
-
 pub one_test : (a : Bool) (o : Option ℕ) (c : ℕ) → (if a then o else None) ≡ Some c → (a ≡ true) × (o ≡ Some c)
 one_test true o c e = (refl, e)
 one_test false o c e = cc
-
-other_test : (a : Bool) (o : Option ℕ) (c : ℕ) → (if a then None else o) ≡ Some c → (a ≡ false) × (o ≡ Some c)
-other_test true o c e = cc
-other_test false o c e = (refl, e)
 
 link_by_is : (inner outer : Option ℕ) (link : Link) → link_by inner outer ≡ Some link → (inner ≡ Some link.inner) × (outer ≡ Some link.outer)
 link_by_is None outer link e = cc
@@ -114,7 +107,7 @@ pub link_names_are : (child root : names.Scope) (inner outer : ColumnName) (link
     → (is_name_of outer.qualifier outer.name child ≡ false) × ((own_column root outer ≡ Some link.outer) × (own_column child inner ≡ Some link.inner))
 link_names_are child root inner outer link e =
     let (own, around) = link_by_is (own_column child inner) (outer_column child root outer) link e in
-    let (none, is) = other_test (is_name_of outer.qualifier outer.name child) (own_column root outer) link.outer around in
+    let (none, is) = outer_column_is child root outer link.outer around in
     (none, (is, own))
 
 pub either_is : (a b : Option Link) (link : Link) → either a b ≡ Some link → (a ≡ Some link) ⊎ (b ≡ Some link)
@@ -123,10 +116,13 @@ either_is (Some x) b link e = inl e
 
 -- ---- a query's WHERE
 
-pub only_one_is : (cs : List Link) (c : Link) → only_one cs ≡ Some c → cs ≡ c ∷ []
-only_one_is [] c e = cc
-only_one_is (x ∷ []) c e = ap (λ (l : Link). l ∷ []) (same_Some x c e)
-only_one_is (x ∷ y ∷ cs) c e = cc
+-- the link is that of the first part that may be it
+pub first_link_is : (child root : names.Scope) (parts : List Condition) (link : Link) → first_link child root parts ≡ Some link → (part : Condition) × ((find (may_link child root parts) parts ≡ Some part) × (link_of child root part ≡ Some link))
+first_link_is child root parts link e = go (find (may_link child root parts) parts) e
+  where
+    go : (o : Option Condition) → option_and_then (link_of child root) o ≡ Some link → (part : Condition) × ((o ≡ Some part) × (link_of child root part ≡ Some link))
+    go None e = cc
+    go (Some part) e = (part, (refl, e))
 
 module _ (tables : Tables) (state : State) where
   pub condition_out : (c : Condition) → truth tables state c ≡ written.condition_step (map-Condition Condition Expression SelectList Query (References → Truth) Valued Valued (References → List Answer) (truth tables state) (valued tables state) (select_list tables state) (answers tables state) (out-Condition c))
@@ -170,8 +166,8 @@ module _ (tables : Tables) (state : State) where
     -- the two sides of a link
     sides : (inner outer : ColumnName) (c : Link) → link_of_names child root inner outer ≡ Some c → (first_value (column_values inner around) ≡ value_in c.inner drow) × (first_value (column_values outer around) ≡ value_in c.outer row)
     sides inner outer c e =
-        let (none, (is, own)) = link_names_are child root inner outer c e in
-        (own_value child drow (seen root (row ∷ []) ∷ []) inner c.inner own, ap first_value (outer_values child (drow ∷ []) (seen root (row ∷ []) ∷ []) outer none) ∙ own_value root row [] outer c.outer is)
+        let (own, is) = link_by_is (own_column child inner) (outer_column child root outer) c e in
+        (own_value child drow (seen root (row ∷ []) ∷ []) inner c.inner own, outer_value child root drow row [] outer c.outer is)
 
     link_names : (left right : Expression) (l r : Option ColumnName) → name_in (out-Expression left) ≡ l → name_in (out-Expression right) ≡ r → (c : Link) → link_between child root l r ≡ Some c
         → sql.compared Equal ((valued tables state left).value around) ((valued tables state right).value around) ≡ sql.compared Equal (value_in c.outer row) (value_in c.inner drow)
@@ -215,45 +211,45 @@ module _ (tables : Tables) (state : State) where
     and_swap false true c = refl
     and_swap false false c = refl
 
-    and_join : (a b c : Bool) → a && (b && c) ≡ (a && b) && c
-    and_join true b c = refl
-    and_join false b c = refl
+    -- the parts beside the link are true where what is made of them keeps the row
+    others_true : (parts : List Condition) (restriction : List Cond) → each (joint_condition child root) parts ≡ Ok restriction → list_all is_true parts ≡ list_all (resolved.keeps drow row) restriction
+    others_true [] restriction e = let none : List Cond = [] in ap (list_all (resolved.keeps drow row)) (ok_same none restriction e)
+    others_true (part ∷ parts) restriction e =
+        let (made, (is, more)) = and_then_ok (joint_condition child root part) (λ made. and_then (each (joint_condition child root) parts) (λ others. let r : Result (List Cond) Refusal = Ok (made ∷ others) in r)) restriction e in
+        let (others, (are, makes)) = and_then_ok (each (joint_condition child root) parts) (λ others. let r : Result (List Cond) Refusal = Ok (made ∷ others) in r) restriction more in
+        ap (λ t. is_of t True && list_all is_true parts) (joint_condition_truth child root part made is tables state drow row [])
+        ∙ ap (λ b. resolved.keeps drow row made && b) (others_true parts others are)
+        ∙ ap (list_all (resolved.keeps drow row)) (ok_same (made ∷ others) restriction makes)
 
-    -- all parts are true where the links are, and what is restriction
-    parts_true : (parts : List Condition) (restriction : List Cond) → each (row_condition child) (own_parts child root parts) ≡ Ok restriction
-        → list_all is_true parts ≡ list_all (λ c. links c row drow) (links_in child root parts) && list_all (resolved.keeps drow []) restriction
-    parts_true [] restriction e = let none : List Cond = [] in ap (list_all (resolved.keeps drow [])) (ok_same none restriction e)
-    parts_true (part ∷ parts) restriction e =
-        let l = list_all (λ c. links c row drow) (links_in child root parts) in
-        let case : (o : Option Link) → link_of child root part ≡ o → each (row_condition child) (cond (is_none o) (part ∷ own_parts child root parts) (own_parts child root parts)) ≡ Ok restriction
-        → is_true part && list_all is_true parts ≡ list_all (λ c. links c row drow) (option_to_list o ++ links_in child root parts) && list_all (resolved.keeps drow []) restriction
-        = λ o. elim o as (λ o. link_of child root part ≡ o → each (row_condition child) (cond (is_none o) (part ∷ own_parts child root parts) (own_parts child root parts)) ≡ Ok restriction
-        → is_true part && list_all is_true parts ≡ list_all (λ c. links c row drow) (option_to_list o ++ links_in child root parts) && list_all (resolved.keeps drow []) restriction) [
-          | None ↦ λ n e.
-              let (made, (is, more)) = and_then_ok (row_condition child part) (λ first_value. and_then (each (row_condition child) (own_parts child root parts)) (λ others. let r : Result (List Cond) Refusal = Ok (first_value ∷ others) in r)) restriction e in
-              let (others, (are, makes)) = and_then_ok (each (row_condition child) (own_parts child root parts)) (λ others. let r : Result (List Cond) Refusal = Ok (made ∷ others) in r) restriction more in
-              ap (λ t. is_of t True && list_all is_true parts) (row_condition_truth child part made is tables state drow (seen root (row ∷ []) ∷ []))
-              ∙ ap (λ b. resolved.keeps drow [] made && b) (parts_true parts others are)
-              ∙ and_swap (resolved.keeps drow [] made) l (list_all (resolved.keeps drow []) others)
-              ∙ ap (λ ks. l && list_all (resolved.keeps drow []) ks) (ok_same (made ∷ others) restriction makes)
-          | Some c ↦ λ s e.
-              ap (λ b. b && list_all is_true parts) (link_true part c s) ∙ ap (λ b. links c row drow && b) (parts_true parts restriction e) ∙ and_join (links c row drow) l (list_all (resolved.keeps drow []) restriction)
-        ] in case (link_of child root part) refl e
+    -- and all parts where the link is true as well
+    parts_true : (passes : Condition → Bool) (parts : List Condition) (link : Condition) (c : Link) (restriction : List Cond) → find passes parts ≡ Some link → link_of child root link ≡ Some c → each (joint_condition child root) (beside passes parts) ≡ Ok restriction
+        → list_all is_true parts ≡ links c row drow && list_all (resolved.keeps drow row) restriction
+    parts_true passes [] link c restriction found is e = cc
+    parts_true passes (part ∷ parts) link c restriction found is e =
+        let case : (b : Bool) → cond b (Some part) (find passes parts) ≡ Some link → each (joint_condition child root) (cond b parts (part ∷ beside passes parts)) ≡ Ok restriction → is_true part && list_all is_true parts ≡ links c row drow && list_all (resolved.keeps drow row) restriction
+        = λ b. elim b as (λ b. cond b (Some part) (find passes parts) ≡ Some link → each (joint_condition child root) (cond b parts (part ∷ beside passes parts)) ≡ Ok restriction → is_true part && list_all is_true parts ≡ links c row drow && list_all (resolved.keeps drow row) restriction) [
+          | true ↦ λ found e.
+              ap (λ b. b && list_all is_true parts) (link_true part c (ap (link_of child root) (same_Some part link found) ∙ is))
+              ∙ ap (λ b. links c row drow && b) (others_true parts restriction e)
+          | false ↦ λ found e.
+              let (made, (makes, more)) = and_then_ok (joint_condition child root part) (λ made. and_then (each (joint_condition child root) (beside passes parts)) (λ others. let r : Result (List Cond) Refusal = Ok (made ∷ others) in r)) restriction e in
+              let (others, (are, joined)) = and_then_ok (each (joint_condition child root) (beside passes parts)) (λ others. let r : Result (List Cond) Refusal = Ok (made ∷ others) in r) restriction more in
+              ap (λ t. is_of t True && list_all is_true parts) (joint_condition_truth child root part made makes tables state drow row [])
+              ∙ ap (λ b. resolved.keeps drow row made && b) (parts_true passes parts link c others found is are)
+              ∙ and_swap (resolved.keeps drow row made) (links c row drow) (list_all (resolved.keeps drow row) others)
+              ∙ ap (λ ks. links c row drow && list_all (resolved.keeps drow row) ks) (ok_same (made ∷ others) restriction joined)
+        ] in case (passes part) found e
 
-    and_one : (a b : Bool) → (a && true) && b ≡ a && b
-    and_one true b = refl
-    and_one false b = refl
-
-    -- WHERE is true of a row where the link is, and what is restriction
-    where_true : (condition : Condition) (link : Link) (restriction : List Cond) → only_one (links_in child root (top_parts condition)) ≡ Some link → filter_parts child root (top_parts condition) ≡ Ok restriction
-        → is_true condition ≡ links link row drow && resolved.keeps drow [] (cond_of.And restriction)
-    where_true condition link restriction one are =
+    -- WHERE is true of a row where the link is, and what is made of the other parts
+    where_true : (condition : Condition) (link : Link) (restriction : List Cond) → first_link child root (top_parts condition) ≡ Some link → filter_parts child root (top_parts condition) ≡ Ok restriction
+        → is_true condition ≡ links link row drow && resolved.keeps drow row (cond_of.And restriction)
+    where_true condition link restriction first are =
+        let parts = top_parts condition in
+        let (part, (found, is)) = first_link_is child root parts link first in
         ap (λ t. is_of t True) (parts_layer condition around (out-Condition condition) refl)
-        ∙ all_true (λ part. truth tables state part around) (top_parts condition)
-        ∙ parts_true (top_parts condition) restriction are
-        ∙ ap (λ cs. list_all (λ c. links c row drow) cs && list_all (resolved.keeps drow []) restriction) (only_one_is (links_in child root (top_parts condition)) link one)
-        ∙ and_one (links link row drow) (list_all (resolved.keeps drow []) restriction)
-        ∙ ap (λ b. links link row drow && b) (sym (all_true (resolved.truth drow []) restriction) ∙ sym (ap (λ t. is_of t True) (truth-And tables state around drow [] restriction)))
+        ∙ all_true (λ part. truth tables state part around) parts
+        ∙ parts_true (may_link child root parts) parts part link restriction found is are
+        ∙ ap (λ b. links link row drow && b) (sym (all_true (resolved.truth drow row) restriction) ∙ sym (ap (λ t. is_of t True) (truth-And tables state around drow row restriction)))
 
 -- ---- what a row's queries give
 
@@ -290,13 +286,13 @@ plain_list tables state place list e =
 
 -- what a linked query is made of
 pub linked_where_ok : (child : Source) (root : names.Scope) (a : Aggregate) (keeps : Option Condition) (g : Option ColumnName) (h : Option Condition) (q : Subquery Link) → linked_where child root a keeps g h ≡ Ok q
-    → (g ≡ None) × ((h ≡ None) × ((condition : Condition) × ((keeps ≡ Some condition) × ((link : Link) × ((only_one (links_in child.scope root (top_parts condition)) ≡ Some link) × ((restriction : List Cond) × ((filter_parts child.scope root (top_parts condition) ≡ Ok restriction)
+    → (g ≡ None) × ((h ≡ None) × ((condition : Condition) × ((keeps ≡ Some condition) × ((link : Link) × ((first_link child.scope root (top_parts condition) ≡ Some link) × ((restriction : List Cond) × ((filter_parts child.scope root (top_parts condition) ≡ Ok restriction)
     × (◌≡◌ {A = Subquery Link} (record { table = child.table; filter = cond_of.And restriction; grouping = link; aggregate = a }) q))))))))
 linked_where_ok child root a (Some condition) None None q e =
     let make : Link → List Cond → Subquery Link = λ link restriction. record { table = child.table; filter = cond_of.And restriction; grouping = link; aggregate = a } in
-    let (link, (one, more)) = in_class_ok (only_one (links_in child.scope root (top_parts condition))) (λ link. and_then (filter_parts child.scope root (top_parts condition)) (λ restriction. let r : Result (Subquery Link) Refusal = Ok (make link restriction) in r)) q e in
+    let (link, (first, more)) = in_class_ok (first_link child.scope root (top_parts condition)) (λ link. and_then (filter_parts child.scope root (top_parts condition)) (λ restriction. let r : Result (Subquery Link) Refusal = Ok (make link restriction) in r)) q e in
     let (restriction, (are, makes)) = and_then_ok (filter_parts child.scope root (top_parts condition)) (λ restriction. let r : Result (Subquery Link) Refusal = Ok (make link restriction) in r) q more in
-    (refl, (refl, (condition, (refl, (link, (one, (restriction, (are, ok_same (make link restriction) q makes))))))))
+    (refl, (refl, (condition, (refl, (link, (first, (restriction, (are, ok_same (make link restriction) q makes))))))))
 linked_where_ok child root a None g h q e = cc
 linked_where_ok child root a (Some condition) (Some g) h q e = cc
 linked_where_ok child root a (Some condition) None (Some h) q e = cc
@@ -306,11 +302,11 @@ module _ (tables : Tables) (state : State) (root : names.Scope) (row : RowValues
   outer_row = seen root (row ∷ []) ∷ []
 
   -- the rows that a linked query keeps
-  filtered_rows_are : (child : Source) (condition : Condition) (link : Link) (restriction : List Cond) → only_one (links_in child.scope root (top_parts condition)) ≡ Some link → filter_parts child.scope root (top_parts condition) ≡ Ok restriction
+  filtered_rows_are : (child : Source) (condition : Condition) (link : Link) (restriction : List Cond) → first_link child.scope root (top_parts condition) ≡ Some link → filter_parts child.scope root (top_parts condition) ≡ Ok restriction
       → filter (λ drow. passes (Some (truth tables state condition)) (with_rows (seen child.scope (rows_of child.table state)) (drow ∷ []) outer_row)) (rows_of child.table state)
-      ≡ filter (λ drow. links link row drow && resolved.keeps drow [] (cond_of.And restriction)) (rows_of child.table state)
-  filtered_rows_are child condition link restriction one are =
-      filter_agree (λ drow. passes (Some (truth tables state condition)) (with_rows (seen child.scope (rows_of child.table state)) (drow ∷ []) outer_row)) (λ drow. links link row drow && resolved.keeps drow [] (cond_of.And restriction)) (λ drow. where_true tables state child.scope root drow row condition link restriction one are) (rows_of child.table state)
+      ≡ filter (λ drow. links link row drow && resolved.keeps drow row (cond_of.And restriction)) (rows_of child.table state)
+  filtered_rows_are child condition link restriction first are =
+      filter_agree (λ drow. passes (Some (truth tables state condition)) (with_rows (seen child.scope (rows_of child.table state)) (drow ∷ []) outer_row)) (λ drow. links link row drow && resolved.keeps drow row (cond_of.And restriction)) (λ drow. where_true tables state child.scope root drow row condition link restriction first are) (rows_of child.table state)
 
   -- a query of these clauses, without GROUP BY and HAVING
   clauses_are : (query : Query) (child : Source) (condition : Condition) → source_of tables (out-Query query).table (out-Query query).correlation_name ≡ Some child → (out-Query query).group ≡ None → (out-Query query).having ≡ None → (out-Query query).keeps ≡ Some condition
@@ -329,14 +325,14 @@ module _ (tables : Tables) (state : State) (root : names.Scope) (row : RowValues
       let c = out-Query query in
       let (child, (found, more)) = in_class_ok (source_of tables c.table c.correlation_name) (λ child. only_if (may_be_selected (own_column child.scope) c.select_list) (linked_where child root CountRows c.keeps c.group c.having)) q e in
       let (lists, rest) = only_if_ok (may_be_selected (own_column child.scope) c.select_list) (linked_where child root CountRows c.keeps c.group c.having) q more in
-      let (no_group, (no_having, (condition, (keeps, (link, (one, (restriction, (are, makes)))))))) = linked_where_ok child root CountRows c.keeps c.group c.having q rest in
+      let (no_group, (no_having, (condition, (keeps, (link, (first, (restriction, (are, makes)))))))) = linked_where_ok child root CountRows c.keeps c.group c.having q rest in
       let table = seen child.scope (rows_of child.table state) in
       let list = select_list tables state c.select_list in
       let f : List RowValues → Answer = λ rows. record { rows = rows; value = list.value (with_rows table rows outer_row) } in
       ap (λ (n : ℕ). Int (pos n)) (
       ap length (clauses_are query child condition found no_group no_having keeps ∙ is_plain table list (Some (truth tables state condition)) outer_row (plain_list tables state (own_column child.scope) c.select_list lists))
       ∙ ones f (filter (λ drow. passes (Some (truth tables state condition)) (with_rows table (drow ∷ []) outer_row)) (rows_of child.table state))
-      ∙ ap length (filtered_rows_are child condition link restriction one are))
+      ∙ ap length (filtered_rows_are child condition link restriction first are))
       ∙ ap (linked_answer state row) makes
 
   value_is : (query : Query) (q : Subquery Link) → linked_value tables root (out-Query query) ≡ Ok q → only_value (answers tables state query outer_row) ≡ linked_answer state row q
@@ -344,14 +340,14 @@ module _ (tables : Tables) (state : State) (root : names.Scope) (row : RowValues
       let c = out-Query query in
       let (child, (found, more)) = in_class_ok (source_of tables c.table c.correlation_name) (λ child. in_class (selected_aggregate child.scope c.select_list) (λ a. linked_where child root a c.keeps c.group c.having)) q e in
       let (a, (lists, rest)) = in_class_ok (selected_aggregate child.scope c.select_list) (λ a. linked_where child root a c.keeps c.group c.having) q more in
-      let (no_group, (no_having, (condition, (keeps, (link, (one, (restriction, (are, makes)))))))) = linked_where_ok child root a c.keeps c.group c.having q rest in
+      let (no_group, (no_having, (condition, (keeps, (link, (first, (restriction, (are, makes)))))))) = linked_where_ok child root a c.keeps c.group c.having q rest in
       let table = seen child.scope (rows_of child.table state) in
       let list = select_list tables state c.select_list in
       let (sets, gives) = list_set tables state child.scope a c.select_list lists in
       ap only_value (clauses_are query child condition found no_group no_having keeps)
       ∙ only_set table list (Some (truth tables state condition)) outer_row sets
       ∙ gives (filter (λ drow. passes (Some (truth tables state condition)) (with_rows table (drow ∷ []) outer_row)) (rows_of child.table state)) outer_row
-      ∙ ap (aggregate a) (filtered_rows_are child condition link restriction one are)
+      ∙ ap (aggregate a) (filtered_rows_are child condition link restriction first are)
       ∙ ap (linked_answer state row) makes
 
   -- what stands in a slot of a condition over a row

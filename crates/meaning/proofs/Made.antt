@@ -14,7 +14,7 @@ use Rattle.syntax.specs.declared.trees.Condition.{Condition}
 use Rattle.form_check.specs.Scopes.{own_column}
 use Rattle.value.specs.Results.{and_then, each}
 use Rattle.form_check.specs.Results.{only_if}
-use Rattle.form_check.specs.Columns.{no_column, grouping_column}
+use Rattle.form_check.specs.Columns.{no_column, grouping_column, at_place}
 use Rattle.form_check.specs.Leaves.{Leaves, numbered}
 use Rattle.form_check.specs.Queries.{Source, row_filter, may_be_selected}
 use Rattle.form_check.specs.Forms.{Clauses, plain, linked, aggregate_of, row_where, by_row, having_over, by_group, single}
@@ -23,14 +23,14 @@ use Rattle.meaning.proofs.Steps.{and_then_ok, in_class_ok, only_if_ok, ok_same}
 pub record SingleMade (tables : Tables) (condition : Condition) (form : Form) : Type 0 where
   pub made : Cond
   pub leaves : Leaves
-  pub numbers : numbered no_column condition [] ≡ Ok (made, leaves)
+  pub numbers : numbered (at_place no_column) condition [] ≡ Ok (made, leaves)
   pub queries : List (Subquery Whole)
   pub are : each (plain tables) leaves ≡ Ok queries
   pub is : Single made queries ≡ form
 
 pub single_made : (tables : Tables) (condition : Condition) (form : Form) → single tables condition ≡ Ok form → SingleMade tables condition form
 single_made tables condition form e =
-    let (m, (numbers, more)) = and_then_ok (numbered no_column condition []) (λ m. and_then (each (plain tables) m.1) (λ queries. let r : Result Form Refusal = Ok (Single m.0 queries) in r)) form e in
+    let (m, (numbers, more)) = and_then_ok (numbered (at_place no_column) condition []) (λ m. and_then (each (plain tables) m.1) (λ queries. let r : Result Form Refusal = Ok (Single m.0 queries) in r)) form e in
     let (queries, (are, makes)) = and_then_ok (each (plain tables) m.1) (λ queries. let r : Result Form Refusal = Ok (Single m.0 queries) in r) form more in
     record { made = m.0; leaves = m.1; numbers = numbers; queries = queries; are = are; is = ok_same (Single m.0 queries) form makes }
 
@@ -59,7 +59,7 @@ pub record GroupMade (source : Source) (query : Clauses) (column : ColumnName) (
   pub keeps : row_filter source.scope query.keeps ≡ Ok restriction
   pub made : Cond
   pub leaves : Leaves
-  pub numbers : numbered (grouping_column source.scope group) having [] ≡ Ok (made, leaves)
+  pub numbers : numbered (at_place (grouping_column source.scope group)) having [] ≡ Ok (made, leaves)
   pub aggregates : List Aggregate
   pub are : each (aggregate_of source.scope) leaves ≡ Ok aggregates
   pub is : ByGroup source.table restriction group made aggregates ≡ form
@@ -70,6 +70,6 @@ group_made source query column having form e =
     let (group, (own, more)) = in_class_ok (own_column scope column) (λ group. only_if (may_be_selected (grouping_column scope group) query.select_list) (and_then (row_filter scope query.keeps) (λ restriction. having_over source group restriction having))) form e in
     let (lists, rest) = only_if_ok (may_be_selected (grouping_column scope group) query.select_list) (and_then (row_filter scope query.keeps) (λ restriction. having_over source group restriction having)) form more in
     let (restriction, (keeps, over)) = and_then_ok (row_filter scope query.keeps) (λ restriction. having_over source group restriction having) form rest in
-    let (m, (numbers, made)) = and_then_ok (numbered (grouping_column scope group) having []) (λ made. and_then (each (aggregate_of scope) made.1) (λ aggregates. let r : Result Form Refusal = Ok (ByGroup source.table restriction group made.0 aggregates) in r)) form over in
+    let (m, (numbers, made)) = and_then_ok (numbered (at_place (grouping_column scope group)) having []) (λ made. and_then (each (aggregate_of scope) made.1) (λ aggregates. let r : Result Form Refusal = Ok (ByGroup source.table restriction group made.0 aggregates) in r)) form over in
     let (aggregates, (are, makes)) = and_then_ok (each (aggregate_of scope) m.1) (λ aggregates. let r : Result Form Refusal = Ok (ByGroup source.table restriction group m.0 aggregates) in r) form made in
     record { group = group; own = own; lists = lists; restriction = restriction; keeps = keeps; made = m.0; leaves = m.1; numbers = numbers; aggregates = aggregates; are = are; is = ok_same (ByGroup source.table restriction group m.0 aggregates) form makes }

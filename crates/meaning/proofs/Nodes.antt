@@ -19,9 +19,12 @@ use Rattle.syntax.specs.declared.trees.Query.{Query, roll-Query}
 use Rattle.meaning.specs.Meaning as written
 use Rattle.meaning.specs.Meaning.{References, Valued, Answer, truth, valued, select_list, answers, simple, first_value, column_values, rows_counted, set_of_column, only_value, is_any}
 
--- a query of these clauses
+-- a query of these clauses; and one without a correlation name
+abbrev pub clauses_as : {C E L Q : Type 0} → L → List ℕ → Option (List ℕ) → Option C → Option ColumnName → Option C → Query-F C E L Q
+clauses_as list table correlation_name keeps group having = record { select_list = list; table = table; correlation_name = correlation_name; keeps = keeps; group = group; having = having }
+
 abbrev pub clauses : {C E L Q : Type 0} → L → List ℕ → Option C → Option ColumnName → Option C → Query-F C E L Q
-clauses list table keeps group having = record { select_list = list; table = table; correlation_name = None; keeps = keeps; group = group; having = having }
+clauses list table keeps group having = clauses_as list table None keeps group having
 
 module _ (tables : Tables) (state : State) where
   condition_rolls : (layer : Condition-F Condition Expression SelectList Query) → truth tables state (roll-Condition layer) ≡ written.condition_step (map-Condition Condition Expression SelectList Query (References → Truth) Valued Valued (References → List Answer) (truth tables state) (valued tables state) (select_list tables state) (answers tables state) layer)
@@ -61,8 +64,11 @@ module _ (tables : Tables) (state : State) where
   pub both_is : (c d : Condition) (s t : References → Truth) → truth tables state c ≡ s → truth tables state d ≡ t → truth tables state (roll-Condition (Condition-F.And (c ∷ d ∷ []))) ≡ (λ around. and_of (s around) (and_of (t around) True))
   both_is c d s t a b = condition_rolls (Condition-F.And (c ∷ d ∷ [])) ∙ ap (λ (s : References → Truth). λ around. and_of (s around) (and_of (truth tables state d around) True)) a ∙ ap (λ (t : References → Truth). λ around. and_of (s around) (and_of (t around) True)) b
 
+  pub exists_is : (q : Query) (a : References → List Answer) → answers tables state q ≡ a → truth tables state (roll-Condition (Condition-F.Exists q)) ≡ (λ around. known (is_any (a around)))
+  exists_is q a e = condition_rolls (Condition-F.Exists q) ∙ ap (λ (a : References → List Answer). λ around. known (is_any (a around))) e
+
   pub denies_is : (q : Query) (a : References → List Answer) → answers tables state q ≡ a → truth tables state (roll-Condition (Condition-F.Not (roll-Condition (Condition-F.Exists q)))) ≡ (λ around. not_of (known (is_any (a around))))
-  denies_is q a e = condition_rolls (Condition-F.Not (roll-Condition (Condition-F.Exists q))) ∙ ap (λ (t : References → Truth). λ around. not_of (t around)) (condition_rolls (Condition-F.Exists q)) ∙ ap (λ (a : References → List Answer). λ around. not_of (known (is_any (a around)))) e
+  denies_is q a e = condition_rolls (Condition-F.Not (roll-Condition (Condition-F.Exists q))) ∙ ap (λ (t : References → Truth). λ around. not_of (t around)) (exists_is q a e)
 
   -- ---- queries
 
@@ -72,10 +78,10 @@ module _ (tables : Tables) (state : State) where
   pub one_is : (e : Expression) (v : Valued) → valued tables state e ≡ v → select_list tables state (roll-SelectList (SelectList-F.One e)) ≡ v
   one_is e v is = select_list_rolls (SelectList-F.One e) ∙ is
 
-  pub filtered_is : (l : SelectList) (table : List ℕ) (c : Condition) (v : Valued) (t : References → Truth) → select_list tables state l ≡ v → truth tables state c ≡ t
-      → answers tables state (roll-Query (clauses l table (Some c) None None)) ≡ written.query_step tables state (clauses v table (Some t) None None)
-  filtered_is l table c v t a b =
-      query_rolls (clauses l table (Some c) None None) ∙ ap (λ (v : Valued). written.query_step tables state (clauses v table (Some (truth tables state c)) None None)) a ∙ ap (λ (t : References → Truth). written.query_step tables state (clauses v table (Some t) None None)) b
+  pub filtered_is : (l : SelectList) (table : List ℕ) (name : Option (List ℕ)) (c : Condition) (v : Valued) (t : References → Truth) → select_list tables state l ≡ v → truth tables state c ≡ t
+      → answers tables state (roll-Query (clauses_as l table name (Some c) None None)) ≡ written.query_step tables state (clauses_as v table name (Some t) None None)
+  filtered_is l table name c v t a b =
+      query_rolls (clauses_as l table name (Some c) None None) ∙ ap (λ (v : Valued). written.query_step tables state (clauses_as v table name (Some (truth tables state c)) None None)) a ∙ ap (λ (t : References → Truth). written.query_step tables state (clauses_as v table name (Some t) None None)) b
 
   pub grouped_is : (l : SelectList) (table : List ℕ) (c : Condition) (g : ColumnName) (h : Condition) (v : Valued) (t u : References → Truth) → select_list tables state l ≡ v → truth tables state c ≡ t → truth tables state h ≡ u
       → answers tables state (roll-Query (clauses l table (Some c) (Some g) (Some h))) ≡ written.query_step tables state (clauses v table (Some t) (Some g) (Some u))

@@ -37,20 +37,21 @@ use Rattle.syntax.specs.declared.trees.Expression.{Expression, roll-Expression}
 use Rattle.syntax.specs.declared.trees.SelectList.{SelectList}
 use Rattle.syntax.specs.declared.trees.Query.{Query}
 use Rattle.value.specs.Results.{and_then}
+use Rattle.form_check.specs.Columns.{at_place}
 use Rattle.form_check.specs.Leaves.{Leaf, Leaves, Numbered, Rows, Of, Exists, Value as Worth, placed, slot, then_made, both, all, numbered, numbered_expression}
 use Rattle.form_check.specs.Leaves as leaves_of
 use Rattle.meaning.specs.Meaning as written
 use Rattle.meaning.specs.Meaning.{References, Valued, Answer, column_values, first_value, rows_at_hand, set_function, only_value, is_any, truth, valued, answers}
-use Rattle.meaning.proofs.Steps.{and_then_ok, in_class_ok, then_ok, ok_pair}
+use Rattle.meaning.proofs.Steps.{and_then_ok, in_class_ok, then_ok, ok_pair, mapped_some}
 
 -- ---- the layers
 
-pub expression_rolled : (place : ColumnName → Option ℕ) (layer : Expression-F Condition Expression SelectList Query)
+pub expression_rolled : (place : ColumnName → Option Expr) (layer : Expression-F Condition Expression SelectList Query)
     → numbered_expression place (roll-Expression layer) ≡ leaves_of.expression_step place (map-Expression Condition Expression SelectList Query (Condition × Numbered Cond) (Expression × Numbered Expr) (SelectList × Unit {0}) (Query × Unit {0}) (λ c. (c, numbered place c)) (λ e. (e, numbered_expression place e)) (λ l. (l, tt)) (λ q. (q, tt)) layer)
 unfolding numbered numbered_expression
 expression_rolled place layer = para-roll-Expression (Numbered Cond) (Numbered Expr) (Unit {0}) (Unit {0}) (leaves_of.condition_step place) (leaves_of.expression_step place) leaves_of.select_list_step leaves_of.query_step layer
 
-pub condition_rolled : (place : ColumnName → Option ℕ) (layer : Condition-F Condition Expression SelectList Query)
+pub condition_rolled : (place : ColumnName → Option Expr) (layer : Condition-F Condition Expression SelectList Query)
     → numbered place (roll-Condition layer) ≡ leaves_of.condition_step place (map-Condition Condition Expression SelectList Query (Condition × Numbered Cond) (Expression × Numbered Expr) (SelectList × Unit {0}) (Query × Unit {0}) (λ c. (c, numbered place c)) (λ e. (e, numbered_expression place e)) (λ l. (l, tt)) (λ q. (q, tt)) layer)
 unfolding numbered numbered_expression
 condition_rolled place layer = para-roll-Condition (Numbered Cond) (Numbered Expr) (Unit {0}) (Unit {0}) (leaves_of.condition_step place) (leaves_of.expression_step place) leaves_of.select_list_step leaves_of.query_step layer
@@ -131,7 +132,7 @@ module _ (tables : Tables) (state : State) (scopes : References) where
     pub answer-Column : (c : ℕ) → resolved.answer row slots (expr.Column c) ≡ value_in c row
     answer-Column c = ap (resolved.answer row slots) (sym (expr.rolls-Column c)) ∙ fold-roll-Expr Value (resolved.expr_step row slots) (Expr-F.Column c)
 
-    answer-Slot : (n : ℕ) → resolved.answer row slots (expr.Slot n) ≡ slice_index_or slots n value.Null
+    pub answer-Slot : (n : ℕ) → resolved.answer row slots (expr.Slot n) ≡ slice_index_or slots n value.Null
     answer-Slot n = ap (resolved.answer row slots) (sym (expr.rolls-Slot n)) ∙ fold-roll-Expr Value (resolved.expr_step row slots) (Expr-F.Slot n)
 
     answer-Negation : (part : Expr) → resolved.answer row slots (expr_of.Negation part) ≡ sql.negated (resolved.answer row slots part)
@@ -222,12 +223,19 @@ module _ (tables : Tables) (state : State) (scopes : References) where
         let (is, same) = ok_pair (expr.Literal v) made before after e in
         (sym (answer-Literal v) ∙ ap (resolved.answer row slots) is, subst Fits (sym same) fits)
 
-    module _ (place : ColumnName → Option ℕ) (means : (column : ColumnName) (c : ℕ) → place column ≡ Some c → first_value (column_values column scopes) ≡ value_in c row) where
+    -- columns of the row at hand alone
+    pub at_place_means : (place : ColumnName → Option ℕ) → ((column : ColumnName) (c : ℕ) → place column ≡ Some c → first_value (column_values column scopes) ≡ value_in c row)
+        → (column : ColumnName) (e : Expr) → at_place place column ≡ Some e → first_value (column_values column scopes) ≡ resolved.answer row slots e
+    at_place_means place means column e is =
+        let (c, (at, makes)) = mapped_some expr.Column (place column) e is in
+        means column c at ∙ sym (answer-Column c) ∙ ap (resolved.answer row slots) makes
+
+    module _ (place : ColumnName → Option Expr) (means : (column : ColumnName) (e : Expr) → place column ≡ Some e → first_value (column_values column scopes) ≡ resolved.answer row slots e) where
       column_faithful : (column : ColumnName) → Faithful (resolved.answer row slots) (first_value (column_values column scopes)) (placed (place column))
       column_faithful column before made after e fits =
-          let (c, (is, more)) = in_class_ok (place column) (λ c. Ok (expr.Column c, before)) (made, after) e in
-          let (makes, same) = ok_pair (expr.Column c) made before after more in
-          (means column c is ∙ sym (answer-Column c) ∙ ap (resolved.answer row slots) makes, subst Fits (sym same) fits)
+          let (x, (is, more)) = in_class_ok (place column) (λ x. Ok (x, before)) (made, after) e in
+          let (makes, same) = ok_pair x made before after more in
+          (means column x is ∙ ap (resolved.answer row slots) makes, subst Fits (sym same) fits)
 
       abbrev pub IsFaithful : Condition → Type 0
       IsFaithful c = Faithful (resolved.truth row slots) (truth tables state c scopes) (numbered place c)

@@ -33,7 +33,7 @@ use Rattle.form_check.specs.Forms.{Clauses, plain, plain_by, plain_value}
 use Rattle.meaning.specs.Meaning as written
 use Rattle.meaning.specs.Meaning.{Reference, References, Valued, Answer, no_layout, rows_at, table_of, column_values, set_function, only_value, with_rows, passes, grouped, grouping, truth, valued, select_list, answers}
 use Rattle.meaning.specs.Laws.{seen}
-use Rattle.meaning.proofs.Steps.{and_then_ok, in_class_ok, ok_same}
+use Rattle.meaning.proofs.Steps.{and_then_ok, in_class_ok, ok_same, mapped_some}
 use Rattle.meaning.proofs.Numbering.{leaf_value}
 use Rattle.meaning.proofs.Rows.{own_values, row_filter_keeps}
 
@@ -108,10 +108,6 @@ function_alike function.Max c rows = refl
 pub set_function_of : (f : Function) (scope : names.Scope) (rows : List RowValues) (outer : References) (column : ColumnName) (c : ℕ) → own_column scope column ≡ Some c
     → set_function f (filter is_there (column_values column (seen scope rows ∷ outer))) ≡ aggregate (of_column f c) rows
 set_function_of f scope rows outer column c is = ap (λ vs. set_function f (filter is_there vs)) (own_values scope rows outer column c is) ∙ function_alike f c rows
-
-mapped_some : {A B : Type 0} (f : A → B) (o : Option A) (b : B) → option_map f o ≡ Some b → (a : A) × ((o ≡ Some a) × (f a ≡ b))
-mapped_some f None b e = cc
-mapped_some f (Some a) b e = (a, (refl, same_Some (f a) b e))
 
 -- an expression that is one set function
 abbrev IsSet : names.Scope → Aggregate → Valued → Type 0

@@ -20,6 +20,7 @@ use Rattle.assertion.specs.Meaning.{State, rows_of, linked_answer, lists_row, ro
 use Rattle.syntax.specs.declared.trees.Condition.{Condition}
 use Rattle.form_check.specs.Scopes as names
 use Rattle.form_check.specs.Scopes.{own_column}
+use Rattle.form_check.specs.Columns.{at_place}
 use Rattle.value.specs.Results.{each}
 use Rattle.form_check.specs.Leaves.{Leaves}
 use Rattle.form_check.specs.Queries.{Source, sourced}
@@ -28,7 +29,7 @@ use Rattle.meaning.specs.Meaning.{References, Valued, Answer, first_value, with_
 use Rattle.meaning.specs.Laws.{seen}
 use Rattle.meaning.proofs.Steps.{ok_pair}
 use Rattle.meaning.proofs.Numbering.{leaf_value, condition_faithful, truth-And}
-use Rattle.meaning.proofs.Rows.{own_value}
+use Rattle.meaning.proofs.Rows.{own_means}
 use Rattle.meaning.proofs.Queries.{answers_by, each_leaf}
 use Rattle.meaning.proofs.Links.{linked_leaf, is_plain}
 
@@ -73,7 +74,7 @@ row_filtered tables state root (Some condition) made leaves queries is are row =
     let scopes : References = seen root (row ∷ []) ∷ [] in
     let slots = map (linked_answer state row) queries in
     let fits = each_leaf tables state scopes (linked tables root) (linked_answer state row) (linked_leaf tables state root row) leaves queries are ∙ sym (append-nil (map (leaf_value tables state scopes) leaves)) in
-    ap (λ t. is_of t True) (condition_faithful tables state scopes row slots (own_column root) (own_value root row []) condition [] made leaves is ([], fits)).0
+    ap (λ t. is_of t True) (condition_faithful tables state scopes row slots (at_place (own_column root)) (own_means tables state root row slots []) condition [] made leaves is ([], fits)).0
 
 one_row : (f : List RowValues → Answer) (key : RowValues → Value) (g : Answer → Root) → ((row : RowValues) → g (f (row ∷ [])) ≡ Of (key row)) → (rows : List RowValues) → map g (map f (filter (λ rows. true) (map (λ row. row ∷ []) rows))) ≡ map (λ row. Of (key row)) rows
 one_row f key g same [] = refl

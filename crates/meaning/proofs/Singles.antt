@@ -9,11 +9,11 @@ use Rattle.assertion.specs.Meaning.{State, plain_answer, single_truth}
 use Rattle.table.specs.Rows.{RowValues, Tables, value_in}
 use Rattle.syntax.specs.declared.trees.ColumnName.{ColumnName}
 use Rattle.syntax.specs.declared.trees.Condition.{Condition}
-use Rattle.form_check.specs.Columns.{no_column}
+use Rattle.form_check.specs.Columns.{no_column, at_place}
 use Rattle.form_check.specs.Forms.{single, plain}
 use Rattle.meaning.specs.Meaning.{References, column_values, first_value, written_truth}
 use Rattle.meaning.proofs.Made.{single_made}
-use Rattle.meaning.proofs.Numbering.{leaf_value, condition_faithful}
+use Rattle.meaning.proofs.Numbering.{leaf_value, condition_faithful, at_place_means}
 use Rattle.meaning.proofs.Queries.{plain_leaf, each_leaf}
 
 no_column_means : (row : RowValues) (column : ColumnName) (c : ℕ) → no_column column ≡ Some c → first_value (column_values column []) ≡ value_in c row
@@ -34,7 +34,7 @@ single_is tables condition form e =
           λ state.
               let slots = map (plain_answer state) m.queries in
               let fits = each_leaf tables state none (plain tables) (plain_answer state) (plain_leaf tables state none) m.leaves m.queries m.are ∙ sym (append-nil (map (leaf_value tables state none) m.leaves)) in
-              (condition_faithful tables state none row slots no_column (no_column_means row) condition [] m.made m.leaves m.numbers ([], fits)).0,
+              (condition_faithful tables state none row slots (at_place no_column) (at_place_means tables state none row slots no_column (no_column_means row)) condition [] m.made m.leaves m.numbers ([], fits)).0,
         ),
       ),
     )

@@ -1,5 +1,5 @@
 -- A condition is numbered exactly where its columns may stand there, and its slots are then its set functions and queries.
-use Rattle.std.proofs.Common.{◌≡◌, ℕ, Option, Some, None, Ok, List, [], ◌∷◌, ◌++◌, length, map, refl, ap, sym, ◌∙◌, subst, append-nil, append_assoc}
+use Rattle.std.proofs.Common.{◌≡◌, Option, Some, None, Ok, List, [], ◌∷◌, ◌++◌, length, map, refl, ap, sym, ◌∙◌, subst, append-nil, append_assoc}
 use Rattle.std.proofs.lemmas.List.{map-append}
 use Rattle.std.specs.Prelude.{IsSome, is_some, flat_map, ◌↔◌}
 use Rattle.value.specs.declared.values.Value.TheVariants as value
@@ -37,7 +37,7 @@ pub condition_pieces_rolled : (layer : Condition-F Condition Expression SelectLi
 unfolding pieces_in pieces_at
 condition_pieces_rolled layer = para-roll-Condition Pieces Pieces (Unit {0}) (Unit {0}) condition_pieces expression_pieces (λ l. tt) (λ q. tt) layer
 
-expression_pieces_rolled : (layer : Expression-F Condition Expression SelectList Query) → pieces_at (roll-Expression layer) ≡ expression_pieces (map-Expression Condition Expression SelectList Query (Condition × Pieces) (Expression × Pieces) (SelectList × Unit {0}) (Query × Unit {0}) (λ c. (c, pieces_in c)) (λ e. (e, pieces_at e)) (λ l. (l, tt)) (λ q. (q, tt)) layer)
+pub expression_pieces_rolled : (layer : Expression-F Condition Expression SelectList Query) → pieces_at (roll-Expression layer) ≡ expression_pieces (map-Expression Condition Expression SelectList Query (Condition × Pieces) (Expression × Pieces) (SelectList × Unit {0}) (Query × Unit {0}) (λ c. (c, pieces_in c)) (λ e. (e, pieces_at e)) (λ l. (l, tt)) (λ q. (q, tt)) layer)
 unfolding pieces_in pieces_at
 expression_pieces_rolled layer = para-roll-Expression Pieces Pieces (Unit {0}) (Unit {0}) condition_pieces expression_pieces (λ l. tt) (λ q. tt) layer
 
@@ -55,7 +55,15 @@ pub each_append : {X : Type 0} (P : X → Type 0) (xs ys : List X) → Each P (x
 each_append P [] ys = (λ h. (tt, h), λ h. h.1)
 each_append P (x ∷ xs) ys = (λ h. let more = (each_append P xs ys).0 h.1 in ((h.0, more.0), more.1), λ h. (h.0.0, (each_append P xs ys).1 (h.0.1, h.1)))
 
-module _ (place : ColumnName → Option ℕ) where
+pub each_other : {X : Type 0} (P Q : X → Type 0) → ((x : X) → P x → Q x) → (xs : List X) → Each P xs → Each Q xs
+each_other P Q one [] h = tt
+each_other P Q one (x ∷ xs) h = (one x h.0, each_other P Q one xs h.1)
+
+pub some_is : {A : Type 0} (o : Option A) → IsSome o → (a : A) × (o ≡ Some a)
+some_is None h = cc
+some_is (Some a) h = (a, refl)
+
+module _ (place : ColumnName → Option Expr) where
   abbrev pub MayStand : ColumnName → Type 0
   MayStand column = IsSome (place column)
 
@@ -101,21 +109,17 @@ module _ (place : ColumnName → Option ℕ) where
     finds = λ before h. (make before, refl);
   }
 
-  pub some_is : {A : Type 0} (o : Option A) → IsSome o → (a : A) × (o ≡ Some a)
-  some_is None h = cc
-  some_is (Some a) h = (a, refl)
-
   is_some_of : {A : Type 0} (o : Option A) (a : A) → o ≡ Some a → IsSome o
   is_some_of o a e = ap is_some e
 
   column_numbers : (column : ColumnName) → Numbers (column ∷ []) [] (placed (place column))
   column_numbers column = record {
     says = λ before made after e.
-        let (c, (is, more)) = in_class_ok (place column) (λ c. Ok (expr.Column c, before)) (made, after) e in
-        ((is_some_of (place column) c is, tt), sym (ok_pair (expr.Column c) made before after more).1 ∙ sym (append-nil before));
+        let (x, (is, more)) = in_class_ok (place column) (λ x. Ok (x, before)) (made, after) e in
+        ((is_some_of (place column) x is, tt), sym (ok_pair x made before after more).1 ∙ sym (append-nil before));
     finds = λ before h.
-        let (c, is) = some_is (place column) h.0 in
-        (expr.Column c, ap (λ o. in_class o (λ c. Ok (expr.Column c, before))) is ∙ ap (λ l. Ok (expr.Column c, l)) (sym (append-nil before)));
+        let (x, is) = some_is (place column) h.0 in
+        (x, ap (λ o. in_class o (λ x. Ok (x, before))) is ∙ ap (λ l. Ok (x, l)) (sym (append-nil before)));
   }
 
   all_numbers : {X A : Type 0} (make : X → Numbered A) (columns : X → List ColumnName) (leaves : X → Pieces) (parts : List ((x : X) × Numbers (columns x) (leaves x) (make x)))

@@ -4,7 +4,8 @@ use Rattle.value.specs.declared.refusals.Refusal.{Refusal}
 pub use Rattle.value.proofs.Results.{ok_same, and_then_ok}
 use Rattle.form_check.specs.Results.{in_class, only_if}
 use Rattle.form_check.specs.Leaves.{Leaves, then_made}
-use Rattle.std.specs.Prelude.{Bool, true, false}
+use Rattle.std.specs.Prelude.{Bool, true, false, option_map}
+use Rattle.std.proofs.lemmas.Option.{same_Some}
 
 -- both parts of a pair
 pub ok_pair : {A B : Type 0} (a c : A) (b d : B) → ◌≡◌ {A = Result (A × B) Refusal} (Ok (a, b)) (Ok (c, d)) → (a ≡ c) × (b ≡ d)
@@ -29,3 +30,8 @@ then_ok {A = A} make (Ok m) made after e =
     let same = ok_pair (make m.0) made m.1 after e in
     (m.0, (ap (λ (l : Leaves). let r : Result (A × Leaves) Refusal = Ok (m.0, l) in r) same.1, same.0))
 then_ok make (Err refusal) made after e = cc
+
+-- what an Option was mapped of
+pub mapped_some : {A B : Type 0} (f : A → B) (o : Option A) (b : B) → option_map f o ≡ Some b → (a : A) × ((o ≡ Some a) × (f a ≡ b))
+mapped_some f None b e = cc
+mapped_some f (Some a) b e = (a, (refl, same_Some (f a) b e))

@@ -213,20 +213,49 @@ pub record IsLink (child root : Scope) (link : Link) (part : Condition) : Type 0
   pub equality : out-Condition part ≡ Condition-F.Compare left Equal right
   pub sides : Joins child root link left right ⊎ Joins child root link right left
 
--- a WHERE of which AND joins one link, of these columns, and conditions over the child's rows
+-- a part joins the two, by some columns; and one joins the child's key with the row around
+abbrev pub JoinsRow : Scope → Scope → Condition → Type 0
+JoinsRow child root part = (link : Link) × IsLink child root link part
+
+abbrev pub JoinsKey : Scope → Scope → Condition → Type 0
+JoinsKey child root part = (link : Link) × IsLink child root link part × (link.inner ≡ child.layout.key)
+
+-- a name of the child means its column, and any other a column of the row around
+abbrev pub IsOfEither : Scope → Scope → ColumnName → Type 0
+IsOfEither child root name = IsOwn child name ⊎ ((column : ℕ) × IsOuterColumn child root column name)
+
+-- over a row of the child and the row around it: columns of the two and literals, without set function and query
+pub record IsOverBoth (child root : Scope) (condition : Condition) : Type 0 where
+  pub columns : Each (IsOfEither child root) (columns_in condition)
+  pub alone : pieces_in condition ≡ []
+
+-- none of a list is so
+abbrev pub NoneOf : (Condition → Type 0) → List Condition → Type 0
+NoneOf P parts = Each (λ part. P part → ⊥) parts
+
+-- the link of these columns, behind the parts before it, is the first part that joins the child's key with the row; or,
+-- where none of all does, the first that joins the two
+abbrev pub IsFirstLink : Scope → Scope → Link → List Condition → List Condition → Type 0
+IsFirstLink child root columns before all =
+    ((columns.inner ≡ child.layout.key) × NoneOf (JoinsKey child root) before)
+    ⊎ (NoneOf (JoinsKey child root) all × NoneOf (JoinsRow child root) before)
+
+-- a WHERE of which AND joins a link, of these columns, and conditions over both rows. Such a condition may join the two
+-- as well; which of several is the link bears on the keys of reads, and not on what is in the class
 pub record IsLinkedWhere (child root : Scope) (columns : Link) (condition : Condition) : Type 0 where
   pub before : List Condition
   pub link : Condition
   pub behind : List Condition
   pub parts : and_layer condition (out-Condition condition) ≡ before ++ link ∷ behind
   pub links : IsLink child root columns link
-  pub others : Each (IsOverRows child) (before ++ behind)
+  pub others : Each (IsOverBoth child root) (before ++ behind)
+  pub first : IsFirstLink child root columns before (before ++ link ∷ behind)
 
 -- what a query over a table may list
 abbrev pub MayList : Type 1
 MayList = Scope → SelectList-F Condition Expression SelectList Query → Type 0
 
--- SELECT .. FROM d WHERE d.x = r.y AND f
+-- SELECT .. FROM d WHERE d.x = r.y AND f, where f is over a row of d and the row of r
 pub record IsLinkedQuery (tables : Tables) (root : Scope) (Lists : MayList) (query : Query) : Type 0 where
   pub scope : Scope
   pub condition : Condition

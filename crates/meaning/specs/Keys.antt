@@ -257,6 +257,11 @@ looks_of tables form = record {
   finds = finding_keys (layouts_of tables) form;
 }
 
+-- a WHERE has one link alone, so that `IsOfLink` leaves no choice of what is read
+abbrev pub HasOneLink : Type 0
+HasOneLink = (child root : Scope) (condition : Condition) (link other : Link)
+    → IsLinkedWhere child root link condition → IsLinkedWhere child root other condition → link ≡ other
+
 abbrev pub CheckReads : Type 0
 CheckReads = (tables : Tables) (condition : Condition) (form : Form) → form_of tables condition ≡ Ok form
     → ReadsAsWritten tables condition (looks_of tables form)

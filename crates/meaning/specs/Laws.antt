@@ -11,8 +11,10 @@ use Rattle.table.specs.declared.conds.Cond.{Cond}
 use Rattle.table.specs.Eval as resolved
 use Rattle.assertion.specs.declared.forms.Form.{Form}
 use Rattle.assertion.specs.declared.assertions.Assertion.{Assertion}
+use Rattle.assertion.specs.declared.queries.Link.{Link}
 use Rattle.assertion.specs.Meaning.{State, rows_of, filtered_rows, bad_roots, verdict_of, least_bad_of}
-use Rattle.syntax.specs.declared.trees.Condition.{Condition}
+use Rattle.syntax.specs.declared.trees.Condition.{Condition, out-Condition}
+use Rattle.syntax.specs.Grammar.{and_layer}
 use Rattle.syntax.specs.declared.trees.Expression.{Expression}
 use Rattle.syntax.specs.declared.definitions.Attributes.{Attributes}
 use Rattle.syntax.specs.declared.statements.Assigned.{Assigned}
@@ -33,7 +35,7 @@ use Rattle.assertcheck.specs.declared.updates.Update.{Update}
 use Rattle.assertcheck.specs.Assertions.{are_at_odds, attributes_of, checked}
 use Rattle.assertcheck.specs.Statements.{delete_of, places_from, select_of}
 use Rattle.assertcheck.specs.Updates.{update_of}
-use Rattle.meaning.specs.Class.{IsInClass}
+use Rattle.meaning.specs.Class.{Each, IsInClass, IsLinkedWhere, IsOverBoth, JoinsRow}
 use Rattle.meaning.specs.Meaning.{Reference, References, truth, valued, passes, with_rows, table_of}
 use Rattle.meaning.specs.Meaning.{written_truth, written_bad_roots, written_least}
 
@@ -85,6 +87,13 @@ HasWrittenTruth = (tables : Tables) (condition : Condition) (form : Form)
 abbrev pub HasFormInClass : Type 0
 HasFormInClass = (tables : Tables) (condition : Condition)
     → ((form : Form) × (form_of tables condition ≡ Ok form)) ↔ IsInClass tables condition
+
+-- a WHERE has a link wherever one of its parts joins the two and the others are over both rows
+abbrev pub HasALink : Type 0
+HasALink = (child root : Scope) (condition part : Condition) (before behind : List Condition)
+    → and_layer condition (out-Condition condition) ≡ before ++ part ∷ behind
+    → JoinsRow child root part → Each (IsOverBoth child root) (before ++ behind)
+    → (link : Link) × IsLinkedWhere child root link condition
 
 abbrev pub HasWrittenLeast : Type 0
 HasWrittenLeast = (tables : Tables) (condition : Condition) (form : Form)

@@ -1,9 +1,11 @@
 //! What holds of the written meaning and the resolved one.
 
-ghost use Rattle.meaning.specs.Keys.{CheckReads, DeleteReads, SelectReads, UpdateReads, VerdictReads, WhereReads};
+ghost use Rattle.meaning.specs.Keys.{CheckReads, DeleteReads, HasOneLink, SelectReads, UpdateReads};
+ghost use Rattle.meaning.specs.Keys.{VerdictReads, WhereReads};
 ghost use Rattle.meaning.specs.Laws.{GivesValues, KeepsRows};
 ghost use Rattle.meaning.specs.Laws.{DeletesRows, ListsColumns, SelectsRows, UpdatesColumns, UpdatesRows};
-ghost use Rattle.meaning.specs.Laws.{HasFormInClass, HasWrittenLeast, HasWrittenRoots, HasWrittenTruth, KeepsForm};
+ghost use Rattle.meaning.specs.Laws.{HasALink, HasFormInClass, HasWrittenLeast, HasWrittenRoots};
+ghost use Rattle.meaning.specs.Laws.{HasWrittenTruth, KeepsForm};
 ghost use Rattle.meaning.specs.Laws.{StaysWritten, TakesExactly, TakesWritten};
 
 /// A condition over the rows of one table is true, false or unknown of a row as it is written, and an expression has
@@ -23,9 +25,11 @@ pub fn statements_keep_written_rows()
     ensures columns { UpdatesColumns }
 {}
 
-/// A condition has a form exactly where it is by rows, by groups or single.
+/// A condition has a form exactly where it is by rows, by groups or single. In one by rows, a query has a link wherever
+/// one of the parts that AND joins in its WHERE joins the two rows, and the others are over both.
 pub fn class_has_forms()
-    ensures { HasFormInClass }
+    ensures forms { HasFormInClass }
+    ensures links { HasALink }
 {}
 
 /// An assertion that has a form is false at the roots that its text names, and true, false or unknown as its text is;
@@ -48,9 +52,11 @@ pub fn assertion_means_what_is_written()
 {}
 
 /// A WHERE over the rows of one table reads under the key of its text, a check of an assertion at a root under the keys
-/// of the assertion's text, and VERDICT the tables of its text.
+/// of the assertion's text, and VERDICT the tables of its text. Of the parts of a WHERE that join the two rows, one
+/// alone is its link, by which the keys of its query are said.
 pub fn keys_are_as_written()
     ensures conditions { WhereReads }
+    ensures links { HasOneLink }
     ensures checks { CheckReads }
     ensures verdicts { VerdictReads }
 {}

@@ -30,7 +30,7 @@ above-rows column k [] a b = tt
 above-rows column k (e ∷ es) a b = (subst (λ (v : Value). value_cmp k v ≡ Less) a.0 b.0, above-rows column k es a.1 b.1)
 
 -- rows under keys that go up are in order
-ascending-rows : (column : ℕ) (es : List Entry) → AreKeyed column es → AreInOrder es → IsAscending value_cmp (value_in column) (rows_of es)
+pub ascending-rows : (column : ℕ) (es : List Entry) → AreKeyed column es → AreInOrder es → IsAscending value_cmp (value_in column) (rows_of es)
 ascending-rows column [] a s = tt
 ascending-rows column (e ∷ es) a s =
     (subst (λ (v : Value). AreAbove value_cmp (value_in column) v (rows_of es)) a.0 (above-rows column e.0 es a.1 s.0), ascending-rows column es a.1 s.1)
@@ -55,7 +55,7 @@ next_index key column all left rest e index made next keyed order step i =
     }
 
 -- a value that is there is equal to what ties with it
-equals-known : (v w : Value) → is_there v ≡ true → equals v w ≡ eq_by_cmp value_cmp v w
+pub equals-known : (v w : Value) → is_there v ≡ true → equals v w ≡ eq_by_cmp value_cmp v w
 equals-known Null w h = absurd (cc)
 equals-known (Int n) Null h = refl
 equals-known (Int n) (Int m) h = refl

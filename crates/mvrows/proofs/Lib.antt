@@ -1,4 +1,5 @@
-mod IndexedRows
+pub mod IndexedRows
 mod KeyedRows
 pub mod LastRows
 pub mod Walked
+mod FoundRows

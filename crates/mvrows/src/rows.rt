@@ -1,6 +1,6 @@
 //! Versions of a table's rows.
 
-ghost use Rattle.std.specs.Prelude.{◌≡◌, ◌<◌, ◌^◌, ◌+◌, ◌⊎◌, [], ◌∷◌, drop, length, not, Some, IfOk, IfSome, IsOkUnless, IsTrue, if◌then◌else◌};
+ghost use Rattle.std.specs.Prelude.{◌≡◌, ◌<◌, ◌^◌, ◌+◌, ◌⊎◌, [], ◌∷◌, drop, filter_map, length, map, not, option_to_list, Some, IfOk, IfSome, IsOkUnless, IsTrue, if◌then◌else◌};
 ghost use Rattle.std.specs.Option.{option_copied};
 ghost use Rattle.std.specs.Ordering.{eq_by_cmp};
 ghost use Rattle.table.specs.Rows.{value_in, row_at, put_row};
@@ -9,7 +9,7 @@ ghost use Rattle.groups.specs.Indexes.{IsIndexOf, keys_at};
 ghost use Rattle.pages.specs.Reach.{AreInOrder};
 ghost use Rattle.mvrows.specs.Indexed.{AreIndexesOf};
 ghost use Rattle.mvrows.specs.Keyed.{rows_of, AreKeyed};
-ghost use Rattle.mvrows.specs.Looked.{keys_with};
+ghost use Rattle.mvrows.specs.Looked.{keys_with, rows_with};
 ghost use Rattle.value.specs.Ordered.{HasKey, IsAscending};
 ghost use Rattle.value.specs.ValueOrder.{value_cmp};
 ghost use Rattle.value.specs.declared.refusals.Refusal.TheVariants.{NoMemory};
@@ -103,6 +103,77 @@ impl Rows {
             Some(index) => copy_keys(alloc, index.keys(value)),
             None => self.scan_keys(alloc, key_column, column, value),
         }
+    }
+
+    /// The rows that have a value in a column, in their order. Their keys are in the column at `key_column`.
+    pub fn rows_with(
+        &self,
+        alloc: Global,
+        key_column: usize,
+        column: usize,
+        value: &Value,
+    ) -> Result<Vec<&Row>, Refusal>
+        ensures only_memory { IsOkUnless result NoMemory }
+        ensures rows { IfOk result (λ rows. map (λ row. row.now) rows.items ≡ rows_with column value.now self.now) }
+    {
+        // The proof reads that rows are in the order of the column that they are kept by.
+        let is_keyed = is_keyed(&self.pages, self.column, key_column);
+        if is_keyed {
+            if column == key_column {
+                return self.row_alone(alloc, key_column, value);
+            }
+            if let Some(index) = self.index_for(key_column, column, value) {
+                return self.rows_under(alloc, key_column, index.keys(value));
+            }
+        }
+        self.scan_rows(alloc, column, value)
+    }
+
+    /// The row under a key, as the only one, if there is one.
+    fn row_alone(&self, alloc: Global, key_column: usize, key: &Value) -> Result<Vec<&Row>, Refusal>
+        ensures only_memory { IsOkUnless result NoMemory }
+        ensures row { IfOk result (λ rows.
+            map (λ row. row.now) rows.items ≡ option_to_list (row_at key_column key.now self.now)) }
+    {
+        let mut rows = Vec::new(alloc);
+        if let Some(row) = self.get(key_column, key) {
+            rows.push(row)?;
+        }
+        Ok(rows)
+    }
+
+    /// The rows under these keys.
+    fn rows_under(
+        &self,
+        alloc: Global,
+        key_column: usize,
+        keys: Keys<'_>,
+    ) -> Result<Vec<&Row>, Refusal>
+        ensures only_memory { IsOkUnless result NoMemory }
+        ensures rows { IfOk result (λ rows.
+            map (λ row. row.now) rows.items ≡ filter_map (λ key. row_at key_column key self.now) keys.entry) }
+    {
+        let mut rows = Vec::new(alloc);
+        for key in keys {
+            if let Some(row) = self.get(key_column, key) {
+                rows.push(row)?;
+            }
+        }
+        Ok(rows)
+    }
+
+    /// The same rows, found among all.
+    fn scan_rows(&self, alloc: Global, column: usize, value: &Value) -> Result<Vec<&Row>, Refusal>
+        ensures only_memory { IsOkUnless result NoMemory }
+        ensures rows { IfOk result (λ rows. map (λ row. row.now) rows.items ≡ rows_with column value.now self.now) }
+    {
+        let mut rows = Vec::new(alloc);
+        for row in self.iter() {
+            if order_key(value, row, column) == Ordering::Equal {
+                rows.push(row)?;
+            }
+        }
+        Ok(rows)
     }
 
     /// The index that has the keys of the rows with a value in a column, if there is one. NULL is in no index.

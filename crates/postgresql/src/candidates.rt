@@ -5,7 +5,7 @@
 //! single condition. A changed row that the filter of a subquery or of the groups does not keep turns nothing there,
 //! before as after, so its root is left out.
 
-use crate::forms::{add_filter, add_source, column_name, key_name};
+use crate::forms::{add_filter, add_linked_filter, add_source, column_name, key_name};
 use assertion::{Form, Link, Query, Whole};
 use delta::View;
 use std::alloc::AllocError;
@@ -84,7 +84,7 @@ fn add_part(
     if !is_first {
         sql.push_str("\n        UNION ALL ")?;
     }
-    if query.grouping.outer == view.key_column(own) {
+    if query.grouping.outer == view.key_column(own) && !query.filter.has_slots() {
         add_key_candidates(sql, view, query, changed)?;
     } else {
         add_column_candidates(sql, view, own, query, changed)?;
@@ -92,7 +92,8 @@ fn add_part(
     Ok(false)
 }
 
-/// Where the link is to the key, the changed row has it. NULL is linked to no key.
+/// Where the link is to the key, the changed row has it, and the filter asks nothing else of the row around. NULL is
+/// linked to no key.
 fn add_key_candidates(
     sql: &mut String,
     view: &View,
@@ -107,7 +108,7 @@ fn add_key_candidates(
     add_filter(sql, view, query.table, "c", &query.filter)
 }
 
-/// Where it is to another column, the rows that have the value there.
+/// Else the rows that have the value there, and that the filter takes beside the changed row.
 fn add_column_candidates(
     sql: &mut String,
     view: &View,
@@ -121,7 +122,7 @@ fn add_column_candidates(
     write!(sql, "SELECT r.{key} AS root ")?;
     add_source(sql, view, own, "r")?;
     write!(sql, ", {changed} AS c WHERE r.{outer} = c.{inner} AND ")?;
-    add_filter(sql, view, query.table, "c", &query.filter)
+    add_linked_filter(sql, view, own, query, "c")
 }
 
 fn add_whole_candidates(

@@ -14,12 +14,19 @@ pub struct Slot {
     pub exists: String,
 }
 
+/// What stands in the slots of a condition: set functions and subqueries, or what another row has in its columns.
+#[derive(Clone, Copy)]
+pub enum Slots<'a> {
+    Given(&'a [Slot]),
+    Columns { row: &'a str, columns: &'a [Column] },
+}
+
 /// By which name the row of a condition goes, its columns, and what stands in its slots.
 #[derive(Clone, Copy)]
 pub struct Scope<'a> {
     pub row: &'a str,
     pub columns: &'a [Column],
-    pub slots: &'a [Slot],
+    pub slots: Slots<'a>,
 }
 
 /// Adds a condition.
@@ -82,7 +89,7 @@ fn add_before_part(sql: &mut String, is_first: bool, word: &str) -> Result<(), A
 
 /// Adds the test whether a subquery has a row.
 fn add_exists(sql: &mut String, scope: &Scope<'_>, slot: usize) -> Result<(), AllocError> {
-    match scope.slots.get(slot) {
+    match slot_at(scope, slot) {
         Some(found) => sql.push_str(found.exists.as_str()),
         None => sql.push_str("FALSE"),
     }
@@ -140,22 +147,37 @@ fn add_atom(sql: &mut String, scope: &Scope<'_>, expression: &Expr) -> Result<()
             let constant = Constant(value);
             write!(sql, "{constant}")
         }
-        Expr::Column(place) => {
-            let row = scope.row;
-            let column = ColumnName {
-                columns: scope.columns,
-                place: *place,
-            };
-            write!(sql, "{row}.{column}")
-        }
+        Expr::Column(place) => add_column(sql, scope.row, scope.columns, *place),
         Expr::Slot(place) => add_slot(sql, scope, *place),
         Expr::Negation(_) | Expr::Sum(_) | Expr::Product(_) => sql.push_str("NULL"),
     }
 }
 
+/// Adds a column of a row.
+fn add_column(
+    sql: &mut String,
+    row: &str,
+    columns: &[Column],
+    place: usize,
+) -> Result<(), AllocError> {
+    let column = ColumnName { columns, place };
+    write!(sql, "{row}.{column}")
+}
+
+/// The set function or subquery in a slot.
+fn slot_at<'a>(scope: &Scope<'a>, slot: usize) -> Option<&'a Slot> {
+    match scope.slots {
+        Slots::Given(slots) => slots.get(slot),
+        Slots::Columns { .. } => None,
+    }
+}
+
 /// Adds what stands in a slot.
 fn add_slot(sql: &mut String, scope: &Scope<'_>, slot: usize) -> Result<(), AllocError> {
-    match scope.slots.get(slot) {
+    if let Slots::Columns { row, columns } = scope.slots {
+        return add_column(sql, row, columns, slot);
+    }
+    match slot_at(scope, slot) {
         Some(found) => sql.push_str(found.value.as_str()),
         None => sql.push_str("NULL"),
     }

@@ -3,7 +3,7 @@
 //! In all of it the row of a table goes by `r`, that of a subquery by `s` and a changed row by `c`. Column names are
 //! quoted and hold no lower-case letter, so no name of the function's own is ever taken for one of them.
 
-use crate::conditions::{Scope, Slot, add_condition};
+use crate::conditions::{Scope, Slot, Slots, add_condition};
 use crate::totals;
 use crate::words::{ColumnName, Name, SetFunction};
 use assertion::{Form, Link, Query, Whole};
@@ -113,6 +113,25 @@ pub fn add_source(
     write!(sql, " AS {row}")
 }
 
+/// Adds a WHERE on a row of a subquery's table. What it asks of the row around is of `r`, a row of that table.
+pub fn add_linked_filter(
+    sql: &mut String,
+    view: &View,
+    around: usize,
+    query: &Query<Link>,
+    row: &str,
+) -> Result<(), AllocError> {
+    let scope = Scope {
+        row,
+        columns: columns_of(view, query.table),
+        slots: Slots::Columns {
+            row: "r",
+            columns: columns_of(view, around),
+        },
+    };
+    add_condition(sql, &scope, &query.filter)
+}
+
 /// Adds a WHERE on a row of a table, as a condition without slots.
 pub fn add_filter(
     sql: &mut String,
@@ -124,7 +143,7 @@ pub fn add_filter(
     let scope = Scope {
         row,
         columns: columns_of(view, table),
-        slots: &[],
+        slots: Slots::Given(&[]),
     };
     add_condition(sql, &scope, filter)
 }
@@ -173,7 +192,7 @@ fn linked_slot(
     let inner = column_name(view, query.table, query.grouping.inner);
     let outer = column_name(view, table, query.grouping.outer);
     write!(source, " WHERE s.{inner} = r.{outer} AND ")?;
-    add_filter(&mut source, view, query.table, "s", &query.filter)?;
+    add_linked_filter(&mut source, view, table, query, "s")?;
     slot_of(alloc, view, query.table, query.aggregate, source.as_str())
 }
 
@@ -240,7 +259,7 @@ pub fn row_sql(
     let scope = Scope {
         row: "r",
         columns: columns_of(view, table),
-        slots: slots.as_slice(),
+        slots: Slots::Given(slots.as_slice()),
     };
     let mut test = String::new(alloc);
     add_condition(&mut test, &scope, condition)?;
@@ -300,7 +319,7 @@ fn having_text(
     let scope = Scope {
         row: "r",
         columns,
-        slots,
+        slots: Slots::Given(slots),
     };
     let mut test = String::new(alloc);
     add_condition(&mut test, &scope, having)?;
@@ -345,7 +364,7 @@ fn text_over(alloc: Global, slots: &[Slot], condition: &Cond) -> Result<String, 
     let scope = Scope {
         row: "r",
         columns: &[],
-        slots,
+        slots: Slots::Given(slots),
     };
     let mut test = String::new(alloc);
     add_condition(&mut test, &scope, condition)?;

@@ -17,7 +17,7 @@ use Rattle.assertion.specs.declared.forms.Form.TheVariants.{ByRow, ByGroup, Sing
 use Rattle.groups.specs.Answers.{value_for}
 use Rattle.groups.specs.Totals.{Entries, Members, AreTotalsOf, IsWithin}
 use Rattle.roots.specs.Answers.{kinds_in, query_answer}
-use Rattle.roots.specs.Bad.{answers, asked}
+use Rattle.roots.specs.Bad.{answers, given}
 use Rattle.roots.specs.declared.grouped.Grouping.{Grouping}
 use Rattle.roots.specs.Summaries.{summed_up, group_query, queries_of, summaries_of, group_rows, members}
 use Rattle.roots.proofs.MaintainedLemmas.{members-within, totals-at}
@@ -54,33 +54,25 @@ slot-within form i h = subst (λ n. i < n) (ap length (sym (slots-summed form i 
 slot-query : (form : Form) (i : ℕ) (s : Query Grouping) → i < length (queries_of form) → s ≡ get_or (summaries_of form) i s → s ≡ get_or (queries_of form) i s
 slot-query form i s h e = e ∙ ap (λ queries. get_or queries i s) (slots-summed form i h)
 
-module _ (form : Form) (i : ℕ) (s : Query Grouping) (v : SlotValue) (h : i < length (queries_of form)) (is : s ≡ get_or (summaries_of form) i s) where
+module _ (form : Form) (i : ℕ) (s : Query Grouping) (h : i < length (queries_of form)) (is : s ≡ get_or (summaries_of form) i s) where
   -- the totals at the slot's place are those that its query asks for
-  right : (state : State) (totals : List Entries) (es : Entries) → AreMaintained state form totals → es ≡ get_or totals i es → AreTotalsFor state s es
-  right state totals es k e = subst (λ (q : Query Grouping). AreTotalsFor state q es) (sym is) (totals-at state (summaries_of form) (length (summaries_of form)) totals i es k (slot-within form i h) e s)
-
-  -- what is answered from totals within bounds is within the bound of its slot
-  pub answer-within : (state : State) (totals : List Entries) (es : Entries) (group : Value) → IsSmallState state → AreMaintained state form totals → es ≡ get_or totals i es
-      → ((members : Members) → AreTotalsOf s.aggregate members es → IsWithin (members group) → IsWithinKind v) → IsWithinKind v
-  answer-within state totals es group small k e f =
-      f (members state s) (right state totals es k e) (members-within state s small group)
+  pub slot-totals : (state : State) (totals : List Entries) (es : Entries) → AreMaintained state form totals → es ≡ get_or totals i es → AreTotalsFor state s es
+  slot-totals state totals es k e = subst (λ (q : Query Grouping). AreTotalsFor state q es) (sym is) (totals-at state (summaries_of form) (length (summaries_of form)) totals i es k (slot-within form i h) e s)
 
   -- the kinds of the slots, with one more
-  pub kinds-more : (slots more : SlotValues) → kind_of v ≡ kind_of_aggregate s.aggregate → more ≡ slots ++ v ∷ []
+  pub kinds-more : (v : SlotValue) (slots more : SlotValues) → kind_of v ≡ kind_of_aggregate s.aggregate → more ≡ slots ++ v ∷ []
       → kinds_of slots ≡ kinds_in (take i (queries_of form)) → kinds_of more ≡ kinds_in (take (i + 1) (queries_of form))
-  kinds-more slots more kind g so_far =
+  kinds-more v slots more kind g so_far =
       let queries : List (Query Grouping) = queries_of form in
       ap kinds_of g ∙ map-append kind_of slots (v ∷ []) ∙ ap (λ kinds. kinds ++ kind_of v ∷ []) so_far
       ∙ ap (λ kind. kinds_in (take i queries) ++ kind ∷ []) (kind ∙ ap (λ (q : Query Grouping). kind_of_aggregate q.aggregate) (slot-query form i s h is))
       ∙ sym (ap kinds_in (take_more queries i s h) ∙ map-append (λ (q : Query Grouping). kind_of_aggregate q.aggregate) (take i queries) (get_or queries i s ∷ []))
 
   -- the values of the slots, with one more
-  pub values-more : (state : State) (totals : List Entries) (es : Entries) (row : RowValues) (group : Value) (slots more : SlotValues) → group ≡ asked s.grouping row → AreMaintained state form totals → es ≡ get_or totals i es
-      → ((rows : Value → List RowValues) → AreTotalsOf s.aggregate (λ g. map (value_for s.aggregate) (rows g)) es → value_of v ≡ aggregate s.aggregate (rows group))
+  pub values-more : (state : State) (row : RowValues) (v : SlotValue) (slots more : SlotValues) → value_of v ≡ given state row s
       → more ≡ slots ++ v ∷ [] → values_of slots ≡ answers state (take i (queries_of form)) row → values_of more ≡ answers state (take (i + 1) (queries_of form)) row
-  values-more state totals es row group slots more a k e f g so_far =
+  values-more state row v slots more e g so_far =
       let queries : List (Query Grouping) = queries_of form in
-      let given : Query Grouping → Value = λ q. query_answer state (asked q.grouping row) q in
       ap values_of g ∙ map-append value_of slots (v ∷ []) ∙ ap (λ vs. vs ++ value_of v ∷ []) so_far
-      ∙ ap (λ x. answers state (take i queries) row ++ x ∷ []) (f (group_rows state s) (right state totals es k e) ∙ ap (λ g. query_answer state g s) a ∙ ap given (slot-query form i s h is))
-      ∙ sym (ap (λ qs. answers state qs row) (take_more queries i s h) ∙ map-append given (take i queries) (get_or queries i s ∷ []))
+      ∙ ap (λ x. answers state (take i queries) row ++ x ∷ []) (e ∙ ap (given state row) (slot-query form i s h is))
+      ∙ sym (ap (λ qs. answers state qs row) (take_more queries i s h) ∙ map-append (given state row) (take i queries) (get_or queries i s ∷ []))

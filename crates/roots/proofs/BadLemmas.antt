@@ -11,13 +11,15 @@ use Rattle.value.specs.declared.values.Value.TheVariants.{Null}
 use Rattle.value.specs.declared.values.Root.{Root}
 use Rattle.value.specs.declared.values.Root.TheVariants.{All, Of}
 use Rattle.value.specs.ValueOrder.{value_cmp}
-use Rattle.value.specs.declared.truths.Truth.TheVariants.{False}
+use Rattle.value.specs.declared.truths.Truth.TheVariants.{True, False}
 use Rattle.value.specs.Truths.{is_of}
 use Rattle.table.specs.declared.aggregates.Aggregate.{Aggregate}
 use Rattle.table.specs.Aggregates.{is_there, aggregate, rows_of_group}
 use Rattle.table.specs.Rows.{RowValues, Layout, value_in}
 use Rattle.table.specs.declared.conds.Cond.{Cond}
 use Rattle.table.specs.Eval.{truth, keeps}
+use Rattle.table.specs.Slotless.{has_slots}
+use Rattle.table.proofs.SlotlessLemmas.{slotless_truth}
 use Rattle.assertion.specs.declared.queries.Query.{Query}
 use Rattle.assertion.specs.declared.queries.Link.{Link}
 use Rattle.assertion.specs.declared.queries.Whole.{Whole as AnyWhole}
@@ -29,9 +31,9 @@ use Rattle.assertion.proofs.KeptTruth.{links-there}
 use Rattle.assertion.proofs.ListLemmas.{filter-filter}
 use Rattle.groups.specs.Answers.{value_for}
 use Rattle.groups.specs.Members.{is_placed}
-use Rattle.roots.specs.Bad.{IsRowOf, answers, row_passes, group_passes, whole_truth}
+use Rattle.roots.specs.Bad.{IsRowOf, answers, given, row_passes, group_passes, whole_truth}
 use Rattle.roots.specs.declared.grouped.Grouping.{Grouping}
-use Rattle.roots.specs.Summaries.{place, group_rows, linked_query, whole_query, group_query, summed_up, members, queries_of, summaries_of}
+use Rattle.roots.specs.Summaries.{place, place_unless, group_rows, linked_query, whole_query, group_query, summed_up, members, queries_of, summaries_of}
 use Rattle.roots.proofs.AnswerLemmas.{summed-some}
 
 linked_by : (k t : Bool) (v w : Value) → is_placed v (if k then (if t then Some w else None) else None) ≡ (t && eq_by_cmp value_cmp v w) && k
@@ -40,17 +42,31 @@ linked_by false true v w = sym (and-false (eq_by_cmp value_cmp v w))
 linked_by true false v w = refl
 linked_by false false v w = refl
 
-linked_rows : (state : State) (row : RowValues) (q : Query Link) → group_rows state (linked_query q) (value_in q.grouping.outer row) ≡ filter (λ linked. links q.grouping row linked && keeps linked [] q.filter) (rows_of q.table state)
-linked_rows state row q =
-    let v : Value = value_in q.grouping.outer row in
-    filter_agree (λ linked. is_placed v (place (linked_query q) linked)) (λ linked. links q.grouping row linked && keeps linked [] q.filter)
-    (λ linked. linked_by (keeps linked [] q.filter) (is_there (value_in q.grouping.inner linked)) v (value_in q.grouping.inner linked) ∙ ap (λ b. b && keeps linked [] q.filter) (sym (links-there q.grouping row linked)))
-    (rows_of q.table state)
+-- a linked query gives what its meaning says: where its filter has no slots, the totals' rows are the linked ones
+linked_given : (state : State) (row : RowValues) (q : Query Link) → given state row (linked_query q) ≡ linked_answer state row q
+linked_given state row q = case (has_slots q.filter) refl
+  where
+    v : Value
+    v = value_in q.grouping.outer row
+
+    here : RowValues → Value
+    here linked = value_in q.grouping.inner linked
+
+    same : has_slots q.filter ≡ false → (linked : RowValues)
+        → is_placed v (if keeps linked [] q.filter then (if is_there (here linked) then Some (here linked) else None) else None) ≡ links q.grouping row linked && keeps linked row q.filter
+    same e linked =
+        linked_by (keeps linked [] q.filter) (is_there (here linked)) v (here linked)
+        ∙ ap (λ b. b && keeps linked [] q.filter) (sym (links-there q.grouping row linked))
+        ∙ ap (λ t. links q.grouping row linked && is_of t True) (slotless_truth linked [] row q.filter e)
+
+    case : (b : Bool) → has_slots q.filter ≡ b → given state row (linked_query q) ≡ linked_answer state row q
+    case true e = rw e refl
+    case false e = rw e (ap (aggregate q.aggregate) (filter_agree (λ linked. is_placed v (place_unless None (linked_query q) linked)) (λ linked. links q.grouping row linked && keeps linked row q.filter) (same e) (rows_of q.table state)))
 
 linked_are : (state : State) (row : RowValues) (qs : List (Query Link)) → answers state (map linked_query qs) row ≡ map (linked_answer state row) qs
 linked_are state row [] = refl
 linked_are state row (q ∷ qs) =
-    ap (λ rows. aggregate q.aggregate rows ∷ answers state (map linked_query qs) row) (linked_rows state row q)
+    ap (λ v. v ∷ answers state (map linked_query qs) row) (linked_given state row q)
     ∙ ap (λ rest. linked_answer state row q ∷ rest) (linked_are state row qs)
 
 plain_by : (k : Bool) → is_placed Null (if k then Some Null else None) ≡ k

@@ -9,3 +9,4 @@ pub mod MaintainedLemmas
 pub mod ListedLemmas
 pub mod LoadedLemmas
 pub mod UpdateLemmas
+pub mod JointLemmas

@@ -8,6 +8,7 @@ use Rattle.table.specs.Rows.{RowValues, value_in}
 use Rattle.table.specs.Aggregates.{is_there}
 use Rattle.table.specs.declared.conds.Cond.{Cond}
 use Rattle.table.specs.Eval.{keeps}
+use Rattle.table.specs.Slotless.{has_slots}
 use Rattle.assertion.specs.declared.queries.Link.{Link}
 use Rattle.assertion.specs.declared.queries.Query.{Query}
 use Rattle.assertion.specs.declared.queries.Whole.{Whole as AnyWhole}
@@ -28,9 +29,24 @@ group_of (By column) row = Some (value_in column row)
 group_of (Linked link) row =
     if is_there (value_in link.inner row) then Some (value_in link.inner row) else None
 
--- the group to which a row goes, if WHERE keeps it
+-- whether a query is joint: its filter asks what the row around holds, so that it gives something else for each row.
+-- No totals are kept for it
+abbrev pub joint_by : Grouping → Cond → Option Link
+joint_by Whole restriction = None
+joint_by (By column) restriction = None
+joint_by (Linked link) restriction = if has_slots restriction then Some link else None
+
+-- its link, if it is joint
+abbrev pub joint_link : Query Grouping → Option Link
+joint_link q = joint_by q.grouping q.filter
+
+-- the group to which a row goes, if WHERE keeps it; none of a joint query
+abbrev pub place_unless : Option Link → Query Grouping → RowValues → Option Value
+place_unless (Some link) q row = None
+place_unless None q row = if keeps row [] q.filter then group_of q.grouping row else None
+
 abbrev pub place : Query Grouping → RowValues → Option Value
-place q row = if keeps row [] q.filter then group_of q.grouping row else None
+place q row = place_unless (joint_link q) q row
 
 -- the rows of a group
 abbrev pub group_rows : State → Query Grouping → Value → List RowValues

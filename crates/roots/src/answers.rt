@@ -1,43 +1,83 @@
 //! What the slots of a form's condition hold for a group, from the maintained totals.
 
-ghost use Rattle.std.specs.Prelude.{◌≡◌, length, IfOk, IsOkUnless};
+ghost use Rattle.std.specs.Prelude.{◌≡◌, [], length, IfOk, IsOkUnless};
 ghost use Rattle.value.specs.declared.refusals.Refusal.TheVariants.{NoMemory};
 ghost use Rattle.value.specs.declared.values.Value.TheVariants.{Null};
 ghost use Rattle.table.specs.declared.aggregates.Aggregate.{Aggregate};
 ghost use Rattle.table.specs.Rows.{value_in};
-ghost use Rattle.table.specs.Slots.{kinds_of, values_of};
-ghost use Rattle.assertion.specs.Meaning.{State};
+ghost use Rattle.table.specs.Bounds.{IsSmallRow};
+ghost use Rattle.table.specs.Kinds.{kind_of_aggregate};
+ghost use Rattle.table.specs.Slots.{IsWithinKind, kind_of, kinds_of, value_of, values_of};
+ghost use Rattle.assertion.specs.Bounded.{IsBounded, IsBoundedOver};
 ghost use Rattle.groups.specs.Totals.{Members, AreTotalsOf};
 ghost use Rattle.roots.specs.Answers.{kinds_in};
-ghost use Rattle.roots.specs.Bad.{answers as answers_of, asked};
-ghost use Rattle.roots.specs.Maintained.{AreMaintained, AreOfTables};
+ghost use Rattle.roots.specs.Bad.{answers as answers_of, asked, given};
+ghost use Rattle.roots.specs.Maintained.{AreMaintained, AreTotalsFor, IsSmallState};
+ghost use Rattle.roots.specs.Shown.{shown};
 ghost use Rattle.roots.specs.Summaries.{queries_of};
 
-use crate::grouped::Grouping;
+use crate::grouped::{Grouping, Summary, joint_link};
+use crate::joint::joint_answer;
 use crate::summaries::{slot_count, summary_of};
 use assertion::Form;
 use groups::Totals;
+use mvrows::Rows;
 use std::alloc::Global;
-use table::{Row, Slots};
+use table::{Row, Schema, SlotValue, Slots};
 use value::{Refusal, Value};
 
 /// What the slots hold for the row that the form's condition sees: one of its table, or one of a group's value alone,
 /// or one of no value.
-pub fn slots(alloc: Global, form: &Form, totals: &[Totals], row: &Row) -> Result<Slots, Refusal>
-    requires totals { AreOfTables form.now totals.now }
+pub fn slots(
+    alloc: Global,
+    schemas: &[Schema],
+    tables: &[Rows],
+    form: &Form,
+    totals: &[Totals],
+    row: &Row,
+) -> Result<Slots, Refusal>
+    requires bounded { IsBounded form.now }
+    requires small { IsSmallState tables.now }
+    requires row_small { IsSmallRow row.now }
+    requires totals { AreMaintained tables.now form.now totals.now }
     ensures only_memory { IsOkUnless result NoMemory }
     ensures kinds { IfOk result (λ slots. kinds_of slots ≡ kinds_in (queries_of form.now)) }
-    ensures values { IfOk result (λ slots. (state : State) → AreMaintained state form.now totals.now
-        → values_of slots ≡ answers_of state (queries_of form.now) row.now) }
+    ensures values { IfOk result (λ slots. values_of slots ≡ answers_of tables.now (queries_of form.now) row.now) }
 {
     let mut slots = Slots::new(alloc);
     for index in 0..slot_count(form) {
         let summary = summary_of(form, index);
-        let null = Value::Null;
-        let group = asked_group(summary.grouping, row, &null);
-        slots.push(totals[index].answer(group, summary.aggregate)?)?;
+        slots.push(answer(alloc, schemas, tables, summary, &totals[index], row)?)?;
     }
     Ok(slots)
+}
+
+/// What a query gives for the row that its condition sees.
+fn answer(
+    alloc: Global,
+    schemas: &[Schema],
+    tables: &[Rows],
+    summary: Summary,
+    totals: &Totals,
+    row: &Row,
+) -> Result<SlotValue, Refusal>
+    requires bounded { IsBoundedOver [] summary.filter.now }
+    requires small { IsSmallState tables.now }
+    requires row_small { IsSmallRow row.now }
+    requires totals { AreTotalsFor tables.now (shown summary) totals.now }
+    ensures only_memory { IsOkUnless result NoMemory }
+    ensures kind { IfOk result (λ answer. kind_of answer ≡ kind_of_aggregate summary.entry.aggregate) }
+    ensures value { IfOk result (λ answer. value_of answer ≡ given tables.now row.now (shown summary.entry)) }
+    ensures within { IfOk result IsWithinKind }
+{
+    match joint_link(summary) {
+        Some(link) => joint_answer(alloc, schemas, tables, summary, link, row),
+        None => {
+            let null = Value::Null;
+            let group = asked_group(summary.grouping, row, &null);
+            totals.answer(group, summary.aggregate)
+        }
+    }
 }
 
 /// The group that a query is asked for by the row that its condition sees.

@@ -8,7 +8,7 @@ ghost use Rattle.assertion.specs.Bounded.{IsBoundedOver};
 ghost use Rattle.groups.specs.Members.{member_of};
 ghost use Rattle.groups.specs.Answers.{value_for};
 ghost use Rattle.roots.specs.Shown.{shown};
-ghost use Rattle.roots.specs.Summaries.{group_of, place as place_of};
+ghost use Rattle.roots.specs.Summaries.{group_of, joint_link as joint_link_of, place as place_of};
 
 use crate::columns::value_at;
 use assertion::Link;
@@ -82,17 +82,26 @@ fn counted_by(row: &Row, aggregate: Aggregate) -> Result<Value, Refusal>
     }
 }
 
-/// The group to which a row goes, if WHERE keeps it.
+/// The group to which a row goes, if WHERE keeps it; none of a joint query.
 fn place(alloc: Global, summary: Summary, row: &Row) -> Result<Option<Value>, Refusal>
     requires bounded { IsBoundedOver [] summary.filter.now }
     requires small { IsSmallRow row.now }
     ensures only_memory { IsOkUnless result NoMemory }
     ensures placed { IfOk result (λ placed. placed ≡ place_of (shown summary.entry) row.now) }
 {
-    if passes(alloc, summary.filter, row) {
-        group(summary.grouping, row)
-    } else {
-        Ok(None)
+    if joint_link(summary).is_some() || !passes(alloc, summary.filter, row) {
+        return Ok(None);
+    }
+    group(summary.grouping, row)
+}
+
+/// The link of a query that is joint: its filter asks what the row around holds, so that no totals are kept for it.
+pub fn joint_link(summary: Summary) -> Option<Link>
+    ensures { result ≡ joint_link_of (shown summary.entry) }
+{
+    match summary.grouping {
+        Grouping::Linked(link) if summary.filter.has_slots() => Some(link),
+        Grouping::Linked(_) | Grouping::Whole | Grouping::By(_) => None,
     }
 }
 

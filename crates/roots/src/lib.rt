@@ -47,6 +47,7 @@ mod bad_roots;
 mod candidate_roots;
 mod columns;
 mod grouped;
+mod joint;
 mod lists;
 mod maintained;
 mod summaries;

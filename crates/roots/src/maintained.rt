@@ -67,7 +67,7 @@ fn total_of_rows(alloc: Global, summary: Summary, rows: &Rows) -> Result<Totals,
 }
 
 /// The totals of one summary with one row more.
-fn total_with(
+pub(crate) fn total_with(
     alloc: Global,
     summary: Summary,
     totals: &Totals,

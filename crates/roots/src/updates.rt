@@ -174,7 +174,7 @@ fn judged(
         next ≡ put_root root.now (is_bad_root schemas.now form.now tables.now root.now) made) }
 {
     let row = row_of(schemas, tables, form, root);
-    let is_in = is_bad(alloc, form, row, totals, root)?;
+    let is_in = is_bad(alloc, schemas, tables, form, row, totals, root)?;
     made.with(root, is_in)
 }
 

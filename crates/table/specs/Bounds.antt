@@ -14,9 +14,9 @@ use Rattle.table.specs.Slots.{magnitude, limit}
 abbrev pub IsSmallRow : RowValues → Type 0
 IsSmallRow row = All (λ v. magnitude v ≤ 10 ^ 15) row
 
--- the bound of a slot; a slot that isn't there holds NULL
+-- the bound of a slot; one that isn't there holds NULL, and has the bound of a column
 abbrev pub limit_at : List SlotKind → ℕ → ℕ
-limit_at kinds slot = slice_index_or (map limit kinds) slot 0
+limit_at kinds slot = slice_index_or (map limit kinds) slot (2 ^ 50)
 
 -- the bounds of parts joined by an operation, from the left; none where one is missing or a step passes 2^126
 abbrev pub joined_bound : (ℕ → ℕ → ℕ) → ℕ → List (Option ℕ) → Option ℕ

@@ -8,3 +8,4 @@ pub mod Bounds
 pub mod Eval
 pub mod Shown
 pub mod Conditions
+pub mod Slotless

@@ -64,7 +64,7 @@ fn bound_within(expr: &Expr, kinds: &[SlotKind]) -> Option<u128>
         Expr::Column(_) => Some(COLUMN),
         Expr::Slot(slot) => match kinds.get(*slot) {
             Some(kind) => Some(limit(*kind)),
-            None => Some(0),
+            None => Some(COLUMN),
         },
         Expr::Negation(part) => bound_within(part.get(), kinds),
         Expr::Sum(parts) => {

@@ -3,6 +3,7 @@
 ghost use Rattle.std.specs.Prelude.{◌≡◌, IfOk, IsOkUnless};
 ghost use Rattle.value.specs.declared.refusals.Refusal.TheVariants.{NoMemory};
 ghost use Rattle.table.specs.Conditions.{between_of, in_of};
+ghost use Rattle.table.specs.Slotless.{has_slots};
 
 use crate::exprs::Expr;
 use sqlite_items::{Boxed, Items};
@@ -23,6 +24,26 @@ pub enum Cond {
 }
 
 impl Cond {
+    /// Whether there is a slot in it, so that its truth is not that of the row alone. It takes no memory.
+    pub fn has_slots(&self) -> bool
+        ensures { result ≡ has_slots self.now }
+    {
+        match self {
+            Cond::Compare(_, left, right) => left.has_slots() || right.has_slots(),
+            Cond::IsNull(part) => part.has_slots(),
+            Cond::Exists(_) => true,
+            Cond::Is(part, _) | Cond::Not(part) => part.get().has_slots(),
+            Cond::And(parts) | Cond::Or(parts) => {
+                for part in parts.as_slice() {
+                    if part.has_slots() {
+                        return true;
+                    }
+                }
+                false
+            }
+        }
+    }
+
     /// NOT of a condition.
     pub fn negation(alloc: Global, part: Cond) -> Result<Cond, Refusal>
         ensures only_memory { IsOkUnless result NoMemory }

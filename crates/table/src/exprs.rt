@@ -1,6 +1,7 @@
 //! Expressions.
 
 ghost use Rattle.std.specs.Prelude.{◌≡◌, IfOk, IsOkUnless};
+ghost use Rattle.table.specs.Slotless.{expression_has_slots};
 ghost use Rattle.value.specs.declared.refusals.Refusal.TheVariants.{NoMemory};
 
 use sqlite_items::{Boxed, Items};
@@ -22,6 +23,25 @@ pub enum Expr {
 }
 
 impl Expr {
+    /// Whether there is a slot in it. It takes no memory.
+    pub fn has_slots(&self) -> bool
+        ensures { result ≡ expression_has_slots self.now }
+    {
+        match self {
+            Expr::Literal(_) | Expr::Column(_) => false,
+            Expr::Slot(_) => true,
+            Expr::Negation(part) => part.get().has_slots(),
+            Expr::Sum(parts) | Expr::Product(parts) => {
+                for part in parts.as_slice() {
+                    if part.has_slots() {
+                        return true;
+                    }
+                }
+                false
+            }
+        }
+    }
+
     /// An expression equal to this one.
     pub fn copy(&self, alloc: Global) -> Result<Expr, Refusal>
         ensures only_memory { IsOkUnless result NoMemory }

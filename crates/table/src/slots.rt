@@ -1,13 +1,15 @@
 //! The values of aggregates and subqueries beside a row.
 
-ghost use Rattle.std.specs.Prelude.{◌≡◌, ◌≤◌, [], ◌∷◌, ◌++◌, IsOkUnless, OnOk, OnErr, slice_index_or};
+ghost use Rattle.std.specs.Prelude.{◌≡◌, ◌≤◌, [], ◌∷◌, ◌++◌, map, IfOk, IsOkUnless, OnOk, OnErr, slice_index_or};
 ghost use Rattle.value.specs.declared.refusals.Refusal.TheVariants.{NoMemory};
 ghost use Rattle.value.specs.declared.values.Value.TheVariants as value;
-ghost use Rattle.table.specs.Bounds.{limit_at};
+ghost use Rattle.table.specs.Bounds.{IsSmallRow, limit_at};
 ghost use Rattle.table.specs.Slots.{IsWithinKind, kinds_of, magnitude, values_of};
+ghost use Rattle.table.specs.declared.slots.SlotKind.TheVariants as kind;
 ghost use Rattle.table.specs.Shown.{shown};
 
 use crate::evals::{Given, lent};
+use crate::rows::Row;
 use std::alloc::Global;
 use std::marker::Model;
 use value::{Refusal, Value};
@@ -55,6 +57,20 @@ impl Slots {
         Slots {
             values: Vec::new(alloc),
         }
+    }
+
+    /// The values of a row, each in the slot of its column's place.
+    pub fn of_row(alloc: Global, row: &Row) -> Result<Slots, Refusal>
+        requires { IsSmallRow row.now }
+        ensures only_memory { IsOkUnless result NoMemory }
+        ensures kinds { IfOk result (λ slots. kinds_of slots ≡ map (λ v. kind.Extreme) row.now) }
+        ensures values { IfOk result (λ slots. values_of slots ≡ row.now) }
+    {
+        let mut slots = Slots::new(alloc);
+        for value in row.values() {
+            slots.push(SlotValue::Extreme(value.copy()?))?;
+        }
+        Ok(slots)
     }
 
     /// Puts one more slot behind the others. After an error they are as before.

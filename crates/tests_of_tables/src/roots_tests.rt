@@ -7,7 +7,7 @@ ghost use Rattle.table.specs.Rows.{value_in};
 ghost use Rattle.table.specs.Bounds.{IsSmallRow};
 ghost use Rattle.assertion.specs.Bounded.{IsBounded};
 ghost use Rattle.assertion.specs.Roots.{state_after};
-ghost use Rattle.roots.specs.Maintained.{AreMaintained, AreOfTables};
+ghost use Rattle.roots.specs.Maintained.{AreMaintained, IsSmallState};
 
 use crate::forms::{all_rows, by_group, by_row, single};
 use crate::shared::{let_go, same};
@@ -55,12 +55,19 @@ fn shown(alloc: Global, bad: &BadRoots, truth: Truth, is_bad: bool) -> Result<St
 }
 
 /// What is shown of an assertion of these totals and bad roots.
-fn judged(alloc: Global, form: &Form, totals: &[Totals], bad: &BadRoots) -> Result<String, Refusal>
+fn judged(
+    alloc: Global,
+    tables: &[Rows],
+    form: &Form,
+    totals: &[Totals],
+    bad: &BadRoots,
+) -> Result<String, Refusal>
     requires bounded { IsBounded form.now }
-    requires totals { AreOfTables form.now totals.now }
+    requires small { IsSmallState tables.now }
+    requires totals { AreMaintained tables.now form.now totals.now }
 {
-    let truth = truth_of(alloc, form, totals, bad)?;
-    let whole = is_bad(alloc, form, None, totals, &Root::All)?;
+    let truth = truth_of(alloc, &[], tables, form, totals, bad)?;
+    let whole = is_bad(alloc, &[], tables, form, None, totals, &Root::All)?;
     shown(alloc, bad, truth, whole)
 }
 
@@ -83,7 +90,7 @@ fn told_after(
 {
     let totals = totals_after(alloc, form, totals, change)?;
     let bad = bad_after(alloc, &[], tables, form, &totals, bad, change)?;
-    judged(alloc, form, &totals, &bad)
+    judged(alloc, tables, form, &totals, &bad)
 }
 
 /// What is shown of an assertion over one table, which had no row, after a change.

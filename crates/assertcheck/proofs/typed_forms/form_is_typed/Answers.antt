@@ -5,3 +5,8 @@ pub returns-in_ok-slots-in-ByGroup-clause-exact : goal.returns-in_ok-slots-in-By
 returns-in_ok-slots-in-ByGroup-clause-exact c =
     rw (c.in-ByGroup.is, ← c.columns_of-columns-in-ByGroup.ensures, ← c.is_well_typed.ensures, c.if-not-is_well_typed.false)
     (rw (c.is_typed_over-in-ByGroup.ensures, c.group_columns.ensures, c.in_ok-slots-in-ByGroup.ensures.types, c.as_slice-in-ByGroup.ensures) refl)
+
+pub returns-in_ok-slots-in-ByRow-clause-exact : goal.returns-in_ok-slots-in-ByRow-clause-exact
+returns-in_ok-slots-in-ByRow-clause-exact c =
+    rw (c.in-ByRow.is, ← c.columns_of-columns.ensures)
+    (rw (c.is_typed_over.ensures, c.in_ok-slots-in-ByRow.ensures.types, c.as_slice-in-ByRow.ensures, c.as_slice.ensures, c.in_ok-types-in-ByRow.ensures.types) refl)

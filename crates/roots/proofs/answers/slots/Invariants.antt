@@ -1,12 +1,10 @@
 use Rattle.std.proofs.Common.{◌≡◌, take}
 use Rattle.table.specs.Slots.{kinds_of, values_of}
-use Rattle.assertion.specs.Meaning.{State}
 use Rattle.roots.specs.Answers.{kinds_in}
 use Rattle.roots.specs.Summaries.{queries_of}
 use Rattle.roots.specs.Bad.{answers}
-use Rattle.roots.specs.Maintained.{AreMaintained}
 use Rattle.roots.proofs.answers.slots.Given as goal
 
 -- the slots so far hold what the first queries give
 abbrev pub invariant-loop-index : goal.invariant-loop-index
-invariant-loop-index l = (kinds_of l.slots ≡ kinds_in (take l.index (queries_of l.form))) × ((state : State) → AreMaintained state l.form l.totals → values_of l.slots ≡ answers state (take l.index (queries_of l.form)) l.row)
+invariant-loop-index l = (kinds_of l.slots ≡ kinds_in (take l.index (queries_of l.form))) × (values_of l.slots ≡ answers l.tables (take l.index (queries_of l.form)) l.row)

@@ -12,9 +12,9 @@ truth_of_whole-requires-clause-bounded c = whole-bounded c.args.form.now _ _ c.i
 
 pub returns-in-Single-clause-truth : goal.returns-in-Single-clause-truth
 returns-in-Single-clause-truth c =
-    IfOk-weaker c.truth_of_whole.result _ _ (λ (t : Truth) h. λ layouts state asc totals bad. h state totals ∙ whole-verdict layouts state c.args.form.now _ _ c.in-Single.is) c.truth_of_whole.ensures.truth
+    IfOk-weaker c.truth_of_whole.result _ _ (λ (t : Truth) h. λ asc bad. h ∙ whole-verdict c.args.schemas.now c.args.tables.now c.args.form.now _ _ c.in-Single.is) c.truth_of_whole.ensures.truth
 
 pub returns-in-ByRow-clause-truth : goal.returns-in-ByRow-clause-truth
 returns-in-ByRow-clause-truth c =
     let by_roots : IsByRoots c.args.form.now = ⊎_elim (λ e. rw e.3 tt) (λ e. rw e.5 tt) c.in-ByRow.is in
-    λ layouts state asc totals bad. c.truth_by_roots.ensures ∙ sym (AnswersVerdict-law layouts c.args.form.now state c.args.bad.now asc bad by_roots)
+    λ asc bad. c.truth_by_roots.ensures ∙ sym (AnswersVerdict-law c.args.schemas.now c.args.form.now c.args.tables.now c.args.bad.now asc bad by_roots)

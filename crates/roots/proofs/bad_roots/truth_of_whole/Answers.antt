@@ -5,7 +5,7 @@ use Rattle.roots.specs.Summaries.{queries_of}
 use Rattle.roots.proofs.bad_roots.truth_of_whole.Goals as goal
 
 pub returns-clause-truth : goal.returns-clause-truth
-returns-clause-truth c = λ state totals.
+returns-clause-truth c =
     let empty = c.new-row.ensures ∙ c.new.ensures.items in
-    c.eval.ensures ∙ ap (λ vs. truth c.new-row.result vs c.args.condition.now) (c.in_ok-slots.ensures.values state totals)
-    ∙ ap (λ row. truth row (answers state (queries_of c.args.form.now) row) c.args.condition.now) empty
+    c.eval.ensures ∙ ap (λ vs. truth c.new-row.result vs c.args.condition.now) c.in_ok-slots.ensures.values
+    ∙ ap (λ row. truth row (answers c.args.tables.now (queries_of c.args.form.now) row) c.args.condition.now) empty

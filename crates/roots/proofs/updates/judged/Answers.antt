@@ -4,11 +4,8 @@ use Rattle.value.specs.declared.values.Root.{Root}
 use Rattle.roots.specs.Bad.{put_root}
 use Rattle.roots.proofs.updates.judged.Goals as goal
 
-pub is_bad-requires-clause-totals : goal.is_bad-requires-clause-totals
-is_bad-requires-clause-totals c = record { state = c.args.tables.now; small = c.requires.small; totals = c.requires.totals }
-
 pub returns-clause-judged : goal.returns-clause-judged
 returns-clause-judged c =
     IfOk-weaker c.with.result _ _
-    (λ (next : List Root) h. h ∙ ap (λ b. put_root c.args.root.now b c.args.made) (c.in_ok-is_in.ensures.bad c.args.schemas.now c.args.tables.now c.requires.totals c.row_of-row.ensures.row))
+    (λ (next : List Root) h. h ∙ ap (λ b. put_root c.args.root.now b c.args.made) (c.in_ok-is_in.ensures.bad c.row_of-row.ensures.row))
     c.with.ensures.changed

@@ -21,12 +21,12 @@ pub bad_after-requires-clause-totals : goal.bad_after-requires-clause-totals
 bad_after-requires-clause-totals c =
     rw c.deref-2.ensures.value (maintained_after c.args.schemas.now c.args.form.now c.args.change.now c.args.tables.now c.args.self.now c.in_ok-totals.totals.items c.requires.before (rw c.deref.ensures.value at c.in_ok-totals.ensures.totals))
 
+pub truth_of-requires-clause-small : goal.truth_of-requires-clause-small
+truth_of-requires-clause-small c = good_small c.args.schemas.now c.args.tables.now c.requires.before.step.good_after
+
 pub truth_of-requires-clause-totals : goal.truth_of-requires-clause-totals
-truth_of-requires-clause-totals c = record {
-  state = c.args.tables.now;
-  small = good_small c.args.schemas.now c.args.tables.now c.requires.before.step.good_after;
-  totals = rw c.deref-3.ensures.value (maintained_after c.args.schemas.now c.args.form.now c.args.change.now c.args.tables.now c.args.self.now c.in_ok-totals.totals.items c.requires.before (rw c.deref.ensures.value at c.in_ok-totals.ensures.totals));
-}
+truth_of-requires-clause-totals c =
+    rw c.deref-3.ensures.value (maintained_after c.args.schemas.now c.args.form.now c.args.change.now c.args.tables.now c.args.self.now c.in_ok-totals.totals.items c.requires.before (rw c.deref.ensures.value at c.in_ok-totals.ensures.totals))
 
 pub returns-clause-watched : goal.returns-clause-watched
 returns-clause-watched c =
@@ -35,5 +35,5 @@ returns-clause-watched c =
     record {
       totals = totals;
       bad = bad;
-      truth = c.in_ok-truth.ensures.truth c.args.schemas.now c.args.tables.now (good_order c.args.schemas.now c.args.tables.now c.requires.before.step.good_after) (rw c.deref-3.ensures.value totals) bad;
+      truth = c.in_ok-truth.ensures.truth (good_order c.args.schemas.now c.args.tables.now c.requires.before.step.good_after) bad;
     }

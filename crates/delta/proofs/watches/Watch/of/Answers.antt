@@ -10,16 +10,15 @@ bad_of-requires-clause-small c = good_small c.args.schemas.now c.args.tables.now
 pub bad_of-requires-clause-totals : goal.bad_of-requires-clause-totals
 bad_of-requires-clause-totals c = rw c.deref.ensures.value c.in_ok-totals.ensures.totals
 
+pub truth_of-requires-clause-small : goal.truth_of-requires-clause-small
+truth_of-requires-clause-small c = good_small c.args.schemas.now c.args.tables.now c.requires.good
+
 pub truth_of-requires-clause-totals : goal.truth_of-requires-clause-totals
-truth_of-requires-clause-totals c = record {
-  state = c.args.tables.now;
-  small = good_small c.args.schemas.now c.args.tables.now c.requires.good;
-  totals = rw c.deref-2.ensures.value c.in_ok-totals.ensures.totals;
-}
+truth_of-requires-clause-totals c = rw c.deref-2.ensures.value c.in_ok-totals.ensures.totals
 
 pub returns-clause-watched : goal.returns-clause-watched
 returns-clause-watched c = record {
   totals = c.in_ok-totals.ensures.totals;
   bad = c.in_ok-bad.ensures.bad;
-  truth = c.in_ok-truth.ensures.truth c.args.schemas.now c.args.tables.now (good_order c.args.schemas.now c.args.tables.now c.requires.good) (rw c.deref-2.ensures.value c.in_ok-totals.ensures.totals) c.in_ok-bad.ensures.bad;
+  truth = c.in_ok-truth.ensures.truth (good_order c.args.schemas.now c.args.tables.now c.requires.good) c.in_ok-bad.ensures.bad;
 }
