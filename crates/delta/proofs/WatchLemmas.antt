@@ -9,15 +9,14 @@ use Rattle.table.specs.Rows.{Layout}
 use Rattle.assertion.specs.declared.assertions.Assertion.{Assertion}
 use Rattle.assertion.specs.declared.forms.Form.{Form}
 use Rattle.assertion.specs.Meaning.{State}
-use Rattle.assertion.specs.Roots.{IsOrdered, IsChangeOf, state_after}
+use Rattle.assertion.specs.Roots.{IsOrdered, state_after}
 use Rattle.table.specs.declared.rows.Change.{Change}
-use Rattle.groups.specs.Totals.{Entries}
-use Rattle.roots.specs.Maintained.{AreMaintained, IsSmallState}
+use Rattle.roots.specs.Maintained.{IsStepOf}
 use Rattle.roots.specs.Over.{is_over}
 use Rattle.roots.proofs.ElsewhereLemmas.{maintained-elsewhere, bad-elsewhere, verdict-elsewhere}
-use Rattle.delta.proofs.TableLemmas.{good_order, good_small}
+use Rattle.delta.proofs.TableLemmas.{good_order, good_small, new_small, old_small}
 use Rattle.delta.specs.declared.watches.Watch.{Watch}
-use Rattle.delta.specs.Maintained.{IsWatched, IsWatchedBefore, AreWatched}
+use Rattle.delta.specs.Maintained.{IsStep, IsWatched, AreWatched}
 
 -- one more watch
 pub AreWatched-more : (layouts : List Layout) (state : State) (forms : List Assertion) (n : ℕ) (ws more : List Watch) (w : Watch) → more ≡ ws ++ w ∷ [] → ((a : Assertion) → IsWatched layouts state (get_or forms n a).form w) → AreWatched layouts state forms n ws → AreWatched layouts state forms (n + 1) more
@@ -47,20 +46,24 @@ pub shared_more : (ws more : List (Arc Watch Global)) (w : Arc Watch Global) →
 shared_more ws more w e = ap (map arc_value) e ∙ map-append arc_value ws (w ∷ [])
 
 -- a watch stays right through a change of a table that its assertion isn't over
-pub watched-elsewhere : (layouts : List Layout) (form : Form) (change : Change) (after : State) (w : Watch) → IsWatchedBefore layouts form change after w → is_over change.table form ≡ false → IsWatched layouts after form w
-watched-elsewhere layouts form change after w b h =
-    let was : State = b.before in
-    let before : IsOrdered layouts was = good_order layouts was b.step.good in
-    let now : IsOrdered layouts (state_after layouts change was) = subst (IsOrdered layouts) b.step.changed (good_order layouts after b.step.good_after) in
-    subst (λ (s : State). IsWatched layouts s form w) (sym b.step.changed) (record {
-      totals = maintained-elsewhere layouts change was b.step.is form w.totals.items h b.watched.totals;
-      bad = bad-elsewhere layouts change was b.step.is form w.bad before h b.watched.bad;
-      truth = b.watched.truth ∙ verdict-elsewhere layouts change was b.step.is form w.bad before now h b.watched.bad;
+pub watched-elsewhere : (layouts : List Layout) (form : Form) (change : Change) (was after : State) (w : Watch) → IsStep layouts change was after → IsWatched layouts was form w → is_over change.table form ≡ false → IsWatched layouts after form w
+watched-elsewhere layouts form change was after w step watched h =
+    let before : IsOrdered layouts was = good_order layouts was step.good in
+    let now : IsOrdered layouts (state_after layouts change was) = subst (IsOrdered layouts) step.changed (good_order layouts after step.good_after) in
+    subst (λ (s : State). IsWatched layouts s form w) (sym step.changed) (record {
+      totals = maintained-elsewhere layouts change was step.is form w.totals.items h watched.totals;
+      bad = bad-elsewhere layouts change was step.is form w.bad before h watched.bad;
+      truth = watched.truth ∙ verdict-elsewhere layouts change was step.is form w.bad before now h watched.bad;
     })
 
--- the maintained totals after a change are those of the tables after it
-pub maintained_after : (layouts : List Layout) (form : Form) (change : Change) (after : State) (w : Watch) (made : List Entries) → (b : IsWatchedBefore layouts form change after w)
-    → ((layouts : List Layout) (state : State) → IsChangeOf layouts change state → IsSmallState (state_after layouts change state) → AreMaintained state form w.totals.items → AreMaintained (state_after layouts change state) form made) → AreMaintained after form made
-maintained_after layouts form change after w made b f =
-    subst (λ (s : State). AreMaintained s form made) (sym b.step.changed)
-    (f layouts b.before b.step.is (subst IsSmallState b.step.changed (good_small layouts after b.step.good_after)) b.watched.totals)
+-- a step of tables is one within bounds and in key order
+pub step_within : (layouts : List Layout) (change : Change) (before after : State) → IsStep layouts change before after → IsStepOf layouts change before after
+step_within layouts change before after step = record {
+  in_order = good_order layouts before step.good;
+  is = step.is;
+  changed = step.changed;
+  small = good_small layouts before step.good;
+  small_after = good_small layouts after step.good_after;
+  old_small = old_small layouts change before step.is step.good;
+  new_small = new_small layouts change step.fits;
+}

@@ -21,7 +21,7 @@ pub record IsGood (layouts : List Layout) (state : State) : Type 0 where
 
 -- what is maintained for an assertion is right on these tables
 pub record IsWatched (layouts : List Layout) (state : State) (form : Form) (watch : Watch) : Type 0 where
-  pub totals : AreMaintained state form watch.totals.items
+  pub totals : AreMaintained layouts state form watch.totals.items
   pub bad : AreBad layouts form state watch.bad
   pub truth : watch.truth ≡ verdict_of layouts form state
 
@@ -39,13 +39,6 @@ pub record IsStep (layouts : List Layout) (change : Change) (before after : Stat
   pub fits : IsFitting layouts change
   pub changed : after ≡ state_after layouts change before
   pub good_after : IsGood layouts after
-
--- the watch is right on some tables of which these are a step
-pub record IsWatchedBefore (layouts : List Layout) (form : Form) (change : Change) (after : State)
-    (watch : Watch) : Type 0 where
-  pub before : State
-  pub step : IsStep layouts change before after
-  pub watched : IsWatched layouts before form watch
 
 -- the parts of a view agree
 pub record IsMaintained (tables : Tables) (layouts : List Layout) (assertions : List Assertion) (state : State)

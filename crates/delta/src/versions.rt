@@ -63,15 +63,15 @@ pub fn tables_after(
 pub fn watches_after(
     alloc: Global,
     schemas: &[Schema],
-    _before: &[Rows],
+    before: &[Rows],
     after: &[Rows],
     assertions: &[Assertion],
     watches: &[Arc<Watch>],
     change: &Change,
 ) -> Result<Vec<Arc<Watch>>, Refusal>
     requires bounded { AreBounded assertions.now }
-    requires step { IsStep schemas.now change.now _before.now after.now }
-    requires watched { AreWatched schemas.now _before.now assertions.now (length assertions.now)
+    requires step { IsStep schemas.now change.now before.now after.now }
+    requires watched { AreWatched schemas.now before.now assertions.now (length assertions.now)
         (map arc_value watches.now) }
     ensures only_memory { IsOkUnless result NoMemory }
     ensures watched { IfOk result (λ made. AreWatched schemas.now after.now assertions.now (length assertions.now)
@@ -80,7 +80,8 @@ pub fn watches_after(
     let mut made = Vec::new(alloc);
     for index in 0..assertions.len() {
         let form = &assertions[index].form;
-        made.push(watch_after(&watches[index], alloc, schemas, after, form, change)?)?;
+        let watch = &watches[index];
+        made.push(watch_after(watch, alloc, schemas, before, after, form, change)?)?;
     }
     Ok(made)
 }
@@ -138,7 +139,7 @@ fn index_form(tables: &mut [Rows], schemas: &[Schema], form: &Form) -> Result<()
 }
 
 /// Indexes the rows of a subquery's table by the column of its link, other than their key, where its filter asks what
-/// the row around holds: they are looked at for each such row.
+/// the row around holds: those that are linked to a row around are looked at where that row is new or another.
 fn index_joint(tables: &mut [Rows], schemas: &[Schema], query: &Query<Link>) -> Result<(), Refusal>
     ensures only_memory { IsOkUnless result NoMemory }
     ensures same { tables.new ≡ tables.old }

@@ -4,7 +4,7 @@ ghost use Rattle.std.specs.Prelude.{IfOk, IsOkUnless};
 ghost use Rattle.std.specs.Arc.{arc_value};
 ghost use Rattle.value.specs.declared.refusals.Refusal.TheVariants.{NoMemory};
 ghost use Rattle.assertion.specs.Bounded.{IsBounded};
-ghost use Rattle.delta.specs.Maintained.{IsGood, IsWatched, IsWatchedBefore};
+ghost use Rattle.delta.specs.Maintained.{IsGood, IsStep, IsWatched};
 
 use assertion::Form;
 use groups::Totals;
@@ -37,29 +37,31 @@ impl Watch {
         ensures only_memory { IsOkUnless result NoMemory }
         ensures watched { IfOk result (IsWatched schemas.now tables.now form.now) }
     {
-        let totals = totals_of(alloc, form, tables)?;
+        let totals = totals_of(alloc, schemas, form, tables)?;
         let bad = bad_of(alloc, schemas, tables, form, &totals)?;
         let truth = truth_of(alloc, schemas, tables, form, &totals, &bad)?;
         Ok(Watch { truth, totals, bad })
     }
 
-    /// What is maintained for the assertion after a change. `tables` are those after it.
+    /// What is maintained for the assertion after a change, of the tables before and after it.
     pub fn after(
         &self,
         alloc: Global,
         schemas: &[Schema],
-        tables: &[Rows],
+        before: &[Rows],
+        after: &[Rows],
         form: &Form,
         change: &Change,
     ) -> Result<Watch, Refusal>
         requires bounded { IsBounded form.now }
-        requires before { IsWatchedBefore schemas.now form.now change.now tables.now self.now }
+        requires step { IsStep schemas.now change.now before.now after.now }
+        requires watched { IsWatched schemas.now before.now form.now self.now }
         ensures only_memory { IsOkUnless result NoMemory }
-        ensures watched { IfOk result (IsWatched schemas.now tables.now form.now) }
+        ensures watched { IfOk result (IsWatched schemas.now after.now form.now) }
     {
-        let totals = totals_after(alloc, form, &self.totals, change)?;
-        let bad = bad_after(alloc, schemas, tables, form, &totals, &self.bad, change)?;
-        let truth = truth_of(alloc, schemas, tables, form, &totals, &bad)?;
+        let totals = totals_after(alloc, schemas, before, after, form, &self.totals, change)?;
+        let bad = bad_after(alloc, schemas, after, form, &totals, &self.bad, change)?;
+        let truth = truth_of(alloc, schemas, after, form, &totals, &bad)?;
         Ok(Watch { totals, bad, truth })
     }
 }
@@ -70,17 +72,19 @@ pub fn watch_after(
     watch: &Arc<Watch>,
     alloc: Global,
     schemas: &[Schema],
-    tables: &[Rows],
+    before: &[Rows],
+    after: &[Rows],
     form: &Form,
     change: &Change,
 ) -> Result<Arc<Watch>, Refusal>
     requires bounded { IsBounded form.now }
-    requires before { IsWatchedBefore schemas.now form.now change.now tables.now (arc_value watch.now) }
+    requires step { IsStep schemas.now change.now before.now after.now }
+    requires watched { IsWatched schemas.now before.now form.now (arc_value watch.now) }
     ensures only_memory { IsOkUnless result NoMemory }
-    ensures watched { IfOk result (λ made. IsWatched schemas.now tables.now form.now (arc_value made)) }
+    ensures watched { IfOk result (λ made. IsWatched schemas.now after.now form.now (arc_value made)) }
 {
     if is_over(form, change.table) {
-        let made = watch.after(alloc, schemas, tables, form, change)?;
+        let made = watch.after(alloc, schemas, before, after, form, change)?;
         Ok(Arc::new(alloc, made)?)
     } else {
         Ok(Arc::try_clone(watch)?)

@@ -54,7 +54,7 @@ figures-right a vs None e = subst (λ us. IsTotalOf a us no_figures) (sym e) (Is
 figures-right a vs (Some t) k = k.0
 
 -- the totals after one is set
-AreTotalsOf-put : (a : Aggregate) (g : Value) (t : Figures) (old new : Members) (es : Entries) → IsTotalOf a (new g) t → ((v : Value) → eq_by_cmp value_cmp v g ≡ false → new v ≡ old v) → AreTotalsOf a old es → AreTotalsOf a new (put_entry g (total_entry g t) es)
+pub AreTotalsOf-put : (a : Aggregate) (g : Value) (t : Figures) (old new : Members) (es : Entries) → IsTotalOf a (new g) t → ((v : Value) → eq_by_cmp value_cmp v g ≡ false → new v ≡ old v) → AreTotalsOf a old es → AreTotalsOf a new (put_entry g (total_entry g t) es)
 AreTotalsOf-put a g t old new es here elsewhere k = record {
   in_order = IsAscending-put value_cmp_total group_in g (total_entry g t) es (entry-key g t) k.in_order;
   right = λ v.

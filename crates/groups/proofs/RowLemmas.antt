@@ -1,6 +1,6 @@
 -- The groups of a table's rows change by the row that goes and the row that comes, and are within bounds where the rows are.
 use Rattle.std.proofs.Common.{◌≡◌, ℕ, zero, suc, ◌<◌, ◌≤◌, ◌^◌, Bool, true, false, cond, List, [], ◌∷◌, ◌++◌, Option, Some, None, map, length, refl, sym, ◌∙◌, ap, arith, append-nil}
-use Rattle.std.specs.Prelude.{All}
+use Rattle.std.specs.Prelude.{All, filter}
 use Rattle.std.specs.Option.{option_map}
 use Rattle.std.proofs.lemmas.List.{length-map, map-append}
 use Rattle.std.proofs.lemmas.List.Elements.{All-nil, All-cons, All-head, All-tail, All-filter, filter-append}
@@ -20,7 +20,7 @@ use Rattle.table.specs.Bounds.{IsSmallRow}
 use Rattle.table.specs.Slots.{magnitude}
 use Rattle.groups.specs.Answers.{value_for}
 use Rattle.groups.specs.Members.{is_placed, rows_in, members_of, member_of}
-use Rattle.groups.specs.Totals.{Members, IsOneMore, HaveOneMore, IsChange, AreSmall, AreWithin}
+use Rattle.groups.specs.Totals.{Members, IsOneMore, HaveOneMore, IsChange, AreSmall, AreWithin, IsWithin}
 
 -- one more before the same
 one_more_past : {X : Type 0} (x y : X) (xs ys : List X) → IsOneMore x xs ys → IsOneMore x (y ∷ xs) (y ∷ ys)
@@ -148,8 +148,12 @@ values_small : (a : Aggregate) (rows : List RowValues) → All IsSmallRow rows �
 values_small a [] h = All-nil IsSmall
 values_small a (row ∷ rows) h = All-cons IsSmall (value_for a row) (map (value_for a) rows) (value_small a row (All-head IsSmallRow row rows h)) (values_small a rows (All-tail IsSmallRow row rows h))
 
-pub members_within : (place : RowValues → Option Value) (a : Aggregate) (rows : List RowValues) → length rows < 2 ^ 63 → All IsSmallRow rows → AreWithin (members_of place (value_for a) rows)
-members_within place a rows short small v = record {
-  short = omega (arith, short, length-map (rows_in place rows v) (value_for a), length-filter (λ row. is_placed v (place row)) rows, count_by-le-length (λ row. is_placed v (place row)) rows);
-  small = values_small a (rows_in place rows v) (All-filter (λ row. is_placed v (place row)) IsSmallRow rows small);
+-- what a set function looks at in some of the rows is within bounds
+pub filtered_within : (p : RowValues → Bool) (a : Aggregate) (rows : List RowValues) → length rows < 2 ^ 63 → All IsSmallRow rows → IsWithin (map (value_for a) (filter p rows))
+filtered_within p a rows short small = record {
+  short = omega (arith, short, length-map (filter p rows) (value_for a), length-filter p rows, count_by-le-length p rows);
+  small = values_small a (filter p rows) (All-filter p IsSmallRow rows small);
 }
+
+pub members_within : (place : RowValues → Option Value) (a : Aggregate) (rows : List RowValues) → length rows < 2 ^ 63 → All IsSmallRow rows → AreWithin (members_of place (value_for a) rows)
+members_within place a rows short small v = filtered_within (λ row. is_placed v (place row)) a rows short small

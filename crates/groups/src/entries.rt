@@ -1,7 +1,9 @@
 //! The total of each group.
 
-ghost use Rattle.std.specs.Prelude.{◌≡◌, ◌==◌, [], None, Some, List, map, IfOk, IsOkUnless, if◌then◌else◌};
+ghost use Rattle.std.specs.Prelude.{◌≡◌, ◌==◌, [], None, Some, List, false, map, IfOk, IsOkUnless, if◌then◌else◌};
 ghost use Rattle.std.specs.Option.{option_copied};
+ghost use Rattle.std.specs.Ordering.{eq_by_cmp};
+ghost use Rattle.value.specs.ValueOrder.{value_cmp};
 ghost use Rattle.value.specs.declared.refusals.Refusal.TheVariants.{NoMemory};
 ghost use Rattle.value.specs.declared.values.Value.{Value as values};
 ghost use Rattle.table.specs.declared.aggregates.Aggregate.{Aggregate as functions};
@@ -11,7 +13,7 @@ ghost use Rattle.table.specs.Kinds.{kind_of_aggregate};
 ghost use Rattle.table.specs.Slots.{IsWithinKind, kind_of, value_of};
 ghost use Rattle.groups.specs.Answers.{value_for};
 ghost use Rattle.groups.specs.Steps.{put_entry, total_entry, figures_at, entries_more, entries_less, entries_moved};
-ghost use Rattle.groups.specs.Totals.{Members, total_at, IsEntryOf, AreTotalsOf, AreWithin, IsWithin, IsChange};
+ghost use Rattle.groups.specs.Totals.{Members, total_at, IsEntryOf, IsTotalOf, AreTotalsOf, AreWithin, IsWithin, IsChange};
 
 use crate::members::Member;
 use crate::totals::Total;
@@ -171,10 +173,15 @@ impl Totals {
         }
     }
 
-    /// The totals with this one for a group, or none where it is of no rows.
-    fn put(&self, group: &Value, total: Total) -> Result<Totals, Refusal>
+    /// The totals with this one for a group in the place of its own, or none where it is of no rows.
+    pub fn put(&self, group: &Value, total: Total) -> Result<Totals, Refusal>
         ensures only_memory { IsOkUnless result NoMemory }
         ensures put { IfOk result (λ totals. totals ≡ put_entry group.now (total_entry group.now total) self.now) }
+        // Totals of some groups become those of the groups in which this one has the rows of the total.
+        ensures totals { IfOk result (λ totals. (asked : functions) (before after : Members)
+            → IsTotalOf asked (after group.now) total
+            → ((v : values) → eq_by_cmp value_cmp v group.now ≡ false → after v ≡ before v)
+            → AreTotalsOf asked before self.now → AreTotalsOf asked after totals) }
     {
         Ok(Totals {
             pages: self.pages.with(group, unless_empty(total))?,

@@ -1,9 +1,10 @@
 //! The total of one group.
 
-ghost use Rattle.std.specs.Prelude.{◌≡◌, ◌==◌, List, map, IfOk, IsOkUnless};
+ghost use Rattle.std.specs.Prelude.{◌≡◌, ◌==◌, ◌++◌, ◌∷◌, [], List, map, IfOk, IsOkUnless};
 ghost use Rattle.value.specs.declared.refusals.Refusal.TheVariants.{NoMemory};
 ghost use Rattle.value.specs.declared.values.Value.{Value as values};
 ghost use Rattle.table.specs.Aggregates.{number_of, aggregate as aggregate_of};
+ghost use Rattle.table.specs.declared.aggregates.Aggregate.{Aggregate as functions};
 ghost use Rattle.table.specs.Rows.{RowValues};
 ghost use Rattle.table.specs.Kinds.{kind_of_aggregate};
 ghost use Rattle.table.specs.Slots.{IsWithinKind, kind_of, value_of};
@@ -38,7 +39,8 @@ impl Model for Total {
 impl Total {
     /// The total of no rows. It takes no memory.
     pub fn new(alloc: Global) -> Total
-        ensures { result ≡ no_figures }
+        ensures value { result ≡ no_figures }
+        ensures total { (asked : functions) → IsTotalOf asked [] result }
     {
         Total {
             rows: 0,
@@ -96,6 +98,17 @@ impl Total {
                 None => Ok(SlotValue::Extreme(Value::Null)),
             },
         }
+    }
+
+    /// The total with one row more, which has this value, for the set function that is asked for. This one stays as it
+    /// is.
+    pub fn with(&self, asked: Aggregate, value: &Value) -> Result<Total, Refusal>
+        ensures only_memory { IsOkUnless result NoMemory }
+        // The total of some values becomes that of these and the new one.
+        ensures total { IfOk result (λ total. (vs : List values) → IsTotalOf asked vs self.now
+            → IsWithin (vs ++ value.now ∷ []) → IsTotalOf asked (vs ++ value.now ∷ []) total) }
+    {
+        self.more(asked, value)
     }
 
     /// The total with one row more, which has this value.

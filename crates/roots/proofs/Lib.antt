@@ -1,4 +1,6 @@
 pub mod AnswerLemmas
+pub mod AroundLemmas
+pub mod AroundSteps
 pub mod BadLemmas
 pub mod BoundLemmas
 pub mod ElsewhereLemmas
@@ -9,4 +11,3 @@ pub mod MaintainedLemmas
 pub mod ListedLemmas
 pub mod LoadedLemmas
 pub mod UpdateLemmas
-pub mod JointLemmas

@@ -1,5 +1,5 @@
 -- Bad roots as a view holds them.
-use Rattle.std.specs.Prelude.{◌≡◌, Bool, false, ◌&&◌, ◌||◌, nat_lt, length, map, filter, List, [], ◌∷◌, Option, Some, None, if◌then◌else◌}
+use Rattle.std.specs.Prelude.{◌≡◌, Bool, false, ◌&&◌, ◌||◌, nat_lt, length, map, List, [], ◌∷◌, Option, Some, None, if◌then◌else◌}
 use Rattle.std.specs.Ordering.{eq_by_cmp}
 use Rattle.value.specs.declared.values.Value.{Value}
 use Rattle.value.specs.declared.values.Value.TheVariants.{Null}
@@ -12,20 +12,16 @@ use Rattle.table.specs.Rows.{RowValues, Layout, row_at, value_in}
 use Rattle.table.specs.Aggregates.{aggregate}
 use Rattle.table.specs.declared.conds.Cond.{Cond}
 use Rattle.table.specs.Eval.{truth, keeps}
-use Rattle.table.specs.Values.{compared}
-use Rattle.value.specs.declared.comparisons.Comparison.TheVariants.{Equal}
-use Rattle.value.specs.declared.truths.Truth.TheVariants.{True}
-use Rattle.value.specs.Truths.{is_of}
 use Rattle.assertion.specs.declared.queries.Query.{Query}
 use Rattle.assertion.specs.declared.forms.Form.{Form}
 use Rattle.assertion.specs.declared.forms.Form.TheVariants.{ByRow, ByGroup, Single}
 use Rattle.assertion.specs.Candidates.{group_candidates}
 use Rattle.assertion.specs.declared.queries.Link.{Link}
-use Rattle.assertion.specs.Meaning.{State, rows_of, key_of, links}
+use Rattle.assertion.specs.Meaning.{State, rows_of, key_of}
 use Rattle.assertion.specs.Roots.{is_bad_root, is_among}
 use Rattle.roots.specs.declared.grouped.Grouping.{Grouping}
-use Rattle.roots.specs.declared.grouped.Grouping.TheVariants.{Whole, By, Linked}
-use Rattle.roots.specs.Summaries.{members, joint_link}
+use Rattle.roots.specs.declared.grouped.Grouping.TheVariants.{Whole, By, Linked, ByKey, PerRow}
+use Rattle.roots.specs.Summaries.{members, key_link, rows_beside}
 use Rattle.roots.specs.Answers.{query_answer}
 
 -- this is the row of the root, where a form asks for one: the row under the key in the root table
@@ -36,29 +32,23 @@ IsRowOf layouts (ByRow table condition queries) state (Of key) row =
 IsRowOf layouts (ByGroup table restriction group having aggregates) state root row = Unit {0}
 IsRowOf layouts (Single condition queries) state root row = Unit {0}
 
--- the group that a query is asked for by the row that its condition sees: what the row has in the column of the link,
--- or where that row is a group's value alone, the group
+-- the group that a query is asked for by the row that its condition sees: what the row has in the column of the link;
+-- where that row is a group's value alone, the group; and where the rows around are the groups, its key
 abbrev pub asked : Grouping → RowValues → Value
 asked Whole row = Null
 asked (By column) row = value_in 0 row
 asked (Linked link) row = value_in link.outer row
-
--- whether an equality of two values is true
-abbrev pub is_equal : Value → Value → Bool
-is_equal v w = is_of (compared Equal v w) True
-
--- the rows that a joint query is of, for the row around
-abbrev pub joint_rows : State → RowValues → Link → Query Grouping → List RowValues
-joint_rows state row link q =
-    filter (λ linked. links link row linked && keeps linked row q.filter) (rows_of q.table state)
+asked (ByKey link) row = Null
+asked (PerRow around) row = value_in around.key row
 
 -- what a query gives for the row that its condition sees
 abbrev pub given_by : Option Link → State → RowValues → Query Grouping → Value
-given_by (Some link) state row q = aggregate q.aggregate (joint_rows state row link q)
+given_by (Some link) state row q =
+    aggregate q.aggregate (rows_beside link q.filter (rows_of q.table state) row)
 given_by None state row q = query_answer state (asked q.grouping row) q
 
 abbrev pub given : State → RowValues → Query Grouping → Value
-given state row q = given_by (joint_link q) state row q
+given state row q = given_by (key_link q.grouping) state row q
 
 abbrev pub answers : State → List (Query Grouping) → RowValues → List Value
 answers state queries row = map (given state row) queries

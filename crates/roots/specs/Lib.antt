@@ -1,4 +1,5 @@
 pub mod Answers
+pub mod Around
 pub mod Bad
 pub mod Maintained
 pub mod Listed

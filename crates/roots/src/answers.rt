@@ -4,7 +4,6 @@ ghost use Rattle.std.specs.Prelude.{◌≡◌, [], length, IfOk, IsOkUnless};
 ghost use Rattle.value.specs.declared.refusals.Refusal.TheVariants.{NoMemory};
 ghost use Rattle.value.specs.declared.values.Value.TheVariants.{Null};
 ghost use Rattle.table.specs.declared.aggregates.Aggregate.{Aggregate};
-ghost use Rattle.table.specs.Rows.{value_in};
 ghost use Rattle.table.specs.Bounds.{IsSmallRow};
 ghost use Rattle.table.specs.Kinds.{kind_of_aggregate};
 ghost use Rattle.table.specs.Slots.{IsWithinKind, kind_of, kinds_of, value_of, values_of};
@@ -16,8 +15,9 @@ ghost use Rattle.roots.specs.Maintained.{AreMaintained, AreTotalsFor, IsSmallSta
 ghost use Rattle.roots.specs.Shown.{shown};
 ghost use Rattle.roots.specs.Summaries.{queries_of};
 
-use crate::grouped::{Grouping, Summary, joint_link};
-use crate::joint::joint_answer;
+use crate::around::total_beside;
+use crate::columns::value_or;
+use crate::grouped::{Grouping, Summary, link_to_key};
 use crate::summaries::{slot_count, summary_of};
 use assertion::Form;
 use groups::Totals;
@@ -39,14 +39,15 @@ pub fn slots(
     requires bounded { IsBounded form.now }
     requires small { IsSmallState tables.now }
     requires row_small { IsSmallRow row.now }
-    requires totals { AreMaintained tables.now form.now totals.now }
+    requires totals { AreMaintained schemas.now tables.now form.now totals.now }
     ensures only_memory { IsOkUnless result NoMemory }
-    ensures kinds { IfOk result (λ slots. kinds_of slots ≡ kinds_in (queries_of form.now)) }
-    ensures values { IfOk result (λ slots. values_of slots ≡ answers_of tables.now (queries_of form.now) row.now) }
+    ensures kinds { IfOk result (λ slots. kinds_of slots ≡ kinds_in (queries_of schemas.now form.now)) }
+    ensures values { IfOk result (λ slots.
+        values_of slots ≡ answers_of tables.now (queries_of schemas.now form.now) row.now) }
 {
     let mut slots = Slots::new(alloc);
     for index in 0..slot_count(form) {
-        let summary = summary_of(form, index);
+        let summary = summary_of(schemas, form, index);
         slots.push(answer(alloc, schemas, tables, summary, &totals[index], row)?)?;
     }
     Ok(slots)
@@ -70,8 +71,11 @@ fn answer(
     ensures value { IfOk result (λ answer. value_of answer ≡ given tables.now row.now (shown summary.entry)) }
     ensures within { IfOk result IsWithinKind }
 {
-    match joint_link(summary) {
-        Some(link) => joint_answer(alloc, schemas, tables, summary, link, row),
+    match link_to_key(summary.grouping) {
+        Some(link) => {
+            let total = total_beside(alloc, schemas, tables, summary, link, row)?;
+            total.answer(summary.aggregate)
+        }
         None => {
             let null = Value::Null;
             let group = asked_group(summary.grouping, row, &null);
@@ -86,20 +90,10 @@ fn asked_group<'a>(grouping: Grouping, row: &'a Row, null: &'a Value) -> &'a Val
     ensures { result.now ≡ asked grouping row.now }
 {
     match grouping {
-        Grouping::Whole => null,
+        Grouping::Whole | Grouping::ByKey(_) => null,
         Grouping::By(_) => value_or(row, 0, null),
         Grouping::Linked(link) => value_or(row, link.outer, null),
-    }
-}
-
-/// What a row has in a column, and NULL where it has no such column.
-fn value_or<'a>(row: &'a Row, column: usize, null: &'a Value) -> &'a Value
-    requires { null.now ≡ Null }
-    ensures { result.now ≡ value_in column row.now }
-{
-    match row.values().get(column) {
-        Some(value) => value,
-        None => null,
+        Grouping::PerRow(around) => value_or(row, around.key, null),
     }
 }
 

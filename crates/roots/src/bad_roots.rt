@@ -1,4 +1,4 @@
-//! Whether an assertion is false at a root, from the maintained totals, and of joint queries from the tables.
+//! Whether an assertion is false at a root, from the maintained totals and from rows that are looked up by their keys.
 
 ghost use Rattle.std.specs.Prelude.{◌≡◌, ◌<◌, ◌≤◌, ◌^◌, ◌∷◌, [], length, slice_index_or, IfOk, IsOkUnless};
 ghost use Rattle.std.specs.Option.{option_copied};
@@ -40,7 +40,7 @@ pub fn is_bad(
 ) -> Result<bool, Refusal>
     requires bounded { IsBounded form.now }
     requires small { IsSmallState tables.now }
-    requires totals { AreMaintained tables.now form.now totals.now }
+    requires totals { AreMaintained schemas.now tables.now form.now totals.now }
     requires row_small { HoldsOf IsSmallRow (option_copied row) }
     requires root_small { IsSmallRoot form.now root.now }
     ensures only_memory { IsOkUnless result NoMemory }
@@ -74,7 +74,7 @@ pub fn truth_of(
 ) -> Result<Truth, Refusal>
     requires bounded { IsBounded form.now }
     requires small { IsSmallState tables.now }
-    requires totals { AreMaintained tables.now form.now totals.now }
+    requires totals { AreMaintained schemas.now tables.now form.now totals.now }
     ensures only_memory { IsOkUnless result NoMemory }
     ensures truth { IfOk result (λ truth. IsOrdered schemas.now tables.now
         → AreBad schemas.now form.now tables.now bad.now → truth ≡ verdict_of schemas.now form.now tables.now) }
@@ -108,13 +108,13 @@ fn row_passes(
     row: Option<&Row>,
 ) -> Result<bool, Refusal>
     requires form_bounded { IsBounded form.now }
-    requires bounded { IsBoundedOver (kinds_in (queries_of form.now)) condition.now }
+    requires bounded { IsBoundedOver (kinds_in (queries_of schemas.now form.now)) condition.now }
     requires small { IsSmallState tables.now }
-    requires totals { AreMaintained tables.now form.now totals.now }
+    requires totals { AreMaintained schemas.now tables.now form.now totals.now }
     requires row_small { HoldsOf IsSmallRow (option_copied row) }
     ensures only_memory { IsOkUnless result NoMemory }
     ensures bad { IfOk result (λ bad.
-        bad ≡ row_passes_by tables.now (queries_of form.now) condition.now (option_copied row.entry)) }
+        bad ≡ row_passes_by tables.now (queries_of schemas.now form.now) condition.now (option_copied row.entry)) }
 {
     match row {
         Some(row) => Ok(keeps(
@@ -137,15 +137,15 @@ fn group_passes(
     group: &Value,
 ) -> Result<bool, Refusal>
     requires form_bounded { IsBounded form.now }
-    requires bounded { IsBoundedOver (kinds_in (queries_of form.now)) having.now }
+    requires bounded { IsBoundedOver (kinds_in (queries_of schemas.now form.now)) having.now }
     requires small { IsSmallState tables.now }
-    requires totals { AreMaintained tables.now form.now totals.now }
-    requires some { 0 < length (summaries_of form.now) }
+    requires totals { AreMaintained schemas.now tables.now form.now totals.now }
+    requires some { 0 < length (summaries_of schemas.now form.now) }
     requires group_small { magnitude group.now ≤ 10 ^ 15 }
     ensures only_memory { IsOkUnless result NoMemory }
     ensures bad { IfOk result (λ bad. (summary : Query Grouping)
-        → bad ≡ group_passes_by tables.now (slice_index_or (summaries_of form.now) 0 summary)
-        (queries_of form.now) having.now group.now) }
+        → bad ≡ group_passes_by tables.now (slice_index_or (summaries_of schemas.now form.now) 0 summary)
+        (queries_of schemas.now form.now) having.now group.now) }
 {
     if count_of(&totals[0], group) == 0 {
         return Ok(false);
@@ -175,11 +175,11 @@ fn whole_is_false(
     condition: &Cond,
 ) -> Result<bool, Refusal>
     requires form_bounded { IsBounded form.now }
-    requires bounded { IsBoundedOver (kinds_in (queries_of form.now)) condition.now }
+    requires bounded { IsBoundedOver (kinds_in (queries_of schemas.now form.now)) condition.now }
     requires small { IsSmallState tables.now }
-    requires totals { AreMaintained tables.now form.now totals.now }
+    requires totals { AreMaintained schemas.now tables.now form.now totals.now }
     ensures only_memory { IsOkUnless result NoMemory }
-    ensures bad { IfOk result (λ bad. bad ≡ is_of (whole_truth tables.now (queries_of form.now) condition.now) False) }
+    ensures bad { IfOk result (λ bad. bad ≡ is_of (whole_truth tables.now (queries_of schemas.now form.now) condition.now) False) }
 {
     let truth = truth_of_whole(alloc, schemas, tables, form, totals, condition)?;
     Ok(truth.is(Truth::False))
@@ -195,11 +195,11 @@ fn truth_of_whole(
     condition: &Cond,
 ) -> Result<Truth, Refusal>
     requires form_bounded { IsBounded form.now }
-    requires bounded { IsBoundedOver (kinds_in (queries_of form.now)) condition.now }
+    requires bounded { IsBoundedOver (kinds_in (queries_of schemas.now form.now)) condition.now }
     requires small { IsSmallState tables.now }
-    requires totals { AreMaintained tables.now form.now totals.now }
+    requires totals { AreMaintained schemas.now tables.now form.now totals.now }
     ensures only_memory { IsOkUnless result NoMemory }
-    ensures truth { IfOk result (λ truth. truth ≡ whole_truth tables.now (queries_of form.now) condition.now) }
+    ensures truth { IfOk result (λ truth. truth ≡ whole_truth tables.now (queries_of schemas.now form.now) condition.now) }
 {
     let row = Row::new(Vec::new(alloc));
     let slots = slots(alloc, schemas, tables, form, totals, &row)?;

@@ -3,6 +3,7 @@
 ghost use Rattle.std.specs.Prelude.{◌≡◌, IfOk, IsOkUnless};
 ghost use Rattle.value.specs.declared.refusals.Refusal.TheVariants.{NoMemory};
 ghost use Rattle.table.specs.Rows.{value_in};
+ghost use Rattle.value.specs.declared.values.Value.TheVariants.{Null};
 ghost use Rattle.assertion.specs.Meaning.{key_of};
 
 use table::{Row, Schema};
@@ -16,6 +17,17 @@ pub fn value_at(row: &Row, column: usize) -> Result<Value, Refusal>
     match row.values().get(column) {
         Some(value) => value.copy(),
         None => Ok(Value::Null),
+    }
+}
+
+/// What a row has in a column, and NULL where it has no such column.
+pub fn value_or<'a>(row: &'a Row, column: usize, null: &'a Value) -> &'a Value
+    requires { null.now ≡ Null }
+    ensures { result.now ≡ value_in column row.now }
+{
+    match row.values().get(column) {
+        Some(value) => value,
+        None => null,
     }
 }
 

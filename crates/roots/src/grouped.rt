@@ -8,7 +8,7 @@ ghost use Rattle.assertion.specs.Bounded.{IsBoundedOver};
 ghost use Rattle.groups.specs.Members.{member_of};
 ghost use Rattle.groups.specs.Answers.{value_for};
 ghost use Rattle.roots.specs.Shown.{shown};
-ghost use Rattle.roots.specs.Summaries.{group_of, joint_link as joint_link_of, place as place_of};
+ghost use Rattle.roots.specs.Summaries.{around_of, group_of, key_link, place as place_of};
 
 use crate::columns::value_at;
 use assertion::Link;
@@ -26,6 +26,20 @@ pub enum Grouping {
     By(usize),
     /// By a linked column, where NULL is no group.
     Linked(Link),
+    /// The filter asks what the row around holds, and the link names one row by its key: that row is looked up for each
+    /// row around, and nothing is maintained.
+    ByKey(Link),
+    /// The filter asks what the row around holds: each row around is a group, of the rows that are linked to it and that
+    /// the filter keeps beside it.
+    PerRow(Around),
+}
+
+/// The rows around a query: those of a table, each under what its key column holds.
+#[derive(Clone, Copy, Debug)]
+pub struct Around {
+    pub table: usize,
+    pub key: usize,
+    pub link: Link,
 }
 
 /// A query of groups, lent from a form: for each group, totals of what its set function looks at are maintained.
@@ -69,7 +83,7 @@ pub fn member_of_row(alloc: Global, summary: Summary, row: &Row) -> Result<Optio
 }
 
 /// What a set function looks at in a row: what its column holds, or NULL where it has none.
-fn counted_by(row: &Row, aggregate: Aggregate) -> Result<Value, Refusal>
+pub fn counted_by(row: &Row, aggregate: Aggregate) -> Result<Value, Refusal>
     ensures only_memory { IsOkUnless result NoMemory }
     ensures value { IfOk result (λ value. value ≡ value_for aggregate row.now) }
 {
@@ -82,30 +96,40 @@ fn counted_by(row: &Row, aggregate: Aggregate) -> Result<Value, Refusal>
     }
 }
 
-/// The group to which a row goes, if WHERE keeps it; none of a joint query.
+/// The group to which a row goes by itself, if WHERE keeps it.
 fn place(alloc: Global, summary: Summary, row: &Row) -> Result<Option<Value>, Refusal>
     requires bounded { IsBoundedOver [] summary.filter.now }
     requires small { IsSmallRow row.now }
     ensures only_memory { IsOkUnless result NoMemory }
     ensures placed { IfOk result (λ placed. placed ≡ place_of (shown summary.entry) row.now) }
 {
-    if joint_link(summary).is_some() || !passes(alloc, summary.filter, row) {
+    if !passes(alloc, summary.filter, row) {
         return Ok(None);
     }
     group(summary.grouping, row)
 }
 
-/// The link of a query that is joint: its filter asks what the row around holds, so that no totals are kept for it.
-pub fn joint_link(summary: Summary) -> Option<Link>
-    ensures { result ≡ joint_link_of (shown summary.entry) }
+/// The rows around, where each of them is a group.
+pub fn rows_around(grouping: Grouping) -> Option<Around>
+    ensures { result ≡ around_of grouping }
 {
-    match summary.grouping {
-        Grouping::Linked(link) if summary.filter.has_slots() => Some(link),
-        Grouping::Linked(_) | Grouping::Whole | Grouping::By(_) => None,
+    match grouping {
+        Grouping::PerRow(around) => Some(around),
+        Grouping::Whole | Grouping::By(_) | Grouping::Linked(_) | Grouping::ByKey(_) => None,
     }
 }
 
-/// The group of a row that WHERE keeps.
+/// The link by which the one row of a query is looked up.
+pub fn link_to_key(grouping: Grouping) -> Option<Link>
+    ensures { result ≡ key_link grouping }
+{
+    match grouping {
+        Grouping::ByKey(link) => Some(link),
+        Grouping::Whole | Grouping::By(_) | Grouping::Linked(_) | Grouping::PerRow(_) => None,
+    }
+}
+
+/// The group of a row that WHERE keeps; none where the filter asks what the row around holds.
 fn group(grouping: Grouping, row: &Row) -> Result<Option<Value>, Refusal>
     ensures only_memory { IsOkUnless result NoMemory }
     ensures group { IfOk result (λ group. group ≡ group_of grouping row.now) }
@@ -118,5 +142,6 @@ fn group(grouping: Grouping, row: &Row) -> Result<Option<Value>, Refusal>
             Value::Int(number) => Ok(Some(Value::Int(number))),
             Value::Text(text) => Ok(Some(Value::Text(text))),
         },
+        Grouping::ByKey(_) | Grouping::PerRow(_) => Ok(None),
     }
 }

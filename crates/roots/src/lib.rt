@@ -43,11 +43,11 @@
 #![tactic(auto)]
 
 mod answers;
+mod around;
 mod bad_roots;
 mod candidate_roots;
 mod columns;
 mod grouped;
-mod joint;
 mod lists;
 mod maintained;
 mod summaries;

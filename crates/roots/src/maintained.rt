@@ -6,43 +6,72 @@ ghost use Rattle.value.specs.Ordered.{HoldsOf};
 ghost use Rattle.table.specs.Rows.{Layout, RowValues};
 ghost use Rattle.table.specs.Bounds.{IsSmallRow};
 ghost use Rattle.assertion.specs.Bounded.{IsBounded, IsBoundedOver};
-ghost use Rattle.assertion.specs.Meaning.{State};
-ghost use Rattle.assertion.specs.Roots.{IsChangeOf, state_after};
+ghost use Rattle.assertion.specs.Meaning.{State, rows_of};
+ghost use Rattle.assertion.specs.Roots.{IsChangeOf, IsOrdered, state_after};
 ghost use Rattle.groups.specs.Totals.{AreTotalsOf, AreWithin};
-ghost use Rattle.roots.specs.Maintained.{AreMaintained, AreTotalsFor, IsSmallState};
+ghost use Rattle.roots.specs.Maintained.{AreMaintained, AreTotalsFor, IsKeyed, IsSmallState, IsStepOf};
 ghost use Rattle.roots.specs.Shown.{shown};
-ghost use Rattle.roots.specs.Summaries.{row_members, summaries_of};
+ghost use Rattle.roots.specs.Summaries.{row_members};
 
-use crate::grouped::{Summary, member, member_of_row};
+use crate::around::{around_after, totals_around};
+use crate::grouped::{Summary, member, member_of_row, rows_around};
 use crate::summaries::{summary_count, summary_of};
 use assertion::Form;
 use groups::Totals;
 use mvrows::Rows;
 use std::alloc::Global;
-use table::{Change, Row};
+use table::{Change, Row, Schema};
 use value::Refusal;
 
-/// The totals to keep for a form on these tables. Each is made in one pass over the rows of its table.
-pub fn totals_of(alloc: Global, form: &Form, tables: &[Rows]) -> Result<Vec<Totals>, Refusal>
+/// The totals to keep for a form on these tables. Each is made in one pass over the rows of its table; where the rows
+/// around are its groups, in one over those, for each of which the rows that are linked to it are looked at.
+pub fn totals_of(
+    alloc: Global,
+    schemas: &[Schema],
+    form: &Form,
+    tables: &[Rows],
+) -> Result<Vec<Totals>, Refusal>
     requires bounded { IsBounded form.now }
     requires small { IsSmallState tables.now }
+    requires in_order { IsOrdered schemas.now tables.now }
     ensures only_memory { IsOkUnless result NoMemory }
-    ensures totals { IfOk result (λ totals. AreMaintained tables.now form.now totals.items) }
+    ensures totals { IfOk result (λ totals. AreMaintained schemas.now tables.now form.now totals.items) }
 {
     let mut made = Vec::new(alloc);
     for index in 0..summary_count(form) {
-        let summary = summary_of(form, index);
-        made.push(total_of(alloc, summary, tables)?)?;
+        let summary = summary_of(schemas, form, index);
+        made.push(total_of(alloc, schemas, summary, tables)?)?;
     }
     Ok(made)
 }
 
 /// The totals of one summary.
-fn total_of(alloc: Global, summary: Summary, tables: &[Rows]) -> Result<Totals, Refusal>
+fn total_of(
+    alloc: Global,
+    schemas: &[Schema],
+    summary: Summary,
+    tables: &[Rows],
+) -> Result<Totals, Refusal>
+    requires bounded { IsBoundedOver [] summary.filter.now }
+    requires small { IsSmallState tables.now }
+    requires in_order { IsOrdered schemas.now tables.now }
+    requires keyed { IsKeyed schemas.now (shown summary) }
+    ensures only_memory { IsOkUnless result NoMemory }
+    ensures totals { IfOk result (AreTotalsFor tables.now (shown summary.entry)) }
+{
+    match rows_around(summary.grouping) {
+        Some(around) => totals_around(alloc, schemas, tables, summary, around),
+        None => total_of_table(alloc, summary, tables),
+    }
+}
+
+/// The totals of one summary, to whose groups rows go by themselves.
+fn total_of_table(alloc: Global, summary: Summary, tables: &[Rows]) -> Result<Totals, Refusal>
     requires bounded { IsBoundedOver [] summary.filter.now }
     requires small { IsSmallState tables.now }
     ensures only_memory { IsOkUnless result NoMemory }
-    ensures totals { IfOk result (AreTotalsFor tables.now (shown summary.entry)) }
+    ensures totals { IfOk result (AreTotalsOf summary.entry.aggregate
+        (row_members (shown summary.entry) (rows_of summary.entry.table tables.now))) }
 {
     match tables.get(summary.table) {
         Some(rows) => total_of_rows(alloc, summary, rows),
@@ -67,7 +96,7 @@ fn total_of_rows(alloc: Global, summary: Summary, rows: &Rows) -> Result<Totals,
 }
 
 /// The totals of one summary with one row more.
-pub(crate) fn total_with(
+fn total_with(
     alloc: Global,
     summary: Summary,
     totals: &Totals,
@@ -85,33 +114,58 @@ pub(crate) fn total_with(
     totals.with(summary.aggregate, &add, &None)
 }
 
-/// The totals to keep after a change: those of the tables with it, where the old ones are those of the tables before.
+/// The totals to keep after a change: those of the tables after it, where the old ones are those of the tables before.
 pub fn totals_after(
     alloc: Global,
+    schemas: &[Schema],
+    before: &[Rows],
+    after: &[Rows],
     form: &Form,
     totals: &[Totals],
     change: &Change,
 ) -> Result<Vec<Totals>, Refusal>
     requires bounded { IsBounded form.now }
-    requires old_small { HoldsOf IsSmallRow change.now.old }
-    requires new_small { HoldsOf IsSmallRow change.now.new }
-    requires long { length totals.now ≡ length (summaries_of form.now) }
+    requires step { IsStepOf schemas.now change.now before.now after.now }
+    requires totals { AreMaintained schemas.now before.now form.now totals.now }
     ensures only_memory { IsOkUnless result NoMemory }
-    ensures totals { IfOk result (λ made. (layouts : List Layout) (state : State)
-        → IsChangeOf layouts change.now state → IsSmallState (state_after layouts change.now state)
-        → AreMaintained state form.now totals.now
-        → AreMaintained (state_after layouts change.now state) form.now made.items) }
+    ensures totals { IfOk result (λ made. AreMaintained schemas.now after.now form.now made.items) }
 {
     let mut made = Vec::new(alloc);
     for index in 0..summary_count(form) {
-        let summary = summary_of(form, index);
-        made.push(total_after(alloc, summary, &totals[index], change)?)?;
+        let summary = summary_of(schemas, form, index);
+        let old = &totals[index];
+        made.push(total_after(alloc, schemas, before, after, summary, old, change)?)?;
     }
     Ok(made)
 }
 
 /// The totals of one summary after a change.
 fn total_after(
+    alloc: Global,
+    schemas: &[Schema],
+    before: &[Rows],
+    after: &[Rows],
+    summary: Summary,
+    totals: &Totals,
+    change: &Change,
+) -> Result<Totals, Refusal>
+    requires bounded { IsBoundedOver [] summary.filter.now }
+    requires step { IsStepOf schemas.now change.now before.now after.now }
+    requires keyed { IsKeyed schemas.now (shown summary) }
+    requires totals { AreTotalsFor before.now (shown summary) totals.now }
+    ensures only_memory { IsOkUnless result NoMemory }
+    ensures totals { IfOk result (AreTotalsFor after.now (shown summary.entry)) }
+{
+    match rows_around(summary.grouping) {
+        Some(around) => around_after(
+            alloc, schemas, before, after, summary, around, totals, change,
+        ),
+        None => total_with_change(alloc, summary, totals, change),
+    }
+}
+
+/// The totals of one summary, to whose groups rows go by themselves, after a change.
+fn total_with_change(
     alloc: Global,
     summary: Summary,
     totals: &Totals,
@@ -123,8 +177,10 @@ fn total_after(
     ensures only_memory { IsOkUnless result NoMemory }
     ensures totals { IfOk result (λ made. (layouts : List Layout) (state : State)
         → IsChangeOf layouts change.now state → IsSmallState (state_after layouts change.now state)
-        → AreTotalsFor state (shown summary.entry) totals.now
-        → AreTotalsFor (state_after layouts change.now state) (shown summary.entry) made) }
+        → AreTotalsOf summary.entry.aggregate (row_members (shown summary.entry) (rows_of summary.entry.table state))
+        totals.now
+        → AreTotalsOf summary.entry.aggregate (row_members (shown summary.entry)
+        (rows_of summary.entry.table (state_after layouts change.now state))) made) }
 {
     if summary.table != change.table {
         return totals.copy();

@@ -1,17 +1,20 @@
 //! The summaries of a form: the queries whose totals are maintained.
 
-ghost use Rattle.std.specs.Prelude.{◌≡◌, ◌<◌, length, slice_index_or};
+ghost use Rattle.std.specs.Prelude.{◌≡◌, ◌<◌, List, length, slice_index_or};
 ghost use Rattle.table.specs.declared.aggregates.Aggregate.TheVariants as functions;
+ghost use Rattle.table.specs.Rows.{Layout};
+ghost use Rattle.roots.specs.Maintained.{IsKeyed};
 ghost use Rattle.roots.specs.Shown.{shown};
-ghost use Rattle.roots.specs.Summaries.{queries_of, regrouped as regrouped_of, summaries_of};
+ghost use Rattle.roots.specs.Summaries.{linked_grouping as linked_grouping_of, queries_of, regrouped as regrouped_of, summaries_of};
 
-use crate::grouped::{Grouping, Summary};
-use assertion::{Form, Query};
-use table::Aggregate;
+use crate::columns::key_column;
+use crate::grouped::{Around, Grouping, Summary};
+use assertion::{Form, Link, Query};
+use table::{Aggregate, Schema};
 
 /// How many slots the condition of a form has. Each is answered from the summary at its own index.
 pub fn slot_count(form: &Form) -> usize
-    ensures { result ≡ length (queries_of form.now) }
+    ensures { (layouts : List Layout) → result ≡ length (queries_of layouts form.now) }
 {
     match form {
         Form::ByRow { queries, .. } => queries.as_slice().len(),
@@ -22,7 +25,7 @@ pub fn slot_count(form: &Form) -> usize
 
 /// How many summaries a form has: one for each slot, and of groups at least one.
 pub fn summary_count(form: &Form) -> usize
-    ensures { result ≡ length (summaries_of form.now) }
+    ensures { (layouts : List Layout) → result ≡ length (summaries_of layouts form.now) }
 {
     match form {
         Form::ByRow { queries, .. } => queries.as_slice().len(),
@@ -32,14 +35,15 @@ pub fn summary_count(form: &Form) -> usize
 }
 
 /// The summary at an index.
-pub fn summary_of(form: &Form, index: usize) -> Summary<'_>
-    requires within { index < length (summaries_of form.now) }
-    ensures { shown result ≡ slice_index_or (summaries_of form.now) index (shown result) }
+pub fn summary_of<'a>(schemas: &[Schema], form: &'a Form, index: usize) -> Summary<'a>
+    requires within { index < length (summaries_of schemas.now form.now) }
+    ensures summary { shown result ≡ slice_index_or (summaries_of schemas.now form.now) index (shown result) }
+    ensures keyed { IsKeyed schemas.now (shown result) }
 {
     match form {
-        Form::ByRow { queries, .. } => {
+        Form::ByRow { table, queries, .. } => {
             let query = &queries.as_slice()[index];
-            regrouped(query, Grouping::Linked(query.grouping))
+            regrouped(query, linked_grouping(schemas, *table, query))
         }
         Form::ByGroup {
             table,
@@ -55,6 +59,21 @@ pub fn summary_of(form: &Form, index: usize) -> Summary<'_>
         },
         Form::Single { queries, .. } => regrouped(&queries.as_slice()[index], Grouping::Whole),
     }
+}
+
+/// How the rows of a subquery of a table's rows are grouped.
+fn linked_grouping(schemas: &[Schema], table: usize, query: &Query<Link>) -> Grouping
+    ensures { result ≡ linked_grouping_of schemas.now table query.now }
+{
+    let link = query.grouping;
+    if !query.filter.has_slots() {
+        return Grouping::Linked(link);
+    }
+    if link.inner == key_column(schemas, query.table) {
+        return Grouping::ByKey(link);
+    }
+    let key = key_column(schemas, table);
+    Grouping::PerRow(Around { table, key, link })
 }
 
 /// A query with groups of this kind.

@@ -38,7 +38,7 @@ pub fn bad_of(
 ) -> Result<BadRoots, Refusal>
     requires bounded { IsBounded form.now }
     requires small { IsSmallState tables.now }
-    requires totals { AreMaintained tables.now form.now totals.now }
+    requires totals { AreMaintained schemas.now tables.now form.now totals.now }
     ensures only_memory { IsOkUnless result NoMemory }
     ensures bad { IfOk result (AreBad schemas.now form.now tables.now) }
 {
@@ -114,7 +114,7 @@ pub fn bad_after(
     requires small { IsSmallState tables.now }
     requires old_small { ordered.HoldsOf IsSmallRow change.now.old }
     requires new_small { ordered.HoldsOf IsSmallRow change.now.new }
-    requires totals { AreMaintained tables.now form.now totals.now }
+    requires totals { AreMaintained schemas.now tables.now form.now totals.now }
     ensures only_memory { IsOkUnless result NoMemory }
     ensures bad { IfOk result (λ made. (before : State) → IsOrdered schemas.now before
         → IsChangeOf schemas.now change.now before
@@ -139,7 +139,7 @@ fn updated(
     requires bounded { IsBounded form.now }
     requires small { IsSmallState tables.now }
     requires roots_small { All (IsSmallRoot form.now) touched.now }
-    requires totals { AreMaintained tables.now form.now totals.now }
+    requires totals { AreMaintained schemas.now tables.now form.now totals.now }
     ensures only_memory { IsOkUnless result NoMemory }
     ensures updated { IfOk result (λ made. ordered.IsAscending root_cmp (λ k. k) bad.now
         → AreUpdated schemas.now form.now tables.now touched.now bad.now made) }
@@ -168,7 +168,7 @@ fn judged(
     requires bounded { IsBounded form.now }
     requires small { IsSmallState tables.now }
     requires root_small { IsSmallRoot form.now root.now }
-    requires totals { AreMaintained tables.now form.now totals.now }
+    requires totals { AreMaintained schemas.now tables.now form.now totals.now }
     ensures only_memory { IsOkUnless result NoMemory }
     ensures judged { IfOk result (λ next.
         next ≡ put_root root.now (is_bad_root schemas.now form.now tables.now root.now) made) }

@@ -3,12 +3,9 @@ use Rattle.std.specs.Arc.{arc_value}
 use Rattle.delta.proofs.WatchLemmas.{AreWatched-more, shared_at, shared_more, watched_past, watched_for}
 use Rattle.delta.proofs.versions.watches_after.Goals as goal
 
-pub watch_after-requires-clause-before : goal.watch_after-requires-clause-before
-watch_after-requires-clause-before c = record {
-  before = c.args._before.now;
-  step = c.requires.step;
-  watched = watched_for c.args.schemas.now c.args._before.now c.args.assertions.now _ (map arc_value c.args.watches.now) c.loop-index.index (arc_value c.index-watches-index.result) c.requires.watched (omega arith) (shared_at c.args.watches.now c.loop-index.index c.index-watches-index.result c.index-watches-index.is) c.index-assertions-index.result;
-}
+pub watch_after-requires-clause-watched : goal.watch_after-requires-clause-watched
+watch_after-requires-clause-watched c =
+    (watched_for c.args.schemas.now c.args.before.now c.args.assertions.now _ (map arc_value c.args.watches.now) c.loop-index.index (arc_value c.index-watches-index.result) c.requires.watched (omega arith) (shared_at c.args.watches.now c.loop-index.index c.index-watches-index.result c.index-watches-index.is) c.index-assertions-index.result)
 
 pub loop-index-preserved : goal.loop-index-preserved
 loop-index-preserved c =

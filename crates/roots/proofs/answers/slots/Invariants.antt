@@ -7,4 +7,4 @@ use Rattle.roots.proofs.answers.slots.Given as goal
 
 -- the slots so far hold what the first queries give
 abbrev pub invariant-loop-index : goal.invariant-loop-index
-invariant-loop-index l = (kinds_of l.slots ≡ kinds_in (take l.index (queries_of l.form))) × (values_of l.slots ≡ answers l.tables (take l.index (queries_of l.form)) l.row)
+invariant-loop-index l = (kinds_of l.slots ≡ kinds_in (take l.index (queries_of l.schemas l.form))) × (values_of l.slots ≡ answers l.tables (take l.index (queries_of l.schemas l.form)) l.row)

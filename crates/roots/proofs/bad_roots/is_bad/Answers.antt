@@ -8,16 +8,16 @@ use Rattle.std.specs.Option.{option_copied}
 use Rattle.roots.proofs.bad_roots.is_bad.Goals as goal
 
 pub row_passes-requires-clause-bounded : goal.row_passes-requires-clause-bounded
-row_passes-requires-clause-bounded c = row-bounded c.args.form.now _ _ _ c.in-ByRow-Of.is-0 c.requires.bounded
+row_passes-requires-clause-bounded c = row-bounded c.args.schemas.now c.args.form.now _ _ _ c.in-ByRow-Of.is-0 c.requires.bounded
 
 pub group_passes-requires-clause-bounded : goal.group_passes-requires-clause-bounded
-group_passes-requires-clause-bounded c = having-bounded c.args.form.now _ _ _ _ _ c.in-ByGroup-Of.is-0 c.requires.bounded
+group_passes-requires-clause-bounded c = having-bounded c.args.schemas.now c.args.form.now _ _ _ _ _ c.in-ByGroup-Of.is-0 c.requires.bounded
 
 pub group_passes-requires-clause-some : goal.group_passes-requires-clause-some
-group_passes-requires-clause-some c = group-some c.args.form.now _ _ _ _ _ c.in-ByGroup-Of.is-0
+group_passes-requires-clause-some c = group-some c.args.schemas.now c.args.form.now _ _ _ _ _ c.in-ByGroup-Of.is-0
 
 pub whole_is_false-requires-clause-bounded : goal.whole_is_false-requires-clause-bounded
-whole_is_false-requires-clause-bounded c = whole-bounded c.args.form.now _ _ c.in-Single-All.is-0 c.requires.bounded
+whole_is_false-requires-clause-bounded c = whole-bounded c.args.schemas.now c.args.form.now _ _ c.in-Single-All.is-0 c.requires.bounded
 
 pub returns-in-ByRow-Of-clause-bad : goal.returns-in-ByRow-Of-clause-bad
 returns-in-ByRow-Of-clause-bad c =
@@ -27,7 +27,7 @@ returns-in-ByRow-Of-clause-bad c =
 
 pub returns-in-ByGroup-Of-clause-bad : goal.returns-in-ByGroup-Of-clause-bad
 returns-in-ByGroup-Of-clause-bad c =
-    let d = item_in (summaries_of c.args.form.now) 0 (group-some c.args.form.now _ _ _ _ _ c.in-ByGroup-Of.is-0) in
+    let d = item_in (summaries_of c.args.schemas.now c.args.form.now) 0 (group-some c.args.schemas.now c.args.form.now _ _ _ _ _ c.in-ByGroup-Of.is-0) in
     IfOk-weaker c.group_passes.result _ _
     (λ (b : Bool) h. λ is_row. h d ∙ group-bad c.args.schemas.now c.args.tables.now c.args.form.now c.args.root.now _ _ _ _ _ _ d c.in-ByGroup-Of.is-0 c.in-ByGroup-Of.is-1)
     c.group_passes.ensures.bad

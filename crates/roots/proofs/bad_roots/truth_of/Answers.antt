@@ -8,7 +8,7 @@ use Rattle.roots.proofs.BoundLemmas.{whole-bounded}
 use Rattle.roots.proofs.bad_roots.truth_of.Goals as goal
 
 pub truth_of_whole-requires-clause-bounded : goal.truth_of_whole-requires-clause-bounded
-truth_of_whole-requires-clause-bounded c = whole-bounded c.args.form.now _ _ c.in-Single.is c.requires.bounded
+truth_of_whole-requires-clause-bounded c = whole-bounded c.args.schemas.now c.args.form.now _ _ c.in-Single.is c.requires.bounded
 
 pub returns-in-Single-clause-truth : goal.returns-in-Single-clause-truth
 returns-in-Single-clause-truth c =

@@ -8,4 +8,4 @@ pub returns-clause-truth : goal.returns-clause-truth
 returns-clause-truth c =
     let empty = c.new-row.ensures ∙ c.new.ensures.items in
     c.eval.ensures ∙ ap (λ vs. truth c.new-row.result vs c.args.condition.now) c.in_ok-slots.ensures.values
-    ∙ ap (λ row. truth row (answers c.args.tables.now (queries_of c.args.form.now) row) c.args.condition.now) empty
+    ∙ ap (λ row. truth row (answers c.args.tables.now (queries_of c.args.schemas.now c.args.form.now) row) c.args.condition.now) empty

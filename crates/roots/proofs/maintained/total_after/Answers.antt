@@ -1,16 +1,20 @@
+use Rattle.std.proofs.Common.{None, ◌∙◌, subst, sym}
 use Rattle.std.proofs.lemmas.Result.{IfOk-weaker}
-use Rattle.assertion.specs.Roots.{state_after}
-use Rattle.groups.specs.Totals.{Entries}
+use Rattle.assertion.specs.Meaning.{State, rows_of}
+use Rattle.groups.specs.Totals.{AreTotalsOf, Entries}
+use Rattle.roots.specs.Maintained.{IsSmallState}
 use Rattle.roots.specs.Shown.{shown}
-use Rattle.roots.specs.Summaries.{members}
-use Rattle.roots.proofs.MaintainedLemmas.{members-changed, members-within}
+use Rattle.roots.specs.Summaries.{row_members}
+use Rattle.roots.proofs.MaintainedLemmas.{totals-as, totals-from}
 use Rattle.roots.proofs.maintained.total_after.Goals as goal
 
-pub returns-clause-totals : goal.returns-clause-totals
-returns-clause-totals c =
-    IfOk-weaker c.with.result _ _
-    (λ (made : Entries) h. λ layouts state is small totals.
-    h (members state (shown c.args.summary)) (members (state_after layouts c.args.change.now state) (shown c.args.summary))
-    (rw (c.in_ok-add.ensures.member, c.in_ok-remove.ensures.member) (members-changed layouts c.args.change.now state is (shown c.args.summary) c.if-summary-change.false))
-    totals (members-within (state_after layouts c.args.change.now state) (shown c.args.summary) small))
-    c.with.ensures.totals
+pub returns-in-None-clause-totals : goal.returns-in-None-clause-totals
+returns-in-None-clause-totals c =
+    let q = shown c.args.summary in
+    let none = sym c.rows_around.ensures ∙ c.in-None.is in
+    let step = c.requires.step in
+    IfOk-weaker c.total_with_change.result _ _
+    (λ (made : Entries) h. totals-as q None none c.args.after.now made
+    (subst (λ (state : State). AreTotalsOf q.aggregate (row_members q (rows_of q.table state)) made) (sym step.changed)
+    (h c.args.schemas.now c.args.before.now step.is (subst IsSmallState step.changed step.small_after) (totals-from q None none c.args.before.now c.args.totals.now c.requires.totals))))
+    c.total_with_change.ensures.totals

@@ -4,6 +4,9 @@ use Rattle.delta.proofs.watches.Watch.of.Goals as goal
 pub totals_of-requires-clause-small : goal.totals_of-requires-clause-small
 totals_of-requires-clause-small c = good_small c.args.schemas.now c.args.tables.now c.requires.good
 
+pub totals_of-requires-clause-in_order : goal.totals_of-requires-clause-in_order
+totals_of-requires-clause-in_order c = good_order c.args.schemas.now c.args.tables.now c.requires.good
+
 pub bad_of-requires-clause-small : goal.bad_of-requires-clause-small
 bad_of-requires-clause-small c = good_small c.args.schemas.now c.args.tables.now c.requires.good
 
