@@ -38,9 +38,8 @@ def scripts(form, rows, count):
         lines = [line for kind in kinds[:upto] for line in kind]
         yield ["A: BEGIN;\n", *lines, "A: ROLLBACK;\n"]
     keys = [2 * (number * 7919 % rows) for number in range(count)]
-    # (each account keeps to one row's values or those of the next, so that no rule is broken)
-    values = [form.row(key, key // 2 + 1, rows)[1 if form.changed == "DUTY" else 2] for key in keys]
-    updates = (text(form.update, (value, key)) for key, value in zip(keys, values))
+    # (what no rule is broken by: an account, say, has its own balance or the next one's)
+    updates = (text(form.update, (form.another(key // 2, rows), key)) for key in keys)
     yield [f"A: BEGIN;\nA: {update}\nA: COMMIT;\n" for update in updates]
 
 

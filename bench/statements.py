@@ -2,7 +2,7 @@
 """Time of a statement with assertions maintained by skewguard, beside SQLite, from scratch and with triggers.
 
     python3 bench/statements.py [--program PATH] [--rows 1000,10000,100000,1000000] [--repetitions 3]
-                                [--repetitions-large 1]
+                                [--repetitions-large 1] [--forms "by parent,10 stays a room"] [--without-memory]
 
 Without --program the program is built first by `rt run` in crates/skewguard, which proves it. Nothing but Python 3.9
 or later is needed besides. The tables that docs/PERFORMANCE.md holds are printed as they stand there. One process at
@@ -11,14 +11,16 @@ a time runs.
 Skewguard replays one transaction of INSERTs, UPDATEs and DELETEs in turns, each of one row by its key, on tables of so
 many rows; the processor time of a replay with an empty script, for loading alone, is taken off. Reading the texts and
 writing the report are in it. SQLite, as Python's standard library has it, does the same in memory, in one transaction,
-by statements that are prepared once and take their values as bound parameters. It keeps the rule in two ways:
+by statements that are prepared once and take their values as bound parameters. It keeps the rule in two ways, and some in a third:
 
 - from scratch: after each statement the assertion's own condition as a query, with the index that serves it best;
 - with triggers: a side table holds a total for each group, triggers keep it and refuse what would make the rule false.
+  Where a row needs another row, or none that it meets, there is no total: triggers look for the row by an index;
+- otherwise: with a foreign key, where the rule is one; with triggers that have a poorer index.
 
 The sides take turns in one run, and the median of the repetitions counts. Each answer is looked at: a refused statement
-or a false assertion ends the run. So does a trigger, or an assertion of skewguard, that does not refuse what breaks its
-rule. The peak memory of loading, and what a committed change adds to it, are printed too.
+or a false assertion ends the run. So does a trigger, a foreign key, or an assertion of skewguard, that does not
+refuse what breaks its rule. The peak memory of loading, and what a committed change adds to it, are printed too.
 """
 
 import argparse
@@ -47,6 +49,9 @@ COMMIT_ROWS, COMMITS = 100_000, 100_000
 SHIFTS = "CREATE TABLE SHIFTS (ID INTEGER PRIMARY KEY);"
 DUTY = "CREATE TABLE DUTY (ID INTEGER PRIMARY KEY, SHIFT INTEGER NOT NULL, ONCALL INTEGER NOT NULL);"
 ACCT = "CREATE TABLE ACCT (ID INTEGER PRIMARY KEY, OWNER INTEGER NOT NULL, BAL INTEGER NOT NULL);"
+STAYS = """CREATE TABLE STAYS (ID INTEGER PRIMARY KEY, ROOM INTEGER NOT NULL, FROM_DAY INTEGER NOT NULL,
+    TO_DAY INTEGER NOT NULL);"""
+WITH_KEY = DUTY.replace("SHIFT INTEGER NOT NULL", "SHIFT INTEGER NOT NULL REFERENCES SHIFTS (ID)")
 
 NEW_SHIFT = "INSERT INTO SHIFTS VALUES (?)"
 MOST = 1_000_000_000  # that all accounts may sum to, in the single form
@@ -56,10 +61,11 @@ class Form:
     """Tables and an assertion over them, or none; SQLite keeps it by an index and a query, or a table and triggers.
 
     `totals` are two queries, of the totals that are kept and of those of the rows. `tries` are statements on small
-    tables, each with whether it breaks the rule.
+    tables, each with whether it breaks the rule. `other` is another way for SQLite: its name, and what makes its tables
+    and is added to them.
     """
 
-    def __init__(self, name, tables, condition=None, index=None, side=(), triggers=(), totals=(), tries=()):
+    def __init__(self, name, tables, condition=None, index=None, side=(), triggers=(), totals=(), tries=(), other=None):
         self.name = name
         self.tables = tables
         self.condition = condition
@@ -68,6 +74,7 @@ class Form:
         self.triggers = triggers
         self.totals = totals
         self.tries = tries
+        self.other = other
         self.changed = "DUTY" if DUTY in tables else "ACCT"
         self.insert = f"INSERT INTO {self.changed} VALUES (?, ?, ?)"
         self.update = f"UPDATE {self.changed} SET {'SHIFT' if DUTY in tables else 'BAL'} = ? WHERE ID = ?"
@@ -90,6 +97,10 @@ class Form:
         changed = (row[1] + 1) % (rows // 10) if self.changed == "DUTY" else row[2] + 1
         return (self.insert, row), (self.update, (changed, key)), (self.delete, (key,))
 
+    def another(self, number, rows):
+        """What an UPDATE may give to a row of the beginning: what the next row has."""
+        return self.row(2 * number, number + 1, rows)[1 if self.changed == "DUTY" else 2]
+
     def definitions(self, rows):
         """What DEFS holds, piece by piece."""
         yield "\n".join(self.tables) + "\n"
@@ -104,6 +115,81 @@ def text(statement, numbers):
 
 
 REFUSE = "SELECT RAISE(ABORT, 'RULE')"
+
+
+class Stays(Form):
+    """Stays in rooms, so many to a room: no two in one room have a night in common.
+
+    Each has two nights, and the two nights behind it are free.
+    """
+
+    def __init__(self, in_room):
+        meets = "B.ROOM = {0}.ROOM AND B.ID <> {0}.ID AND B.FROM_DAY < {0}.TO_DAY AND {0}.FROM_DAY < B.TO_DAY"
+        refuse = f"{REFUSE} WHERE EXISTS (SELECT 1 FROM STAYS B WHERE {meets.format('NEW')});"
+        triggers = [
+            f"CREATE TRIGGER STAY_COMES AFTER INSERT ON STAYS BEGIN {refuse} END",
+            f"CREATE TRIGGER STAY_CHANGES AFTER UPDATE OF ROOM, FROM_DAY, TO_DAY ON STAYS BEGIN {refuse} END",
+        ]
+        super().__init__(
+            f"{in_room} stays a room",
+            [STAYS],
+            "NOT EXISTS (SELECT * FROM STAYS A WHERE EXISTS (SELECT * FROM STAYS B WHERE " + meets.format("A") + "))",
+            "CREATE INDEX BEST ON STAYS (ROOM, FROM_DAY, TO_DAY)",
+            ["CREATE INDEX OF_A_ROOM ON STAYS (ROOM, FROM_DAY, TO_DAY)"],
+            triggers,
+            (
+                "SELECT 0",
+                "SELECT COUNT(*) FROM (SELECT TO_DAY, LEAD(FROM_DAY) OVER (PARTITION BY ROOM ORDER BY FROM_DAY) AS NEXT"
+                " FROM STAYS) WHERE NEXT < TO_DAY",
+            ),
+            # In room 0 there are the stays from day 0, 4, .. 36 on, and more where a room has a hundred.
+            [
+                ("INSERT INTO STAYS VALUES (?, ?, ?, ?)", (1, 0, 1, 3), True),
+                ("INSERT INTO STAYS VALUES (?, ?, ?, ?)", (1, 0, 2, 4), False),
+                ("INSERT INTO STAYS VALUES (?, ?, ?, ?)", (3, 0, 3, 5), True),
+                ("UPDATE STAYS SET TO_DAY = ? WHERE ID = ?", (5, 1), True),
+                ("UPDATE STAYS SET TO_DAY = ? WHERE ID = ?", (3, 1), False),
+                ("INSERT INTO STAYS VALUES (?, ?, ?, ?)", (3, 0, 3, 4), False),
+                ("UPDATE STAYS SET TO_DAY = ? WHERE ID = ?", (4, 1), True),
+                ("UPDATE STAYS SET FROM_DAY = ? WHERE ID = ?", (1, 1), True),
+                ("INSERT INTO STAYS VALUES (?, ?, ?, ?)", (5, 5, 1, 3), False),
+                ("UPDATE STAYS SET ROOM = ? WHERE ID = ?", (0, 5), True),
+                ("UPDATE STAYS SET ROOM = ? WHERE ID = ?", (5, 0), True),
+                ("UPDATE STAYS SET ROOM = ? WHERE ID = ?", (6, 0), False),
+                ("UPDATE STAYS SET ROOM = ? WHERE ID = ?", (0, 5), True),
+                ("DELETE FROM STAYS WHERE ID = ?", (1,), False),
+                ("UPDATE STAYS SET ROOM = ? WHERE ID = ?", (0, 5), False),
+                ("UPDATE STAYS SET ROOM = ? WHERE ID = ?", (0, 0), True),
+            ],
+            ("triggers, an index by ROOM alone", [STAYS], ["CREATE INDEX OF_A_ROOM ON STAYS (ROOM)", *triggers]),
+        )
+        self.in_room = in_room
+        self.changed = "STAYS"
+        self.insert = "INSERT INTO STAYS VALUES (?, ?, ?, ?)"
+        self.update = "UPDATE STAYS SET TO_DAY = ? WHERE ID = ?"
+        self.delete = "DELETE FROM STAYS WHERE ID = ?"
+
+    def room_and_day(self, number, rows):
+        """The room of a row of the beginning, and its first day."""
+        rooms = max(1, rows // self.in_room)
+        return number % rooms, 4 * (number // rooms)
+
+    def loaded(self, rows):
+        for number in range(rows):
+            room, day = self.room_and_day(number, rows)
+            yield self.insert, (2 * number, room, day, day + 2)
+
+    def round(self, number, rows):
+        """A stay of a night comes behind another one, becomes one of two nights, and goes."""
+        at = number * 7919 % rows
+        room, day = self.room_and_day(at, rows)
+        key = 2 * at + 1
+        return (self.insert, (key, room, day + 2, day + 3)), (self.update, (day + 4, key)), (self.delete, (key,))
+
+    def another(self, number, rows):
+        """A night more."""
+        return self.room_and_day(number, rows)[1] + 3
+
 
 FORMS = [
     Form(
@@ -268,7 +354,10 @@ FORMS = [
             ("UPDATE DUTY SET SHIFT = ? WHERE ID = ?", (1, 1), False),
             ("DELETE FROM SHIFTS WHERE ID = ?", (2,), False),
         ],
+        ("a foreign key", ["PRAGMA foreign_keys = ON", SHIFTS, WITH_KEY], ["CREATE INDEX CHILDREN ON DUTY (SHIFT)"]),
     ),
+    Stays(10),
+    Stays(100),
     Form("no assertion", [ACCT]),
 ]
 
@@ -304,29 +393,33 @@ def check_report(output, form, rounds):
         sys.exit("a statement of the script was not answered as it has to be")
 
 
-def filled(form, rows):
-    """SQLite with the tables in memory."""
+# How SQLite keeps the rule: by a query after each statement, by triggers, or in the other way of the form.
+SCRATCH, TRIGGERS, OTHER = range(3)
+
+
+def filled(form, rows, how):
+    """SQLite with the tables in memory, and what is added to them so that the rule is kept."""
     base = sqlite3.connect(":memory:", isolation_level=None)
-    for one in form.tables:
+    for one in form.other[1] if how == OTHER else form.tables:
         base.execute(one)
     base.execute("BEGIN")
     for statement, numbers in form.loaded(rows):
         base.execute(statement, numbers)
     base.execute("COMMIT")
+    for one in (form.index,) if how == SCRATCH else form.other[2] if how == OTHER else (*form.side, *form.triggers):
+        base.execute(one)
     return base
 
 
-def in_sqlite(form, rows, rounds, with_triggers):
-    """The processor seconds of the statements in SQLite, which keeps the rule by triggers, or by a query after each."""
-    base = filled(form, rows)
-    for one in (*form.side, *form.triggers) if with_triggers else (form.index,):
-        base.execute(one)
+def in_sqlite(form, rows, rounds, how):
+    """The processor seconds of the statements in SQLite, which keeps the rule in this way."""
+    base = filled(form, rows, how)
     base.execute("ANALYZE")
-    query = f"SELECT {form.condition}" if form.condition and not with_triggers else None
+    query = f"SELECT {form.condition}" if form.condition and how == SCRATCH else None
     statements = [one for number in range(rounds) for one in form.round(number, rows)]
     base.execute("BEGIN")
     used = processor_time(base, statements, query)
-    if with_triggers and form.condition:
+    if form.condition and how != SCRATCH:
         check_totals(base, form)
     base.execute("ROLLBACK")
     base.close()
@@ -348,23 +441,29 @@ def check_totals(base, form):
     """The totals are those of the rows."""
     kept, counted = (base.execute(query).fetchall() for query in form.totals)
     if kept != counted:
-        sys.exit(f"{form.name}: the triggers have not kept the totals")
+        sys.exit(f"{form.name}: SQLite has not kept the totals")
+
+
+def check_sqlite(form, how):
+    """What breaks the rule is refused by SQLite, and nothing else, where it keeps it in this way."""
+    base = filled(form, 20, how)
+    for statement, numbers, breaks in form.tries:
+        if refuses(base, statement, numbers) != breaks:
+            sys.exit(f"{form.name}: SQLite does not answer as the rule has it: {text(statement, numbers)}")
+        check_totals(base, form)
+        if base.execute(f"SELECT {form.condition}").fetchone() != (1,):
+            sys.exit(f"{form.name}: SQLite has let the rule be broken")
+    base.close()
 
 
 def check_refusals(program, form, folder):
-    """What breaks the rule is refused, and nothing else, by the triggers and by skewguard."""
-    base = filled(form, 20)
-    for one in (*form.side, *form.triggers):
-        base.execute(one)
+    """What breaks the rule is refused, and nothing else, by SQLite and by skewguard."""
+    check_sqlite(form, TRIGGERS)
+    if form.other:
+        check_sqlite(form, OTHER)
     replies = ["A: BEGIN 0"]
-    for statement, numbers, breaks in form.tries:
-        if refuses(base, statement, numbers) != breaks:
-            sys.exit(f"{form.name}: the triggers do not answer as the rule has it: {text(statement, numbers)}")
-        check_totals(base, form)
-        if base.execute(f"SELECT {form.condition}").fetchone() != (1,):
-            sys.exit(f"{form.name}: the triggers have let the rule be broken")
+    for statement, _, breaks in form.tries:
         replies.append("A: REFUSED 10 23000 RULE" if breaks else f"A: {statement.split()[0]} 1")
-    base.close()
     files = Files(folder, form, 20)
     tries = (f"A: {text(statement, numbers)}\n" for statement, numbers, _ in form.tries)
     replay(program, files.definitions, written(files.script, ["A: BEGIN;\n", *tries]), files.output)
@@ -375,11 +474,11 @@ def check_refusals(program, form, folder):
 
 
 def refuses(base, statement, numbers):
-    """Whether the triggers refuse a statement."""
+    """Whether SQLite refuses a statement by a trigger or by a foreign key."""
     try:
         base.execute(statement, numbers)
     except sqlite3.IntegrityError as fault:
-        return str(fault) == "RULE" or sys.exit(f"SQLite says {fault}")
+        return str(fault) in ("RULE", "FOREIGN KEY constraint failed") or sys.exit(f"SQLite says {fault}")
     return False
 
 
@@ -388,18 +487,21 @@ class Figures:
 
     def __init__(self):
         self.all_loading, self.all_memory, self.all_kept, self.all_scratch, self.all_triggers = [], [], [], [], []
+        self.all_other = []
 
     loading = property(lambda self: statistics.median(self.all_loading))
     memory = property(lambda self: statistics.median(self.all_memory))
     kept = property(lambda self: statistics.median(self.all_kept))
     scratch = property(lambda self: statistics.median(self.all_scratch) if self.all_scratch else None)
     triggers = property(lambda self: statistics.median(self.all_triggers))
+    other = property(lambda self: statistics.median(self.all_other) if self.all_other else None)
 
     def __str__(self):
         def each(name, numbers, places):
             return f"{name} {' '.join(f'{number:.{places}f}' for number in sorted(numbers)) or '-'}"
 
         parts = [("us a statement:", self.all_kept, 2), ("triggers", self.all_triggers, 2)]
+        parts += [("otherwise", self.all_other, 2)] if self.all_other else []
         parts += [("from scratch", self.all_scratch, 1), ("loading s", self.all_loading, 4)]
         return ", ".join([*(each(*part) for part in parts), f"{self.memory / 1e6:.1f} MB"])
 
@@ -413,10 +515,11 @@ def measure(program, form, rows, repetitions, folder):
         figures.all_loading.append(loading.seconds)
         figures.all_memory.append(loading.memory)
         figures.all_kept.append(statements / (3 * rounds) * 1e6)
-        kept = in_sqlite(form, rows, ROUNDS_TRIGGERS, True)
-        figures.all_triggers.append(kept / (3 * ROUNDS_TRIGGERS) * 1e6)
-        if form.condition:
-            figures.all_scratch.append(in_sqlite(form, rows, fewer, False) / (3 * fewer) * 1e6)
+        sides = [(TRIGGERS, ROUNDS_TRIGGERS, figures.all_triggers)]
+        sides += [(OTHER, ROUNDS_TRIGGERS, figures.all_other)] if form.other else []
+        sides += [(SCRATCH, fewer, figures.all_scratch)] if form.condition else []
+        for how, of_sqlite, times in sides:
+            times.append(in_sqlite(form, rows, of_sqlite, how) / (3 * of_sqlite) * 1e6)
     return figures
 
 
@@ -453,6 +556,14 @@ def print_tables(found, sizes):
         ratios = [one.scratch and one.scratch / one.kept, one.triggers / one.kept]
         rows.append(cells + [digits(ratio) for ratio in ratios])
     table(heads, rows)
+    ways = {form.name: form.other[0] for form in FORMS if form.other}
+    rows = [
+        [name, f"{size:,}", ways[name], digits(one.other), digits(one.other / one.kept)]
+        for (name, size), one in found.items()
+        if name in ways
+    ]
+    if rows:
+        table(["form", "rows", "SQLite otherwise", "us", "otherwise / skewguard"], rows)
     names = list(dict.fromkeys(name for name, _ in found))
     rows = []
     for name in names:
@@ -466,9 +577,9 @@ def print_tables(found, sizes):
     table(heads, rows)
 
 
-def print_memory(program, folder):
+def print_memory(program, forms, folder):
     rows = []
-    for form in FORMS:
+    for form in forms:
         whole, script = committed_memory(program, form, folder)
         rows.append([form.name, digits(whole, 3), digits(script, 3), digits(whole - script, 3)])
     heads = [f"bytes a committed change, {COMMIT_ROWS:,} rows", "whole", "of it the script", "of it the commit"]
@@ -481,18 +592,20 @@ def main():
     words.add_argument("--rows", default="1000,10000,100000,1000000", help="sizes of the tables, each at least 20")
     words.add_argument("--repetitions", type=int, default=3)
     words.add_argument("--repetitions-large", type=int, default=1, help=f"repetitions from {LARGE:,} rows on")
+    words.add_argument("--forms", help="some of the forms, by name, with commas between")
     words.add_argument("--without-memory", action="store_true", help="leaves out the memory of committed changes")
     chosen = words.parse_args()
     sizes = [int(size) for size in chosen.rows.split(",")]
+    forms = [form for form in FORMS if not chosen.forms or form.name in chosen.forms.split(",")]
     program = chosen.program or built()
     print(f"SQLite {sqlite3.sqlite_version}, {machine(chosen.repetitions)}")
     print(f"a peak below {least_memory() / 1e6:.1f} MB can't be told", flush=True)
     found = {}
     with tempfile.TemporaryDirectory() as folder:
-        for form in FORMS:
+        for form in forms:
             if form.condition:
                 check_refusals(program, form, folder)
-        for form in FORMS:
+        for form in forms:
             for rows in sizes:
                 repetitions = chosen.repetitions_large if rows >= LARGE else chosen.repetitions
                 found[form.name, rows] = one = measure(program, form, rows, repetitions, folder)
@@ -500,7 +613,7 @@ def main():
         print(f"load at the end {os.getloadavg()[0]:.1f}")
         print_tables(found, sizes)
         if not chosen.without_memory:
-            print_memory(program, folder)
+            print_memory(program, forms, folder)
 
 
 if __name__ == "__main__":

@@ -1,5 +1,5 @@
 #!/usr/bin/env python3
-"""Runs the tests of the languages: Python and Rust, their examples, and what the README and the manual show.
+"""Runs the tests of the languages: Python and Rust, their examples, and what the pages and the manual show.
 
     tools/languages.py [--library FOLDER] [--program FILE] [--without-rust]
     tools/languages.py --manual          prints the manual's example in C
@@ -182,6 +182,43 @@ def run_way(name, way, place, known):
     wanted(f"{name} of the page", printed, way.printed)
 
 
+def rules(known, folder):
+    """The program takes each block of rules of docs/LANGUAGE.md.
+
+    What tables a block does not make are those of the page's first block.
+    """
+    page = (TOP / "docs/LANGUAGE.md").read_text(encoding="utf-8")
+    blocks = re.findall(r"^```sql\n(.*?)^```$", page, re.MULTILINE | re.DOTALL)
+    tables = re.findall(r"^(CREATE TABLE (\w+) .*\n)", blocks[0], re.MULTILINE)
+    named = [(block, re.findall(r"^CREATE ASSERTION (\w+) ", block, re.MULTILINE)) for block in blocks]
+    if sum(len(names) for _, names in named) != page.count("\nCREATE ASSERTION "):
+        sys.exit("docs/LANGUAGE.md has a rule outside of its blocks of SQL")
+    place = folder / "rules"
+    place.mkdir()
+    (place / "script.sql").touch()
+    for block, names in named:
+        if names:
+            others = "".join(table for table, name in tables if f"CREATE TABLE {name} " not in block)
+            (place / "defs.sql").write_text(others + block, encoding="utf-8")
+            printed = run(["skewguard", "replay", "defs.sql", "script.sql"], cwd=place, env=known)
+            truths = re.sub(" (TRUE|UNKNOWN)$", "", printed, flags=re.MULTILINE)
+            taken = "".join(f"{name}\n" for name in [f"ASSERTIONS {len(names)}", *names])
+            wanted(f"{', '.join(names)} of docs/LANGUAGE.md", truths, f"COMMITS 0\nSERIAL\nREFUSED 0\n{taken}")
+
+
+def answers_of_examples(shown):
+    """The answers beside events in docs/LANGUAGE.md stand one behind the other in what an example prints.
+
+    But for those that are shown otherwise.
+    """
+    printed = [path.read_text(encoding="utf-8") for path in TOP.glob("examples/*/expected.txt")]
+    page = (TOP / "docs/LANGUAGE.md").read_text(encoding="utf-8")
+    for events in re.findall(r"^```sql\n((?:\w+: .*; +-- .*\n)+)```$", page, re.MULTILINE):
+        answers = "".join(re.findall(r"-- (.+\n)", events))
+        if events not in shown and not any(f"\n{answers}" in f"\n{one}" for one in printed):
+            sys.exit(f"no example prints what docs/LANGUAGE.md has:\n{answers}")
+
+
 def page(known, folder, without_rust):
     """Runs each way that the pages show."""
     (folder / "skewguard").symlink_to(TOP)
@@ -194,6 +231,8 @@ def page(known, folder, without_rust):
     for name, way in found.items():
         run_way(name, way, folder / name.replace("/", "_"), quiet)
     run_way("script.sql", language["script.sql"], folder / "language", quiet)
+    rules(known, folder)
+    answers_of_examples(language["script.sql"].files.values())
 
 
 def main():

@@ -10,7 +10,7 @@ ANN: INSERT INTO STAYS VALUES (2, 12, 5, 7, 1);
 BOB: INSERT INTO STAYS VALUES (3, 12, 6, 8, 2);   -- he doesn't see Ann's row, so no rule is broken yet
 BOB: VERDICT NOTWICE;
 ANN: COMMIT;
-BOB: COMMIT;                                      -- both would be one stay too many
+BOB: COMMIT;                                      -- the night from 6 to 7 would be both of theirs
 
 -- Bob looks again and takes the other room, while Cleo takes a bed out of it.
 BOB: BEGIN;

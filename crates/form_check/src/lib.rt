@@ -42,9 +42,10 @@
 //! project's choice) has one of three forms:
 //!
 //! - **By rows**: `NOT EXISTS (SELECT .. FROM t r WHERE c)`, without GROUP BY and HAVING. `c` is over the columns of
-//!   `r`, and may hold queries of the row, under EXISTS or as values of one set function. Such a query has one part
-//!   in its WHERE, among those that AND joins at its top, that links it to the row: an equality of one of its columns
-//!   and one of the row's, either way round. Its other parts are row conditions of its own table.
+//!   `r`, and may hold queries of the row, under EXISTS or as values of one set function. Of the parts that AND joins
+//!   at the top of such a query's WHERE one links it to the row: an equality of one of its columns and one of the
+//!   row's, either way round; of several the first by the key of its table, else the first of all. The others are over
+//!   both rows: they name columns of its table and of the row, and hold neither set function nor query (SQL-92, 6.4).
 //! - **By groups**: `NOT EXISTS (SELECT .. FROM t WHERE f GROUP BY k HAVING h)`. `f` is a row condition, and `h` is
 //!   over `k` and set functions of `t`.
 //! - **Single**: any other condition without EXISTS, column or set function of its own, over queries `(SELECT

@@ -5,6 +5,8 @@
 #![tactic(auto)]
 
 #[cfg(test)]
+mod both_rows;
+#[cfg(test)]
 mod classes;
 #[cfg(test)]
 mod conversations;
