@@ -1,5 +1,5 @@
 -- Queries whose filter asks what the row around holds: each row around is a group.
-use Rattle.std.specs.Prelude.{◌≡◌, ℕ, Bool, true, false, ◌&&◌, List, map, Option, Some, None, if◌then◌else◌}
+use Rattle.std.specs.Prelude.{◌≡◌, ℕ, Bool, true, false, ◌&&◌, List, map, filter, Option, Some, None, if◌then◌else◌}
 use Rattle.value.specs.declared.values.Value.{Value}
 use Rattle.value.specs.declared.values.Value.TheVariants.{Null}
 use Rattle.value.specs.declared.comparisons.Comparison.TheVariants.{Equal}
@@ -29,6 +29,10 @@ value_in_one column (Some row) = value_in column row
 -- what the set function looks at in the rows beside a row
 abbrev pub values_beside : Around → Query Grouping → List RowValues → RowValues → List Value
 values_beside around q rows row = map (value_for q.aggregate) (rows_beside around.link q.filter rows row)
+
+-- what the set function looks at in those of some rows that the filter keeps, with these slots
+abbrev pub kept_values : Query Grouping → List Value → List RowValues → List Value
+kept_values q slots rows = map (value_for q.aggregate) (filter (λ row. keeps row slots q.filter) rows)
 
 -- each row around, under its key, with what the set function looks at in the rows beside it
 abbrev pub around_members : Around → Query Grouping → List RowValues → List RowValues → Members

@@ -1,5 +1,5 @@
-//! Totals of a query whose filter asks what the row around holds: one for each row around, of the rows that are linked to
-//! it and that the filter keeps beside it.
+//! Totals of a query whose filter asks what the row around holds: one for each row around, of the rows that are linked
+//! to it and that the filter keeps beside it.
 
 ghost use Rattle.std.specs.Prelude.{◌≡◌, ◌<◌, ◌^◌, ◌++◌, ◌∷◌, ◌&&◌, [], ℕ, false, All, List, Some, filter, length, map, IfOk, IsOkUnless};
 ghost use Rattle.std.specs.Ordering.{eq_by_cmp};
@@ -18,7 +18,7 @@ ghost use Rattle.assertion.specs.Roots.{IsOrdered};
 ghost use Rattle.groups.specs.Answers.{value_for};
 ghost use Rattle.groups.specs.Members.{member_of};
 ghost use Rattle.groups.specs.Totals.{AreTotalsOf, AreWithin, IsTotalOf, IsWithin, Members};
-ghost use Rattle.roots.specs.Around.{IsTurn, around_members, is_equal as is_equal_of, place_beside, value_in_one, values_beside};
+ghost use Rattle.roots.specs.Around.{IsTurn, around_members, is_equal as is_equal_of, kept_values, place_beside, value_in_one, values_beside};
 ghost use Rattle.roots.specs.Maintained.{AreTotalsFor, IsKeyed, IsSmallState, IsStepOf};
 ghost use Rattle.roots.specs.Shown.{shown};
 ghost use Rattle.roots.specs.Summaries.{around_of, rows_beside};
@@ -105,7 +105,8 @@ fn with_row(
     totals.put(value_or(row, around.key, &null), total)
 }
 
-/// The total of the rows that are linked to a row, and that the filter keeps beside it. It looks at the linked rows alone.
+/// The total of the rows that are linked to a row, and that the filter keeps beside it. It looks at the linked rows
+/// alone.
 pub fn total_beside(
     alloc: Global,
     schemas: &[Schema],
@@ -181,9 +182,8 @@ fn total_of_kept(
     requires small { All IsSmallRow (map (λ row. row.now) rows.now) }
     requires short { length (map (λ row. row.now) rows.now) < 2 ^ 63 }
     ensures only_memory { IsOkUnless result NoMemory }
-    ensures total { IfOk result (IsTotalOf summary.entry.aggregate (map (value_for summary.entry.aggregate)
-        (filter (λ row. keeps_of row (values_of slots.now) (shown summary.entry).filter)
-        (map (λ row. row.now) rows.now)))) }
+    ensures total { IfOk result (IsTotalOf summary.entry.aggregate
+        (kept_values (shown summary.entry) (values_of slots.now) (map (λ row. row.now) rows.now))) }
 {
     let mut total = Total::new(alloc);
     for row in rows {
@@ -203,12 +203,10 @@ fn counted_if_kept(
     requires small { IsSmallRow row.now }
     ensures only_memory { IsOkUnless result NoMemory }
     ensures total { IfOk result (λ made. (rows : List RowValues)
-        → IsTotalOf summary.entry.aggregate (map (value_for summary.entry.aggregate)
-        (filter (λ row. keeps_of row (values_of slots.now) (shown summary.entry).filter) rows)) total
-        → IsWithin (map (value_for summary.entry.aggregate)
-        (filter (λ row. keeps_of row (values_of slots.now) (shown summary.entry).filter) (rows ++ row.now ∷ [])))
-        → IsTotalOf summary.entry.aggregate (map (value_for summary.entry.aggregate)
-        (filter (λ row. keeps_of row (values_of slots.now) (shown summary.entry).filter) (rows ++ row.now ∷ []))) made) }
+        → IsTotalOf summary.entry.aggregate (kept_values (shown summary.entry) (values_of slots.now) rows) total
+        → IsWithin (kept_values (shown summary.entry) (values_of slots.now) (rows ++ row.now ∷ []))
+        → IsTotalOf summary.entry.aggregate
+        (kept_values (shown summary.entry) (values_of slots.now) (rows ++ row.now ∷ [])) made) }
 {
     if !keeps(summary.filter, row, slots) {
         return Ok(total);
@@ -217,8 +215,8 @@ fn counted_if_kept(
     total.with(summary.aggregate, &value)
 }
 
-/// The totals after a change: the changed row around has its total made anew, and that of each row around to which the old
-/// or the new row is linked is carried on.
+/// The totals after a change: the changed row around has its total made anew, and that of each row around to which the
+/// old or the new row is linked is carried on.
 pub fn around_after(
     alloc: Global,
     schemas: &[Schema],

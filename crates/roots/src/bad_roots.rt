@@ -179,7 +179,8 @@ fn whole_is_false(
     requires small { IsSmallState tables.now }
     requires totals { AreMaintained schemas.now tables.now form.now totals.now }
     ensures only_memory { IsOkUnless result NoMemory }
-    ensures bad { IfOk result (λ bad. bad ≡ is_of (whole_truth tables.now (queries_of schemas.now form.now) condition.now) False) }
+    ensures bad { IfOk result (λ bad.
+        bad ≡ is_of (whole_truth tables.now (queries_of schemas.now form.now) condition.now) False) }
 {
     let truth = truth_of_whole(alloc, schemas, tables, form, totals, condition)?;
     Ok(truth.is(Truth::False))
@@ -199,7 +200,8 @@ fn truth_of_whole(
     requires small { IsSmallState tables.now }
     requires totals { AreMaintained schemas.now tables.now form.now totals.now }
     ensures only_memory { IsOkUnless result NoMemory }
-    ensures truth { IfOk result (λ truth. truth ≡ whole_truth tables.now (queries_of schemas.now form.now) condition.now) }
+    ensures truth { IfOk result (λ truth.
+        truth ≡ whole_truth tables.now (queries_of schemas.now form.now) condition.now) }
 {
     let row = Row::new(Vec::new(alloc));
     let slots = slots(alloc, schemas, tables, form, totals, &row)?;

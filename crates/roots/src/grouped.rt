@@ -29,8 +29,8 @@ pub enum Grouping {
     /// The filter asks what the row around holds, and the link names one row by its key: that row is looked up for each
     /// row around, and nothing is maintained.
     ByKey(Link),
-    /// The filter asks what the row around holds: each row around is a group, of the rows that are linked to it and that
-    /// the filter keeps beside it.
+    /// The filter asks what the row around holds: each row around is a group, of the rows that are linked to it and
+    /// that the filter keeps beside it.
     PerRow(Around),
 }
 

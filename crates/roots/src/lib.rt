@@ -8,7 +8,9 @@
 //! in order, which is the slot's own query, so nothing is made of the form at a change:
 //!
 //! - by rows, a subquery, in which a row's group is what its linked column holds. NULL links to no key, and so such a
-//!   row has no group;
+//!   row has no group. Where its filter asks what the row around holds, each row around is a group of its own, of the
+//!   rows that are linked to it and that the filter keeps beside it; and where its link names one row by its key, that
+//!   row is looked up, and nothing is maintained;
 //! - by groups, a set function of HAVING, in which NULL is a group like another. Where HAVING has none there is one
 //!   summary all the same, that of COUNT(*), since a group is listed only where it has a row;
 //! - of a single condition, a subquery, in which all rows are one group.
@@ -16,8 +18,9 @@
 //! - [`candidates`] are the roots that changes can turn, in order, by the tables after them; every other root keeps its
 //!   truth.
 //! - [`totals_of`] and [`totals_after`] are the maintained totals of tables, made in one pass, and after a change. A
-//!   row that moves leaves its old group, and a group without rows has no entry. The tables are not handed in:
-//!   whatever tables the old totals are of, the new ones are of those with the change.
+//!   row that moves leaves its old group, and a group without rows has no entry. Where the rows around are the groups,
+//!   a changed row is counted up and down at each row around to which it is linked, and a row around that is new or
+//!   another has its total made anew, so that a change costs in proportion to its group.
 //! - [`is_bad`] is whether the assertion is false at one root, from the row under that key, where the form is by
 //!   rows, and the maintained totals.
 //! - [`bad_of`] and [`bad_after`] are the bad roots, in order, as a [`BadRoots`], of which every version stays whole.
@@ -37,9 +40,9 @@
 //! within the bounds of a column, and fewer than 2^63 in a table; the maintained totals are those of some tables.
 //!
 //! The definitions are in `specs/`: `Summaries` (the queries of the slots, and those whose totals are maintained),
-//! `Maintained` (maintained totals of tables, and bounds), `Answers` (what the queries give), `Bad` (rows of roots, and
-//! lists of bad roots), `Listed` (how such a list is held), `Over` (the tables of an assertion) and `Shown` (what is
-//! lent from a form). Truth, bad roots and candidates are those of `assertion`.
+//! `Around` (groups that are rows around), `Maintained` (maintained totals of tables, and bounds), `Answers` (what the
+//! queries give), `Bad` (rows of roots, and lists of bad roots), `Listed` (how such a list is held), `Over` (the tables
+//! of an assertion) and `Shown` (what is lent from a form). Truth, bad roots and candidates are those of `assertion`.
 #![tactic(auto)]
 
 mod answers;

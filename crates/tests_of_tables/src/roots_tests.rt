@@ -1,13 +1,12 @@
 //! That calls succeed, and bad roots found by hand.
 
-ghost use Rattle.std.specs.Prelude.{◌≡◌, [], ◌∷◌, None, IfOk};
+ghost use Rattle.std.specs.Prelude.{◌≡◌, [], None, IfOk};
 ghost use Rattle.value.specs.Ordered.{HasKey, HoldsOf};
 ghost use Rattle.value.specs.ValueOrder.{value_cmp};
 ghost use Rattle.table.specs.Rows.{value_in};
 ghost use Rattle.table.specs.Bounds.{IsSmallRow};
 ghost use Rattle.assertion.specs.Bounded.{IsBounded};
-ghost use Rattle.assertion.specs.Roots.{state_after};
-ghost use Rattle.roots.specs.Maintained.{AreMaintained, IsSmallState};
+ghost use Rattle.roots.specs.Maintained.{AreMaintained, IsSmallState, IsStepOf};
 
 use crate::forms::{all_rows, by_group, by_row, single};
 use crate::shared::{let_go, same};
@@ -64,7 +63,7 @@ fn judged(
 ) -> Result<String, Refusal>
     requires bounded { IsBounded form.now }
     requires small { IsSmallState tables.now }
-    requires totals { AreMaintained tables.now form.now totals.now }
+    requires totals { AreMaintained [] tables.now form.now totals.now }
 {
     let truth = truth_of(alloc, &[], tables, form, totals, bad)?;
     let whole = is_bad(alloc, &[], tables, form, None, totals, &Root::All)?;
@@ -77,20 +76,17 @@ fn told_after(
     form: &Form,
     totals: &[Totals],
     bad: &BadRoots,
-    tables: &[Rows],
+    before: &[Rows],
+    after: &[Rows],
     change: &Change,
 ) -> Result<String, Refusal>
     requires bounded { IsBounded form.now }
-    requires table { change.now.table ≡ 0 }
-    requires old { change.now.old ≡ None }
-    requires keyed { HasKey value_cmp (value_in 0) change.now.key change.now.new }
-    requires small { HoldsOf IsSmallRow change.now.new }
-    requires totals { AreMaintained ([] ∷ []) form.now totals.now }
-    requires tables { tables.now ≡ state_after [] change.now ([] ∷ []) }
+    requires step { IsStepOf [] change.now before.now after.now }
+    requires totals { AreMaintained [] before.now form.now totals.now }
 {
-    let totals = totals_after(alloc, form, totals, change)?;
-    let bad = bad_after(alloc, &[], tables, form, &totals, bad, change)?;
-    judged(alloc, tables, form, &totals, &bad)
+    let totals = totals_after(alloc, &[], before, after, form, totals, change)?;
+    let bad = bad_after(alloc, &[], after, form, &totals, bad, change)?;
+    judged(alloc, after, form, &totals, &bad)
 }
 
 /// What is shown of an assertion over one table, which had no row, after a change.
@@ -102,9 +98,9 @@ fn told(alloc: Global, form: &Form, change: &Change) -> Result<String, Refusal>
     requires small { HoldsOf IsSmallRow change.now.new }
 {
     let (before, after) = ([Rows::new(alloc)], [Rows::new(alloc).with(0, change)?]);
-    let totals = totals_of(alloc, form, &before)?;
+    let totals = totals_of(alloc, &[], form, &before)?;
     let bad = bad_of(alloc, &[], &before, form, &totals)?;
-    told_after(alloc, form, &totals, &bad, &after, change)
+    told_after(alloc, form, &totals, &bad, &before, &after, change)
 }
 
 /// What is shown after the insertion.
