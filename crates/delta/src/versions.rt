@@ -121,6 +121,22 @@ pub fn index_tables(
     Ok(made)
 }
 
+/// Tables equal to these, indexed for one form more.
+pub fn index_for(
+    alloc: Global,
+    schemas: &[Schema],
+    tables: &[Rows],
+    form: &Form,
+) -> Result<Vec<Rows>, Refusal>
+    ensures only_memory { IsOkUnless result NoMemory }
+    ensures equal { IfOk result (λ made. made.items ≡ tables.now) }
+    ensures short { IfOk result (λ made. AreShort made.items) }
+{
+    let mut made = copy_tables(alloc, tables)?;
+    index_form(&mut made, schemas, form)?;
+    Ok(made)
+}
+
 /// Indexes the rows of a form's table by each column that links a subquery to them, and those of joint subqueries.
 fn index_form(tables: &mut [Rows], schemas: &[Schema], form: &Form) -> Result<(), Refusal>
     ensures only_memory { IsOkUnless result NoMemory }

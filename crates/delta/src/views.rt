@@ -17,8 +17,8 @@ ghost use Rattle.delta.specs.Views.{AreBounded, AreTables, IsFitting, layout_at,
 
 use crate::declarations::{Declarations, copy_assertions, copy_catalog, schemas_of};
 use crate::versions::{
-    Watched, copy_tables, copy_watches, index_tables, leave_out, tables_after, watches_after,
-    watches_of,
+    Watched, copy_tables, copy_watches, index_for, index_tables, leave_out, tables_after,
+    watches_after, watches_of,
 };
 use crate::watches::Watch;
 use assertion::Assertion;
@@ -171,13 +171,15 @@ impl View {
     {
         let alloc = *self.tables.allocator();
         let schemas = &self.declarations.schemas;
-        let watch = Watch::of(alloc, schemas, &self.tables, &assertion.form)?;
+        let tables = index_for(alloc, schemas, &self.tables, &assertion.form)?;
+        let watch = Watch::of(alloc, schemas, &tables, &assertion.form)?;
         let mut watches = copy_watches(alloc, &self.watches)?;
         watches.push(Arc::new(alloc, watch)?)?;
         let mut assertions = copy_assertions(alloc, &self.declarations.assertions)?;
         assertions.push(assertion)?;
         self.redeclare(
             alloc,
+            &tables,
             Watched {
                 assertions,
                 watches,
@@ -201,11 +203,12 @@ impl View {
             &self.watches,
             name,
         )?;
-        self.redeclare(alloc, left)
+        self.redeclare(alloc, &self.tables, left)
     }
 
-    /// The view of the same tables with other assertions, for which this is maintained.
-    fn redeclare(&self, alloc: Global, watched: Watched) -> Result<View, Refusal>
+    /// The view of the same tables, as they are indexed here, with other assertions, for which this is maintained.
+    fn redeclare(&self, alloc: Global, tables: &[Rows], watched: Watched) -> Result<View, Refusal>
+        requires tables { tables.now ≡ self.now.state }
         requires bounded { AreBounded watched.assertions.items }
         requires watched { AreWatched (layouts_in self.now.declared) self.now.state watched.assertions.items
             (length watched.assertions.items) (map arc_value watched.watches.items) }
@@ -220,7 +223,7 @@ impl View {
         } = watched;
         let catalog = copy_catalog(alloc, &self.declarations.catalog)?;
         let schemas = schemas_of(alloc, &catalog)?;
-        let tables = index_tables(alloc, &schemas, &self.tables, &assertions)?;
+        let tables = index_tables(alloc, &schemas, tables, &assertions)?;
         let declarations = Declarations {
             catalog,
             schemas,
