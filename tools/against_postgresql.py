@@ -211,13 +211,20 @@ class Maker:
 
     def linked(self, table):
         """Whether it is an EXISTS, and a subquery that is linked to the row R."""
-        key = next(c for c in self.tables[table] if c[3])
+        key = next(c for c in self.tables[table] if c[3])[0]
         child = self.pick(self.tables)
-        links = [c[0] for c in self.tables[child] if (c[1] == 'INTEGER') == (key[1] == 'INTEGER')]
-        if not links:
-            return True, f'(SELECT * FROM {table} W WHERE W.{key[0]} = R.{key[0]})'
-        rest = f' AND {own(self.test(child, "W", (), (), 1))}' if self.chance(0.6) else ''
-        source = f'FROM {child} W WHERE W.{self.pick(links)} = R.{key[0]}{rest}'
+        pairs = [(c[0], r[0]) for c in self.tables[child] for r in self.tables[table] if (c[1] == 'INTEGER') == (r[1] == 'INTEGER')]
+        by_key = [pair for pair in pairs if pair[1] == key]
+        if not by_key:
+            return True, f'(SELECT * FROM {table} W WHERE W.{key} = R.{key})'
+        inner, outer = self.pick(pairs if self.chance(0.4) else by_key)
+        parts = [f'W.{inner} = R.{outer}']
+        for _ in range(self.pick([0, 0, 1, 2])):
+            one, other = self.pick(pairs)
+            parts.append(f'W.{one} {self.pick(COMPARES)} R.{other}')
+        if self.chance(0.6):
+            parts.append(own(self.test(child, "W", (), (), 1)))
+        source = f'FROM {child} W WHERE {" AND ".join(parts)}'
         return (True, f'(SELECT * {source})') if self.chance(0.5) else (False, f'(SELECT {self.function(child, "W")} {source})')
 
     # ---- statements: each for skewguard and for PostgreSQL
