@@ -137,6 +137,7 @@ fn by_row(
     add_column(&mut columns, key)?;
     add_condition(&mut columns, condition, Looked::Own)?;
     for query in queries {
+        add_column(&mut columns, query.grouping.outer)?;
         add_condition(&mut columns, &query.filter, Looked::Around)?;
     }
     put_reading(&mut figures.readings, table, Some(key), columns)?;
