@@ -44,7 +44,7 @@ def name_of(function, column, table):
 def columns_in(part):
     """The columns that a condition looks at; those of the row around stand behind those of its own row."""
     if isinstance(part, tuple) and part and part[0] == "column":
-        yield part[2]
+        yield part[1]
     elif isinstance(part, (tuple, list)):
         for inner in part:
             yield from columns_in(inner)
