@@ -60,7 +60,7 @@ fn count_linked(
     query: &Query<Link>,
     around: &Row,
 ) -> Result<usize, Refusal>
-    requires bounded { IsTrue (is_bounded [] query.filter.now) }
+    requires bounded { IsTrue (is_bounded [] query.now.filter) }
     requires small { All IsSmallRow rows.now }
     requires around_small { IsSmallRow around.now }
 {
