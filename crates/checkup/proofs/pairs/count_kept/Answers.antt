@@ -1,4 +1,4 @@
-use Rattle.std.proofs.Common.{Bor, ◌<◌, ◌∙◌, ap, length, map, slice_index_or, subst, sym, ℕ}
+use Rattle.std.proofs.Common.{Bor, ◌<◌, ◌∙◌, ap, length, map, subst, sym, ℕ}
 use Rattle.std.proofs.lemmas.List.{get_or-map, length-map}
 use Rattle.table.specs.Bounds.{IsSmallRow}
 use Rattle.table.specs.Rows.{RowValues}
