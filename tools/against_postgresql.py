@@ -164,6 +164,8 @@ class Maker:
                  'NOT EXISTS (SELECT C0 FROM T2 GROUP BY C0 HAVING SUM(C1) < 0)',
                  'NOT EXISTS (SELECT * FROM T0 S WHERE (SELECT COUNT(*) FROM T1 D WHERE D.C0 = S.ID) > 2)',
                  'NOT EXISTS (SELECT C0 FROM T1 GROUP BY C0 HAVING MIN(C1) > 1 OR COUNT(C1) > 3)',
+                 'NOT EXISTS (SELECT * FROM T1 A WHERE EXISTS (SELECT * FROM T1 B WHERE B.C0 = A.C0 AND B.ID <> A.ID AND B.C1 = A.C1))',
+                 'NOT EXISTS (SELECT * FROM T1 D WHERE EXISTS (SELECT * FROM T2 A WHERE A.ID = D.C0 AND A.C1 < D.C1))',
                  '(SELECT SUM(C1) FROM T2) >= (SELECT COUNT(*) FROM T0)', '(SELECT SUM(C1) FROM T2) BETWEEN 3 AND 9',
                  '(SELECT COUNT(C1) FROM T1 WHERE C1 > 0) BETWEEN 2 AND 6',
                  '(SELECT MAX(C1) FROM T2 WHERE C0 IS NOT NULL) < 3']
@@ -211,13 +213,20 @@ class Maker:
 
     def linked(self, table):
         """Whether it is an EXISTS, and a subquery that is linked to the row R."""
-        key = next(c for c in self.tables[table] if c[3])
+        key = next(c for c in self.tables[table] if c[3])[0]
         child = self.pick(self.tables)
-        links = [c[0] for c in self.tables[child] if (c[1] == 'INTEGER') == (key[1] == 'INTEGER')]
-        if not links:
-            return True, f'(SELECT * FROM {table} W WHERE W.{key[0]} = R.{key[0]})'
-        rest = f' AND {own(self.test(child, "W", (), (), 1))}' if self.chance(0.6) else ''
-        source = f'FROM {child} W WHERE W.{self.pick(links)} = R.{key[0]}{rest}'
+        pairs = [(c[0], r[0]) for c in self.tables[child] for r in self.tables[table] if (c[1] == 'INTEGER') == (r[1] == 'INTEGER')]
+        by_key = [pair for pair in pairs if pair[1] == key]
+        if not by_key:
+            return True, f'(SELECT * FROM {table} W WHERE W.{key} = R.{key})'
+        inner, outer = self.pick(pairs if self.chance(0.4) else by_key)
+        parts = [f'W.{inner} = R.{outer}']
+        for _ in range(self.pick([0, 0, 1, 2])):
+            one, other = self.pick(pairs)
+            parts.append(f'W.{one} {self.pick(COMPARES)} R.{other}')
+        if self.chance(0.6):
+            parts.append(own(self.test(child, "W", (), (), 1)))
+        source = f'FROM {child} W WHERE {" AND ".join(parts)}'
         return (True, f'(SELECT * {source})') if self.chance(0.5) else (False, f'(SELECT {self.function(child, "W")} {source})')
 
     # ---- statements: each for skewguard and for PostgreSQL

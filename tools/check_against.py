@@ -1,12 +1,13 @@
 #!/usr/bin/env python3
 """Holds the figures of `skewguard check --json` against a reference that evaluates plain lists of rows.
 
-    tools/check_against.py REFERENCE PROGRAM [--cases N] [--seed S]
+    tools/check_against.py REFERENCE PROGRAM [--cases N] [--seed S] [--stage any-link]
 
 REFERENCE is the folder of the reference (its generator of random definitions, `fuzz.py`, and its package `reference`),
 PROGRAM a built `skewguard`. Of each of N random definitions, a part of them spoilt, the two have to agree: on the
 number of the first fault, or on each assertion's form, verdict and least bad root, on when it is checked, and on how
-many rows and groups there are, as a whole and for each total that is maintained. The first that differs is printed.
+many rows and groups there are, as a whole and for each set function, and for what its totals are maintained. The first
+that differs is printed. The stage is the reference's language: base, or any-link with parts over both rows.
 """
 import argparse
 import json
@@ -19,10 +20,10 @@ TRUTHS = {True: "TRUE", False: "FALSE", None: "UNKNOWN"}
 FORMS = {"R": "rows", "G": "groups", "S": "single"}
 
 
-def made(fuzz, seed):
+def made(fuzz, seed, stage):
     """Random definitions: mostly of the language, a few of them with a text spoilt."""
     rng = random.Random(seed)
-    defs = fuzz.Maker(rng, "base").defs()
+    defs = fuzz.Maker(rng, stage).defs()
     if rng.random() < 0.2:
         return fuzz.mutated(rng, defs)
     return defs.encode()
@@ -40,24 +41,43 @@ def name_of(function, column, table):
     return "COUNT(*)" if column is None else f"{function}({table.columns[column][0]})"
 
 
+def columns_in(part):
+    """The columns that a condition looks at; those of the row around stand behind those of its own row."""
+    if isinstance(part, tuple) and part and part[0] == "column":
+        yield part[1]
+    elif isinstance(part, (tuple, list)):
+        for inner in part:
+            yield from columns_in(inner)
+
+
+def linked_by(assertion, sub, state, M):
+    """For what the totals of a linked query are maintained, its column, and its rows and groups."""
+    child = sub.child
+    column = child.key if sub.link is None else sub.link
+    if any(one >= len(child.columns) for one in columns_in(sub.parts)):
+        beside = [len(M.linked_rows(sub, row, assertion.table, state)) for row in M.rows_of(state, assertion.table)]
+        return "none" if column == child.key else "rows", column, sum(beside), sum(1 for one in beside if one)
+    rows = [row for row in M.rows_of(state, child) if M.t_and([M.truth(part, tuple(row)) for part in sub.parts]) is True]
+    return "groups", column, *counted(rows, column, True)
+
+
 def kept_by(assertion, state, M):
-    """(function, table, by, rows, groups) of each total that is maintained."""
+    """(function, table, by, upkeep, rows, groups) of each set function."""
     if assertion.form == "R":
         for sub in assertion.subs:
-            rows = [row for row in M.rows_of(state, sub.child)
-                    if M.t_and([M.truth(part, tuple(row)) for part in sub.parts]) is True]
-            function, column = sub.aggregate or ("COUNT", None)
-            yield (name_of(function, column, sub.child), sub.child.name, sub.child.columns[sub.link][0],
-                   *counted(rows, sub.link, True))
+            function, of = sub.aggregate or ("COUNT", None)
+            upkeep, column, rows, groups = linked_by(assertion, sub, state, M)
+            yield name_of(function, of, sub.child), sub.child.name, sub.child.columns[column][0], upkeep, rows, groups
     elif assertion.form == "G":
         table, group = assertion.table, assertion.group
         rows = M.kept(M.rows_of(state, table), assertion.where)
         for function, column in assertion.aggregates or [("COUNT", None)]:
-            yield name_of(function, column, table), table.name, table.columns[group][0], *counted(rows, group, False)
+            counts = counted(rows, group, False)
+            yield name_of(function, column, table), table.name, table.columns[group][0], "groups", *counts
     else:
         for table, where, (function, column) in assertion.subs:
             rows = M.kept(M.rows_of(state, table), where)
-            yield name_of(function, column, table), table.name, None, *counted(rows, None, False)
+            yield name_of(function, column, table), table.name, None, "groups", *counted(rows, None, False)
 
 
 def whole_of(assertion, kept, state, M):
@@ -66,15 +86,15 @@ def whole_of(assertion, kept, state, M):
         rows = len(M.rows_of(state, assertion.table))
         return rows, rows
     if assertion.form == "G":
-        return kept[0][3], kept[0][4]
-    return sum(one[3] for one in kept), 1
+        return kept[0][4], kept[0][5]
+    return sum(one[4] for one in kept), 1
 
 
-def wanted(reference, defs):
+def wanted(reference, defs, stage):
     """The first fault's number, and what is wanted of each assertion."""
     engine, P, M, refusals = reference
     try:
-        definitions = engine.Definitions(P.parse("defs", defs, "base"), "base")
+        definitions = engine.Definitions(P.parse("defs", defs, stage), stage)
     except refusals.Refused as refused:
         return refused.number, None
     found, state = [], definitions.loaded
@@ -101,7 +121,7 @@ def shown(text):
         "name": one["name"], "form": one["form"], "verdict": one["verdict"], "root": one["root"],
         "deferrable": one["deferrable"], "initially_deferred": one["initially_deferred"],
         "whole": (one["rows"], one["groups"]),
-        "kept": [(k["function"], k["table"], k["by"], k["rows"], k["groups"]) for k in one["kept"]],
+        "kept": [tuple(k[word] for word in ("function", "table", "by", "upkeep", "rows", "groups")) for k in one["kept"]],
     } for one in said["assertions"]]
 
 
@@ -126,11 +146,12 @@ def main():
     words.add_argument("program")
     words.add_argument("--cases", type=int, default=300)
     words.add_argument("--seed", type=int, default=1)
+    words.add_argument("--stage", default="base", choices=["base", "any-link"])
     words = words.parse_args()
     fuzz, reference = load(words.reference)
     for seed in range(words.seed, words.seed + words.cases):
-        defs = made(fuzz, seed)
-        want, found = wanted(reference, defs), shown(printed(words.program, defs))
+        defs = made(fuzz, seed, words.stage)
+        want, found = wanted(reference, defs, words.stage), shown(printed(words.program, defs))
         if want != found:
             print(f"seed {seed}:\n{defs.decode('latin1')}\nwanted {want}\nshown  {found}")
             return 1

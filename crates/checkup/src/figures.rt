@@ -2,13 +2,14 @@
 //! are.
 //!
 //! All of it is taken from the resolved form (`assertion::Form`) and from the rows of a view. A form has a total for
-//! each query or set function in its condition (`roots`), and one of COUNT(*) where a HAVING has none.
+//! each query or set function in its condition (`roots`), and one of COUNT(*) where a HAVING has none. A query whose
+//! WHERE looks at the row around it has one for each such row, or none where it is linked by its own key.
 
 use crate::columns::{Looked, add_column, add_condition};
+use crate::pairs::count_pairs;
 use assertion::{Form, Link, Query, Whole};
 use changes::selected_rows;
 use delta::View;
-use sqlite_items::Items;
 use std::alloc::{AllocError, Global};
 use table::{Aggregate, Cond, Row, is_bounded};
 use value::Value;
@@ -50,18 +51,29 @@ pub struct Counts {
     pub groups: usize,
 }
 
-/// A total that is maintained: what a set function needs of the rows that a WHERE keeps, group by group.
+/// For what a total of a set function is maintained.
+#[derive(Clone, Copy, PartialEq, Eq)]
+pub enum Upkeep {
+    /// For each group of the rows that its WHERE keeps.
+    Groups,
+    /// For each row around, of the linked rows that its WHERE keeps beside that row.
+    RowsAround,
+    /// For nothing: the one row that can be linked is looked up by its key for each row around.
+    Nothing,
+}
+
+/// A set function, and what is maintained of the rows that a WHERE keeps.
 #[derive(Drop)]
 pub struct Kept {
     pub function: Aggregate,
     pub table: usize,
     pub grouping: Grouping,
+    pub upkeep: Upkeep,
     /// The columns that its WHERE looks at.
     pub filter: Vec<usize>,
-    /// Those of the row around that it looks at. Where there is one, nothing is maintained: the set function is made of
-    /// the linked rows for each row around.
+    /// Those of the row around that it looks at. Without one the totals are those of groups.
     pub beside: Vec<usize>,
-    /// Where nothing is maintained, of all rows that are linked.
+    /// Where it looks at the row around, of the pairs of a row around and a row that is kept beside it.
     pub counts: Counts,
 }
 
@@ -125,40 +137,39 @@ fn by_row(
     add_column(&mut columns, key)?;
     add_condition(&mut columns, condition, Looked::Own)?;
     for query in queries {
+        add_column(&mut columns, query.grouping.outer)?;
         add_condition(&mut columns, &query.filter, Looked::Around)?;
     }
     put_reading(&mut figures.readings, table, Some(key), columns)?;
-    let all = Cond::And(Items::new(alloc));
     for query in queries {
-        let rows = Selection {
-            table: query.table,
-            filter: if query.filter.has_slots() {
-                &all
-            } else {
-                &query.filter
-            },
-            grouping: Grouping::Linked(query.grouping),
-        };
-        let counts = count(alloc, view, rows)?;
-        let kept = linked_of(alloc, query, counts)?;
+        let kept = linked_of(alloc, view, table, query)?;
         put_kept(alloc, &mut figures, kept)?;
     }
     Ok(figures)
 }
 
-/// What a linked query looks at, over so many rows.
-fn linked_of(alloc: Global, query: &Query<Link>, counts: Counts) -> Result<Kept, AllocError> {
-    let (mut filter, mut beside) = (Vec::new(alloc), Vec::new(alloc));
-    add_condition(&mut filter, &query.filter, Looked::Own)?;
-    add_condition(&mut beside, &query.filter, Looked::Around)?;
-    Ok(Kept {
-        function: query.aggregate,
+/// What is maintained of a linked query.
+fn linked_of(
+    alloc: Global,
+    view: &View,
+    around: usize,
+    query: &Query<Link>,
+) -> Result<Kept, AllocError> {
+    let rows = Selection {
         table: query.table,
+        filter: &query.filter,
         grouping: Grouping::Linked(query.grouping),
-        filter,
-        beside,
-        counts,
-    })
+    };
+    if !query.filter.has_slots() {
+        return kept_of(alloc, view, rows, query.aggregate);
+    }
+    let mut kept = no_total(alloc, rows, query.aggregate)?;
+    add_condition(&mut kept.beside, &query.filter, Looked::Around)?;
+    if query.grouping.inner != view.key_column(query.table) {
+        kept.upkeep = Upkeep::RowsAround;
+    }
+    kept.counts = count_pairs(alloc, view, around, query)?;
+    Ok(kept)
 }
 
 fn by_group(
@@ -256,22 +267,31 @@ pub fn column_of(function: Aggregate) -> Option<usize> {
     }
 }
 
-/// The total that is kept of rows.
+/// The totals that are kept of groups of rows.
 fn kept_of(
     alloc: Global,
     view: &View,
     rows: Selection,
     function: Aggregate,
 ) -> Result<Kept, AllocError> {
+    let mut kept = no_total(alloc, rows, function)?;
+    kept.upkeep = Upkeep::Groups;
+    kept.counts = count(alloc, view, rows)?;
+    Ok(kept)
+}
+
+/// A set function of rows of which nothing is maintained.
+fn no_total(alloc: Global, rows: Selection, function: Aggregate) -> Result<Kept, AllocError> {
     let mut filter = Vec::new(alloc);
     add_condition(&mut filter, rows.filter, Looked::Own)?;
     Ok(Kept {
         function,
         table: rows.table,
         grouping: rows.grouping,
+        upkeep: Upkeep::Nothing,
         filter,
         beside: Vec::new(alloc),
-        counts: count(alloc, view, rows)?,
+        counts: Counts { rows: 0, groups: 0 },
     })
 }
 

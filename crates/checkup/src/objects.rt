@@ -1,7 +1,7 @@
 //! What was found, as JSON for editors.
 
 use crate::examinations::Examination;
-use crate::figures::{Figures, Kept, Reading, figures_of, row_count};
+use crate::figures::{Figures, Kept, Reading, Upkeep, figures_of, row_count};
 use crate::naming::{column_name, column_names, function_name, name_text, table_name};
 use crate::texts::Named;
 use assertion::{Assertion, Form};
@@ -187,6 +187,15 @@ fn all_kept(
     Ok(made)
 }
 
+/// For what a total is maintained.
+fn upkeep_name(upkeep: Upkeep) -> &'static str {
+    match upkeep {
+        Upkeep::Groups => "groups",
+        Upkeep::RowsAround => "rows",
+        Upkeep::Nothing => "none",
+    }
+}
+
 fn one_kept(alloc: Global, view: &View, form: &Form, kept: &Kept) -> Result<Value, AllocError> {
     let catalog = view.catalog();
     let function = function_name(alloc, catalog, kept.table, kept.function)?;
@@ -199,6 +208,7 @@ fn one_kept(alloc: Global, view: &View, form: &Form, kept: &Kept) -> Result<Valu
         Form::ByGroup { .. } | Form::Single { .. } => Vec::new(alloc),
     };
     let beside = Value::Array(texts(alloc, &beside)?);
+    let upkeep = upkeep_name(kept.upkeep);
     let rows = kept.counts.rows;
     let groups = kept.counts.groups;
     let (function, table) = (function.as_str(), table.as_str());
@@ -206,6 +216,7 @@ fn one_kept(alloc: Global, view: &View, form: &Form, kept: &Kept) -> Result<Valu
         "function": function,
         "table": table,
         "by": by,
+        "upkeep": upkeep,
         "where": filter,
         "beside": beside,
         "rows": rows,

@@ -1,7 +1,7 @@
 //! What was found, as a person reads it.
 
 use crate::examinations::{Examination, MOST_NOTES};
-use crate::figures::{Figures, Grouping, Kept, Reading, figures_of, row_count};
+use crate::figures::{Figures, Grouping, Kept, Reading, Upkeep, figures_of, row_count};
 use crate::naming::{column_name, column_names, function_name, table_name};
 use assertion::{Assertion, Form};
 use delta::View;
@@ -199,7 +199,15 @@ fn show_form(
     }
 }
 
-/// A total that is maintained.
+/// How a line of a set function begins.
+fn upkeep_word(upkeep: Upkeep) -> &'static str {
+    match upkeep {
+        Upkeep::Groups | Upkeep::RowsAround => "kept     ",
+        Upkeep::Nothing => "finds    ",
+    }
+}
+
+/// What is maintained of a set function.
 fn show_kept(
     alloc: Global,
     view: &View,
@@ -212,12 +220,8 @@ fn show_kept(
     let table = table_name(alloc, catalog, kept.table)?;
     let function = function.as_str();
     let table = table.as_str();
-    let word = if kept.beside.is_empty() {
-        "kept"
-    } else {
-        "each"
-    };
-    write!(shown, "  {word}     {function} of {table}")?;
+    let word = upkeep_word(kept.upkeep);
+    write!(shown, "  {word}{function} of {table}")?;
     if let Some(column) = kept.grouping.column() {
         let by = column_name(alloc, catalog, kept.table, column)?;
         let by = by.as_str();
@@ -229,20 +233,32 @@ fn show_kept(
         let (name, outer) = (name.as_str(), outer.as_str());
         write!(shown, ", linked to {name}.{outer}")?;
     }
-    if !kept.filter.is_empty() {
-        let names = column_names(alloc, catalog, kept.table, &kept.filter)?;
-        let names = names.join(alloc, ", ")?;
-        let names = names.as_str();
-        write!(shown, ", WHERE on {names}")?;
-    }
-    if let (false, Form::ByRow { table, .. }) = (kept.beside.is_empty(), form) {
-        let names = column_names(alloc, catalog, *table, &kept.beside)?;
-        let names = names.join(alloc, ", ")?;
-        let names = names.as_str();
-        write!(shown, ", beside {names}")?;
+    let before = ", WHERE on ";
+    show_columns(alloc, catalog, kept.table, &kept.filter, before, shown)?;
+    if let Form::ByRow { table, .. } = form {
+        let before = ", for each row beside its ";
+        show_columns(alloc, catalog, *table, &kept.beside, before, shown)?;
     }
     let (rows, groups) = (kept.counts.rows, kept.counts.groups);
     writeln!(shown, ": rows {rows}, groups {groups}")
+}
+
+/// Some columns of a table with the words before them; nothing where there is none.
+fn show_columns(
+    alloc: Global,
+    catalog: &Catalog,
+    table: usize,
+    columns: &[usize],
+    before: &str,
+    shown: &mut String,
+) -> Result<(), AllocError> {
+    if columns.is_empty() {
+        return Ok(());
+    }
+    let names = column_names(alloc, catalog, table, columns)?;
+    let names = names.join(alloc, ", ")?;
+    let names = names.as_str();
+    write!(shown, "{before}{names}")
 }
 
 /// What a check of a root reads.

@@ -244,12 +244,7 @@ fn turned(comparison: Comparison) -> Comparison {
 }
 
 /// Adds the rows that have the root's value, ten at most.
-fn add_rows(
-    alloc: Global,
-    view: &View,
-    part: Part<'_>,
-    out: &mut String,
-) -> Result<(), AllocError> {
+fn add_rows(alloc: Global, view: &View, part: Part<'_>, out: &mut String) -> Result<(), Refusal> {
     let rows = rows_at(alloc, view, part)?;
     let count = rows.len();
     write!(out, "    rows of ")?;
@@ -260,5 +255,6 @@ fn add_rows(
         add_row(row, out)?;
         out.push_str("\n")?;
     }
-    add_left_out("      ", count, out)
+    add_left_out("      ", count, out)?;
+    Ok(())
 }

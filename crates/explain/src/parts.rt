@@ -82,7 +82,7 @@ pub fn parts_of<'a>(
         Form::ByRow { table, queries, .. } => {
             for query in queries.as_slice() {
                 let share = linked_share(view, *table, query.grouping, root);
-                parts.push(Part::of_query(query, share, around(*table, root)))?;
+                parts.push(Part::of_query(query, share, around_of_root(*table, root)))?;
             }
         }
         Form::ByGroup {
@@ -112,7 +112,7 @@ pub fn parts_of<'a>(
 }
 
 /// Where the row of a root stands.
-fn around(table: usize, root: &Root) -> Option<Around<'_>> {
+fn around_of_root(table: usize, root: &Root) -> Option<Around<'_>> {
     match root {
         Root::Of(key) => Some(Around { table, key }),
         Root::All => None,

@@ -133,17 +133,18 @@ pub fn add_linked_filter(
 }
 
 /// Adds a WHERE on a row of a table, as a condition without slots.
-pub fn add_filter(
+pub fn add_filter<'a>(
     sql: &mut String,
-    view: &View,
+    view: &'a View,
     table: usize,
-    row: &str,
+    row: &'a str,
     filter: &Cond,
 ) -> Result<(), AllocError> {
+    let slots = Slots::Given(&[]);
     let scope = Scope {
         row,
         columns: columns_of(view, table),
-        slots: Slots::Given(&[]),
+        slots,
     };
     add_condition(sql, &scope, filter)
 }
@@ -256,13 +257,8 @@ pub fn row_sql(
     queries: &[Query<Link>],
 ) -> Result<RuleSql, AllocError> {
     let slots = linked_slots(alloc, view, table, queries)?;
-    let scope = Scope {
-        row: "r",
-        columns: columns_of(view, table),
-        slots: Slots::Given(slots.as_slice()),
-    };
-    let mut test = String::new(alloc);
-    add_condition(&mut test, &scope, condition)?;
+    let columns = columns_of(view, table);
+    let test = text_over(alloc, columns, slots.as_slice(), condition)?;
     let mut source = String::new(alloc);
     add_source(&mut source, view, table, "r")?;
     let key = key_name(view, table);
@@ -316,14 +312,7 @@ fn having_text(
         Some(columns) => columns,
         None => &[],
     };
-    let scope = Scope {
-        row: "r",
-        columns,
-        slots: Slots::Given(slots),
-    };
-    let mut test = String::new(alloc);
-    add_condition(&mut test, &scope, having)?;
-    Ok(test)
+    text_over(alloc, columns, slots, having)
 }
 
 /// The SQL of a single condition: from scratch by aggregates, and in the test by these or by totals that are kept.
@@ -337,7 +326,7 @@ pub fn single_sql(
     let test = single_text(alloc, view, condition, queries)?;
     let is_bad = if totals::are_kept(queries) {
         let slots = totals::slots(alloc, rule, queries)?;
-        let kept = text_over(alloc, slots.as_slice(), condition)?;
+        let kept = text_over(alloc, &[], slots.as_slice(), condition)?;
         format!(in alloc; "    RETURN {kept} IS FALSE;\n")?
     } else {
         format!(in alloc; "    RETURN {test} IS FALSE;\n")?
@@ -356,14 +345,19 @@ pub fn single_text(
     queries: &[Query<Whole>],
 ) -> Result<String, AllocError> {
     let slots = whole_slots(alloc, view, queries)?;
-    text_over(alloc, slots.as_slice(), condition)
+    text_over(alloc, &[], slots.as_slice(), condition)
 }
 
-/// A condition that sees no row, over slots.
-fn text_over(alloc: Global, slots: &[Slot], condition: &Cond) -> Result<String, AllocError> {
+/// A condition on the row `r` of these columns, over slots.
+fn text_over<'a>(
+    alloc: Global,
+    columns: &'a [Column],
+    slots: &'a [Slot],
+    condition: &Cond,
+) -> Result<String, AllocError> {
     let scope = Scope {
         row: "r",
-        columns: &[],
+        columns,
         slots: Slots::Given(slots),
     };
     let mut test = String::new(alloc);

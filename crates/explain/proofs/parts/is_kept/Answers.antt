@@ -4,6 +4,6 @@ use Rattle.table.specs.Bounds.{is_bounded}
 use Rattle.table.proofs.SlotlessLemmas.{bounded_beside}
 use Rattle.explain.proofs.parts.is_kept.Goals as goal
 
-pub keeps-in-Some-requires-clause-bounded : goal.keeps-in-Some-requires-clause-bounded
-keeps-in-Some-requires-clause-bounded c =
+pub keeps-requires-clause-bounded : goal.keeps-requires-clause-bounded
+keeps-requires-clause-bounded c =
     subst IsTrue (sym (ap (λ kinds. is_bounded kinds c.args.filter.now) c.in_ok-slots-in-Some.ensures.kinds ∙ bounded_beside c.in-Some.around.now c.args.filter.now)) c.requires.bounded
