@@ -6,8 +6,8 @@ use Rattle.table.specs.Bounds.{IsSmallRow}
 use Rattle.explain.proofs.parts.kept_rows.Goals as goal
 
 -- what holds of the rows to come holds of those behind the next
-pub loop-row-preserved-then-is_among : goal.loop-row-preserved-then-is_among
-loop-row-preserved-then-is_among c =
+pub loop-row-preserved-then-branch : goal.loop-row-preserved-then-branch
+loop-row-preserved-then-branch c =
     All-tail IsSmallRow c.in-Some.row.now c.next.new.self (subst (λ (rows : List RowValues). All IsSmallRow rows) c.in-Some.ensures.steps c.loop-row.invariant)
 
 pub loop-row-preserved : goal.loop-row-preserved
