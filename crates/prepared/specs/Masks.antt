@@ -24,6 +24,7 @@ next_by text (Ok (Some t)) = Some (next.Token t.end)
 next_by text (Err (Syntax at)) = if is_question_at text at then Some (next.Parameter at) else None
 next_by text (Err _) = None
 
+-- what stands next in a text, from an offset on
 unfoldable pub next_at : Text → ℕ → Option Next
 next_at text from = next_by text (answer (next_of text from))
 
@@ -33,6 +34,7 @@ places_by behind None = []
 places_by behind (Some (next.Token end)) = behind end
 places_by behind (Some (next.Parameter at)) = at ∷ behind (at + 1)
 
+-- the same in no more than so many turns
 abbrev pub places_within : ℕ → Text → ℕ → List ℕ
 places_within zero text from = []
 places_within (suc n) text from = places_by (places_within n text) (next_at text from)
