@@ -64,7 +64,7 @@ each_name (name ∷ names) = text name ++ each_name names
 abbrev pub names : List (List ℕ) → List ℕ
 names ns = number (length ns) ++ each_name ns
 
--- how many columns, and the name of each
+-- the name of each column, one behind the other
 abbrev pub each_column : List Column → List ℕ
 each_column [] = []
 each_column (c ∷ cs) = text c.name ++ each_column cs

@@ -28,13 +28,13 @@ next_by text (Err _) = None
 unfoldable pub next_at : Text → ℕ → Option Next
 next_at text from = next_by text (answer (next_of text from))
 
--- Where the parameters stand, from an offset on. The number bounds the turns, each of which takes a byte at least.
+-- where the parameters stand, by what stands next, and what stands behind it
 abbrev pub places_by : (ℕ → List ℕ) → Option Next → List ℕ
 places_by behind None = []
 places_by behind (Some (next.Token end)) = behind end
 places_by behind (Some (next.Parameter at)) = at ∷ behind (at + 1)
 
--- the same in no more than so many turns
+-- where they stand from an offset on, in no more than so many turns, each of which takes a byte at least
 abbrev pub places_within : ℕ → Text → ℕ → List ℕ
 places_within zero text from = []
 places_within (suc n) text from = places_by (places_within n text) (next_at text from)

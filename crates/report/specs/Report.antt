@@ -47,12 +47,12 @@ abbrev pub party_text : Party → List ℕ
 party_text This = codes "THIS"
 party_text (Number n) = decimal n
 
--- the SQLSTATE of a number beyond its range, and of a text past its length
+-- the fault number and the SQLSTATE of a number beyond its range, and of a text past its length
 abbrev pub excess_text : Excess → List ℕ
 excess_text excess.Number = codes "9 22003 "
 excess_text excess.Text = codes "9 22001 "
 
--- the SQLSTATE of a violated assertion, at a statement or at COMMIT
+-- the fault number and the SQLSTATE of a violated assertion, at a statement or at COMMIT
 abbrev pub violated_text : Bool → List ℕ
 violated_text false = codes "10 23000 "
 violated_text true = codes "10 40002 "

@@ -31,7 +31,7 @@ IsUnbegun known NoMemory = known ≡ true
 IsUnbegun known Stranger = known ≡ false
 IsUnbegun known refusal = ⊥
 
--- the refusals that leave a transaction as it was, and those of COMMIT that end it
+-- the refusals that leave a transaction as it was
 abbrev pub IsGivenBack : Refusal → Type 0
 IsGivenBack NoMemory = ⊤
 IsGivenBack Stranger = ⊤

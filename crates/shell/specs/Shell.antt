@@ -115,7 +115,7 @@ abbrev pub IsInTheTalk : ShellFault → Type 0
 IsInTheTalk (Run fault) = IsInTheRun fault
 IsInTheTalk Input = ⊤
 
--- whether it is known what was written
+-- whether memory ended the run, so that what was written is a beginning of the answers
 abbrev pub is_run_stop : ProgramFault → Bool
 is_run_stop (Defs refusal) = false
 is_run_stop (Script refusal) = false
