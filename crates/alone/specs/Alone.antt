@@ -31,6 +31,7 @@ pub record Step : Type 0 where
   pub after : Standing
   pub reads : List LockKey
 
+-- a step that was refused: it leaves all as it was, and has read what it read
 abbrev pub refused_step : Standing → Refusal → List LockKey → Step
 refused_step now refusal reads = record { reply = Err refusal; after = now; reads = reads }
 
@@ -50,6 +51,7 @@ effected declared now read (Ok effect) =
     (immediate_ones now.modes declared.assertions)
     (net_change (layouts_in declared) now.view (state_after_all (layouts_in declared) effect.changes now.view)))
 
+-- VERDICT of the assertion of a name, if there is one; it reads the whole tables of the assertion
 abbrev pub verdict_step : Declared → Option Assertion → List ℕ → Standing → Step
 verdict_step declared None name now = refused_step now (UnknownName name) []
 verdict_step declared (Some a) name now = record {
@@ -76,6 +78,7 @@ abbrev pub unless_key : Bool → Refusal → Standing → Step → Step
 unless_key true refusal now step = refused_step now refusal []
 unless_key false refusal now step = step
 
+-- the name of a table's key column
 abbrev pub key_name : List Layout → ℕ → List ℕ
 key_name layouts table = (slice_index_or (columns_of table layouts) (key_of table layouts) no_column).name
 
@@ -107,10 +110,12 @@ pub record Run : Type 0 where
   pub final : Standing
   pub reads : List LockKey
 
+-- a step, and then what the statements behind it make
 abbrev pub then_ran : Step → Run → Run
 then_ran step more =
     record { replies = step.reply ∷ more.replies; final = more.final; reads = step.reads ++ more.reads }
 
+-- some statements, each from what the one before it left
 abbrev pub ran : Declared → State → Standing → List Resolved → Run
 ran declared start now [] = record { replies = []; final = now; reads = [] }
 ran declared start now (statement ∷ rest) =
@@ -133,6 +138,7 @@ pub record Outcome : Type 0 where
   pub changes : List Change
   pub refused : Option Refusal
 
+-- a transaction alone, from its first statement to its COMMIT, on a state
 abbrev pub transaction : Declared → List Resolved → State → Outcome
 transaction declared trace start = record {
   replies = (run_on declared trace start).replies;

@@ -76,6 +76,7 @@ check_keys layouts state form changes =
     flat_map (finding_keys layouts form) changes
     ++ flat_map (keys_for layouts state form) (candidates_of layouts state changes form)
 
+-- the refusal of a false assertion by its root; where it is not false, what is found behind it
 abbrev pub refusal_at : List ℕ → Option Root → Option Refusal → Option Refusal
 refusal_at name None rest = rest
 refusal_at name (Some root) rest = Some (Violated name root)

@@ -11,6 +11,7 @@ use Rattle.alone.specs.declared.statements.Resolved.{Resolved}
 use Rattle.alone.specs.declared.statements.Resolved.TheVariants.{Refused as Refuse, Insert, Update, Delete, Select, SetModes, Verdict}
 use Rattle.modes.specs.Modes.{set_names}
 
+-- a statement with its names found, or the refusal that comes in its place
 abbrev pub made : {A : Type 0} → (A → Resolved) → Result A Refusal → Resolved
 made form (Ok found) = form found
 made form (Err refusal) = Refuse refusal

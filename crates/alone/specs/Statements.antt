@@ -28,6 +28,7 @@ pub record Effect : Type 0 where
   pub reply : Reply
   pub changes : List Change
 
+-- the columns of the table at a place; none where there is no such table
 abbrev pub columns_of : ℕ → List Layout → List Column
 columns_of table layouts = (slice_index_or layouts table (record { columns = []; key = 0 })).columns
 
@@ -50,6 +51,7 @@ insert_effect tables new state =
     (inserted_at (slice_index_or (names_of tables) new.table []) (place_in (layouts_of tables) new) new.row
     (row_in (layouts_of tables) state (place_in (layouts_of tables) new)))
 
+-- the change that takes a row of a table out
 abbrev pub removal : (table key : ℕ) → RowValues → Change
 removal table key row = record { table = table; key = value_in key row; old = Some row; new = None }
 
@@ -57,6 +59,7 @@ removal table key row = record { table = table; key = value_in key row; old = So
 abbrev pub delete_effect : (table key : ℕ) → List RowValues → Effect
 delete_effect table key rows = record { reply = Deleted (length rows); changes = map (removal table key) rows }
 
+-- what stands for a column where there is none
 abbrev pub no_column : Column
 no_column = record { name = []; kind = Integer; nullable = true }
 
@@ -88,6 +91,7 @@ abbrev pub updated : List Setting → RowValues → RowValues → RowValues
 updated [] old row = row
 updated (setting ∷ rest) old row = updated rest old (slice_set row setting.column (given_value old setting.value))
 
+-- the change that gives a row of a table its new values
 abbrev pub renewal : (table key : ℕ) → List Setting → RowValues → Change
 renewal table key sets row =
     record { table = table; key = value_in key row; old = Some row; new = Some (updated sets row row) }
@@ -106,6 +110,7 @@ sets_key key sets = list_any (λ setting. setting.column == key) sets
 abbrev pub selected_values : List ℕ → RowValues → RowValues
 selected_values columns row = map (λ column. value_in column row) columns
 
+-- what a SELECT lists of some rows, row by row
 abbrev pub selected_rows : List ℕ → List RowValues → List RowValues
 selected_rows columns rows = map (selected_values columns) rows
 

@@ -22,6 +22,7 @@ pub record IsState (layouts : List Layout) (state : State) : Type 0 where
   pub long : length state ≡ length layouts
   pub ordered : IsOrdered layouts state
 
+-- whether two rows have the same values; NULL is the same as NULL
 abbrev pub same_row : RowValues → RowValues → Bool
 same_row [] [] = true
 same_row [] (w ∷ ws) = false

@@ -44,6 +44,7 @@ linked_type_over layouts columns types q =
     then query_type layouts types q
     else None
 
+-- the same, where the slots of its WHERE have the types of what the row holds
 abbrev pub linked_type : List Layout → List Column → Query Link → Option DataType
 linked_type layouts columns q = linked_type_over layouts columns (types_of columns) q
 

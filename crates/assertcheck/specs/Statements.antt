@@ -34,6 +34,7 @@ named_column columns name = found name (column_of name columns)
 abbrev pub unlisted : List ℕ → List ℕ → ℕ → Result ℕ Refusal
 unlisted before name column = if list_any (λ place. place == column) before then Err (NameTaken name) else Ok column
 
+-- the column of a name, if there is one and it isn't listed before
 abbrev pub new_place : List Column → List ℕ → List ℕ → Result ℕ Refusal
 new_place columns before name = and_then (named_column columns name) (unlisted before name)
 
@@ -58,6 +59,7 @@ abbrev pub value_at : List Value → Option ℕ → Value
 value_at values None = Null
 value_at values (Some place) = slice_index_or values place Null
 
+-- what an INSERT gives to a column, by the places that it lists and its values
 abbrev pub given_to : List ℕ → List Value → ℕ → Value
 given_to places values column = value_at values (position (λ place. place == column) places)
 
@@ -71,6 +73,7 @@ row_from place (column ∷ columns) places values =
 abbrev pub row_of : List Column → List ℕ → List Value → RowValues
 row_of columns places values = row_from 0 columns places values
 
+-- the row of an INSERT, if it gives as many values as it lists columns, each of its column's type
 abbrev pub typed_row : Source → List ℕ → List Value → Result NewRow Refusal
 typed_row target places values =
     provided (length values == length places) TypeMismatch (

@@ -35,6 +35,7 @@ literal_type value.Null = None
 literal_type (value.Int n) = Some Number
 literal_type (value.Text bytes) = Some Text
 
+-- whether two types are one
 abbrev pub is_same : DataType → DataType → Bool
 is_same Number Number = true
 is_same Number Text = false

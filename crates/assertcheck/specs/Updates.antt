@@ -42,6 +42,7 @@ abbrev pub value_fault : Tables → Scope → Assigned → Option Refusal
 value_fault tables scope Null = None
 value_fault tables scope (To expression) = expression_fault tables expression (scope ∷ [])
 
+-- the same of all that is assigned, from the left
 abbrev pub values_fault : Tables → Scope → List Assignment → Option Refusal
 values_fault tables scope [] = None
 values_fault tables scope (assignment ∷ rest) =
@@ -70,6 +71,7 @@ abbrev pub value_fits : List Column → Option DataType → Option Expr → Bool
 value_fits columns wanted None = true
 value_fits columns wanted (Some value) = are_comparable wanted (expression_type columns [] value)
 
+-- whether what a column gets is of its type
 abbrev pub fits : List Column → Setting → Bool
 fits columns setting = value_fits columns (column_type columns setting.column) setting.value
 
@@ -78,6 +80,7 @@ abbrev pub is_bounded_value : Option Expr → Bool
 is_bounded_value None = true
 is_bounded_value (Some value) = is_some (bound_of [] value)
 
+-- whether what a column gets is an expression with a bound, or NULL
 abbrev pub is_bounded_setting : Setting → Bool
 is_bounded_setting setting = is_bounded_value setting.value
 

@@ -12,6 +12,7 @@ use Rattle.assertion.specs.declared.forms.Form.TheVariants.{ByRow, ByGroup, Sing
 abbrev pub IsBoundedOver : List SlotKind → Cond → Type 0
 IsBoundedOver kinds condition = IsTrue (is_bounded kinds condition)
 
+-- the set functions in the slots of some queries
 abbrev pub query_kinds : {G : Type 0} → List (Query G) → List SlotKind
 query_kinds queries = map (λ q. kind_of_aggregate q.aggregate) queries
 

@@ -8,5 +8,6 @@ pub record Declared : Type 0 where
   pub tables : Tables
   pub assertions : List Assertion
 
+-- what each table that is declared shows of its columns
 abbrev pub layouts_in : Declared → List Layout
 layouts_in declared = layouts_of declared.tables

@@ -25,6 +25,7 @@ use Rattle.assertion.specs.declared.forms.Form.TheVariants.{ByRow, ByGroup, Sing
 abbrev pub State : Type 0
 State = List (List RowValues)
 
+-- the rows of the table at a place; none where there is no such table
 abbrev pub rows_of : ℕ → State → List RowValues
 rows_of table state = slice_index_or state table []
 

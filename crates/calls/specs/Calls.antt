@@ -53,13 +53,16 @@ pub record IsTold (old new : Database) (is told : Response) : Type 0 where
   pub response : is ≡ told
   pub same : new ≡ old
 
+-- the response to a call that was refused: what was refused, and why
 abbrev pub refused : Source → Refusal → Response
 refused source why = response.Refused source why
 
+-- the response to a request whose fields could not be read
 abbrev pub unread : FieldFault → Response
 unread field.NoMemory = response.Refused source.Statement refusal.NoMemory
 unread field.Malformed = response.Misused misuse.BadRequest
 
+-- the response to a run whose values could not be filled in
 abbrev pub unfilled : FillFault → Response
 unfilled fill.NoMemory = response.Refused source.Statement refusal.NoMemory
 unfilled (fill.WrongCount wanted given) = response.Misused (misuse.WrongCount wanted)
@@ -89,6 +92,7 @@ pub record IsOpenedAs (name : List ℕ) (old new : Database) (number : ℕ) : Ty
     statements = old.statements;
   }
 
+-- what a call to open a session of this name makes, and is told
 abbrev pub OpensNamed : List ℕ → Database → Database → Response → Type 0
 OpensNamed name old new (response.Session n) = IsOpenedAs name old new n
 OpensNamed name old new (response.Misused m) =
@@ -103,6 +107,7 @@ abbrev pub OpensIf : (named : Bool) → List ℕ → Database → Database → R
 OpensIf false bytes old new r = IsTold old new r (response.Misused misuse.BadName)
 OpensIf true bytes old new r = IsWithoutMemory source.Session old new r ⊎ OpensNamed (name_of bytes) old new r
 
+-- what a call to open a session makes, and is told
 abbrev pub OpensSession : List ℕ → Database → Database → Response → Type 0
 OpensSession bytes old new r = OpensIf (is_name bytes) bytes old new r
 
@@ -117,10 +122,12 @@ pub record IsClosedAs (number : ℕ) (name : List ℕ) (old new : Database) (r :
   }
   pub told : r ≡ response.SessionClosed
 
+-- the session of this name is closed; without a name no session has the number
 abbrev pub ClosesNamed : Option (List ℕ) → ℕ → Database → Database → Response → Type 0
 ClosesNamed None number old new r = IsTold old new r (response.Misused misuse.NoSession)
 ClosesNamed (Some name) number old new r = IsClosedAs number name old new r
 
+-- what a call to close the session of a number makes, and is told
 abbrev pub ClosesSession : ℕ → Database → Database → Response → Type 0
 ClosesSession number old new r = ClosesNamed (session_name number old.sessions) number old new r
 
@@ -136,6 +143,7 @@ pub record IsAnsweredIn (name : List ℕ) (Is : Event → Type 0) (old new : Dat
   pub leaves : new ≡ record old { engine = after old.engine step answer }
   pub told : r ≡ response.Answered step answer
 
+-- an event of the session of this name is answered; without a name no session has the number
 abbrev pub AnswersNamed : Option (List ℕ) → (Event → Type 0) → Database → Database → Response → Type 0
 AnswersNamed None Is old new r = IsTold old new r (response.Misused misuse.NoSession)
 AnswersNamed (Some name) Is old new r =
@@ -151,10 +159,12 @@ pub record IsTextRefused (text : List ℕ) (old new : Database) (r : Response) :
   pub unread : IsUnread IsEvent text why
   pub told : IsTold old new r (response.Refused source.Statement why)
 
+-- what a call makes that runs the event of a text in a session: the text is refused, or its event answered
 abbrev pub ExecutesText : List ℕ → ℕ → Database → Database → Response → Type 0
 ExecutesText text session old new r =
     IsTextRefused text old new r ⊎ AnswersEvent (λ e. IsRead IsEvent text e) session old new r
 
+-- the same of what was read of the request, if it could be read
 abbrev pub Executes : Option (ℕ × List ℕ) → Database → Database → Response → Type 0
 Executes None old new r = IsTold old new r (response.Misused misuse.BadRequest)
 Executes (Some read) old new r = ExecutesText read.1 read.0 old new r
@@ -168,19 +178,23 @@ pub record IsKept (text : List ℕ) (old new : Database) (r : Response) : Type 0
   pub leaves : new ≡ record old { statements = with_statement statement old.statements }
   pub told : r ≡ response.Prepared old.statements.next (parameter_count (numbers_of text))
 
+-- the text is none that can be prepared
 pub record IsUnprepared (text : List ℕ) (old new : Database) (r : Response) : Type 0 where
   pub why : Refusal
   pub refused : RefusedText text why
   pub told : IsTold old new r (response.Refused source.Statement why)
 
+-- what a call to prepare a statement makes, and is told
 abbrev pub PreparesText : List ℕ → Database → Database → Response → Type 0
 PreparesText text old new r = IsUnprepared text old new r ⊎ IsKept text old new r
 
+-- this statement is forgotten; without one no statement has the number
 abbrev pub ForgetsKept : Option Prepared → ℕ → Database → Database → Response → Type 0
 ForgetsKept None number old new r = IsTold old new r (response.Misused misuse.NoStatement)
 ForgetsKept (Some statement) number old new r =
     (r ≡ response.Forgotten) × (new ≡ record old { statements = without_statement number old.statements })
 
+-- what a call to forget the statement of a number makes, and is told
 abbrev pub Forgets : ℕ → Database → Database → Response → Type 0
 Forgets number old new r = ForgetsKept (statement_at number old.statements) number old new r
 
@@ -191,24 +205,29 @@ pub record IsUnfilled (statement : Prepared) (values : List Value) (old new : Da
   pub due : ¬ (fault ≡ fill.NoMemory) → filled statement values ≡ Err fault
   pub told : IsTold old new r (unfilled fault)
 
+-- this statement is run with values, if they fit it; without one no statement has the number
 abbrev pub RunsKept : Option Prepared → RunFields → Database → Database → Response → Type 0
 RunsKept None fields old new r = IsTold old new r (response.Misused misuse.NoStatement)
 RunsKept (Some statement) fields old new r =
     IsUnfilled statement fields.values old new r
     ⊎ AnswersEvent (λ e. filled statement fields.values ≡ Ok e) fields.session old new r
 
+-- what a call makes that runs a prepared statement with values
 abbrev pub RunsStatement : RunFields → Database → Database → Response → Type 0
 RunsStatement fields old new r = RunsKept (statement_at fields.statement old.statements) fields old new r
 
+-- the same of what was read of the request, if it could be read
 abbrev pub RunsRead : Option RunFields → Database → Database → Response → Type 0
 RunsRead None old new r = IsTold old new r (response.Misused misuse.BadRequest)
 RunsRead (Some fields) old new r = RunsStatement fields old new r
 
+-- what a request to run a prepared statement makes, and is told
 abbrev pub Runs : List ℕ → Database → Database → Response → Type 0
 Runs request old new r = IsWithoutMemory source.Statement old new r ⊎ RunsRead (run_request request) old new r
 
 -- ---- reports and checkpoints
 
+-- what a call for the report is told: the closing part of the commits so far
 abbrev pub Reports : Database → Database → Response → Type 0
 Reports old new r =
     IsWithoutMemory source.Rules old new r ⊎ IsTold old new r (response.Closing (closing old.engine.core))
@@ -243,6 +262,7 @@ with_first None names = None
 with_first (Some name) None = None
 with_first (Some name) (Some names) = Some (name ∷ names)
 
+-- the names of the assertions to drop, if each value is a name
 abbrev pub names_of : List Value → Option (List (List ℕ))
 names_of [] = Some []
 names_of (v ∷ vs) = with_first (value_name v) (names_of vs)
@@ -281,6 +301,7 @@ pub record IsChanged (dropped : List (List ℕ)) (created : List NewAssertion) (
   pub statements : new.statements ≡ old.statements
   pub told : r ≡ response.Changed (closing old.engine.core)
 
+-- what a checkpoint makes that drops rules of these names and creates these: nothing, or another epoch
 abbrev pub ChangesRules : List (List ℕ) → List NewAssertion → Database → Database → Response → Type 0
 ChangesRules dropped created old new r = IsLeft old new r ⊎ IsChanged dropped created old new r
 
@@ -291,22 +312,27 @@ pub record IsCheckpoint (request : List ℕ) (old new : Database) (r : Response)
   pub requested : IsRequested request dropped created
   pub changed : IsChanged dropped created old new r
 
+-- what a request for a checkpoint makes, and is told
 abbrev pub Checkpoints : List ℕ → Database → Database → Response → Type 0
 Checkpoints request old new r = IsLeft old new r ⊎ IsCheckpoint request old new r
 
 -- ---- the columns of a SELECT that lists all
 
+-- the columns of a table, if there is one
 abbrev pub columns_in : Option Layout → List Column
 columns_in None = []
 columns_in (Some layout) = layout.columns
 
+-- the columns of the table of a name
 abbrev pub table_columns : List ℕ → Database → List Column
 table_columns table now = columns_in (layout_of table now.engine.core.declared.tables)
 
+-- the columns of the table that a SELECT reads; none for any other event
 abbrev pub columns_of : Event → Database → List Column
 columns_of (event.Run (statement.Select columns table keeps)) now = table_columns table now
 columns_of other now = []
 
+-- the columns of the table of the SELECT that was answered, for the reply
 abbrev pub all_columns : Response → Database → List Column
 all_columns (response.Answered step answer) now = columns_of step.event now
 all_columns other now = []
@@ -340,6 +366,7 @@ pub record IsBegun (text : List ℕ) (limit : ℕ) (now : Database) : Type 0 whe
 
 -- ---- one call
 
+-- what an operation on a database makes, and is told
 abbrev pub IsOperated : Operation → List ℕ → Database → Database → Response → Type 0
 IsOperated op.Again request old new r = IsTold old new r (response.Misused misuse.BadRequest)
 IsOperated op.Line request old new r = IsTold old new r (response.Misused misuse.BadRequest)

@@ -13,6 +13,7 @@ pub record SessionsState : Type 0 where
   pub entries : List Session
   pub next : ℕ
 
+-- before the first, whose number is 1
 abbrev pub no_sessions : SessionsState
 no_sessions = record { entries = []; next = 1 }
 
@@ -43,6 +44,7 @@ with_session name s = record {
 abbrev pub place_of : ℕ → List Session → Option ℕ
 place_of number entries = position (λ (session : Session). session.number == number) entries
 
+-- the session at a place, if there is one
 abbrev pub session_in : List Session → Option ℕ → Option Session
 session_in entries None = None
 session_in entries (Some place) = slice_get entries place
@@ -51,9 +53,11 @@ session_in entries (Some place) = slice_get entries place
 abbrev pub session_at : ℕ → SessionsState → Option Session
 session_at number s = session_in s.entries (place_of number s.entries)
 
+-- the name of the session of a number
 abbrev pub session_name : ℕ → SessionsState → Option (List ℕ)
 session_name number s = option_map (λ (session : Session). session.name) (session_at number s)
 
+-- the sessions without the one at a place
 abbrev pub all_but : List Session → Option ℕ → List Session
 all_but entries None = entries
 all_but entries (Some place) = remove entries place

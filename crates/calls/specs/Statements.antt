@@ -9,6 +9,7 @@ pub record StatementsState : Type 0 where
   pub prepared : List (ℕ × Prepared)
   pub next : ℕ
 
+-- before the first, whose number is 1
 abbrev pub no_statements : StatementsState
 no_statements = record { prepared = []; next = 1 }
 
@@ -20,5 +21,6 @@ with_statement prepared s = record { prepared = insert_entry nat_eq s.prepared s
 abbrev pub statement_at : ℕ → StatementsState → Option Prepared
 statement_at number s = lookup (nat_eq number) s.prepared
 
+-- without the statement of a number
 abbrev pub without_statement : ℕ → StatementsState → StatementsState
 without_statement number s = record s { prepared = shift_remove_entry (nat_eq number) s.prepared }

@@ -43,9 +43,11 @@ pub record IsRefused (definitions : List ℕ) (s : LibraryState) : Type 0 where
 abbrev pub IsMisused : LibraryState → Type 0
 IsMisused s = IsWithout (response.Misused misuse.BadRequest) s
 
+-- how many commits an epoch may have at most: 2^32 - 1
 abbrev pub most_commits : ℕ
 most_commits = 4294967295
 
+-- what is opened by a request of which this was read: a limit of commits, and definitions
 abbrev pub IsOpenedBy : Option (ℕ × List ℕ) → LibraryState → Type 0
 IsOpenedBy None s = IsMisused s
 IsOpenedBy (Some read) s =
@@ -72,11 +74,13 @@ IsCalledFor (Some op.Again) request old new = new ≡ old
 IsCalledFor (Some op.Line) request old new = new ≡ old
 IsCalledFor (Some operation) request old new = IsMade operation request old.database new.database new.response
 
+-- what a call makes, by the number of its operation
 abbrev pub IsCalled : ℕ → List ℕ → LibraryState → LibraryState → Type 0
 IsCalled operation request old new = IsCalledFor (operation_of operation) request old new
 
 -- ---- its reply
 
+-- the columns of the table of the SELECT that was answered; none where there is no database
 abbrev pub columns_of : Option Database → Response → List Column
 columns_of None r = []
 columns_of (Some now) r = all_columns r now
@@ -103,6 +107,7 @@ pub record Waits (r : Response) (old new : List ℕ) (len : ℕ) (status : ℤ) 
   pub length_is : len ≡ 0
   pub status_is : status ≡ status_number (status_without_reply (status_of r))
 
+-- what a call returns: its reply is in the buffer, or waits for memory
 abbrev pub IsReplied : ℕ → LibraryState → List ℕ → List ℕ → ℕ → ℤ → Type 0
 IsReplied operation s old new len status =
     IsWritten (reply_for (operation_of operation) s) s.response old new len status ⊎ Waits s.response old new len status

@@ -3,6 +3,7 @@ use Rattle.std.specs.Prelude.{Option, Some, None}
 use Rattle.alone.specs.Reads.{Equality as AnyEquality}
 use Rattle.changes.specs.declared.wheres.Equality.{Equality}
 
+-- the equality of a column and a value, of which the value is lent, if there is one
 abbrev pub shown : Option Equality → Option AnyEquality
 shown None = None
 shown (Some equality) = Some (record { column = equality.column; value = equality.value.now })

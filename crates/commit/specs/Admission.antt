@@ -14,6 +14,7 @@ abbrev pub at_creation : Refusal → Refusal
 at_creation (Violated name root) = FalseAtCreation name root
 at_creation refusal = refusal
 
+-- the same, if there is a violation
 abbrev pub created : Option Refusal → Option Refusal
 created None = None
 created (Some refusal) = Some (at_creation refusal)

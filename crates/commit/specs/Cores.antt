@@ -108,6 +108,7 @@ IsCommitAnswer c session t answer =
 abbrev pub with_begun : (read_only : Bool) → CoreState → CoreState
 with_begun read_only c = record c { live = with_begin (length c.records) read_only c.live }
 
+-- a transaction less among those that are live
 abbrev pub ended : CoreState → OpenTransaction → CoreState
 ended c t = record c { live = without t.ticket c.live }
 
@@ -115,6 +116,7 @@ ended c t = record c { live = without t.ticket c.live }
 abbrev pub with_commit : CoreState → Record → CoreState
 with_commit c commit = record c { records = c.records ++ commit ∷ [] }
 
+-- one refused COMMIT more
 abbrev pub with_refusal : CoreState → List ℕ → Refusal → CoreState
 with_refusal c session refusal =
     record c { refused = c.refused ++ record { session = session; refusal = refusal } ∷ [] }
@@ -123,6 +125,7 @@ with_refusal c session refusal =
 abbrev pub committed : CoreState → List ℕ → OpenTransaction → CoreState
 committed c session t = ended (with_commit c (record_of c session t)) t
 
+-- the COMMIT of a transaction is refused, which ends it
 abbrev pub refused_to : CoreState → List ℕ → OpenTransaction → Refusal → CoreState
 refused_to c session t refusal = ended (with_refusal c session refusal) t
 
@@ -130,6 +133,7 @@ refused_to c session t refusal = ended (with_refusal c session refusal) t
 abbrev pub with_prepared : CoreState → List ℕ → OpenTransaction → CoreState
 with_prepared c session t = record c { prepared = Some (record { session = session; txn = t }) }
 
+-- no commit is prepared
 abbrev pub unprepared : CoreState → CoreState
 unprepared c = record c { prepared = None }
 
@@ -138,6 +142,7 @@ abbrev pub finished_by : Option Pending → CoreState → CoreState
 finished_by None c = c
 finished_by (Some p) c = committed (unprepared c) p.session p.txn
 
+-- what is prepared, if a commit is, is made the next commit
 abbrev pub finished : CoreState → CoreState
 finished c = finished_by c.prepared c
 
@@ -156,6 +161,7 @@ abbrev pub reads_with : Option Pending → (number : ℕ) → Reads → Reads
 reads_with None number reads = reads
 reads_with (Some p) number reads = with_reader number (keys_of p.txn) reads
 
+-- for each key the commits that read it, as far as they are kept, and the one that is prepared
 abbrev pub locks_of : CoreState → Reads
 locks_of c = reads_with c.prepared (length c.records + 1) (reads_kept c)
 

@@ -66,10 +66,12 @@ abbrev pub run_answer : Statement → Option OpenTransaction → Answer
 run_answer statement None = Refused NoTransaction
 run_answer statement (Some t) = answer_of (step_of t (resolved t.declared t.read_only statement)).reply
 
+-- the transaction, if one is open, with the statement in its trace
 abbrev pub txn_with : Statement → Option OpenTransaction → Option OpenTransaction
 txn_with statement None = None
 txn_with statement (Some t) = Some (with_statement t (resolved t.declared t.read_only statement))
 
+-- what ROLLBACK is answered
 abbrev pub rollback_answer : Option OpenTransaction → Answer
 rollback_answer None = Refused NoTransaction
 rollback_answer (Some t) = RolledBack
@@ -88,6 +90,7 @@ abbrev pub txn_begun : CoreState → (read_only : Bool) → Option OpenTransacti
 txn_begun core read_only None = Some (begun core.live.begun (length core.records) read_only (newest_tables core))
 txn_begun core read_only (Some t) = Some t
 
+-- the transaction that is open after an event, if one is
 abbrev pub txn_after : CoreState → Event → Option OpenTransaction → Option OpenTransaction
 txn_after core Begin txn = txn_begun core false txn
 txn_after core BeginReadOnly txn = txn_begun core true txn
@@ -101,10 +104,12 @@ decided_core core session t (Committed number) = committed core session t
 decided_core core session t (Refused refusal) = refused_to core session t refusal
 decided_core core session t answer = core
 
+-- the commits after BEGIN: where no transaction was open, one more is live
 abbrev pub core_begun : CoreState → (read_only : Bool) → Option OpenTransaction → CoreState
 core_begun core read_only None = with_begun read_only core
 core_begun core read_only (Some t) = core
 
+-- the commits after an event
 abbrev pub core_after : CoreState → List ℕ → Event → Option OpenTransaction → Answer → CoreState
 core_after core session Begin txn answer = core_begun core false txn
 core_after core session BeginReadOnly txn answer = core_begun core true txn
@@ -119,6 +124,7 @@ abbrev pub seats_set : List Seat → ℕ → Option OpenTransaction → Option S
 seats_set seats place txn None = seats
 seats_set seats place txn (Some seat) = slice_set seats place (record seat { txn = txn })
 
+-- the seats with this transaction, or none, in the one at a place
 abbrev pub seats_with : List Seat → ℕ → Option OpenTransaction → List Seat
 seats_with seats place txn = seats_set seats place txn (slice_get seats place)
 
@@ -146,6 +152,7 @@ abbrev pub is_no_memory : Refusal → Bool
 is_no_memory NoMemory = true
 is_no_memory refusal = false
 
+-- whether an event was answered that no memory was found
 abbrev pub found_no_memory : Answer → Bool
 found_no_memory (Refused refusal) = is_no_memory refusal
 found_no_memory answer = false

@@ -55,6 +55,7 @@ pub record IsReady (c : CoreState) (p : Prepared) : Type 0 where
   pub tables_are : p.tables ≡ newest_tables (with_commit c (record_of c p.session p.closed))
   pub place_is : p.place ≡ least_out (log_of c) (record_of c p.session p.closed)
 
+-- the same of what is prepared, if a commit is
 abbrev pub IsReadyIf : CoreState → Option Prepared → Type 0
 IsReadyIf c None = ⊤
 IsReadyIf c (Some p) = IsReady c p

@@ -18,6 +18,7 @@ abbrev pub unless_seated : Option ℕ → List Seat → List ℕ → List Seat
 unless_seated None seats session = seats ++ free_seat session ∷ []
 unless_seated (Some place) seats session = seats
 
+-- with a seat for a session, if it has none yet
 abbrev pub seated : List Seat → List ℕ → List Seat
 seated seats session = unless_seated (seat_of seats session) seats session
 

@@ -5,6 +5,7 @@ use Rattle.syntax.specs.declared.wants.Want.{Want}
 use Rattle.leaf_parser.specs.Reading.{Reader, refuse}
 use Rattle.syntax.specs.Readers.{read}
 
+-- reads what stands in parentheses, where so many might be opened before them; where none might, it refuses
 unfoldable pub inside : ℕ → Want → Reader Found
 inside zero = λ _. refuse
 inside (suc n) = read n

@@ -4,6 +4,7 @@ use Rattle.std.specs.List.{AllByRecursion}
 use Rattle.serial.specs.declared.records.Record.{Record}
 use Rattle.serial.specs.Order.{rank, serial_order}
 
+-- the numbers of some commits, in the order in which they stand
 abbrev pub numbers_of : List Record → List ℕ
 numbers_of order = map (λ (commit : Record). commit.number) order
 

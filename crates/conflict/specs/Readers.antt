@@ -6,6 +6,7 @@ use Rattle.siread.specs.Keys.{same_key}
 use Rattle.siread.specs.Locks.{Reads, reaching}
 use Rattle.serial.specs.declared.records.Record.{Record}
 
+-- whether a commit has read under a key
 abbrev pub has_read : LockKey → Record → Bool
 has_read key commit = list_any (same_key key) commit.reads
 

@@ -22,6 +22,7 @@ without_name name now =
     provided (is_asserted name now.declared.assertions) (UnknownName name)
     (Ok (record now { declared = without_assertion name now.declared }))
 
+-- DROP ASSERTION of each of some names, from the left
 abbrev pub without_names : (names : List (List ℕ)) → Shown → Result Shown Refusal
 without_names [] now = Ok now
 without_names (name ∷ rest) now = and_then (without_name name now) (without_names rest)

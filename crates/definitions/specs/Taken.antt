@@ -17,6 +17,7 @@ use Rattle.value.specs.Results.{and_then, provided}
 use Rattle.assertcheck.specs.Assertions.{checked}
 use Rattle.definitions.specs.Tables.{layout_from}
 
+-- before the first definition: no table, no assertion, no row
 abbrev pub empty_database : Shown
 empty_database = record { declared = record { tables = []; assertions = [] }; state = [] }
 

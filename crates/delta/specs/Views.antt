@@ -35,6 +35,7 @@ AreBounded assertions = All (λ a. IsBounded a.form) assertions
 abbrev pub with_assertion : Assertion → Declared → Declared
 with_assertion assertion declared = record declared { assertions = declared.assertions ++ assertion ∷ [] }
 
+-- what is declared without the assertions of a name
 abbrev pub without_assertion : (name : List ℕ) → Declared → Declared
 without_assertion name declared =
     record declared { assertions = filter (λ a. not (bytes_eq a.name name)) declared.assertions }

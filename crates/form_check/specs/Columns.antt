@@ -32,5 +32,6 @@ abbrev pub in_both : Option ℕ → Option ℕ → Option Expr
 in_both (Some own) outer = Some (Column own)
 in_both None outer = option_map Slot outer
 
+-- what a column's name means in a condition over a row of the child and the row around it
 abbrev pub of_both : Scope → Scope → ColumnName → Option Expr
 of_both child root column = in_both (own_column child column) (outer_column child root column)

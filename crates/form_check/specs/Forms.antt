@@ -32,6 +32,7 @@ Clauses = Query-F Condition Expression SelectList Query
 
 -- ---- queries of a row
 
+-- a query of a row by its WHERE: its link, and the other parts as what filters its rows
 abbrev pub linked_by : Source → Scope → Aggregate → Condition → Result (Subquery Link) Refusal
 linked_by child root aggregate condition =
     in_class (first_link child.scope root (top_parts condition)) (λ link.
@@ -46,12 +47,14 @@ linked_where child root aggregate None group having = Err OutsideClass
 linked_where child root aggregate (Some condition) (Some group) having = Err OutsideClass
 linked_where child root aggregate (Some condition) None (Some having) = Err OutsideClass
 
+-- a query of a row under EXISTS: the count of its rows
 abbrev pub linked_exists : Tables → Scope → Clauses → Result (Subquery Link) Refusal
 linked_exists tables root query =
     in_class (source_of tables query.table query.correlation_name) (λ child.
     only_if (may_be_selected (own_column child.scope) query.select_list)
     (linked_where child root CountRows query.keeps query.group query.having))
 
+-- a query of a row that stands for its value: one set function
 abbrev pub linked_value : Tables → Scope → Clauses → Result (Subquery Link) Refusal
 linked_value tables root query =
     in_class (source_of tables query.table query.correlation_name) (λ child.
@@ -67,6 +70,7 @@ linked tables root (Value query) = linked_value tables root (out-Query query)
 
 -- ---- queries of their own
 
+-- a query of its own: one set function over rows that its WHERE keeps, and neither GROUP BY nor HAVING
 abbrev pub plain_by : Source → Option Aggregate → Option Condition → Option ColumnName → Option Condition
     → Result (Subquery Whole) Refusal
 plain_by source aggregate keeps None None =
@@ -76,6 +80,7 @@ plain_by source aggregate keeps None None =
 plain_by source aggregate keeps (Some group) having = Err OutsideClass
 plain_by source aggregate keeps None (Some having) = Err OutsideClass
 
+-- a query of its own that stands for its value
 abbrev pub plain_value : Tables → Clauses → Result (Subquery Whole) Refusal
 plain_value tables query =
     in_class (source_of tables query.table query.correlation_name) (λ source.
@@ -102,18 +107,21 @@ abbrev pub row_where : Scope → Option Condition → Result (Cond × Leaves) Re
 row_where scope None = Ok (cond_of.And [], [])
 row_where scope (Some condition) = numbered (at_place (own_column scope)) condition []
 
+-- by rows: the condition of WHERE over a row, with a query in each of its slots
 abbrev pub by_row : Tables → Source → Clauses → Result Form Refusal
 by_row tables source query =
     only_if (may_be_selected (own_column source.scope) query.select_list) (
     and_then (row_where source.scope query.keeps) (λ made.
     and_then (each (linked tables source.scope) made.1) (λ queries. Ok (ByRow source.table made.0 queries))))
 
+-- by groups, behind WHERE: the condition of HAVING over a group, with a set function in each of its slots
 abbrev pub having_over : Source → ℕ → Cond → Condition → Result Form Refusal
 having_over source group restriction having =
     and_then (numbered (at_place (grouping_column source.scope group)) having []) (λ made.
     and_then (each (aggregate_of source.scope) made.1) (λ aggregates.
     Ok (ByGroup source.table restriction group made.0 aggregates)))
 
+-- by groups: the grouping column, what is listed, WHERE and HAVING
 abbrev pub by_group : Source → Clauses → ColumnName → Condition → Result Form Refusal
 by_group source query column having =
     in_class (own_column source.scope column) (λ group.
@@ -127,11 +135,13 @@ by_clauses tables source query (Some column) (Some having) = by_group source que
 by_clauses tables source query None (Some having) = Err OutsideClass
 by_clauses tables source query (Some column) None = Err OutsideClass
 
+-- the form of NOT EXISTS of a query
 abbrev pub not_exists : Tables → Clauses → Result Form Refusal
 not_exists tables query =
     in_class (source_of tables query.table query.correlation_name) (λ source.
     by_clauses tables source query query.group query.having)
 
+-- a single condition: over no row, with a query of its own in each of its slots
 abbrev pub single : Tables → Condition → Result Form Refusal
 single tables condition =
     and_then (numbered (at_place no_column) condition []) (λ made.
@@ -142,6 +152,7 @@ abbrev pub denied : Tables → Condition → Condition-F Condition Expression Se
 denied tables whole (Condition-F.Exists query) = not_exists tables (out-Query query)
 denied tables whole other = single tables whole
 
+-- a condition by whether it is a NOT
 abbrev pub form_in : Tables → Condition → Condition-F Condition Expression SelectList Query → Result Form Refusal
 form_in tables whole (Condition-F.Not part) = denied tables whole (out-Condition part)
 form_in tables whole other = single tables whole

@@ -28,6 +28,7 @@ pub data Leaf : Type 0 where
   Exists : Query → Leaf
   Value : Query → Leaf
 
+-- what stands in the slots of a condition, by the numbers of the slots
 abbrev pub Leaves : Type 0
 Leaves = List Leaf
 
@@ -52,9 +53,11 @@ all (part ∷ rest) leaves = and_then (part.1 leaves) (λ first. then_made (λ o
 abbrev pub compared : Comparison → Numbered Expr → Numbered Expr → Numbered Cond
 compared comparison left right = both (λ a b. cond.Compare comparison a b) left right
 
+-- a BETWEEN, by what its three expressions become, from the left
 abbrev pub between : Numbered Expr → Numbered Expr → Numbered Expr → Numbered Cond
 between subject low high leaves = and_then (subject leaves) (λ s. both (between_of s.0) low high s.1)
 
+-- an IN, by what its expression and its list become
 abbrev pub listed : Numbered Expr → Numbered (List Expr) → Numbered Cond
 listed subject values = both in_of subject values
 
@@ -62,6 +65,7 @@ listed subject values = both in_of subject values
 abbrev pub placed : Option Expr → Numbered Expr
 placed meant leaves = in_class meant (λ e. Ok (e, leaves))
 
+-- a slot more, the next one by its number, with what stands in it
 abbrev pub slot : Leaf → Numbered Expr
 slot leaf leaves = Ok (expr.Slot (length leaves), leaves ++ leaf ∷ [])
 
@@ -93,10 +97,12 @@ condition_step place (Condition-F.IsNull part) leaves = then_made cond.IsNull (p
 condition_step place (Condition-F.Between subject low high) leaves = between subject.1 low.1 high.1 leaves
 condition_step place (Condition-F.In subject values) leaves = listed subject.1 (all values) leaves
 
+-- what a query lists has no slots of its own: the query stands whole in one
 abbrev pub select_list_step : SelectList-F (Condition × Numbered Cond) (Expression × Numbered Expr) (SelectList
     × Unit {0}) (Query × Unit {0}) → Unit {0}
 select_list_step select_list = tt
 
+-- nor has a query
 abbrev pub query_step : Query-F (Condition × Numbered Cond) (Expression × Numbered Expr) (SelectList
     × Unit {0}) (Query × Unit {0}) → Unit {0}
 query_step query = tt
@@ -108,6 +114,7 @@ numbered place =
     para-Condition (Numbered Cond) (Numbered Expr) (Unit {0}) (Unit {0}) (condition_step place) (expression_step place)
     select_list_step query_step
 
+-- an expression, likewise
 unfoldable pub numbered_expression : (ColumnName → Option Expr) → Expression → Numbered Expr
 numbered_expression place =
     para-Expression (Numbered Cond) (Numbered Expr) (Unit {0}) (Unit {0}) (condition_step place)
@@ -117,5 +124,6 @@ numbered_expression place =
 unfoldable pub numbered_conditions : (ColumnName → Option Expr) → List Condition → Numbered (List Cond)
 numbered_conditions place parts = all (map (λ part. (part, numbered place part)) parts)
 
+-- several expressions, from the left
 unfoldable pub numbered_expressions : (ColumnName → Option Expr) → List Expression → Numbered (List Expr)
 numbered_expressions place parts = all (map (λ part. (part, numbered_expression place part)) parts)

@@ -22,6 +22,7 @@ abbrev pub parts_in : Condition → Condition-F Condition Expression SelectList 
 parts_in whole (Condition-F.And parts) = parts
 parts_in whole other = whole ∷ []
 
+-- the same of a condition alone; one that is no AND is its only part
 abbrev pub top_parts : Condition → List Condition
 top_parts condition = parts_in condition (out-Condition condition)
 
@@ -45,12 +46,14 @@ abbrev pub either : Option Link → Option Link → Option Link
 either None other = other
 either (Some link) other = Some link
 
+-- the link of two sides that are columns, whichever of them is the child's
 abbrev pub link_between : Scope → Scope → Option ColumnName → Option ColumnName → Option Link
 link_between child root None right = None
 link_between child root (Some left) None = None
 link_between child root (Some left) (Some right) =
     either (link_of_names child root left right) (link_of_names child root right left)
 
+-- the link that a condition is, if it is an equality of two columns
 abbrev pub link_in : Scope → Scope → Condition-F Condition Expression SelectList Query → Option Link
 link_in child root (Condition-F.Compare left Equal right) =
     link_between child root (name_in (out-Expression left)) (name_in (out-Expression right))
@@ -66,6 +69,7 @@ is_by column None = false
 is_by None (Some link) = true
 is_by (Some column) (Some link) = link.inner == column
 
+-- whether a part is a link, by this column of the child, if one is given
 abbrev pub is_link : Scope → Scope → Option ℕ → Condition → Bool
 is_link child root column part = is_by column (link_of child root part)
 

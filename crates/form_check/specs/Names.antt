@@ -27,6 +27,7 @@ abbrev pub part_fault : Option Fault → Fault
 part_fault None scopes = None
 part_fault (Some part) scopes = part scopes
 
+-- the column of GROUP BY, if there is one
 abbrev pub group_fault : Option ColumnName → Fault
 group_fault None scopes = None
 group_fault (Some column) scopes = column_fault column scopes
@@ -68,6 +69,7 @@ clauses_fault query scopes =
     (option_or (part_fault query.keeps scopes)
     (option_or (group_fault query.group scopes) (part_fault query.having scopes)))
 
+-- what is wrong in a query whose table is this one, if there is such a table
 abbrev pub inner_fault : Option Layout → Query-F Fault Fault Fault Fault → Fault
 inner_fault None query scopes = Some (UnknownName query.table)
 inner_fault (Some layout) query scopes =
@@ -83,14 +85,17 @@ abbrev pub condition_fault : Tables → Condition → Fault
 condition_fault tables =
     fold-Condition Fault Fault Fault Fault condition_step expression_step select_list_step (query_step tables)
 
+-- the same of an expression
 abbrev pub expression_fault : Tables → Expression → Fault
 expression_fault tables =
     fold-Expression Fault Fault Fault Fault condition_step expression_step select_list_step (query_step tables)
 
+-- the same of what a query lists
 abbrev pub select_list_fault : Tables → SelectList → Fault
 select_list_fault tables =
     fold-SelectList Fault Fault Fault Fault condition_step expression_step select_list_step (query_step tables)
 
+-- the same of a query
 abbrev pub query_fault : Tables → Query → Fault
 query_fault tables =
     fold-Query Fault Fault Fault Fault condition_step expression_step select_list_step (query_step tables)

@@ -27,12 +27,14 @@ pub record Source : Type 0 where
   pub table : ℕ
   pub scope : Scope
 
+-- a table by its place and its layout, under this name, if there is one
 abbrev pub sourced : List ℕ → Option ℕ → Option Layout → Option Source
 sourced name None layout = None
 sourced name (Some table) None = None
 sourced name (Some table) (Some layout) =
     Some (record { table = table; scope = record { exposed_name = name; layout = layout } })
 
+-- the table that a query names, under its correlation name where one is written, if there is one
 abbrev pub source_of : Tables → List ℕ → Option (List ℕ) → Option Source
 source_of tables table correlation_name =
     sourced (unwrap_or correlation_name table) (position_of table tables) (layout_of table tables)
@@ -74,6 +76,7 @@ aggregate_in scope Expression-F.CountRows = Some CountRows
 aggregate_in scope (Expression-F.Aggregate function column) = option_map (of_column function) (own_column scope column)
 aggregate_in scope other = None
 
+-- what a select list lists, where it is one set function
 abbrev pub aggregate_selected : Scope → SelectList-F Condition Expression SelectList Query → Option Aggregate
 aggregate_selected scope SelectList-F.Star = None
 aggregate_selected scope (SelectList-F.One expression) = aggregate_in scope (out-Expression expression)
@@ -89,9 +92,11 @@ expression_may_stand place (Expression-F.Text t) = true
 expression_may_stand place (Expression-F.Column column) = is_some (place column)
 expression_may_stand place other = false
 
+-- the same of a select list
 abbrev pub selection_may_stand : (ColumnName → Option ℕ) → SelectList-F Condition Expression SelectList Query → Bool
 selection_may_stand place SelectList-F.Star = true
 selection_may_stand place (SelectList-F.One expression) = expression_may_stand place (out-Expression expression)
 
+-- whether a query under EXISTS may have this select list
 abbrev pub may_be_selected : (ColumnName → Option ℕ) → SelectList → Bool
 may_be_selected place select_list = selection_may_stand place (out-SelectList select_list)

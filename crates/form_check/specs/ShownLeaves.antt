@@ -11,12 +11,14 @@ use Rattle.form_check.specs.declared.leaves.Columns.{Columns}
 use Rattle.form_check.specs.declared.leaves.Columns.TheVariants as columns
 use Rattle.form_check.specs.Leaves.{Leaf, Leaves, Rows, Of, Exists, Value}
 
+-- what stands in a slot, of a lent tree
 abbrev pub shown_leaf : Lent → Leaf
 shown_leaf lent.Rows = Rows
 shown_leaf (lent.Of function column) = Of function column.now
 shown_leaf (lent.Exists query) = Exists query.now
 shown_leaf (lent.Value query) = Value query.now
 
+-- what stands in the slots of a condition, of lent trees
 abbrev pub shown_leaves : List Lent → Leaves
 shown_leaves leaves = map shown_leaf leaves
 

@@ -14,9 +14,11 @@ pub record Count : Type 0 where
 abbrev pub count_from : Value × ℕ → Count
 count_from entry = record { value = entry.0; count = entry.1 }
 
+-- the value that is counted
 abbrev pub value_of : Count → Value
 value_of count = count.value
 
+-- how often an entry's value stands; one that is missing, never
 abbrev pub count_in : Option Count → ℕ
 count_in None = 0
 count_in (Some count) = count.count
@@ -43,15 +45,18 @@ counts_more Null counts = counts
 counts_more (Int n) counts = put_count (Int n) (one_up (count_at (Int n) counts)) counts
 counts_more (Text t) counts = put_count (Text t) (one_up (count_at (Text t) counts)) counts
 
+-- the counts with a value once less
 abbrev pub counts_less : Value → List Count → List Count
 counts_less Null counts = counts
 counts_less (Int n) counts = put_count (Int n) (count_at (Int n) counts - 1) counts
 counts_less (Text t) counts = put_count (Text t) (count_at (Text t) counts - 1) counts
 
+-- the least value that stands there: what MIN gives
 abbrev pub first_value : List Count → Option Value
 first_value [] = None
 first_value (c ∷ cs) = Some c.value
 
+-- the greatest value that stands there: what MAX gives
 abbrev pub last_value : List Count → Option Value
 last_value [] = None
 last_value (c ∷ []) = Some c.value

@@ -24,6 +24,7 @@ known_value column (Some row) = unless_null (value_in column row)
 abbrev pub keys_more : Value → List Value → List Value
 keys_more k keys = ordered.put value_cmp (λ j. j) k (Some k) keys
 
+-- the keys without this one
 abbrev pub keys_less : Value → List Value → List Value
 keys_less k keys = ordered.put value_cmp (λ j. j) k None keys
 
@@ -40,6 +41,7 @@ put_keys v keys index = ordered.put value_cmp key_of v (entry_of v (unless_empty
 abbrev pub index_more : Value → Value → ValueKeys → ValueKeys
 index_more v k index = put_keys v (keys_more k (keys_at v index)) index
 
+-- the index with a key less for a value
 abbrev pub index_less : Value → Value → ValueKeys → ValueKeys
 index_less v k index = put_keys v (keys_less k (keys_at v index)) index
 

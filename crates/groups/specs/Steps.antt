@@ -26,6 +26,7 @@ there_of (Text t) = 1
 abbrev pub values_more : Aggregate → Value → List Count → List Count
 values_more asked v counts = if is_extreme asked then counts_more v counts else counts
 
+-- the counts with a value once less, where one of the values is asked for
 abbrev pub values_less : Aggregate → Value → List Count → List Count
 values_less asked v counts = if is_extreme asked then counts_less v counts else counts
 
@@ -38,6 +39,7 @@ one_more asked v t = record {
   values = values_more asked v t.values;
 }
 
+-- the total with one row less, by its value
 abbrev pub one_less : Aggregate → Value → Figures → Figures
 one_less asked v t = record {
   rows = t.rows - 1;
@@ -46,6 +48,7 @@ one_less asked v t = record {
   values = values_less asked v t.values;
 }
 
+-- the entries with this one for a group, or none
 abbrev pub put_entry : Value → Option Entry → Entries → Entries
 put_entry = ordered.put value_cmp group_in
 
@@ -62,6 +65,7 @@ abbrev pub entries_more : Aggregate → Member → Entries → Entries
 entries_more asked m entries =
     put_entry m.group (total_entry m.group (one_more asked m.value (figures_at m.group entries))) entries
 
+-- the entries with one row less
 abbrev pub entries_less : Aggregate → Member → Entries → Entries
 entries_less asked m entries =
     put_entry m.group (total_entry m.group (one_less asked m.value (figures_at m.group entries))) entries

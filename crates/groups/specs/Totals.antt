@@ -53,9 +53,11 @@ entry_from entry = record { group = entry.0; total = entry.1 }
 abbrev pub Entries : Type 0
 Entries = List Entry
 
+-- the group of an entry
 abbrev pub group_in : Entry → Value
 group_in entry = entry.group
 
+-- the entry of a group, if there is one
 abbrev pub entry_at : Value → Entries → Option Entry
 entry_at = ordered.at value_cmp group_in
 
@@ -109,5 +111,6 @@ pub record IsWithin (vs : List Value) : Type 0 where
   pub short : length vs < 2 ^ 63
   pub small : AreSmall vs
 
+-- each group is within what a table and its columns can have
 abbrev pub AreWithin : Members → Type 0
 AreWithin members = (v : Value) → IsWithin (members v)

@@ -7,6 +7,7 @@ use Rattle.layout.specs.declared.faults.FieldFault.{FieldFault}
 use Rattle.layout.specs.declared.faults.FieldFault.TheVariants.{NoMemory, Malformed}
 
 infixl 10 ◌>>=◌
+-- one field behind another, if the first is there
 abbrev pub ◌>>=◌ : {A B : Type 0} → Option A → (A → Option B) → Option B
 (Some x) >>= f = f x
 None >>= f = None
@@ -16,13 +17,16 @@ abbrev pub Fails : {Y : Type 0} → FieldFault → Option Y → Type 0
 Fails NoMemory read = Unit {0}
 Fails Malformed read = read ≡ None
 
+-- what a function returned is what is read: the value as `view` sees it, or a fault
 abbrev pub Gives : {X Y : Type 0} → (X → Y) → Result X FieldFault → Option Y → Type 0
 Gives view (Ok x) read = read ≡ Some (view x)
 Gives view (Err fault) read = Fails fault read
 
+-- a number, in eight bytes, the lowest first
 abbrev pub number_at : List ℕ → Option (ℕ × List ℕ)
 number_at bytes = if nat_lt (length bytes) 8 then None else Some (from_le_bytes w64 (take 8 bytes), drop 8 bytes)
 
+-- a text: how many bytes, and these
 unfoldable pub text_at : List ℕ → Option (List ℕ × List ℕ)
 text_at bytes = do
   n ← number_at bytes

@@ -88,14 +88,17 @@ abbrev pub party_number : Party → ℕ
 party_number This = 0
 party_number (Number n) = n
 
+-- the reader of a dangerous triple by its number
 abbrev pub reader_of : Refusal → ℕ
 reader_of (refusal.Dangerous reader pivot writer) = party_number reader
 reader_of other = 0
 
+-- the pivot of a dangerous triple by its number
 abbrev pub pivot_of : Refusal → ℕ
 pivot_of (refusal.Dangerous reader pivot writer) = party_number pivot
 pivot_of other = 0
 
+-- the writer of a dangerous triple by its number
 abbrev pub writer_of : Refusal → ℕ
 writer_of (refusal.Dangerous reader pivot writer) = party_number writer
 writer_of other = 0

@@ -30,10 +30,12 @@ value Null = 0 ∷ []
 value (Int n) = 1 ∷ number (bits_of n)
 value (Text bytes) = 2 ∷ text bytes
 
+-- a root: the value of a row's key or of a group, or the whole
 abbrev pub root : Root → List ℕ
 root All = 3 ∷ []
 root (Of v) = value v
 
+-- a truth, as a number
 abbrev pub truth : Truth → List ℕ
 truth False = number 0
 truth True = number 1
@@ -53,6 +55,7 @@ each_row (r ∷ rs) = row r ++ each_row rs
 abbrev pub rows : List RowValues → List ℕ
 rows rs = number (length rs) ++ each_row rs
 
+-- the names, one behind the other
 abbrev pub each_name : List (List ℕ) → List ℕ
 each_name [] = []
 each_name (name ∷ names) = text name ++ each_name names
@@ -61,10 +64,11 @@ each_name (name ∷ names) = text name ++ each_name names
 abbrev pub names : List (List ℕ) → List ℕ
 names ns = number (length ns) ++ each_name ns
 
--- how many columns, and the name of each
+-- the name of each column, one behind the other
 abbrev pub each_column : List Column → List ℕ
 each_column [] = []
 each_column (c ∷ cs) = text c.name ++ each_column cs
 
+-- how many columns, and the name of each
 abbrev pub columns : List Column → List ℕ
 columns cs = number (length cs) ++ each_column cs

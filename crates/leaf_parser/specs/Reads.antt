@@ -22,6 +22,7 @@ Reads outcome (Err e) new = Stops outcome e new
 abbrev pub full_stop : Kind → Stop
 full_stop kind = if same_kind kind k.Open then stop.Depth else stop.Syntax
 
+-- whether a kind says that the text has ended
 abbrev pub is_end : Kind → Bool
 is_end k.End = true
 is_end _ = false

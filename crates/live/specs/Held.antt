@@ -4,6 +4,7 @@ use Rattle.std.specs.Bool.{beq}
 use Rattle.std.specs.List.{list_any}
 use Rattle.live.specs.declared.snapshots.LiveSnapshot.{LiveSnapshot}
 
+-- whether an open transaction is the one with this ticket, this snapshot, and read only or not
 abbrev pub is_one : (ticket snapshot : ℕ) → (read_only : Bool) → LiveSnapshot → Bool
 is_one ticket snapshot read_only one =
     (one.ticket == ticket) && ((one.snapshot == snapshot) && beq one.read_only read_only)

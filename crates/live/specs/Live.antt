@@ -8,6 +8,7 @@ pub record LiveState : Type 0 where
   pub begun : ℕ
   pub snapshots : List LiveSnapshot
 
+-- before the first begin
 abbrev pub none_live : LiveState
 none_live = record { begun = 0; snapshots = [] }
 
@@ -18,6 +19,7 @@ with_begin snapshot read_only live = record {
   snapshots = live.snapshots ++ record { ticket = live.begun; snapshot = snapshot; read_only = read_only } ∷ [];
 }
 
+-- whether an open transaction has another ticket
 abbrev pub is_other : (ticket : ℕ) → LiveSnapshot → Bool
 is_other ticket one = not (one.ticket == ticket)
 

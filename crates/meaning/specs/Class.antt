@@ -37,6 +37,7 @@ pub data Piece : Type 0 where
   Exists : Query → Piece
   Value : Query → Piece
 
+-- the set functions and queries of a condition, from the left
 abbrev pub Pieces : Type 0
 Pieces = List Piece
 
@@ -53,6 +54,7 @@ expression_columns (Expression-F.Negation part) = part
 expression_columns (Expression-F.Sum parts) = flat_map (λ part. part) parts
 expression_columns (Expression-F.Product parts) = flat_map (λ part. part) parts
 
+-- those of a condition, by those of its parts
 abbrev pub condition_columns : Condition-F (List ColumnName) (List ColumnName) (Unit {0}) (Unit {0}) → List ColumnName
 condition_columns (Condition-F.Or parts) = flat_map (λ part. part) parts
 condition_columns (Condition-F.And parts) = flat_map (λ part. part) parts
@@ -64,6 +66,7 @@ condition_columns (Condition-F.IsNull part) = part
 condition_columns (Condition-F.Between x low high) = x ++ (low ++ high)
 condition_columns (Condition-F.In x list) = x ++ flat_map (λ part. part) list
 
+-- the columns that a condition names, from the left
 abbrev pub columns_in : Condition → List ColumnName
 columns_in =
     fold-Condition (List ColumnName) (List ColumnName) (Unit {0}) (Unit {0})
@@ -82,6 +85,7 @@ expression_pieces (Expression-F.Negation part) = part.1
 expression_pieces (Expression-F.Sum parts) = flat_map (λ part. part.1) parts
 expression_pieces (Expression-F.Product parts) = flat_map (λ part. part.1) parts
 
+-- those of a condition, by those of its parts
 abbrev pub condition_pieces :
     Condition-F (Condition × Pieces) (Expression × Pieces) (SelectList × Unit {0}) (Query × Unit {0}) → Pieces
 condition_pieces (Condition-F.Or parts) = flat_map (λ part. part.1) parts
@@ -94,6 +98,7 @@ condition_pieces (Condition-F.IsNull part) = part.1
 condition_pieces (Condition-F.Between x low high) = x.1 ++ (low.1 ++ high.1)
 condition_pieces (Condition-F.In x list) = x.1 ++ flat_map (λ part. part.1) list
 
+-- the set functions and queries in a condition, from the left
 unfoldable pub pieces_in : Condition → Pieces
 pieces_in = para-Condition Pieces Pieces (Unit {0}) (Unit {0}) condition_pieces expression_pieces (λ l. tt) (λ q. tt)
 
@@ -103,6 +108,7 @@ pieces_in = para-Condition Pieces Pieces (Unit {0}) (Unit {0}) condition_pieces 
 abbrev pub named_as : List ℕ → Layout → Scope
 named_as name layout = record { exposed_name = name; layout = layout }
 
+-- the table that a query names, under its correlation name where one is written, if there is one
 abbrev pub read_by : Tables → List ℕ → Option (List ℕ) → Option Scope
 read_by tables table correlation_name =
     option_map (named_as (unwrap_or correlation_name table)) (layout_of table tables)
@@ -156,6 +162,7 @@ pub record IsPlainQuery (tables : Tables) (query : Query) : Type 0 where
   pub ungrouped : IsNone (out-Query query).group
   pub whole : IsNone (out-Query query).having
 
+-- what a single condition may have: such a query, which stands for its value
 abbrev pub IsPlainPiece : Tables → Piece → Type 0
 IsPlainPiece tables Rows = ⊥
 IsPlainPiece tables (Of function column) = ⊥
@@ -169,6 +176,7 @@ pub record IsSingle (tables : Tables) (condition : Condition) : Type 0 where
 
 -- ---- by groups
 
+-- what a HAVING may have: COUNT(*), or a set function of a column of the table
 abbrev pub IsSetFunction : Scope → Piece → Type 0
 IsSetFunction scope Rows = Unit {0}
 IsSetFunction scope (Of function column) = IsOwn scope column
@@ -217,6 +225,7 @@ pub record IsLink (child root : Scope) (link : Link) (part : Condition) : Type 0
 abbrev pub JoinsRow : Scope → Scope → Condition → Type 0
 JoinsRow child root part = (link : Link) × IsLink child root link part
 
+-- a part joins the child's key with a column of the row around
 abbrev pub JoinsKey : Scope → Scope → Condition → Type 0
 JoinsKey child root part = (link : Link) × IsLink child root link part × (link.inner ≡ child.layout.key)
 
@@ -267,6 +276,7 @@ pub record IsLinkedQuery (tables : Tables) (root : Scope) (Lists : MayList) (que
   pub ungrouped : IsNone (out-Query query).group
   pub whole : IsNone (out-Query query).having
 
+-- what a WHERE over a row may have: EXISTS of a linked query, and one that stands for its value
 abbrev pub IsLinkedPiece : Tables → Scope → Piece → Type 0
 IsLinkedPiece tables root Rows = ⊥
 IsLinkedPiece tables root (Of function column) = ⊥
@@ -295,11 +305,14 @@ pub record IsDenied (condition : Condition) (query : Query) : Type 0 where
   pub denies : out-Condition condition ≡ Condition-F.Not part
   pub exists : out-Condition part ≡ Condition-F.Exists query
 
+-- by rows: no row of a table for which a condition is true
 abbrev pub IsByRows : Tables → Condition → Type 0
 IsByRows tables condition = (query : Query) × IsDenied condition query × IsRowQuery tables query
 
+-- by groups: no group of a table's rows for which a condition is true
 abbrev pub IsByGroups : Tables → Condition → Type 0
 IsByGroups tables condition = (query : Query) × IsDenied condition query × IsGroupQuery tables query
 
+-- the conditions that an assertion may have: by rows, by groups or single
 abbrev pub IsInClass : Tables → Condition → Type 0
 IsInClass tables condition = IsByRows tables condition ⊎ (IsByGroups tables condition ⊎ IsSingle tables condition)

@@ -81,6 +81,7 @@ first_key table (Some row) all = key.Row (record { table = table; key = row.valu
 first_key table None (first ∷ rest) = key.Column table first.column first.value
 first_key table None [] = key.Table table
 
+-- the key under which a WHERE of a table reads, by its text; one that is missing reads the table
 abbrev pub written_key : ℕ → Scope → Option Condition → LockKey
 written_key table scope condition =
     first_key table (find (λ e. e.column == scope.layout.key) (equalities scope condition)) (equalities scope condition)
@@ -147,6 +148,7 @@ InWhere P (Exists query) read = P query read
 InWhere P (Worth query) read = P query read
 InWhere P other read = ⊥
 
+-- the same in a single condition, where only a query that stands for its value may be
 abbrev pub InSingle : (Query → LockKey → Type 0) → Piece → LockKey → Type 0
 InSingle P (Worth query) read = P query read
 InSingle P other read = ⊥
@@ -202,6 +204,7 @@ pub record ReadsTables (tables : Tables) (condition : Condition) (looks : Looks)
   pub none : (state : State) (v : Value) → looks.at state (root.Of v) ≡ []
   pub finding : (change : Change) → looks.finds change ≡ []
 
+-- a check reads what its condition's text says: by rows, by groups or single
 abbrev pub ReadsAsWritten : Tables → Condition → Looks → Type 0
 ReadsAsWritten tables condition looks =
     ReadsRow tables condition looks ⊎ (ReadsGroup tables condition looks ⊎ ReadsTables tables condition looks)
@@ -227,6 +230,7 @@ abbrev pub StepReads : Tables → List ℕ → Option Condition → Step → Typ
 StepReads tables name condition step =
     (read : LockKey) × (checks : List LockKey) × IsWrittenKey tables name condition read × (step.reads ≡ read ∷ checks)
 
+-- a SELECT that is taken reads under the key of its text, and nothing else
 abbrev pub SelectReads : Type 0
 SelectReads = (declared : Declared) (read_only : Bool) (start : State) (now : Standing)
     → (columns : Which) (name : List ℕ) (condition : Option Condition) (select : Select)
@@ -235,6 +239,7 @@ SelectReads = (declared : Declared) (read_only : Bool) (start : State) (now : St
     × ((stepped declared start now (resolved declared read_only (statement.Select columns name condition))).reads
     ≡ read ∷ [])
 
+-- a DELETE that is taken, where the transaction may write, reads under the key of its text before its checks
 abbrev pub DeleteReads : Type 0
 DeleteReads = (declared : Declared) (start : State) (now : Standing)
     → (name : List ℕ) (condition : Option Condition) (delete : Delete)
@@ -242,6 +247,7 @@ DeleteReads = (declared : Declared) (start : State) (now : Standing)
     → StepReads declared.tables name condition
     (stepped declared start now (resolved declared false (statement.Delete name condition)))
 
+-- an UPDATE that is taken, where the transaction may write, reads under the key of its text before its checks
 abbrev pub UpdateReads : Type 0
 UpdateReads = (declared : Declared) (start : State) (now : Standing)
     → (name : List ℕ) (sets : List Assignment) (condition : Option Condition) (update : Update)
@@ -262,10 +268,12 @@ abbrev pub HasOneLink : Type 0
 HasOneLink = (child root : Scope) (condition : Condition) (link other : Link)
     → IsLinkedWhere child root link condition → IsLinkedWhere child root other condition → link ≡ other
 
+-- a check of the form that a condition has reads what the condition's text says
 abbrev pub CheckReads : Type 0
 CheckReads = (tables : Tables) (condition : Condition) (form : Form) → form_of tables condition ≡ Ok form
     → ReadsAsWritten tables condition (looks_of tables form)
 
+-- VERDICT of the form that a condition has reads the tables of the condition's text
 abbrev pub VerdictReads : Type 0
 VerdictReads = (tables : Tables) (condition : Condition) (form : Form) → form_of tables condition ≡ Ok form
     → ReadsWhole tables condition (map key.Table (tables_in form))

@@ -66,10 +66,12 @@ abbrev pub HasRootsOf : Tables → Condition → Form → Type 0
 HasRootsOf tables condition form = (state : State) (r : Root)
     → Contains (written_bad_roots tables state condition) r ↔ Contains (bad_roots (layouts_of tables) form state) r
 
+-- on every state a form is true, false or unknown as what is written
 abbrev pub HasTruthOf : Tables → Condition → Form → Type 0
 HasTruthOf tables condition form = (state : State)
     → written_truth tables state condition ≡ verdict_of (layouts_of tables) form state
 
+-- on every state a form has the least bad root of what is written
 abbrev pub HasLeastOf : Tables → Condition → Form → Type 0
 HasLeastOf tables condition form = (state : State)
     → written_least tables state condition ≡ least_bad_of (layouts_of tables) form state
@@ -79,6 +81,7 @@ abbrev pub HasWrittenRoots : Type 0
 HasWrittenRoots = (tables : Tables) (condition : Condition) (form : Form)
     → form_of tables condition ≡ Ok form → HasRootsOf tables condition form
 
+-- the form that a condition has has the truth of its text
 abbrev pub HasWrittenTruth : Type 0
 HasWrittenTruth = (tables : Tables) (condition : Condition) (form : Form)
     → form_of tables condition ≡ Ok form → HasTruthOf tables condition form
@@ -95,6 +98,7 @@ HasALink = (child root : Scope) (condition part : Condition) (before behind : Li
     → JoinsRow child root part → Each (IsOverBoth child root) (before ++ behind)
     → (link : Link) × IsLinkedWhere child root link condition
 
+-- the form that a condition has has the least bad root of its text
 abbrev pub HasWrittenLeast : Type 0
 HasWrittenLeast = (tables : Tables) (condition : Condition) (form : Form)
     → form_of tables condition ≡ Ok form → HasLeastOf tables condition form
@@ -158,12 +162,14 @@ DeletesRows = (tables : Tables) (name : List ℕ) (condition : Option Condition)
     → (state : State)
     → where_rows tables state name condition ≡ filtered_rows delete.filter (rows_of delete.table state)
 
+-- a SELECT lists the rows that its WHERE says
 abbrev pub SelectsRows : Type 0
 SelectsRows = (tables : Tables) (columns : Which) (name : List ℕ) (condition : Option Condition) (select : Select)
     → select_of tables columns name condition ≡ Ok select
     → (state : State)
     → where_rows tables state name condition ≡ filtered_rows select.filter (rows_of select.table state)
 
+-- an UPDATE changes the rows that its WHERE says
 abbrev pub UpdatesRows : Type 0
 UpdatesRows = (tables : Tables) (name : List ℕ) (sets : List Assignment) (condition : Option Condition)
     → (update : Update)

@@ -45,6 +45,7 @@ abbrev pub values_at : Option ℕ → List RowValues → List Value
 values_at None rows = []
 values_at (Some place) rows = map (value_in place) rows
 
+-- the values that a name has in the rows at hand of a table; none where it is of no table
 abbrev pub values_of : List ℕ → Option Reference → List Value
 values_of name None = []
 values_of name (Some reference) = values_at (named_in name reference.table) reference.rows
@@ -65,6 +66,7 @@ first_value (v ∷ vs) = v
 
 -- ---- set functions (6.5): NULLs are left out, and of no value COUNT is 0 and the others are NULL
 
+-- a set function of the values that are not NULL
 abbrev pub set_function : Aggregate → List Value → Value
 set_function Count values = Int (pos (length values))
 set_function Sum values = sum_answer values
@@ -87,24 +89,30 @@ pub record Answer : Type 0 where
 abbrev pub MeantCondition : Type 0
 MeantCondition = Condition-F (References → Truth) Valued Valued (References → List Answer)
 
+-- an expression with what its parts mean
 abbrev pub MeantExpression : Type 0
 MeantExpression = Expression-F (References → Truth) Valued Valued (References → List Answer)
 
+-- a select list with what its part means
 abbrev pub MeantSelectList : Type 0
 MeantSelectList = SelectList-F (References → Truth) Valued Valued (References → List Answer)
 
+-- a query with what its clauses mean
 abbrev pub MeantQuery : Type 0
 MeantQuery = Query-F (References → Truth) Valued Valued (References → List Answer)
 
 -- ---- expressions (6.11, 6.12): exact, and NULL where a part is NULL
 
+-- an expression in which no set function stands outside its queries
 abbrev pub simple : (References → Value) → Valued
 simple value = record { sets = false; value = value }
 
+-- whether a set function stands in one of some parts
 abbrev pub any_sets : List Valued → Bool
 any_sets [] = false
 any_sets (part ∷ parts) = part.sets || any_sets parts
 
+-- the values of some parts, from the left
 abbrev pub values : List Valued → References → List Value
 values parts around = map (λ part. part.value around) parts
 
@@ -113,12 +121,15 @@ abbrev pub only_value : List Answer → Value
 only_value [] = Null
 only_value (answer ∷ rest) = answer.value
 
+-- the value of a part with the other sign
 abbrev pub turned : Valued → References → Value
 turned part around = negated (part.value around)
 
+-- the sum of some parts; that of none is 0
 abbrev pub added : List Valued → References → Value
 added parts around = total (λ m n. m +ℤ n) (Int (pos 0)) (values parts around)
 
+-- the product of some parts; that of none is 1
 abbrev pub multiplied : List Valued → References → Value
 multiplied parts around = total (λ m n. m *ℤ n) (Int (pos 1)) (values parts around)
 
@@ -126,9 +137,11 @@ multiplied parts around = total (λ m n. m *ℤ n) (Int (pos 1)) (values parts a
 abbrev pub rows_counted : References → Value
 rows_counted around = Int (pos (length (rows_at_hand around)))
 
+-- a set function of a column: of what its rows at hand have there, without NULLs
 abbrev pub set_of_column : Aggregate → ColumnName → References → Value
 set_of_column function column around = set_function function (filter is_there (column_values column around))
 
+-- an expression by what its parts mean
 abbrev pub expression_step : MeantExpression → Valued
 expression_step (Expression-F.Number n) = simple (λ around. Int n)
 expression_step (Expression-F.Text t) = simple (λ around. Text t)
@@ -142,16 +155,20 @@ expression_step (Expression-F.Product parts) = record { sets = any_sets parts; v
 
 -- ---- predicates: comparison (8.2), BETWEEN (8.3), IN (8.4), IS NULL (8.6), EXISTS (8.8); search conditions (8.12)
 
+-- x BETWEEN low AND high: x >= low AND x <= high
 abbrev pub is_between : Value → Value → Value → Truth
 is_between x low high = and_of (compared AtLeast x low) (compared AtMost x high)
 
+-- x IN a list: x = one of its values, joined by OR
 abbrev pub is_in : Value → List Value → Truth
 is_in x list = any_of (map (compared Equal x) list)
 
+-- whether a query gives a row, which EXISTS asks
 abbrev pub is_any : List Answer → Bool
 is_any [] = false
 is_any (answer ∷ rest) = true
 
+-- the truth of a condition by what its parts mean: true, false or unknown
 abbrev pub condition_step : MeantCondition → References → Truth
 condition_step (Condition-F.Or parts) around = any_of (map (λ part. part around) parts)
 condition_step (Condition-F.And parts) around = all_of (map (λ part. part around) parts)
@@ -212,9 +229,11 @@ select_list_step (SelectList-F.One part) = part
 
 -- ---- the tables (6.3, 7.4)
 
+-- a table without columns, where a name is of no table
 abbrev pub no_layout : Layout
 no_layout = record { columns = []; key = 0 }
 
+-- the rows of the table at a place; none where there is no such table
 abbrev pub rows_at : Option ℕ → State → List RowValues
 rows_at None state = []
 rows_at (Some table) state = rows_of table state
@@ -227,26 +246,31 @@ table_of tables state name correlation_name = record {
   rows = rows_at (position_of name tables) state;
 }
 
+-- a query by what its clauses mean: the rows that it gives over its table
 abbrev pub query_step : Tables → State → MeantQuery → References → List Answer
 query_step tables state query = answers_over (table_of tables state query.table query.correlation_name) query
 
 -- ---- the whole
 
+-- the truth of a condition, seen from the tables around it
 abbrev pub truth : Tables → State → Condition → References → Truth
 truth tables state =
     fold-Condition (References → Truth) Valued Valued (References → List Answer)
     condition_step expression_step select_list_step (query_step tables state)
 
+-- the value of an expression, seen from the tables around it, and whether a set function stands in it
 abbrev pub valued : Tables → State → Expression → Valued
 valued tables state =
     fold-Expression (References → Truth) Valued Valued (References → List Answer)
     condition_step expression_step select_list_step (query_step tables state)
 
+-- the value of what a select list lists, and whether a set function stands in it
 abbrev pub select_list : Tables → State → SelectList → Valued
 select_list tables state =
     fold-SelectList (References → Truth) Valued Valued (References → List Answer)
     condition_step expression_step select_list_step (query_step tables state)
 
+-- the rows that a query gives, seen from the tables around it
 abbrev pub answers : Tables → State → Query → References → List Answer
 answers tables state =
     fold-Query (References → Truth) Valued Valued (References → List Answer)
@@ -263,9 +287,11 @@ abbrev pub root_of : Option (RowValues → Value) → ℕ → Answer → Root
 root_of None key answer = Of (first_value (map (value_in key) answer.rows))
 root_of (Some value) key answer = Of (first_value (map value answer.rows))
 
+-- what the answers of a query are named by
 abbrev pub roots_of_answers : Option ColumnName → Reference → List Answer → List Root
 roots_of_answers group table given = map (root_of (grouping group table []) table.table.layout.key) given
 
+-- the roots of what the outermost query gives
 abbrev pub query_roots : Tables → State → Query → Query-F Condition Expression SelectList Query → List Root
 query_roots tables state whole query =
     roots_of_answers query.group (table_of tables state query.table query.correlation_name)
@@ -275,14 +301,17 @@ query_roots tables state whole query =
 abbrev pub roots_of_whole : Truth → List Root
 roots_of_whole truth = if is_of truth False then All ∷ [] else []
 
+-- the bad roots of a NOT, by the condition under it and the truth of the whole
 abbrev pub denied_roots : Tables → State → Truth → Condition-F Condition Expression SelectList Query → List Root
 denied_roots tables state whole (Condition-F.Exists query) = query_roots tables state query (out-Query query)
 denied_roots tables state whole other = roots_of_whole whole
 
+-- the bad roots of a condition, by its tree and its truth
 abbrev pub roots_in : Tables → State → Truth → Condition-F Condition Expression SelectList Query → List Root
 roots_in tables state whole (Condition-F.Not part) = denied_roots tables state whole (out-Condition part)
 roots_in tables state whole other = roots_of_whole whole
 
+-- the roots at which an assertion is false, by the text of its condition
 abbrev pub written_bad_roots : Tables → State → Condition → List Root
 written_bad_roots tables state condition =
     roots_in tables state (written_truth tables state condition) (out-Condition condition)

@@ -7,6 +7,7 @@ use Rattle.token.specs.declared.spans.Token.{Token}
 use Rattle.token.specs.Lexer.{answer, next_of}
 use Rattle.syntax.specs.Reading.{same_kind}
 
+-- the kind of a name's token
 abbrev pub name_kind : Kind
 name_kind = k.Name
 
@@ -14,6 +15,7 @@ name_kind = k.Name
 abbrev pub is_whole_name : Token → (end : ℕ) → Bool
 is_whole_name t end = (same_kind t.kind name_kind && (t.start == 0)) && (t.end == end)
 
+-- the first token of some bytes is a name and all of them
 abbrev pub is_only_name : Result (Option Token) Refusal → (end : ℕ) → Bool
 is_only_name (Ok (Some t)) end = is_whole_name t end
 is_only_name (Ok None) end = false

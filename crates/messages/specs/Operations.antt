@@ -3,6 +3,7 @@ use Rattle.std.specs.Prelude.{ℕ, ◌==◌, Option, Some, None, if◌then◌els
 use Rattle.messages.specs.declared.operations.Operation.{Operation}
 use Rattle.messages.specs.declared.operations.Operation.TheVariants as op
 
+-- the operation of a number, if there is one
 abbrev pub operation_of : ℕ → Option Operation
 operation_of n =
     if n == 0 then Some op.Again

@@ -21,9 +21,11 @@ use Rattle.messages.specs.declared.responses.Source.TheVariants as source
 use Rattle.messages.specs.declared.responses.Response.{Response}
 use Rattle.messages.specs.declared.responses.Response.TheVariants as response
 
+-- a reply with one number: its kind, and the number
 abbrev pub numbered : (kind : ℕ) → ℕ → List ℕ
 numbered kind n = kind ∷ number n
 
+-- a reply with a text
 abbrev pub text_reply : List ℕ → List ℕ
 text_reply bytes = 14 ∷ text bytes
 
@@ -42,6 +44,7 @@ abbrev pub listed_columns : List Column → Event → List ℕ
 listed_columns all (event.Run (statement.Select (which.Names ns) table keeps)) = names ns
 listed_columns all other = columns all
 
+-- the reply of a statement that was not refused
 abbrev pub reply_bytes : List Column → Event → Reply → List ℕ
 reply_bytes all event reply.Inserted = numbered 8 1
 reply_bytes all event (reply.Updated n) = numbered 9 n
@@ -54,6 +57,7 @@ reply_bytes all event (reply.Verdict t) = 13 ∷ truth t
 abbrev pub refused_reply : (at_commit : Bool) → Refusal → (line : List ℕ) → List ℕ
 refused_reply at_commit refusal line = 15 ∷ (refusal_parts at_commit refusal ++ text line)
 
+-- the reply of an event's answer; a refusal has its line at the end
 abbrev pub answer_bytes : List Column → Step → Answer → (line : List ℕ) → List ℕ
 answer_bytes all step (answer.Begun n) line = numbered 5 n
 answer_bytes all step (answer.Replied reply) line = reply_bytes all step.event reply
@@ -74,10 +78,12 @@ line_of (response.Answered step answer) = answer_line step answer
 line_of (response.Refused source refusal) = refusal_line (source_name source) refusal
 line_of other = []
 
+-- whether an event was refused
 abbrev pub is_refused : Answer → Bool
 is_refused (answer.Refused refusal) = true
 is_refused other = false
 
+-- whether a response is of an event or a call that was refused
 abbrev pub is_refusal : Response → Bool
 is_refusal (response.Answered step answer) = is_refused answer
 is_refusal (response.Refused source refusal) = true

@@ -16,9 +16,11 @@ pub record RunFields : Type 0 where
   pub statement : ℕ
   pub values : List Value
 
+-- the fields of a request that was read to run a statement
 abbrev pub run_fields : RunRequest → RunFields
 run_fields r = record { session = r.session; statement = r.statement; values = r.values.items }
 
+-- the fields in a request to run a statement, if it can be read
 unfoldable pub run_request : List ℕ → Option RunFields
 run_request request = do
   session ← number_at request

@@ -11,6 +11,7 @@ use Rattle.messages.specs.declared.responses.Response.TheVariants as response
 use Rattle.messages.specs.declared.responses.Status.{Status}
 use Rattle.messages.specs.declared.responses.Status.TheVariants as status
 
+-- the number of a status, as C sees it
 abbrev pub status_number : Status → ℤ
 status_number status.Done = pos 0
 status_number status.Refused = pos 1
@@ -25,14 +26,17 @@ status_number status.BadName = pos 9
 status_number status.NameTaken = pos 10
 status_number status.Closed = pos 11
 
+-- the status of a refusal; memory that ran out has its own
 abbrev pub status_of_refusal : Refusal → Status
 status_of_refusal refusal.NoMemory = status.NoMemory
 status_of_refusal other = status.Refused
 
+-- the status of an event's answer
 abbrev pub status_of_answer : Answer → Status
 status_of_answer (answer.Refused refusal) = status_of_refusal refusal
 status_of_answer other = status.Done
 
+-- the status of a misuse: of a call that could not be made
 abbrev pub status_of_misuse : Misuse → Status
 status_of_misuse misuse.BadRequest = status.BadRequest
 status_of_misuse misuse.NoSession = status.NoSession

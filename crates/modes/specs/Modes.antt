@@ -15,10 +15,12 @@ use Rattle.assertion.specs.declared.assertions.Assertion.{Assertion}
 abbrev pub Immediates : Type 0
 Immediates = List Bool
 
+-- whether a mode is IMMEDIATE
 abbrev pub is_immediate : Mode → Bool
 is_immediate Deferred = false
 is_immediate Immediate = true
 
+-- the mode of an assertion, by whether it is immediate
 abbrev pub mode_of : Bool → Mode
 mode_of true = Immediate
 mode_of false = Deferred
@@ -27,6 +29,7 @@ mode_of false = Deferred
 abbrev pub initial_modes : List Assertion → Immediates
 initial_modes assertions = map (λ a. not a.attributes.initially_deferred) assertions
 
+-- whether a name is among some names
 abbrev pub is_named : List (List ℕ) → List ℕ → Bool
 is_named names name = list_any (λ other. bytes_eq other name) names
 
@@ -50,6 +53,7 @@ named_ones names assertions = filter (λ a. is_named names a.name) assertions
 abbrev pub all_immediate : List Assertion → Immediates
 all_immediate assertions = map (λ a. true) assertions
 
+-- those of some names are immediate, and no others
 abbrev pub named_immediate : List (List ℕ) → List Assertion → Immediates
 named_immediate names assertions = map (λ a. is_named names a.name) assertions
 

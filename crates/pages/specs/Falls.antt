@@ -18,6 +18,7 @@ module _ {V : Type 0} where
   most_le-highest weight low [] = omega arith
   most_le-highest weight low (node ∷ nodes) = omega (arith, low node, most_le-highest weight low nodes)
 
+  -- the depth that the code counts of a node is at most the height of what it shows
   pub deep_le-height : (shape : Shape V) → max (deep-Shape V shape) 0 ≤ (seen shape).0
   deep_le-height (Leaf page) = omega arith
   deep_le-height (Inner nodes) =

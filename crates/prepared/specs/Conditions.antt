@@ -12,15 +12,19 @@ use Rattle.syntax.specs.declared.trees.Query.{Query}
 use Rattle.syntax.specs.Grammar.{query_of}
 use Rattle.prepared.specs.Constants.{Filled, and_then, then_made, same, both, all, if_there, next, expression_of}
 
+-- an expression with what its parts become
 abbrev pub ExpressionLayer : Type 0
 ExpressionLayer = Expression-F (Filled Condition) (Filled Expression) (Filled SelectList) (Filled Query)
 
+-- a condition with what its parts become
 abbrev pub ConditionLayer : Type 0
 ConditionLayer = Condition-F (Filled Condition) (Filled Expression) (Filled SelectList) (Filled Query)
 
+-- a select list with what its part becomes
 abbrev pub SelectListLayer : Type 0
 SelectListLayer = SelectList-F (Filled Condition) (Filled Expression) (Filled SelectList) (Filled Query)
 
+-- a query with what its clauses become
 abbrev pub QueryLayer : Type 0
 QueryLayer = Query-F (Filled Condition) (Filled Expression) (Filled SelectList) (Filled Query)
 
@@ -50,6 +54,7 @@ condition_step (Condition-F.Between subject low high) constants =
     and_then (subject constants) (λ s. both (b.Between s.0) low high s.1)
 condition_step (Condition-F.In subject values) constants = both b.In subject (all values) constants
 
+-- what a query lists, likewise
 abbrev pub select_list_step : SelectListLayer → Filled SelectList
 select_list_step SelectList-F.Star constants = same which.Star constants
 select_list_step (SelectList-F.One part) constants = then_made which.One (part constants)
@@ -61,21 +66,25 @@ query_step query constants =
     both (λ keeps having. query_of list.0 query.table query.correlation_name keeps query.group having)
     (if_there query.keeps) (if_there query.having) list.1)
 
+-- a condition with values in the places of its parameters
 abbrev pub filled_condition : Condition → Filled Condition
 filled_condition =
     fold-Condition (Filled Condition) (Filled Expression) (Filled SelectList) (Filled Query) condition_step
     expression_step select_list_step query_step
 
+-- an expression with values in the places of its parameters
 abbrev pub filled_expression : Expression → Filled Expression
 filled_expression =
     fold-Expression (Filled Condition) (Filled Expression) (Filled SelectList) (Filled Query) condition_step
     expression_step select_list_step query_step
 
+-- a select list with values in the places of its parameters
 abbrev pub filled_select_list : SelectList → Filled SelectList
 filled_select_list =
     fold-SelectList (Filled Condition) (Filled Expression) (Filled SelectList) (Filled Query) condition_step
     expression_step select_list_step query_step
 
+-- a query with values in the places of its parameters
 abbrev pub filled_query : Query → Filled Query
 filled_query =
     fold-Query (Filled Condition) (Filled Expression) (Filled SelectList) (Filled Query) condition_step expression_step

@@ -20,6 +20,7 @@ pub record Given : Type 0 where
 abbrev pub Constants : Type 0
 Constants = List (Option Given)
 
+-- the value for a number of the text, if the number is a parameter
 abbrev pub value_of : List Value → Option ℕ → Option Given
 value_of values None = None
 value_of values (Some n) = option_map (λ value. record { parameter = n + 1; value = value }) (slice_get values n)
@@ -48,6 +49,7 @@ constant_by parameter (v.Int n) =
     if nat_lt largest_number (unsigned_abs n) then Err (NumberOutOfRange parameter) else Ok (v.Int n)
 constant_by parameter (v.Text t) = if is_plain t then Ok (v.Text t) else Err (TextNotPlain parameter)
 
+-- a value as the constant that an INSERT puts in, or why it is none
 abbrev pub constant_of : Given → Result Value FillFault
 constant_of given = constant_by given.parameter given.value
 
@@ -57,6 +59,7 @@ expression_by parameter v.Null = Err (NullNotAllowed parameter)
 expression_by parameter (v.Int n) = Ok (e.Number n)
 expression_by parameter (v.Text t) = Ok (e.Text t)
 
+-- a value as an expression, or why it is none
 abbrev pub expression_of : Given → Result Expression FillFault
 expression_of given = and_then (constant_of given) (expression_by given.parameter)
 
@@ -66,6 +69,7 @@ assigned_by v.Null = to.Null
 assigned_by (v.Int n) = to.To (e.Number n)
 assigned_by (v.Text t) = to.To (e.Text t)
 
+-- a value as what an UPDATE gives to a column, or why it is none
 abbrev pub assigned_of : Given → Result Assigned FillFault
 assigned_of given = and_then (constant_of given) (λ value. Ok (assigned_by value))
 

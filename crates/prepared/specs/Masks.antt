@@ -24,15 +24,17 @@ next_by text (Ok (Some t)) = Some (next.Token t.end)
 next_by text (Err (Syntax at)) = if is_question_at text at then Some (next.Parameter at) else None
 next_by text (Err _) = None
 
+-- what stands next in a text, from an offset on
 unfoldable pub next_at : Text → ℕ → Option Next
 next_at text from = next_by text (answer (next_of text from))
 
--- Where the parameters stand, from an offset on. The number bounds the turns, each of which takes a byte at least.
+-- where the parameters stand, by what stands next, and what stands behind it
 abbrev pub places_by : (ℕ → List ℕ) → Option Next → List ℕ
 places_by behind None = []
 places_by behind (Some (next.Token end)) = behind end
 places_by behind (Some (next.Parameter at)) = at ∷ behind (at + 1)
 
+-- where they stand from an offset on, in no more than so many turns, each of which takes a byte at least
 abbrev pub places_within : ℕ → Text → ℕ → List ℕ
 places_within zero text from = []
 places_within (suc n) text from = places_by (places_within n text) (next_at text from)

@@ -10,14 +10,17 @@ use Rattle.token.specs.Bytes.{Text}
 use Rattle.syntax.specs.Lexemes.{bytes_of}
 use Rattle.prepared.specs.Masks.{is_question}
 
+-- whether a token is a number, as each parameter is in the mask
 abbrev pub is_number : Kind → Bool
 is_number k.Number = true
 is_number _ = false
 
+-- whether a token is a quoted text
 abbrev pub is_text : Kind → Bool
 is_text k.Text = true
 is_text _ = false
 
+-- whether a token is a plus or a minus
 abbrev pub is_sign : Kind → Bool
 is_sign k.Plus = true
 is_sign k.Minus = true
@@ -65,5 +68,6 @@ stray_from text behind_operand behind_sign (t ∷ ts) =
     option_or (stray_at text behind_sign t)
     (stray_from text (ends_operand t.kind) (is_sign t.kind && not behind_operand) ts)
 
+-- the first parameter of a text that stands where none may, found among the tokens of its mask
 unfoldable pub stray : Text → List Token → Option ℕ
 stray text tokens = stray_from text false false tokens

@@ -21,6 +21,7 @@ use Rattle.syntax.specs.declared.statements.Event.TheVariants as event
 use Rattle.syntax.specs.Language.{Lexeme, Lexemes}
 use Rattle.prepared.specs.Numbers.{is_number}
 
+-- the values of some numbers, in reading order
 abbrev pub Numerals : Type 0
 Numerals = List ℕ
 
@@ -28,6 +29,7 @@ Numerals = List ℕ
 abbrev pub numeral : Lexeme → Numerals
 numeral x = if is_number x.kind then digits_value x ∷ [] else []
 
+-- those of a text, from the left
 abbrev pub numerals : Lexemes → Numerals
 numerals tokens = flat_map numeral tokens
 
@@ -53,6 +55,7 @@ expression_step (Expression-F.Negation part) = part
 expression_step (Expression-F.Sum parts) = joined parts
 expression_step (Expression-F.Product parts) = joined parts
 
+-- those of a condition, likewise
 abbrev pub condition_step : Condition-F Numerals Numerals Numerals Numerals → Numerals
 condition_step (Condition-F.Or parts) = joined parts
 condition_step (Condition-F.And parts) = joined parts
@@ -64,25 +67,31 @@ condition_step (Condition-F.IsNull part) = part
 condition_step (Condition-F.Between subject low high) = subject ++ (low ++ high)
 condition_step (Condition-F.In subject values) = subject ++ joined values
 
+-- those of what a query lists
 abbrev pub select_list_step : SelectList-F Numerals Numerals Numerals Numerals → Numerals
 select_list_step SelectList-F.Star = []
 select_list_step (SelectList-F.One part) = part
 
+-- those of a query: its list, WHERE and HAVING
 abbrev pub query_step : Query-F Numerals Numerals Numerals Numerals → Numerals
 query_step query = query.select_list ++ (of_optional query.keeps ++ of_optional query.having)
 
+-- the numbers of an expression
 unfoldable pub expression_numerals : Expression → Numerals
 expression_numerals =
     fold-Expression Numerals Numerals Numerals Numerals condition_step expression_step select_list_step query_step
 
+-- the numbers of a condition
 unfoldable pub condition_numerals : Condition → Numerals
 condition_numerals =
     fold-Condition Numerals Numerals Numerals Numerals condition_step expression_step select_list_step query_step
 
+-- the numbers of what a query lists
 unfoldable pub select_list_numerals : SelectList → Numerals
 select_list_numerals =
     fold-SelectList Numerals Numerals Numerals Numerals condition_step expression_step select_list_step query_step
 
+-- the numbers of a query
 unfoldable pub query_numerals : Query → Numerals
 query_numerals =
     fold-Query Numerals Numerals Numerals Numerals condition_step expression_step select_list_step query_step
@@ -92,20 +101,25 @@ abbrev pub value_numerals : Value → Numerals
 value_numerals (v.Int n) = unsigned_abs n ∷ []
 value_numerals _ = []
 
+-- those of the values of an INSERT
 abbrev pub insert_numerals : Insert → Numerals
 insert_numerals insert = joined (map value_numerals insert.values)
 
+-- those of what a column is given
 abbrev pub assigned_numerals : Assigned → Numerals
 assigned_numerals to.Null = []
 assigned_numerals (to.To x) = expression_numerals x
 
+-- those of an assignment
 abbrev pub assignment_numerals : Assignment → Numerals
 assignment_numerals set = assigned_numerals set.value
 
+-- those of a WHERE, if there is one
 abbrev pub where_numerals : Option Condition → Numerals
 where_numerals None = []
 where_numerals (Some condition) = condition_numerals condition
 
+-- those of a statement, in the order in which it is written
 abbrev pub statement_numerals : Statement → Numerals
 statement_numerals (s.Insert insert) = insert_numerals insert
 statement_numerals (s.Update table sets keeps) = joined (map assignment_numerals sets) ++ where_numerals keeps

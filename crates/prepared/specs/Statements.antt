@@ -27,9 +27,11 @@ filled_value v.Null constants = same v.Null constants
 filled_value (v.Text t) constants = same (v.Text t) constants
 filled_value (v.Int n) constants = next constant_of (v.Int n) constants
 
+-- the values of an INSERT, from the left
 abbrev pub filled_values : List Value → Filled (List Value)
 filled_values values = all (map filled_value values)
 
+-- an INSERT with values in the places of its parameters
 abbrev pub filled_insert : Insert → Filled Insert
 filled_insert insert constants =
     then_made (insert_of insert.table insert.columns) (filled_values insert.values constants)
@@ -39,13 +41,16 @@ abbrev pub assigned_layer : Expression → Expression-F Condition Expression Sel
 assigned_layer x (Expression-F.Number n) constants = next assigned_of (to.To (e.Number n)) constants
 assigned_layer x _ constants = then_made to.To (filled_expression x constants)
 
+-- what an UPDATE gives to a column, which may be NULL as it is written
 abbrev pub filled_assigned : Assigned → Filled Assigned
 filled_assigned to.Null constants = same to.Null constants
 filled_assigned (to.To x) constants = assigned_layer x (out-Expression x) constants
 
+-- an assignment with a value in the place of each parameter
 abbrev pub filled_assignment : Assignment → Filled Assignment
 filled_assignment set constants = then_made (assignment_of set.column) (filled_assigned set.value constants)
 
+-- the assignments of an UPDATE, from the left
 abbrev pub filled_assignments : List Assignment → Filled (List Assignment)
 filled_assignments sets = all (map filled_assignment sets)
 
@@ -53,6 +58,7 @@ filled_assignments sets = all (map filled_assignment sets)
 abbrev pub filled_where : Option Condition → Filled (Option Condition)
 filled_where keeps = if_there (option_map filled_condition keeps)
 
+-- a statement with values in the places of its parameters; some statements have none
 abbrev pub filled_statement : Statement → Filled Statement
 filled_statement (s.Insert insert) constants = then_made s.Insert (filled_insert insert constants)
 filled_statement (s.Update table sets keeps) constants =
@@ -63,6 +69,7 @@ filled_statement (s.Select which table keeps) constants =
 filled_statement (s.SetConstraints which mode) constants = same (s.SetConstraints which mode) constants
 filled_statement (s.Verdict name) constants = same (s.Verdict name) constants
 
+-- an event with values in the places of its parameters: those of its statement
 abbrev pub filled_event : Event → Filled Event
 filled_event (event.Run statement) constants = then_made event.Run (filled_statement statement constants)
 filled_event other constants = same other constants

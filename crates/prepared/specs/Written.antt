@@ -23,6 +23,7 @@ pub record WritesNumber (n : ℕ) (x : Lexeme) : Type 0 where
   pub kind : x.kind ≡ k.Number
   pub digits : digits_value x ≡ n
 
+-- a minus, and the digits of a number
 pub record WritesNegative (n : ℕ) (tokens : Lexemes) : Type 0 where
   pub minus : Lexeme
   pub number : Lexeme
@@ -30,11 +31,13 @@ pub record WritesNegative (n : ℕ) (tokens : Lexemes) : Type 0 where
   pub sign : minus.kind ≡ k.Minus
   pub digits : WritesNumber n number
 
+-- the digits of a number alone
 pub record WritesPositive (n : ℕ) (tokens : Lexemes) : Type 0 where
   pub number : Lexeme
   pub are : tokens ≡ number ∷ []
   pub digits : WritesNumber n number
 
+-- these tokens write a number, negative or not
 abbrev pub WritesInt : ℤ → Lexemes → Type 0
 WritesInt (pos n) tokens = WritesPositive n tokens
 WritesInt (negsuc n) tokens = WritesNegative (suc n) tokens
@@ -75,6 +78,7 @@ abbrev pub MayStand : Event → Value → Type 0
 MayStand (event.Run (s.Insert insert)) value = IsValue value
 MayStand other value = IsConstant value
 
+-- each of some values is so
 abbrev pub AreAll : (Value → Type 0) → List Value → Type 0
 AreAll ok [] = Unit {0}
 AreAll ok (value ∷ rest) = ok value × AreAll ok rest
@@ -84,6 +88,7 @@ abbrev pub for_token : Bool → Constants → Option Given
 for_token true constants = (taken constants).0
 for_token false constants = None
 
+-- the constants that are left behind a token: a number takes one
 abbrev pub behind_token : Bool → Constants → Constants
 behind_token true constants = (taken constants).1
 behind_token false constants = constants
@@ -107,6 +112,7 @@ pub record IsWritten (text : Text) (prepared : Prepared) (values : List Value) (
   pub fills : filled prepared values ≡ Ok event
   pub reads : IsEvent (written write (lexemes (mask text)) (constants_of prepared.numbers values)) event
 
+-- the law: values that may stand there, filled in, make the event of each text that has them written
 abbrev pub FilledIsWritten : Type 0
 FilledIsWritten =
     (text : Text) (prepared : Prepared) (values : List Value) (write : Given → Lexemes) → IsPrepared text prepared

@@ -13,6 +13,7 @@ abbrev pub left_line : List ℕ → Option OpenTransaction → List ℕ
 left_line session None = []
 left_line session (Some t) = left_open_line session
 
+-- a line for each session whose transaction is open in the end
 abbrev pub left_lines : List Seat → List ℕ
 left_lines [] = []
 left_lines (seat ∷ seats) = left_line seat.session seat.txn ++ left_lines seats

@@ -41,9 +41,11 @@ pub record AreAdmitted (defs script : List ℕ) (shown : Shown) (steps : List St
 abbrev pub most_sessions : ℕ
 most_sessions = 256
 
+-- a script has no more sessions than it may have
 abbrev pub HasFewSessions : List Step → Type 0
 HasFewSessions steps = length (all_seated [] steps) ≤ most_sessions
 
+-- a script has more sessions than it may have
 abbrev pub HasManySessions : List Step → Type 0
 HasManySessions steps = most_sessions < length (all_seated [] steps)
 

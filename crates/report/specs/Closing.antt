@@ -18,6 +18,7 @@ commit_line commit =
     ++ codes " SNAPSHOT " ++ decimal commit.snapshot
     ++ codes " ROWS " ++ decimal (length commit.changes) ++ codes "\n"
 
+-- a line for each commit
 abbrev pub commit_lines : List Record → List ℕ
 commit_lines [] = []
 commit_lines (commit ∷ commits) = commit_line commit ++ commit_lines commits
@@ -39,6 +40,7 @@ serial_line order = codes "SERIAL" ++ spaced order ++ codes "\n"
 abbrev pub refused_line : RefusedCommit → List ℕ
 refused_line refused = refused.session ++ codes " " ++ fault_text true refused.refusal ++ codes "\n"
 
+-- a line for each refused COMMIT
 abbrev pub refused_lines : List RefusedCommit → List ℕ
 refused_lines [] = []
 refused_lines (refused ∷ rest) = refused_line refused ++ refused_lines rest

@@ -37,20 +37,22 @@ value_text Null = codes "NULL"
 value_text (Int n) = signed_decimal n
 value_text (Text bytes) = codes "'" ++ doubled bytes ++ codes "'"
 
+-- a root: the value of a row's key or of a group, or ALL
 abbrev pub root_text : Root → List ℕ
 root_text All = codes "ALL"
 root_text (Of v) = value_text v
 
+-- a party of a dangerous triple: the number of its commit, or THIS for the transaction that is refused
 abbrev pub party_text : Party → List ℕ
 party_text This = codes "THIS"
 party_text (Number n) = decimal n
 
--- the SQLSTATE of a number beyond its range, and of a text past its length
+-- the fault number and the SQLSTATE of a number beyond its range, and of a text past its length
 abbrev pub excess_text : Excess → List ℕ
 excess_text excess.Number = codes "9 22003 "
 excess_text excess.Text = codes "9 22001 "
 
--- the SQLSTATE of a violated assertion, at a statement or at COMMIT
+-- the fault number and the SQLSTATE of a violated assertion, at a statement or at COMMIT
 abbrev pub violated_text : Bool → List ℕ
 violated_text false = codes "10 23000 "
 violated_text true = codes "10 40002 "
@@ -89,6 +91,7 @@ fault_text at_commit (refusal.AttributeClash assertion) = codes "22 - " ++ asser
 fault_text at_commit refusal.ReadOnlyTransaction = codes "23 - READ ONLY"
 fault_text at_commit refusal.TooManySessions = codes "24 - TOO MANY SESSIONS"
 
+-- whether an event is COMMIT
 abbrev pub is_commit : Event → Bool
 is_commit event.Begin = false
 is_commit event.BeginReadOnly = false
@@ -106,6 +109,7 @@ abbrev pub further_values : RowValues → List ℕ
 further_values [] = []
 further_values (v ∷ row) = (codes ", " ++ value_text v) ++ further_values row
 
+-- the values of a row, in the order in which SELECT names the columns
 abbrev pub row_text : RowValues → List ℕ
 row_text [] = []
 row_text (v ∷ row) = value_text v ++ further_values row
@@ -115,6 +119,7 @@ abbrev pub row_lines : List RowValues → List ℕ
 row_lines [] = []
 row_lines (row ∷ rows) = (codes "\n  " ++ row_text row) ++ row_lines rows
 
+-- what a statement is answered that was not refused
 abbrev pub reply_text : Event → Reply → List ℕ
 reply_text event Inserted = codes "INSERT 1"
 reply_text event (Updated n) = codes "UPDATE " ++ decimal n
@@ -123,6 +128,7 @@ reply_text event (Rows rows) = (codes "SELECT " ++ decimal (length rows)) ++ row
 reply_text event ModesSet = codes "SET CONSTRAINTS"
 reply_text event (Verdict truth) = codes "VERDICT " ++ asked_name event ++ codes " " ++ name_of truth
 
+-- what an event is answered, or the fault by which it is refused
 abbrev pub answer_text : Event → Answer → List ℕ
 answer_text event (Begun n) = codes "BEGIN " ++ decimal n
 answer_text event (Replied reply) = reply_text event reply

@@ -47,9 +47,11 @@ given_by (Some link) state row q =
     aggregate q.aggregate (rows_beside link q.filter (rows_of q.table state) row)
 given_by None state row q = query_answer state (asked q.grouping row) q
 
+-- what a query gives for the row that its condition sees, by how its rows are grouped
 abbrev pub given : State → RowValues → Query Grouping → Value
 given state row q = given_by (key_link q.grouping) state row q
 
+-- what each query of a condition gives for the row that the condition sees, slot by slot
 abbrev pub answers : State → List (Query Grouping) → RowValues → List Value
 answers state queries row = map (given state row) queries
 

@@ -3,6 +3,7 @@ use Rattle.assertion.specs.declared.queries.Query.{Query}
 use Rattle.roots.specs.declared.grouped.Grouping.{Grouping}
 use Rattle.roots.specs.declared.grouped.Summary.{Summary}
 
+-- a summary whose filter is lent, as the query that it is of
 abbrev pub shown : Summary → Query Grouping
 shown summary =
     record {

@@ -68,6 +68,7 @@ group_rows_by None state q v = rows_in (place q) (rows_of q.table state) v
 group_rows_by (Some around) state q v =
     rows_beside_one around.link q.filter (rows_of q.table state) (row_at around.key v (rows_of around.table state))
 
+-- the rows of a group, whichever way the rows of the query are grouped
 abbrev pub group_rows : State → Query Grouping → Value → List RowValues
 group_rows state q v = group_rows_by (around_of q.grouping) state q v
 
@@ -92,12 +93,15 @@ linked_grouping layouts table q =
     else PerRow (record { table = table; key = key_of table layouts; link = q.grouping })
     else Linked q.grouping
 
+-- a subquery of a table's rows, with its rows grouped so
 abbrev pub linked_query : List Layout → ℕ → Query Link → Query Grouping
 linked_query layouts table q = regrouped (linked_grouping layouts table q) q
 
+-- a query of a single condition, all rows of which are one group
 abbrev pub whole_query : Query AnyWhole → Query Grouping
 whole_query q = regrouped Whole q
 
+-- a set function of HAVING, as a query of which each group has its own total
 abbrev pub group_query : ℕ → Cond → ℕ → Aggregate → Query Grouping
 group_query table restriction group a =
     record { table = table; filter = restriction; grouping = By group; aggregate = a }

@@ -39,6 +39,7 @@ pub record IsPivotNamed (log : List Record) (commit : Record) (reader writer : �
   pub reader_named : first.number ≡ reader
   pub writer_named : last.number ≡ writer
 
+-- the commit is the pivot of no dangerous triple
 abbrev pub IsNoPivot : List Record → Record → Type 0
 IsNoPivot log commit = (reader writer : Record)
     → Contains log reader → Contains log writer → IsDangerous reader commit writer → ⊥

@@ -19,6 +19,7 @@ put_in declared state changes = state_after_all (layouts_in declared) changes st
 abbrev pub run_of : Declared → Record → State → Outcome
 run_of declared commit state = transaction declared commit.trace state
 
+-- the keys under which a recorded transaction reads, run alone on a state
 abbrev pub keys_of : Declared → Record → State → List LockKey
 keys_of declared commit state = transaction_keys declared commit.trace state
 
@@ -26,6 +27,7 @@ keys_of declared commit state = transaction_keys declared commit.trace state
 abbrev pub state_of : Declared → State → List Record → ℕ → State
 state_of declared start log number = state_after (put_in declared) start (held number log)
 
+-- the state after all commits
 abbrev pub newest : Declared → State → List Record → State
 newest declared start log = state_after (put_in declared) start log
 

@@ -19,6 +19,7 @@ rank_at place commit =
     then 3 * commit.snapshot + 2
     else (if place == commit.number then 3 * commit.number + 1 else 3 * place)
 
+-- where a commit stands in the serial order, as a number
 abbrev pub rank : List Record → Record → ℕ
 rank log commit = rank_at (least_out log commit) commit
 
@@ -28,6 +29,7 @@ put_by key commit [] = commit ∷ []
 put_by key commit (other ∷ rest) =
     if nat_lt (key commit) (key other) then commit ∷ other ∷ rest else other ∷ put_by key commit rest
 
+-- commits in the order of a number, those of one number as they came, the oldest first
 abbrev pub sort_by : (Record → ℕ) → List Record → List Record
 sort_by key [] = []
 sort_by key (commit ∷ earlier) = put_by key commit (sort_by key earlier)

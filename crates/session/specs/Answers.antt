@@ -31,7 +31,7 @@ IsUnbegun known NoMemory = known ≡ true
 IsUnbegun known Stranger = known ≡ false
 IsUnbegun known refusal = ⊥
 
--- the refusals that leave a transaction as it was, and those of COMMIT that end it
+-- the refusals that leave a transaction as it was
 abbrev pub IsGivenBack : Refusal → Type 0
 IsGivenBack NoMemory = ⊤
 IsGivenBack Stranger = ⊤
@@ -43,6 +43,7 @@ is_retryable (WriteConflict name key by) = true
 is_retryable (Dangerous reader pivot writer) = true
 is_retryable refusal = false
 
+-- the refusals of COMMIT that end its transaction
 abbrev pub IsEnding : Refusal → Type 0
 IsEnding (Violated name root) = ⊤
 IsEnding EpochFull = ⊤
@@ -55,13 +56,16 @@ abbrev pub receipt_of : (id epoch number : ℕ) → Option Token → Option Rece
 receipt_of id epoch number None = None
 receipt_of id epoch number (Some token) = Some (record { id = id; epoch = epoch; number = number; token = token })
 
+-- the receipt of the commit with a number, if there is a token for it
 abbrev pub receipt_at : List Token → (id epoch number : ℕ) → Option ReceiptState
 receipt_at tokens id epoch number = receipt_of id epoch number (slice_get tokens number)
 
+-- the receipt of a party of a triple; the transaction that is refused has none
 abbrev pub party_receipt : List Token → (id epoch : ℕ) → Party → Option ReceiptState
 party_receipt tokens id epoch This = None
 party_receipt tokens id epoch (Numbered number) = receipt_at tokens id epoch number
 
+-- one receipt, or none, where a refusal may show three
 abbrev pub only : Option ReceiptState → List (Option ReceiptState)
 only receipt = receipt ∷ None ∷ None ∷ []
 
@@ -80,16 +84,20 @@ shown_among tokens id epoch count refusal = only None
 abbrev pub IsShownBy : (id epoch : ℕ) → Option ReceiptState → Type 0
 IsShownBy id epoch shown = IfSome shown (λ receipt. (receipt.id ≡ id) × (receipt.epoch ≡ epoch))
 
+-- each of some receipts that are shown is of this id and epoch
 abbrev pub AreShownBy : (id epoch : ℕ) → List (Option ReceiptState) → Type 0
 AreShownBy id epoch [] = ⊤
 AreShownBy id epoch (one ∷ more) = IsShownBy id epoch one × AreShownBy id epoch more
 
+-- the receipts that the Book shows for a refusal
 abbrev pub shown_for : BookState → Refusal → List (Option ReceiptState)
 shown_for b refusal = shown_among b.tokens b.id b.epoch (length b.core.records) refusal
 
+-- the Book after a refused COMMIT, which has ended the transaction
 abbrev pub after_refusal : BookState → (session : List ℕ) → OpenTransaction → Refusal → BookState
 after_refusal b session t refusal = record b { core = refused_to b.core session t refusal }
 
+-- the Book after a rollback
 abbrev pub after_rollback : BookState → OpenTransaction → BookState
 after_rollback b t = record b { core = ended b.core t }
 
@@ -98,6 +106,7 @@ abbrev pub with_ticket : TicketState → Option OpenTransaction → Option Ticke
 with_ticket ticket None = None
 with_ticket ticket (Some t) = Some (record { inner = t; ticket = ticket })
 
+-- the receipts, unless the transaction is given back
 abbrev pub shown_unless : Option OpenTransaction → (shown : List (Option ReceiptState)) → List (Option ReceiptState)
 shown_unless None shown = shown
 shown_unless (Some t) shown = only None

@@ -118,6 +118,7 @@ abbrev pub is_of : BookState → (own_id own_epoch id epoch : ℕ) → Bool
 is_of b own_id own_epoch id epoch =
     (b.id == id) && ((b.epoch == epoch) && ((own_id == id) && (own_epoch == epoch)))
 
+-- what `is_of` says, part by part
 pub record IsOf (b : BookState) (own_id own_epoch id epoch : ℕ) : Type 0 where
   pub book_id : b.id ≡ id
   pub book_epoch : b.epoch ≡ epoch
@@ -128,6 +129,7 @@ pub record IsOf (b : BookState) (own_id own_epoch id epoch : ℕ) : Type 0 where
 abbrev pub knows : BookState → SessionState → (id epoch : ℕ) → Bool
 knows b s id epoch = is_of b s.id s.epoch id epoch && nat_le s.seen (length b.core.records)
 
+-- what `knows` says, part by part
 pub record IsKnown (b : BookState) (s : SessionState) (id epoch : ℕ) : Type 0 where
   pub of : IsOf b s.id s.epoch id epoch
   pub seen : s.seen ≤ length b.core.records
@@ -150,6 +152,7 @@ pub record IsAt (b : BookState) (number index : ℕ) : Type 0 where
   pub at : slice_get b.tokens number ≡ Some token
   pub same : token.index ≡ index
 
+-- what `owns` says, part by part
 pub record IsOwned (b : BookState) (t : TicketState) (one : LiveSnapshot) (id epoch : ℕ) : Type 0 where
   pub of : IsOf b t.id t.epoch id epoch
   pub held : Contains b.core.live.snapshots one
@@ -159,6 +162,7 @@ pub record IsOwned (b : BookState) (t : TicketState) (one : LiveSnapshot) (id ep
 abbrev pub live_of : OpenTransaction → LiveSnapshot
 live_of t = record { ticket = t.ticket; snapshot = t.snapshot; read_only = t.read_only }
 
+-- the transaction with its ticket is the Book's own, and has not ended
 abbrev pub owns_txn : BookState → Ticketed → (id epoch : ℕ) → Bool
 owns_txn b t id epoch = owns b t.ticket (live_of t.inner) id epoch
 
@@ -172,6 +176,7 @@ is_kept b r id epoch =
     is_of b r.id r.epoch id epoch
     && (nat_lt 0 r.number && is_index r.token.index (slice_get b.tokens r.number))
 
+-- what `is_kept` says, part by part
 pub record IsKept (b : BookState) (r : ReceiptState) (id epoch : ℕ) : Type 0 where
   pub of : IsOf b r.id r.epoch id epoch
   pub positive : 0 < r.number
@@ -182,6 +187,7 @@ abbrev pub is_from : BookState → (id epoch : ℕ) → Token → Bool
 is_from b id epoch loaded =
     (b.id == id) && ((b.epoch == epoch) && is_index loaded.index (slice_get b.tokens 0))
 
+-- what `is_from` says, part by part
 pub record IsFrom (b : BookState) (id epoch index : ℕ) : Type 0 where
   pub book_id : b.id ≡ id
   pub book_epoch : b.epoch ≡ epoch
@@ -198,6 +204,7 @@ pub record IsOver (c : CoreState) (loaded : Shown) (limit : ℕ) : Type 0 where
 abbrev pub after_begin : (read_only : Bool) → BookState → BookState
 after_begin read_only b = record b { core = with_begun read_only b.core }
 
+-- the Book after a commit: its record, and the token of its item
 abbrev pub after_commit : BookState → (session : List ℕ) → OpenTransaction → Token → BookState
 after_commit b session t token = record b { core = committed b.core session t; tokens = b.tokens ++ token ∷ [] }
 

@@ -35,6 +35,7 @@ pub record Rest : Type 0 where
   pub bytes : List ℕ
   pub place : Place
 
+-- the bytes that are not cut off yet, as a piece
 abbrev pub piece_of : Rest → Piece
 piece_of rest = record { at = rest.at; bytes = rest.bytes }
 

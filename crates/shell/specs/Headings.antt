@@ -18,6 +18,7 @@ is_end (Ok None) = true
 is_end (Ok (Some t)) = false
 is_end (Err refusal) = false
 
+-- whether a piece holds blanks and comments alone
 abbrev pub is_blank : List ℕ → Bool
 is_blank bytes = is_end (next_in bytes 0)
 
@@ -36,6 +37,7 @@ pub record Address : Type 0 where
 abbrev pub nameless : Address
 nameless = record { session = codes "ME"; from = 0 }
 
+-- the session of the name in front, if a colon stands behind it
 abbrev pub address_behind : List ℕ → Token → Option Token → Address
 address_behind bytes name None = nameless
 address_behind bytes name (Some colon) = record {
@@ -43,6 +45,7 @@ address_behind bytes name (Some colon) = record {
   from = colon.end;
 }
 
+-- the session of the name in front, if a name is there
 abbrev pub address_with : List ℕ → Option Token → Address
 address_with bytes None = nameless
 address_with bytes (Some name) = address_behind bytes name (if_kind k.Colon (next_in bytes name.end))

@@ -46,6 +46,7 @@ IsOutcome piece Blank = is_blank piece.bytes ≡ true
 IsOutcome piece (Reply step answer) = IsStepOf piece.bytes step
 IsOutcome piece (Fault refusal) = IsFaultOf piece refusal
 
+-- what may become of some pieces, of each in its place
 abbrev pub AreOutcomes : List Piece → List Outcome → Type 0
 AreOutcomes [] [] = ⊤
 AreOutcomes [] (outcome ∷ outcomes) = ⊥
@@ -77,24 +78,29 @@ step_in Blank = []
 step_in (Reply step answer) = step ∷ []
 step_in (Fault refusal) = []
 
+-- the answer of an outcome, if it is an event
 abbrev pub answer_in : Outcome → List Answer
 answer_in Blank = []
 answer_in (Reply step answer) = answer ∷ []
 answer_in (Fault refusal) = []
 
+-- the line that tells an outcome; none where the piece is blank
 abbrev pub line_of : Outcome → List ℕ
 line_of Blank = []
 line_of (Reply step answer) = answer_line step answer
 line_of (Fault refusal) = refusal_line (codes "SCRIPT") refusal
 
+-- the events among some outcomes, in their order
 abbrev pub steps_in : List Outcome → List Step
 steps_in [] = []
 steps_in (outcome ∷ outcomes) = step_in outcome ++ steps_in outcomes
 
+-- the answers among some outcomes, in their order
 abbrev pub answers_in : List Outcome → List Answer
 answers_in [] = []
 answers_in (outcome ∷ outcomes) = answer_in outcome ++ answers_in outcomes
 
+-- the lines of some outcomes, one behind the other
 abbrev pub lines_in : List Outcome → List ℕ
 lines_in [] = []
 lines_in (outcome ∷ outcomes) = line_of outcome ++ lines_in outcomes

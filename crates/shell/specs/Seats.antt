@@ -11,6 +11,7 @@ use Rattle.replay.specs.Texts.{most_sessions}
 abbrev pub seated_within : List Seat → List ℕ → List Seat
 seated_within seats session = if nat_lt (length seats) most_sessions then seated seats session else seats
 
+-- the engine with a seat for a session, if it has none and there is one
 abbrev pub welcomed : EngineState → List ℕ → EngineState
 welcomed now session = record now { seats = seated_within now.seats session }
 

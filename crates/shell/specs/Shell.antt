@@ -91,6 +91,7 @@ pub record WritesFirst (defs : List ℕ) (limit : ℕ) (from old new : Option (L
 abbrev pub IsTaken : List ℕ → Type 0
 IsTaken defs = (shown : Shown) × AreTaken defs shown
 
+-- why the shell did not come to its end, of the faults of a replay: there is no script, and no thread
 abbrev pub IsRunFault : List ℕ → ProgramFault → Type 0
 IsRunFault defs (Defs refusal) = IsUnread IsSchema defs refusal ⊎ AreRefused defs refusal
 IsRunFault defs (Script refusal) = ⊥
@@ -114,7 +115,7 @@ abbrev pub IsInTheTalk : ShellFault → Type 0
 IsInTheTalk (Run fault) = IsInTheRun fault
 IsInTheTalk Input = ⊤
 
--- whether it is known what was written
+-- whether memory ended the run, so that what was written is a beginning of the answers
 abbrev pub is_run_stop : ProgramFault → Bool
 is_run_stop (Defs refusal) = false
 is_run_stop (Script refusal) = false
@@ -122,6 +123,7 @@ is_run_stop Stopped = true
 is_run_stop Output = false
 is_run_stop NoThread = false
 
+-- the same of the faults of a shell: where memory or the reader ended the talk
 abbrev pub is_stop : ShellFault → Bool
 is_stop (Run fault) = is_run_stop fault
 is_stop Input = true

@@ -15,15 +15,18 @@ IsRun now Blank = ⊤
 IsRun now (Reply step answer) = IsAnswered (welcomed now step.session) step answer
 IsRun now (Fault refusal) = ⊤
 
+-- what an outcome leaves of the engine
 abbrev pub left_by : EngineState → Outcome → EngineState
 left_by now Blank = now
 left_by now (Reply step answer) = after (welcomed now step.session) step answer
 left_by now (Fault refusal) = now
 
+-- the events among some outcomes are answered, each after those before it
 abbrev pub AreRun : EngineState → List Outcome → Type 0
 AreRun now [] = ⊤
 AreRun now (outcome ∷ outcomes) = IsRun now outcome × AreRun (left_by now outcome) outcomes
 
+-- what some outcomes leave of the engine
 abbrev pub left_by_all : EngineState → List Outcome → EngineState
 left_by_all now [] = now
 left_by_all now (outcome ∷ outcomes) = left_by_all (left_by now outcome) outcomes

@@ -21,11 +21,13 @@ family_of (OneRow place) = Rows place.table
 family_of (InColumn table column value) = Column table column
 family_of (WholeTable table) = Table table
 
+-- the value of a key in its family; a table's one key is under NULL
 abbrev pub value_of : LockKey → Value
 value_of (OneRow place) = place.key
 value_of (InColumn table column value) = value
 value_of (WholeTable table) = Null
 
+-- whether two families are the same
 abbrev pub same_family : Family → Family → Bool
 same_family (Rows t) (Rows u) = t == u
 same_family (Rows t) (Column u d) = false
@@ -45,6 +47,7 @@ ValueReaders = List (Value × List ℕ)
 abbrev pub readers_of : ValueReaders → Value → List ℕ
 readers_of family value = unwrap_or (lookup (same_value value) family) []
 
+-- no value has readers
 abbrev pub no_readers : Value → List ℕ
 no_readers value = []
 
@@ -56,6 +59,7 @@ changed_value read change readers value = if same_value read value then change (
 abbrev pub reaching_each : (low : ℕ) → (reaches : List ℕ) → (Value → List ℕ) → Value → List ℕ
 reaching_each low reaches readers value = filter (reaches_above low reaches) (readers value)
 
+-- whether a family has no values
 abbrev pub is_no_entry : ValueReaders → Bool
 is_no_entry [] = true
 is_no_entry (e ∷ family) = false
@@ -80,6 +84,7 @@ last_in last change family readers =
     max (last_over last family readers (place_of change) change.old)
     (last_over last family readers (place_of change) change.new)
 
+-- the sum of some counts
 abbrev pub total : List ℕ → ℕ
 total [] = 0
 total (n ∷ rest) = n + total rest
@@ -95,11 +100,13 @@ readers_in (Rows table) readers = total (map length (values_of readers))
 readers_in (Column table column) readers = total (map length (values_of readers))
 readers_in (Table table) readers = length (readers_of readers Null)
 
+-- each value of a key of the family is there once
 abbrev pub HasEachOnce : Family → ValueReaders → Type 0
 HasEachOnce (Rows table) readers = IsDistinct same_value (keys_of readers)
 HasEachOnce (Column table column) readers = IsDistinct same_value (keys_of readers)
 HasEachOnce (Table table) readers = ⊤
 
+-- how many pairs there are of a key of the family and a reader of it, or the most that a count can be
 pub record IsFamilyCount (family : Family) (readers : ValueReaders) (count : ℕ) : Type 0 where
   pub once : HasEachOnce family readers
   pub counted : count ≡ min (readers_in family readers) (2 ^ 64 - 1)

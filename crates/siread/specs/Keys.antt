@@ -14,9 +14,11 @@ use Rattle.siread.specs.declared.keys.LockKey.TheVariants.{Row as OneRow, Column
 abbrev pub same_value : Value → Value → Bool
 same_value a b = eq_by_cmp value_cmp a b
 
+-- whether two places are the same: the table and the key of a row
 abbrev pub same_place : Place → Place → Bool
 same_place a b = (a.table == b.table) && same_value a.key b.key
 
+-- the place of a change
 abbrev pub place_of : Change → Place
 place_of change = record { table = change.table; key = change.key }
 
@@ -47,6 +49,7 @@ SameUnder look key one other = (place : Place) → seen key place (look one plac
 abbrev pub AlikeUnder : {S : Type 0} → (S → Place → Option RowValues) → List LockKey → S → S → Type 0
 AlikeUnder look keys one other = (key : LockKey) → Contains keys key → SameUnder look key one other
 
+-- whether two keys are the same: of one kind, and of the same row, value or table
 abbrev pub same_key : LockKey → LockKey → Bool
 same_key (OneRow a) (OneRow b) = same_place a b
 same_key (OneRow a) (InColumn u d w) = false

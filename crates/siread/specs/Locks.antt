@@ -25,6 +25,7 @@ readers_at locks key = readers_of (in_family locks (family_of key)) (value_of ke
 abbrev pub Reads : Type 0
 Reads = LockKey → List ℕ
 
+-- nobody has read anything
 abbrev pub no_reads : Reads
 no_reads key = []
 

@@ -2,10 +2,12 @@
 use Rattle.std.specs.Prelude.{ℕ, zero, suc, Bool, true, false, ◌==◌, ◌<◌, ◌≤◌, ◌-◌, List, [], ◌∷◌, ◌++◌, length, filter, not, nat_le, nat_lt, reverse, Option, None, Some, slice_get, slice_index_or, if◌then◌else◌, ⊤}
 use Rattle.std.specs.List.{AllByRecursion}
 
+-- whether a key has no readers
 abbrev pub is_none : List ℕ → Bool
 is_none [] = true
 is_none (first ∷ rest) = false
 
+-- whether a reader is there, and has this number
 abbrev pub is_number : ℕ → Option ℕ → Bool
 is_number number None = false
 is_number number (Some reader) = reader == number

@@ -21,6 +21,7 @@ handle_where alloc p Is = fex ((s : LibraryState) × Is s) (λ x. handle alloc p
 abbrev pub IsMade : Ptr → Ptr → ℤ → Type 0
 IsMade old new status = (status ≡ pos 0) ⊎ ((status ≡ pos 2) × (new ≡ old))
 
+-- what holds of the memory after a call by its status: where it is 0 what was made, and else nothing is said
 abbrev pub made_to : {old new : Ptr} {status : ℤ} → Fml → IsMade old new status → Fml
 made_to made (inl _) = made
 made_to made (inr _) = ftrue

@@ -46,6 +46,7 @@ quoted x = undoubled false (between_quotes x.spelling)
 unfoldable pub name_of : Lexeme → List ℕ
 name_of x = upper x.spelling
 
+-- the expression of a number's token, with its sign: SQL-92's signed numeric literal
 abbrev pub number_of : Bool → Lexeme → Expression
 number_of is_negative x = e.Number (signed is_negative (digits_value x))
 
@@ -54,27 +55,34 @@ abbrev pub product_layer : Expression → Expression-F Condition Expression Sele
 product_layer x (Expression-F.Product parts) = parts
 product_layer x _ = x ∷ []
 
+-- the terms of a sum; any other expression is a term itself
 abbrev pub sum_layer : Expression → Expression-F Condition Expression SelectList Query → List Expression
 sum_layer x (Expression-F.Sum parts) = parts
 sum_layer x _ = x ∷ []
 
+-- the boolean factors that AND joins; any other condition is one itself
 abbrev pub and_layer : Condition → Condition-F Condition Expression SelectList Query → List Condition
 and_layer x (Condition-F.And parts) = parts
 and_layer x _ = x ∷ []
 
+-- the boolean terms that OR joins; any other condition is one itself
 abbrev pub or_layer : Condition → Condition-F Condition Expression SelectList Query → List Condition
 or_layer x (Condition-F.Or parts) = parts
 or_layer x _ = x ∷ []
 
+-- the factors of an expression, as a product takes them in
 unfoldable pub product_parts : Expression → List Expression
 product_parts x = product_layer x (out-Expression x)
 
+-- the terms of an expression, as a sum takes them in
 unfoldable pub sum_parts : Expression → List Expression
 sum_parts x = sum_layer x (out-Expression x)
 
+-- the parts of a condition, as AND takes them in
 unfoldable pub and_parts : Condition → List Condition
 and_parts x = and_layer x (out-Condition x)
 
+-- the parts of a condition, as OR takes them in
 unfoldable pub or_parts : Condition → List Condition
 or_parts x = or_layer x (out-Condition x)
 
@@ -83,31 +91,39 @@ abbrev pub alone_or : {A : Type 0} → (A → List A) → (List A → A) → Lis
 alone_or parts join (x ∷ []) = x
 alone_or parts join xs = join (flat_map parts xs)
 
+-- the product of some factors
 unfoldable pub product_of : List Expression → Expression
 product_of = alone_or product_parts e.Product
 
+-- the sum of some terms
 unfoldable pub sum_of : List Expression → Expression
 sum_of = alone_or sum_parts e.Sum
 
+-- the condition that AND makes of some parts
 unfoldable pub and_of : List Condition → Condition
 and_of = alone_or and_parts b.And
 
+-- the condition that OR makes of some parts
 unfoldable pub or_of : List Condition → Condition
 or_of = alone_or or_parts b.Or
 
 -- ---- the grammar. What may stand in parentheses is the argument.
 
+-- cmp: the comp op of a comparison predicate (8.2)
 abbrev pub comparison_sign : Language Comparison
 comparison_sign =
     (token k.Equal >> pure c.Equal) ∪ (token k.NotEqual >> pure c.NotEqual) ∪ (token k.Less >> pure c.Less)
     ∪ (token k.AtMost >> pure c.AtMost) ∪ (token k.Greater >> pure c.Greater) ∪ (token k.AtLeast >> pure c.AtLeast)
 
+-- TRUE | FALSE | UNKNOWN: a truth value (8.12)
 abbrev pub truth : Language Truth
 truth = (token k.True >> pure t.True) ∪ (token k.False >> pure t.False) ∪ (token k.Unknown >> pure t.Unknown)
 
+-- a number without a sign: an unsigned numeric literal
 abbrev pub number : Language Expression
 number = number_of false <$> token k.Number
 
+-- a text in quotes: a character string literal
 abbrev pub text : Language Expression
 text = (λ x. e.Text (quoted x)) <$> token k.Text
 
@@ -121,6 +137,7 @@ column_after x =
 unfoldable pub column : Language ColumnName
 column = token k.Name >>= column_after
 
+-- a name, of a table, a column or whatever else: SQL-92's identifier (5.4)
 abbrev pub name : Language (List ℕ)
 name = name_of <$> token k.Name
 
@@ -160,9 +177,11 @@ module _ (inner : Language Found) where
   abbrev pub inner_expr : Language Expression
   inner_expr w x = inner w (part.Expression x)
 
+  -- a condition in parentheses
   abbrev pub inner_cond : Language Condition
   inner_cond w x = inner w (part.Condition x)
 
+  -- a query in parentheses: a subquery (7.11)
   abbrev pub inner_query : Language Query
   inner_query w x = inner w (part.Query x)
 
@@ -170,6 +189,7 @@ module _ (inner : Language Found) where
   unfoldable pub other_prim : Language Expression
   other_prim = text ∪ (e.Column <$> column) ∪ aggregate ∪ parens inner_expr ∪ (e.Subquery <$> parens inner_query)
 
+  -- prim: number | text | colref | agg | "(" expr ")" | "(" query ")", SQL-92's value expression primary
   unfoldable pub prim : Language Expression
   prim = number ∪ other_prim
 
@@ -183,9 +203,11 @@ module _ (inner : Language Found) where
   unfoldable pub product_after : Expression → Language Expression
   product_after first = product_of <$> Behind (first ∷ []) (token k.Star >> factor)
 
+  -- term: factor { "*" factor } (6.12)
   unfoldable pub term : Language Expression
   term = factor >>= product_after
 
+  -- a further term of a sum: ("+" | "-") term, where a minus negates its term
   abbrev pub sum_item : Language Expression
   sum_item = (token k.Plus >> term) ∪ (token k.Minus >> (e.Negation <$> term))
 
@@ -193,6 +215,7 @@ module _ (inner : Language Found) where
   unfoldable pub sum_after : Expression → Language Expression
   sum_after first = sum_of <$> Behind (first ∷ []) sum_item
 
+  -- expr: term { ("+" | "-") term }, SQL-92's numeric value expression (6.12)
   unfoldable pub expr : Language Expression
   expr = term >>= sum_after
 
@@ -218,6 +241,7 @@ module _ (inner : Language Found) where
   abbrev pub exists : Language Condition
   exists = token k.Exists >> (b.Exists <$> parens inner_query)
 
+  -- bprim: "(" cond ")" | EXISTS "(" query ")" | expr comparison, SQL-92's boolean primary (8.12)
   unfoldable pub bprim : Language Condition
   bprim = parens inner_cond ∪ exists ∪ (expr >>= comparison)
 
@@ -226,6 +250,7 @@ module _ (inner : Language Found) where
   is_after x =
       pure x ∪ (token k.Is >> (b.Is x <$> truth)) ∪ (token k.Is >> (token k.Not >> ((λ y. b.Not (b.Is x y)) <$> truth)))
 
+  -- btest: bprim [ IS [NOT] (TRUE | FALSE | UNKNOWN) ], SQL-92's boolean test (8.12)
   unfoldable pub btest : Language Condition
   btest = bprim >>= is_after
 
@@ -237,6 +262,7 @@ module _ (inner : Language Found) where
   unfoldable pub and_after : Condition → Language Condition
   and_after first = and_of <$> Behind (first ∷ []) (token k.And >> bfact)
 
+  -- bterm: bfact { AND bfact }, SQL-92's boolean term (8.12)
   unfoldable pub bterm : Language Condition
   bterm = bfact >>= and_after
 
@@ -244,6 +270,7 @@ module _ (inner : Language Found) where
   unfoldable pub or_after : Condition → Language Condition
   or_after first = or_of <$> Behind (first ∷ []) (token k.Or >> bterm)
 
+  -- cond: bterm { OR bterm }, SQL-92's search condition (8.12)
   unfoldable pub cond : Language Condition
   cond = bterm >>= or_after
 
@@ -272,6 +299,7 @@ module _ (inner : Language Found) where
   unfoldable pub query : Language Query
   query = token k.Select >> (selected >>= (λ list. token k.From >> query_from list))
 
+  -- what may stand in parentheses one level further out: a condition, an expression or a query
   abbrev pub found : Language Found
   found w (part.Condition x) = cond w x
   found w (part.Expression x) = expr w x
@@ -299,6 +327,7 @@ nested (suc n) w x = found (nested n) w x
 abbrev pub conditions : ℕ → Language Condition
 conditions n = inner_cond (nested n)
 
+-- the expressions with parentheses nested less deep than the number
 abbrev pub expressions : ℕ → Language Expression
 expressions n = inner_expr (nested n)
 

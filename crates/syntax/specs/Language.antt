@@ -9,17 +9,21 @@ pub record Lexeme : Type 0 where
   pub spelling : List ℕ
   pub at : ℕ
 
+-- a text, as the list of its tokens
 abbrev pub Lexemes : Type 0
 Lexemes = List Lexeme
 
+-- the first token of a text, if it has one
 abbrev pub head : Lexemes → Option Lexeme
 head [] = None
 head (x ∷ xs) = Some x
 
+-- the kind of a token; where the text has ended, the kind that stands for its end
 abbrev pub kind_of : Option Lexeme → Kind
 kind_of None = k.End
 kind_of (Some x) = x.kind
 
+-- the kind of the first token of a text
 abbrev pub kind_at : Lexemes → Kind
 kind_at ts = kind_of (head ts)
 
@@ -41,10 +45,12 @@ pub record Then {A B : Type 0} (L : Language A) (M : A → Language B) (w : Lexe
   pub split : Split (λ v. L v tree) (λ v. M tree v b) w
 
 infixl 10 ◌>>=◌
+-- one text behind another, where the second language may depend on the tree of the first text
 abbrev pub ◌>>=◌ : {A B : Type 0} → Language A → (A → Language B) → Language B
 L >>= M = Then L M
 
 infixl 10 ◌>>◌
+-- one text behind another, with the tree of the second
 abbrev pub ◌>>◌ : {A B : Type 0} → Language A → Language B → Language B
 L >> M = Then L (λ _. M)
 
@@ -53,10 +59,12 @@ abbrev pub pure : {A : Type 0} → A → Language A
 pure a w b = (w ≡ []) × (b ≡ a)
 
 infixr 11 ◌<$>◌
+-- the same texts, with a tree that is made of theirs
 abbrev pub ◌<$>◌ : {A B : Type 0} → (A → B) → Language A → Language B
 f <$> L = Then L (λ a. pure (f a))
 
 infixl 9 ◌∪◌
+-- a text of either language: the choice `|` of the grammar
 abbrev pub ◌∪◌ : {A : Type 0} → Language A → Language A → Language A
 (L ∪ M) w a = L w a ⊎ M w a
 
@@ -102,15 +110,18 @@ abbrev pub opened : ℕ → Option ℕ
 opened zero = None
 opened (suc n) = Some n
 
+-- the same by the token's kind: "(" takes one away, and ")" gives one back
 abbrev pub after_kind : Kind → ℕ → Option ℕ
 after_kind k.Open n = opened n
 after_kind k.Close n = Some (suc n)
 after_kind _ n = Some n
 
+-- the same where one too many may have been opened before
 abbrev pub room_after : Option ℕ → Kind → Option ℕ
 room_after None kind = None
 room_after (Some n) kind = after_kind kind n
 
+-- how many may still be opened after a text of tokens
 abbrev pub room : Option ℕ → Lexemes → Option ℕ
 room left [] = left
 room left (x ∷ xs) = room (room_after left x.kind) xs

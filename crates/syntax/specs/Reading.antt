@@ -16,29 +16,36 @@ pub data Verdict (A : Type 0) : Type 0 where
 abbrev pub Outcome : Type 0 → Type 0
 Outcome A = Verdict A × Lexemes
 
+-- a reader: of the tokens in front of it, a verdict and what is left
 abbrev pub Reader : Type 0 → Type 0
 Reader A = Lexemes → Outcome A
 
+-- goes on behind what was read; a fault ends it, where it stands
 abbrev pub and_then : {A B : Type 0} → Verdict A → Lexemes → (A → Reader B) → Outcome B
 and_then (Done a) rest f = f a rest
 and_then Fail rest f = (Fail, rest)
 and_then Deep rest f = (Deep, rest)
 
 infixl 10 ◌>>=◌
+-- one reader behind another, where the second may depend on what the first has read
 abbrev pub ◌>>=◌ : {A B : Type 0} → Reader A → (A → Reader B) → Reader B
 p >>= f = λ ts. and_then (p ts).0 (p ts).1 f
 
 infixl 10 ◌>>◌
+-- one reader behind another, with what the second has read
 abbrev pub ◌>>◌ : {A B : Type 0} → Reader A → Reader B → Reader B
 p >> q = p >>= (λ _. q)
 
+-- takes no token, and gives this
 abbrev pub pure : {A : Type 0} → A → Reader A
 pure a = λ ts. (Done a, ts)
 
 infixr 11 ◌<$>◌
+-- the same reader, with what is made of what it has read
 abbrev pub ◌<$>◌ : {A B : Type 0} → (A → B) → Reader A → Reader B
 f <$> p = p >>= (λ x. pure (f x))
 
+-- takes no token: no text goes on with the next one
 abbrev pub refuse : {A : Type 0} → Reader A
 refuse = λ ts. (Fail, ts)
 
@@ -87,13 +94,16 @@ many goes_on item zero found = pure found
 many goes_on item (suc n) found =
     by_kind (λ kind. cond (goes_on kind) (item >>= (λ x. many goes_on item n (found ++ x ∷ []))) (pure found))
 
+-- as many items as the next token's kind asks for, behind those found before; the rest of the text bounds the turns
 abbrev pub all : {A : Type 0} → (Kind → Bool) → Reader A → List A → Reader (List A)
 all goes_on item found = λ ts. many goes_on item (length ts) found ts
 
+-- whether a list goes on: with a comma
 abbrev pub is_comma : Kind → Bool
 is_comma k.Comma = true
 is_comma _ = false
 
+-- a further item of a list, behind its comma
 unfoldable pub list_item : {A : Type 0} → Reader A → Reader A
 list_item p = expect k.Comma >> p
 
@@ -106,5 +116,6 @@ abbrev pub ended : {A : Type 0} → A → Reader A
 ended x [] = (Done x, [])
 ended x (t ∷ ts) = (Fail, t ∷ ts)
 
+-- a text from its first token to its last
 abbrev pub whole : {A : Type 0} → Reader A → Reader A
 whole p = p >>= ended

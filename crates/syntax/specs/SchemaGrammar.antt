@@ -21,6 +21,7 @@ use Rattle.syntax.specs.Language.{Lexeme, Language, ◌>>=◌, ◌>>◌, ◌<$>�
 abbrev pub is_width : Lexeme → Bool
 is_width x = nat_le 1 (digits_value x) && nat_le (digits_value x) 255
 
+-- the type of texts up to the length that a number's token says
 abbrev pub varchar_of : Lexeme → ColType
 varchar_of x = kind_of.Varchar (digits_value x)
 
@@ -30,16 +31,20 @@ column_type =
     (token k.Integer >> pure kind_of.Integer) ∪ (token k.Int >> pure kind_of.Integer) ∪
     (token k.Varchar >> parens (varchar_of <$> token_where k.Number is_width))
 
+-- NOT NULL
 abbrev pub not_null : Language Lexeme
 not_null = token k.Not >> token k.Null
 
+-- PRIMARY KEY
 abbrev pub primary_key : Language Lexeme
 primary_key = token k.Primary >> token k.Key
 
+-- whether a part that may be missing is written
 abbrev pub written : {A : Type 0} → Option A → Bool
 written None = false
 written (Some x) = true
 
+-- what stands behind a column's type: whether NOT NULL, and whether PRIMARY KEY
 abbrev pub marks_of : Bool → Bool → Marks
 marks_of not_null key = record { not_null = not_null; key = key }
 
@@ -49,6 +54,7 @@ marks =
     pure (marks_of false false) ∪ (not_null >> ((λ key. marks_of true (written key)) <$> optional primary_key))
     ∪ (primary_key >> ((λ other. marks_of (written other) true) <$> optional not_null))
 
+-- the tree of a column definition
 abbrev pub column_definition : List ℕ → ColType → Marks → ColumnDefinition
 column_definition name kind marks = record { name = name; kind = kind; marks = marks }
 
@@ -64,6 +70,7 @@ initially = token k.Initially >> check_time
 unfoldable pub deferrable : Language Bool
 deferrable = (token k.Deferrable >> pure true) ∪ (token k.Not >> (token k.Deferrable >> pure false))
 
+-- the tree of an assertion's constraint attributes, of which each may be missing
 abbrev pub attributes_of : Option Mode → Option Bool → Attributes
 attributes_of initially deferrable = record { initially = initially; deferrable = deferrable }
 
@@ -77,6 +84,7 @@ attributes =
 unfoldable pub table : Language Definition
 table = token k.Create >> (token k.Table >> (name >>= (λ name. d.Table name <$> parens (list col))))
 
+-- the tree of a step of a script: the name of a session, and its event
 abbrev pub step_of : List ℕ → Event → Step
 step_of session event = record { session = session; event = event }
 
@@ -87,6 +95,7 @@ module _ (inner : Language Found) where
       token k.Create >> (token k.Assertion >> (name >>= (λ name.
       token k.Check >> (parens (inner_cond inner) >>= (λ c. d.Assertion name c <$> attributes)))))
 
+  -- def: a table definition, an assertion definition (11.34) or an insert statement
   unfoldable pub definition : Language Definition
   definition = table ∪ assertion ∪ (d.Insert <$> insert)
 
@@ -108,14 +117,18 @@ module _ (inner : Language Found) where
   unfoldable pub script : Language (List Step)
   script = Behind [] step
 
+-- definitions, with parentheses nested less deep than the number
 abbrev pub schemas : ℕ → Language (List Definition)
 schemas n = definitions (nested n)
 
+-- scripts, with parentheses nested less deep than the number
 abbrev pub scripts : ℕ → Language (List Step)
 scripts n = script (nested n)
 
+-- definitions, whose parentheses nest as deep as they like: what DEFS has to be
 abbrev pub IsSchema : Language (List Definition)
 IsSchema = Some_level schemas
 
+-- a script, whose parentheses nest as deep as they like: what SCRIPT has to be
 abbrev pub IsScript : Language (List Step)
 IsScript = Some_level scripts

@@ -20,9 +20,11 @@ use Rattle.syntax.specs.declared.wants.Found.{Found}
 use Rattle.syntax.specs.Grammar.{digits_value, signed, quoted, name, inner_cond, inner_expr, nested}
 use Rattle.syntax.specs.Language.{Lexeme, Language, ◌>>=◌, ◌>>◌, ◌<$>◌, ◌∪◌, pure, token, optional, list, parens, Some_level}
 
+-- the constant of a number's token, with its sign
 abbrev pub number_of : Bool → Lexeme → Value
 number_of is_negative x = c.Int (signed is_negative (digits_value x))
 
+-- the constant of a text's token: what stands in its quotes
 abbrev pub text_of : Lexeme → Value
 text_of x = c.Text (quoted x)
 
@@ -36,6 +38,7 @@ constant =
 unfoldable pub columns : Language (Option (List (List ℕ)))
 columns = optional (parens (list name))
 
+-- the tree of an insert statement
 abbrev pub insert_of : List ℕ → Option (List (List ℕ)) → List Value → Insert
 insert_of table columns values = record { table = table; columns = columns; values = values }
 
@@ -66,6 +69,7 @@ set_constraints =
 unfoldable pub verdict : Language Statement
 verdict = token k.Verdict >> (s.Verdict <$> name)
 
+-- the tree of a set clause of an update statement: a column, and what it is given
 abbrev pub assignment_of : List ℕ → Assigned → Assignment
 assignment_of column value = record { column = column; value = value }
 
@@ -74,6 +78,7 @@ abbrev pub begin_of : Option Lexeme → Event
 begin_of None = event.Begin
 begin_of (Some only) = event.BeginReadOnly
 
+-- [READ ONLY]: SQL-92's transaction access mode, by which BEGIN is one of two events
 unfoldable pub access : Language Event
 access = begin_of <$> optional (token k.Read >> token k.Only)
 
@@ -106,6 +111,7 @@ module _ (inner : Language Found) where
       token k.Select >> (selected >>= (λ which.
       token k.From >> (name >>= (λ table. s.Select which table <$> where_clause))))
 
+  -- stmt: what a transaction may run
   unfoldable pub statement : Language Statement
   statement = (s.Insert <$> insert) ∪ update ∪ delete ∪ select ∪ set_constraints ∪ verdict
 
@@ -117,6 +123,7 @@ module _ (inner : Language Found) where
       ∪ (token k.Rollback >> ((λ _. event.Rollback) <$> optional (token k.Work)))
       ∪ (event.Run <$> statement)
 
+-- events, with parentheses nested less deep than the number
 abbrev pub events : ℕ → Language Event
 events n = one_event (nested n)
 

@@ -4,6 +4,7 @@ use Rattle.value.specs.declared.values.Value.TheVariants as value
 use Rattle.table.specs.declared.evals.Given.{Given}
 use Rattle.table.specs.declared.evals.Given.TheVariants.{Null, Number, Text}
 
+-- the value that an expression gives, of which a text is lent
 abbrev pub shown : Given → Value
 shown Null = value.Null
 shown (Number n) = value.Int n

@@ -21,6 +21,7 @@ slots_step (Expr-F.Negation part) = part
 slots_step (Expr-F.Sum parts) = some_true parts
 slots_step (Expr-F.Product parts) = some_true parts
 
+-- whether an expression has a slot
 abbrev pub expression_has_slots : Expr → Bool
 expression_has_slots = fold-Expr Bool slots_step
 
@@ -34,5 +35,6 @@ condition_slots_step (Cond-F.Not part) = part
 condition_slots_step (Cond-F.And parts) = some_true parts
 condition_slots_step (Cond-F.Or parts) = some_true parts
 
+-- whether a condition has a slot
 abbrev pub has_slots : Cond → Bool
 has_slots = fold-Cond Bool condition_slots_step

@@ -24,9 +24,11 @@ value_of (Sum None) = value.Null
 value_of (Sum (Some n)) = value.Int n
 value_of (Extreme v) = v
 
+-- the set functions of the slots
 abbrev pub kinds_of : SlotValues → List SlotKind
 kinds_of slots = map kind_of slots
 
+-- the values of the slots
 abbrev pub values_of : SlotValues → List Value
 values_of slots = map value_of slots
 

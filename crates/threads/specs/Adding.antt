@@ -13,6 +13,7 @@ script_of scripts session = position (λ script. bytes_eq script.name session) s
 abbrev pub first_step : Step → Script
 first_step step = record { name = step.session; steps = step ∷ [] }
 
+-- the script with a step more
 abbrev pub with_step : Step → Script → Script
 with_step step script = record script { steps = script.steps ++ step ∷ [] }
 
@@ -21,6 +22,7 @@ abbrev pub added_to : List Script → Step → ℕ → Option Script → List Sc
 added_to scripts step place None = scripts
 added_to scripts step place (Some script) = slice_set scripts place (with_step step script)
 
+-- the scripts with a step more in the one of its session, or in a new one behind the others
 abbrev pub added_at : List Script → Step → Option ℕ → List Script
 added_at scripts step None = scripts ++ first_step step ∷ []
 added_at scripts step (Some place) = added_to scripts step place (slice_get scripts place)
@@ -29,6 +31,7 @@ added_at scripts step (Some place) = added_to scripts step place (slice_get scri
 abbrev pub added : List Script → Step → List Script
 added scripts step = added_at scripts step (script_of scripts step.session)
 
+-- with each of some steps in the script of its session
 abbrev pub all_added : List Script → List Step → List Script
 all_added scripts [] = scripts
 all_added scripts (step ∷ rest) = all_added (added scripts step) rest

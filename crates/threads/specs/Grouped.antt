@@ -26,6 +26,7 @@ ended_line true session = left_open_line session
 abbrev pub script_lines : Script → ScriptAnswers → List ℕ
 script_lines script found = lines script.steps found.answers ++ ended_line found.rolled_back script.name
 
+-- the lines of all scripts, one script behind the other
 abbrev pub all_lines : List Script → List ScriptAnswers → List ℕ
 all_lines [] found = []
 all_lines (script ∷ rest) [] = []

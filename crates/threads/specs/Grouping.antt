@@ -11,6 +11,7 @@ use Rattle.workers.specs.declared.scripts.Script.{Script}
 abbrev pub steps_of : List ℕ → List Step → List Step
 steps_of session steps = filter (λ (step : Step). bytes_eq step.session session) steps
 
+-- the script of the session in a seat
 abbrev pub script_for : List Step → Seat → Script
 script_for steps seat = record { name = seat.session; steps = steps_of seat.session steps }
 

@@ -22,6 +22,7 @@ update_of own u =
     update_effect (columns_of u.table (layouts_in own.declared)) u.table (key_of u.table (layouts_in own.declared))
     u.sets (found_rows own.state u.table u.filter)
 
+-- what a DELETE does to the rows of a view
 abbrev pub delete_of : Shown → Delete → Effect
 delete_of own d =
     delete_effect d.table (key_of d.table (layouts_in own.declared)) (found_rows own.state d.table d.filter)

@@ -13,20 +13,24 @@ use Rattle.alone.specs.declared.statements.Resolved.{Resolved}
 use Rattle.alone.specs.declared.statements.Resolved.TheVariants as resolved
 use Rattle.alone.specs.Statements.{sets_key}
 
+-- what is known of an UPDATE
 pub record IsRunnableUpdate (declared : Declared) (update : Update) : Type 0 where
   pub table_in : update.table < length declared.tables
   pub bounded : IsTrue (is_bounded [] update.filter)
   pub bounded_sets : All IsBoundedSetting update.sets
   pub keyless : sets_key (key_of update.table (layouts_in declared)) update.sets ≡ false
 
+-- what is known of a DELETE
 pub record IsRunnableDelete (declared : Declared) (delete : Delete) : Type 0 where
   pub table_in : delete.table < length declared.tables
   pub bounded : IsTrue (is_bounded [] delete.filter)
 
+-- what is known of a SELECT
 pub record IsRunnableSelect (declared : Declared) (select : Select) : Type 0 where
   pub table_in : select.table < length declared.tables
   pub bounded : IsTrue (is_bounded [] select.filter)
 
+-- what is known of any statement; one that was refused found its refusal, and was not out of memory
 abbrev pub IsRunnable : Declared → Resolved → Type 0
 IsRunnable declared (resolved.Refused refusal) = refusal ≢ NoMemory
 IsRunnable declared (resolved.Insert new) = new.table < length declared.tables

@@ -68,11 +68,13 @@ insert_step own modes new =
     effected own.declared (standing own modes) (OneRow (place_in (layouts_in own.declared) new))
     (insert_effect own.declared.tables new own.state)
 
+-- UPDATE of the rows that its condition keeps, as a step
 abbrev pub update_step : Shown → Immediates → Update → Step
 update_step own modes u =
     effected own.declared (standing own modes) (where_key u.table (key_of u.table (layouts_in own.declared)) u.filter)
     (update_of own u)
 
+-- DELETE of the rows that its condition keeps, as a step
 abbrev pub delete_step : Shown → Immediates → Delete → Step
 delete_step own modes d =
     effected own.declared (standing own modes) (where_key d.table (key_of d.table (layouts_in own.declared)) d.filter)

@@ -45,6 +45,7 @@ keys_of t = transaction_keys t.declared t.trace t.start
 abbrev pub step_of : OpenTransaction → Resolved → Step
 step_of t statement = stepped t.declared t.start (standing_of t) statement
 
+-- the transaction with one more statement in its trace
 abbrev pub with_statement : OpenTransaction → Resolved → OpenTransaction
 with_statement t statement = record t { trace = t.trace ++ statement ∷ [] }
 

@@ -20,6 +20,7 @@ AreFor false rolled_back steps answers = IsUnrun answers × (rolled_back ≡ fal
 abbrev pub unrun : Script → ScriptAnswers
 unrun script = record { name = script.name; answers = Refused TooManySessions ∷ []; ran = false; rolled_back = false }
 
+-- what was found of a script bears its name, and has an answer for each of its steps if it was run
 pub record IsAnswered (script : Script) (found : ScriptAnswers) : Type 0 where
   pub name : found.name ≡ script.name
   pub answers : AreFor found.ran found.rolled_back script.steps found.answers

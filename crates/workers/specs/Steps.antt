@@ -34,6 +34,7 @@ IsRun statement t answer txn =
     })))
     ⊎ ((answer ≡ Refused NoMemory) × (txn ≡ Some t))
 
+-- a statement of a session with this transaction open, or none
 abbrev pub IsRunIn : Statement → Option Ticketed → Answer → Option Ticketed → Type 0
 IsRunIn statement None answer txn = IsOutside answer txn
 IsRunIn statement (Some t) answer txn = IsRun statement t answer txn
@@ -45,6 +46,7 @@ IsCommitted seen t (Committed number) None = seen < number
 IsCommitted seen t (Refused refusal) txn = IsRefused t refusal txn
 IsCommitted seen t answer txn = ⊥
 
+-- ROLLBACK: the transaction has ended; or the manager does not know it, and it is as it was
 abbrev pub IsRolledBack : Ticketed → Answer → Option Ticketed → Type 0
 IsRolledBack t RolledBack txn = txn ≡ None
 IsRolledBack t (Refused refusal) txn = (refusal ≡ Stranger) × (txn ≡ Some t)
