@@ -1,25 +1,18 @@
 //! Which forms of assertions have only bounded expressions.
 
-ghost use Rattle.std.specs.Prelude.{◌≡◌, ◌↔◌, [], map, IfOk, IsOkUnless, IsTrue};
+ghost use Rattle.std.specs.Prelude.{◌≡◌, ◌↔◌, [], map, IfOk, IsTrue};
 ghost use Rattle.std.specs.List.{list_all};
-ghost use Rattle.value.specs.declared.refusals.Refusal.TheVariants.{NoMemory};
 ghost use Rattle.table.specs.Bounds.{is_bounded as is_bounded_of};
 ghost use Rattle.assertion.specs.Bounded.{IsBounded, query_kinds as query_kinds_of};
 ghost use Rattle.table.specs.Kinds.{kind_of_aggregate};
 ghost use Rattle.assertcheck.specs.Widths.{is_bounded_form};
 
 use assertion::{Form, Query, kind};
-use std::alloc::Global;
+use std::alloc::{AllocError, Global};
 use table::{Aggregate, SlotKind, is_bounded};
-use value::Refusal;
 
 /// Whether each condition of a form has only expressions with a bound; so it is evaluated without overflow.
-///
-/// # Errors
-///
-/// [`Refusal::NoMemory`] alone.
-pub fn form_is_bounded(alloc: Global, form: &Form) -> Result<bool, Refusal>
-    ensures only_memory { IsOkUnless result NoMemory }
+pub fn form_is_bounded(alloc: Global, form: &Form) -> Result<bool, AllocError>
     ensures value { IfOk result (λ bounded. bounded ≡ is_bounded_form form.now) }
     ensures exact { IfOk result (λ bounded. IsTrue bounded ↔ IsBounded form.now) }
 {
@@ -51,9 +44,8 @@ pub fn form_is_bounded(alloc: Global, form: &Form) -> Result<bool, Refusal>
 }
 
 /// The kinds of the slots that subqueries fill.
-fn query_kinds<G>(alloc: Global, queries: &[Query<G>]) -> Result<Vec<SlotKind>, Refusal>
-    ensures only_memory { IsOkUnless result NoMemory }
-    ensures kinds { IfOk result (λ kinds. kinds.items ≡ query_kinds_of queries.now) }
+fn query_kinds<G>(alloc: Global, queries: &[Query<G>]) -> Result<Vec<SlotKind>, AllocError>
+    ensures { IfOk result (λ kinds. kinds.items ≡ query_kinds_of queries.now) }
 {
     let mut kinds = Vec::new(alloc);
     for query in queries {
@@ -63,9 +55,8 @@ fn query_kinds<G>(alloc: Global, queries: &[Query<G>]) -> Result<Vec<SlotKind>, 
 }
 
 /// The kinds of the slots that set functions fill.
-fn aggregate_kinds(alloc: Global, aggregates: &[Aggregate]) -> Result<Vec<SlotKind>, Refusal>
-    ensures only_memory { IsOkUnless result NoMemory }
-    ensures kinds { IfOk result (λ kinds. kinds.items ≡ map kind_of_aggregate aggregates.now) }
+fn aggregate_kinds(alloc: Global, aggregates: &[Aggregate]) -> Result<Vec<SlotKind>, AllocError>
+    ensures { IfOk result (λ kinds. kinds.items ≡ map kind_of_aggregate aggregates.now) }
 {
     let mut kinds = Vec::new(alloc);
     for aggregate in aggregates {

@@ -1,19 +1,18 @@
 //! The columns that a statement names.
 
-ghost use Rattle.std.specs.Prelude.{◌≡◌, ◌≢◌, ◌==◌, [], IfOk, IfErr, IsOkUnless, Ok, Err};
+ghost use Rattle.std.specs.Prelude.{◌≡◌, ◌≢◌, ◌==◌, [], IfOk, IfErr, Ok, Err};
 ghost use Rattle.std.specs.List.{list_any};
 ghost use Rattle.value.specs.declared.refusals.Refusal.TheVariants.{NoMemory};
 ghost use Rattle.value.specs.Results.{each};
 ghost use Rattle.assertcheck.specs.Statements.{named_column, new_place, places_from, places_of};
 
-use std::alloc::Global;
+use std::alloc::{AllocError, Global};
 use table::{Column, Schema};
 use value::{Refusal, Text};
 
 /// The places of all columns.
-pub fn all_places(alloc: Global, columns: &[Column]) -> Result<Vec<usize>, Refusal>
-    ensures only_memory { IsOkUnless result NoMemory }
-    ensures all { IfOk result (λ places. places.items ≡ places_from 0 columns.now) }
+pub fn all_places(alloc: Global, columns: &[Column]) -> Result<Vec<usize>, AllocError>
+    ensures { IfOk result (λ places. places.items ≡ places_from 0 columns.now) }
 {
     let mut places = Vec::new(alloc);
     for _column in columns {

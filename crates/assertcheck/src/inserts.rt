@@ -1,6 +1,6 @@
 //! INSERT.
 
-ghost use Rattle.std.specs.Prelude.{◌≡◌, ◌≢◌, ◌<◌, ◌==◌, length, IfOk, IfErr, IsOkUnless, Ok, Err, position};
+ghost use Rattle.std.specs.Prelude.{◌≡◌, ◌≢◌, ◌<◌, ◌==◌, length, IfOk, IfErr, Ok, Err, position};
 ghost use Rattle.value.specs.declared.refusals.Refusal.TheVariants.{NoMemory};
 ghost use Rattle.form_check.specs.ShownSources.{shown_source};
 ghost use Rattle.assertcheck.specs.Statements.{given_to, insert_of, row_of, typed_row};
@@ -8,7 +8,7 @@ ghost use Rattle.assertcheck.specs.Statements.{given_to, insert_of, row_of, type
 use crate::columns::{all_places, places_of};
 use crate::conditions::target;
 use form_check::Source;
-use std::alloc::Global;
+use std::alloc::{AllocError, Global};
 use syntax::Insert;
 use table::{Catalog, Column, Row};
 use value::{Refusal, Text, Value};
@@ -74,26 +74,24 @@ fn row_of(
     columns: &[Column],
     places: &[usize],
     values: &[Value],
-) -> Result<Row, Refusal>
-    ensures only_memory { IsOkUnless result NoMemory }
-    ensures whole { IfOk result (λ row. row ≡ row_of columns.now places.now values.now) }
+) -> Result<Row, AllocError>
+    ensures { IfOk result (λ row. row ≡ row_of columns.now places.now values.now) }
 {
     let mut row = Vec::new(alloc);
     for _column in columns {
         let value = given_to(places, values, row.len())?;
         row.push(value)?;
     }
-    Ok(Row::new(row))
+    Row::new(row)
 }
 
 /// What is given to a column: NULL where it isn't listed.
-fn given_to(places: &[usize], values: &[Value], column: usize) -> Result<Value, Refusal>
-    ensures only_memory { IsOkUnless result NoMemory }
-    ensures given { IfOk result (λ value. value ≡ given_to places.now values.now column) }
+fn given_to(places: &[usize], values: &[Value], column: usize) -> Result<Value, AllocError>
+    ensures { IfOk result (λ value. value ≡ given_to places.now values.now column) }
 {
     match listed_at(places, column) {
         Some(place) => match values.get(place) {
-            Some(value) => Ok(value.copy()?),
+            Some(value) => value.copy(),
             None => Ok(Value::Null),
         },
         None => Ok(Value::Null),

@@ -60,7 +60,7 @@ fn selected(alloc: Global, schema: &Schema, columns: &Which) -> Result<Vec<usize
         refusal ≢ NoMemory → selected schema.now.columns columns.now ≡ Err refusal) }
 {
     match columns {
-        Which::All => all_places(alloc, schema.columns()),
+        Which::All => Ok(all_places(alloc, schema.columns())?),
         Which::Names(names) => named_columns(alloc, schema, names.as_slice()),
     }
 }

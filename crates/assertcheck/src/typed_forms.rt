@@ -1,7 +1,6 @@
 //! Which forms of assertions are typed.
 
-ghost use Rattle.std.specs.Prelude.{◌≡◌, [], map, IfOk, IsOkUnless};
-ghost use Rattle.value.specs.declared.refusals.Refusal.TheVariants.{NoMemory};
+ghost use Rattle.std.specs.Prelude.{◌≡◌, [], map, IfOk};
 ghost use Rattle.table.specs.Rows.{layouts_of};
 ghost use Rattle.assertcheck.specs.Types.{aggregate_type as aggregate_type_of};
 ghost use Rattle.assertcheck.specs.Forms.{all_types, columns_of as columns_of_layouts, group_columns as group_columns_of, is_typed_form, is_typed_over as is_typed_over_types, linked_type_over, query_type as query_type_of, types_of};
@@ -10,20 +9,14 @@ use crate::data_types::{DataType, aggregate_type, are_comparable, column_type};
 use crate::typed_trees::is_well_typed;
 use assertion::{Form, Link, Query, Whole};
 use sqlite_items::Items;
-use std::alloc::Global;
+use std::alloc::{AllocError, Global};
 use std::slice;
 use table::{Aggregate, Catalog, Column, Cond};
-use value::Refusal;
 
 /// Whether each condition of a form is typed over what it sees, each link is between two columns of one type, and no
 /// SUM is of a text column. The form's tables are those of the catalog, by their places.
-///
-/// # Errors
-///
-/// [`Refusal::NoMemory`] alone.
-pub fn form_is_typed(alloc: Global, catalog: &Catalog, form: &Form) -> Result<bool, Refusal>
-    ensures only_memory { IsOkUnless result NoMemory }
-    ensures exact { IfOk result (λ typed. typed ≡ is_typed_form (layouts_of catalog.now) form.now) }
+pub fn form_is_typed(alloc: Global, catalog: &Catalog, form: &Form) -> Result<bool, AllocError>
+    ensures { IfOk result (λ typed. typed ≡ is_typed_form (layouts_of catalog.now) form.now) }
 {
     match form {
         Form::ByRow {
@@ -111,9 +104,8 @@ fn slot_types<T: SlotTypes>(
     alloc: Global,
     of: &T,
     slots: &[T::Slot],
-) -> Result<Option<Items<DataType>>, Refusal>
-    ensures only_memory { IsOkUnless result NoMemory }
-    ensures types { IfOk result (λ types. types ≡ all_types (map (T.slot_type of.now) slots.now)) }
+) -> Result<Option<Items<DataType>>, AllocError>
+    ensures { IfOk result (λ types. types ≡ all_types (map (T.slot_type of.now) slots.now)) }
 {
     let mut types = Vec::new(alloc);
     for slot in slots {
@@ -126,9 +118,8 @@ fn slot_types<T: SlotTypes>(
 }
 
 /// The types of what a row with these columns holds.
-fn row_types(alloc: Global, columns: &[Column]) -> Result<Items<DataType>, Refusal>
-    ensures only_memory { IsOkUnless result NoMemory }
-    ensures types { IfOk result (λ types. types ≡ types_of columns.now) }
+fn row_types(alloc: Global, columns: &[Column]) -> Result<Items<DataType>, AllocError>
+    ensures { IfOk result (λ types. types ≡ types_of columns.now) }
 {
     let mut types = Vec::new(alloc);
     for column in columns {

@@ -1,11 +1,10 @@
 //! Assertions.
 
-ghost use Rattle.std.specs.Prelude.{◌≡◌, IfOk, IsOkUnless};
-ghost use Rattle.value.specs.declared.refusals.Refusal.TheVariants.{NoMemory};
+ghost use Rattle.std.specs.Prelude.{◌≡◌, IfOk};
 
 use crate::forms::Form;
-use std::alloc::Global;
-use value::{Refusal, Text};
+use std::alloc::{AllocError, Global};
+use value::Text;
 
 /// When an assertion is checked (SQL-92, constraint attributes): after each statement, or at COMMIT where it is
 /// deferred. What is initially deferred is deferrable; that is for who makes one to see to.
@@ -27,9 +26,8 @@ pub struct Assertion {
 
 impl Assertion {
     /// An assertion equal to this one.
-    pub fn copy(&self, alloc: Global) -> Result<Assertion, Refusal>
-        ensures only_memory { IsOkUnless result NoMemory }
-        ensures equal { IfOk result (λ copy. copy ≡ self.now) }
+    pub fn copy(&self, alloc: Global) -> Result<Assertion, AllocError>
+        ensures { IfOk result (λ copy. copy ≡ self.now) }
     {
         Ok(Assertion {
             name: self.name.copy()?,

@@ -1,13 +1,11 @@
 //! The three forms of assertions.
 
-ghost use Rattle.std.specs.Prelude.{◌≡◌, IfOk, IsOkUnless};
-ghost use Rattle.value.specs.declared.refusals.Refusal.TheVariants.{NoMemory};
+ghost use Rattle.std.specs.Prelude.{◌≡◌, IfOk};
 
 use crate::queries::{Link, Query, Whole, copy_queries};
 use sqlite_items::Items;
-use std::alloc::Global;
+use std::alloc::{AllocError, Global};
 use table::{Aggregate, Cond};
-use value::Refusal;
 
 /// What an assertion forbids or demands. The slots of its condition are its queries or aggregates, in order.
 #[derive(Debug, Drop)]
@@ -36,9 +34,8 @@ pub enum Form {
 
 impl Form {
     /// A form equal to this one.
-    pub fn copy(&self, alloc: Global) -> Result<Form, Refusal>
-        ensures only_memory { IsOkUnless result NoMemory }
-        ensures equal { IfOk result (λ copy. copy ≡ self.now) }
+    pub fn copy(&self, alloc: Global) -> Result<Form, AllocError>
+        ensures { IfOk result (λ copy. copy ≡ self.now) }
     {
         match self {
             Form::ByRow {

@@ -1,12 +1,10 @@
 //! Subqueries.
 
-ghost use Rattle.std.specs.Prelude.{◌≡◌, IfOk, IsOkUnless};
-ghost use Rattle.value.specs.declared.refusals.Refusal.TheVariants.{NoMemory};
+ghost use Rattle.std.specs.Prelude.{◌≡◌, IfOk};
 
 use sqlite_items::Items;
-use std::alloc::Global;
+use std::alloc::{AllocError, Global};
 use table::{Aggregate, Cond};
-use value::Refusal;
 
 /// A subquery, `(SELECT aggregate FROM table WHERE filter)`: over the rows of a table that a condition keeps, or over
 /// those of them that its grouping gives. EXISTS is one of COUNT(*).
@@ -34,9 +32,8 @@ pub struct Whole;
 
 impl<G: Copy> Query<G> {
     /// A subquery equal to this one.
-    pub fn copy(&self, alloc: Global) -> Result<Query<G>, Refusal>
-        ensures only_memory { IsOkUnless result NoMemory }
-        ensures equal { IfOk result (λ copy. copy ≡ self.now) }
+    pub fn copy(&self, alloc: Global) -> Result<Query<G>, AllocError>
+        ensures { IfOk result (λ copy. copy ≡ self.now) }
     {
         Ok(Query {
             table: self.table,
@@ -51,9 +48,8 @@ impl<G: Copy> Query<G> {
 pub fn copy_queries<G: Copy + Drop>(
     alloc: Global,
     queries: &[Query<G>],
-) -> Result<Items<Query<G>>, Refusal>
-    ensures only_memory { IsOkUnless result NoMemory }
-    ensures equal { IfOk result (λ copy. copy ≡ queries.now) }
+) -> Result<Items<Query<G>>, AllocError>
+    ensures { IfOk result (λ copy. copy ≡ queries.now) }
 {
     let mut made = Vec::new(alloc);
     for query in queries {

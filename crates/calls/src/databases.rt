@@ -144,7 +144,7 @@ fn closing_part(alloc: Global, core: &Core) -> Result<Text, AllocError>
     let mut lines = Report::new(alloc);
     add_closing_part(alloc, core, &mut lines)?;
     let bytes = Vec::from_slice(alloc, lines.as_bytes())?;
-    Ok(Text::new(bytes))
+    Text::new(bytes)
 }
 
 impl Database {
@@ -207,7 +207,7 @@ impl Database {
             return Response::Misused(Misuse::BadName);
         }
         match read_name(alloc, bytes) {
-            Err(refusal) => refused(Source::Session, refusal),
+            Err(error) => refused(Source::Session, error.into()),
             Ok(name) => self.open_named(name),
         }
     }

@@ -1,9 +1,8 @@
 //! What checks and VERDICT read.
 
 ghost use Rattle.std.specs.Prelude.{◌≡◌, ◌<◌, ◌++◌, [], flat_map, length, map, option_to_list, slice_index_or, Some};
-ghost use Rattle.std.specs.Prelude.{if◌then◌else◌, IfOk, OnOk, IsOkUnless};
+ghost use Rattle.std.specs.Prelude.{if◌then◌else◌, IfOk, OnOk};
 ghost use Rattle.std.specs.Option.{option_copied};
-ghost use Rattle.value.specs.declared.refusals.Refusal.TheVariants.{NoMemory};
 ghost use Rattle.assertion.specs.declared.assertions.Assertion.{Assertion as AnyAssertion};
 ghost use Rattle.assertion.specs.Candidates.{linked_values};
 ghost use Rattle.assertion.specs.Declarations.{layouts_in};
@@ -16,22 +15,21 @@ ghost use Rattle.alone.specs.Checks.{check_keys, checks_read as checks_read_of, 
 use assertion::{Form, Link, Query};
 use delta::View;
 use siread::{LockKey, Place};
-use std::alloc::Global;
+use std::alloc::{AllocError, Global};
 use table::{Change, Row};
-use value::{Refusal, Root, Value};
+use value::{Root, Value};
 
 /// The keys that a check of the assertions meant reads on this view, over the changes that led to it: those by which
 /// the candidates are found, and at each candidate, by rows its row and the rows that are linked to it, by groups the
-/// group, and of a single condition the tables of its queries. NoMemory is the only error.
+/// group, and of a single condition the tables of its queries.
 pub fn checks_read(
     alloc: Global,
     view: &View,
     meant: &[bool],
     changes: &[Change],
-) -> Result<Vec<LockKey>, Refusal>
+) -> Result<Vec<LockKey>, AllocError>
     requires { length meant.now ≡ length view.now.declared.assertions }
-    ensures only_memory { IsOkUnless result NoMemory }
-    ensures keys { IfOk result (λ keys. keys.items
+    ensures { IfOk result (λ keys. keys.items
         ≡ checks_read_of (layouts_in view.now.declared) view.now.state
         (immediate_ones meant.now view.now.declared.assertions) changes.now) }
 {
@@ -49,10 +47,9 @@ fn push_if_meant(
     is_meant: bool,
     assertion: usize,
     changes: &[Change],
-) -> Result<(), Refusal>
+) -> Result<(), AllocError>
     requires { assertion < length view.now.declared.assertions }
-    ensures only_memory { IsOkUnless result NoMemory }
-    ensures pushed { OnOk result ((a : AnyAssertion)
+    ensures { OnOk result ((a : AnyAssertion)
         → keys.new.items ≡ keys.old.items
         ++ (if is_meant then check_keys (layouts_in view.now.declared) view.now.state
         (slice_index_or view.now.declared.assertions assertion a).form changes.now else [])) }
@@ -69,10 +66,9 @@ fn push_check(
     view: &View,
     assertion: usize,
     changes: &[Change],
-) -> Result<(), Refusal>
+) -> Result<(), AllocError>
     requires { assertion < length view.now.declared.assertions }
-    ensures only_memory { IsOkUnless result NoMemory }
-    ensures pushed { OnOk result ((a : AnyAssertion)
+    ensures { OnOk result ((a : AnyAssertion)
         → keys.new.items ≡ keys.old.items
         ++ check_keys (layouts_in view.now.declared) view.now.state
         (slice_index_or view.now.declared.assertions assertion a).form changes.now) }
@@ -89,9 +85,8 @@ fn push_finding(
     view: &View,
     form: &Form,
     changes: &[Change],
-) -> Result<(), Refusal>
-    ensures only_memory { IsOkUnless result NoMemory }
-    ensures pushed { OnOk result (keys.new.items
+) -> Result<(), AllocError>
+    ensures { OnOk result (keys.new.items
         ≡ keys.old.items ++ flat_map (finding_keys (layouts_in view.now.declared) form.now) changes.now) }
 {
     for change in changes {
@@ -106,9 +101,8 @@ fn push_found(
     view: &View,
     form: &Form,
     change: &Change,
-) -> Result<(), Refusal>
-    ensures only_memory { IsOkUnless result NoMemory }
-    ensures pushed { OnOk result (keys.new.items
+) -> Result<(), AllocError>
+    ensures { OnOk result (keys.new.items
         ≡ keys.old.items ++ finding_keys (layouts_in view.now.declared) form.now change.now) }
 {
     match form {
@@ -131,9 +125,8 @@ fn push_outer(
     key_column: usize,
     queries: &[Query<Link>],
     change: &Change,
-) -> Result<(), Refusal>
-    ensures only_memory { IsOkUnless result NoMemory }
-    ensures pushed { OnOk result (keys.new.items
+) -> Result<(), AllocError>
+    ensures { OnOk result (keys.new.items
         ≡ keys.old.items ++ flat_map (outer_keys table key_column change.now) queries.now) }
 {
     for query in queries {
@@ -149,9 +142,8 @@ fn push_query(
     key_column: usize,
     query: &Query<Link>,
     change: &Change,
-) -> Result<(), Refusal>
-    ensures only_memory { IsOkUnless result NoMemory }
-    ensures pushed { OnOk result (keys.new.items
+) -> Result<(), AllocError>
+    ensures { OnOk result (keys.new.items
         ≡ keys.old.items ++ outer_keys table key_column change.now query.now) }
 {
     if query.grouping.outer == key_column {
@@ -170,9 +162,8 @@ fn push_value(
     table: usize,
     link: Link,
     row: &Option<Row>,
-) -> Result<(), Refusal>
-    ensures only_memory { IsOkUnless result NoMemory }
-    ensures pushed { OnOk result (keys.new.items
+) -> Result<(), AllocError>
+    ensures { OnOk result (keys.new.items
         ≡ keys.old.items ++ map (InColumn table link.outer) (linked_values link (option_to_list row.now))) }
 {
     if let Some(row) = row {
@@ -194,9 +185,8 @@ fn push_roots(
     view: &View,
     form: &Form,
     roots: &[Root],
-) -> Result<(), Refusal>
-    ensures only_memory { IsOkUnless result NoMemory }
-    ensures pushed { OnOk result (keys.new.items
+) -> Result<(), AllocError>
+    ensures { OnOk result (keys.new.items
         ≡ keys.old.items ++ flat_map (keys_for (layouts_in view.now.declared) view.now.state form.now) roots.now) }
 {
     for root in roots {
@@ -206,9 +196,13 @@ fn push_roots(
 }
 
 /// Puts what a look at a root reads behind the keys. A root of another form has no row and no group.
-fn push_root(keys: &mut Vec<LockKey>, view: &View, form: &Form, root: &Root) -> Result<(), Refusal>
-    ensures only_memory { IsOkUnless result NoMemory }
-    ensures pushed { OnOk result (keys.new.items
+fn push_root(
+    keys: &mut Vec<LockKey>,
+    view: &View,
+    form: &Form,
+    root: &Root,
+) -> Result<(), AllocError>
+    ensures { OnOk result (keys.new.items
         ≡ keys.old.items ++ keys_for (layouts_in view.now.declared) view.now.state form.now root.now) }
 {
     match (form, root) {
@@ -239,9 +233,8 @@ fn push_links(
     table: usize,
     queries: &[Query<Link>],
     key: &Value,
-) -> Result<(), Refusal>
-    ensures only_memory { IsOkUnless result NoMemory }
-    ensures pushed { OnOk result (keys.new.items ≡ keys.old.items
+) -> Result<(), AllocError>
+    ensures { OnOk result (keys.new.items ≡ keys.old.items
         ++ flat_map (query_keys (layouts_in view.now.declared) (key_of table (layouts_in view.now.declared)) key.now
         (row_in (layouts_in view.now.declared) view.now.state (record { table = table; key = key.now }))) queries.now) }
 {
@@ -261,9 +254,8 @@ fn push_link(
     key: &Value,
     row: Option<&Row>,
     query: &Query<Link>,
-) -> Result<(), Refusal>
-    ensures only_memory { IsOkUnless result NoMemory }
-    ensures pushed { OnOk result (keys.new.items ≡ keys.old.items
+) -> Result<(), AllocError>
+    ensures { OnOk result (keys.new.items ≡ keys.old.items
         ++ query_keys (layouts_in view.now.declared) key_column key.now (option_copied row.entry) query.now) }
 {
     if query.grouping.outer == key_column {
@@ -286,9 +278,8 @@ fn push_row_link(
     view: &View,
     row: &Row,
     query: &Query<Link>,
-) -> Result<(), Refusal>
-    ensures only_memory { IsOkUnless result NoMemory }
-    ensures pushed { OnOk result (keys.new.items
+) -> Result<(), AllocError>
+    ensures { OnOk result (keys.new.items
         ≡ keys.old.items ++ row_keys (layouts_in view.now.declared) query.now (Some row.now)) }
 {
     match row.values().get(query.grouping.outer) {
@@ -299,9 +290,8 @@ fn push_row_link(
 }
 
 /// The rows of a subquery's table that have a value in its linked column.
-fn inner_key(view: &View, query: &Query<Link>, value: &Value) -> Result<LockKey, Refusal>
-    ensures only_memory { IsOkUnless result NoMemory }
-    ensures key { IfOk result (λ key. key ≡ inner_key_of (layouts_in view.now.declared) query.now value.now) }
+fn inner_key(view: &View, query: &Query<Link>, value: &Value) -> Result<LockKey, AllocError>
+    ensures { IfOk result (λ key. key ≡ inner_key_of (layouts_in view.now.declared) query.now value.now) }
 {
     let value = value.copy()?;
     if query.grouping.inner == view.key_column(query.table) {
@@ -319,9 +309,8 @@ fn inner_key(view: &View, query: &Query<Link>, value: &Value) -> Result<LockKey,
 }
 
 /// Puts the tables of the subqueries behind the keys.
-fn push_tables<G>(keys: &mut Vec<LockKey>, queries: &[Query<G>]) -> Result<(), Refusal>
-    ensures only_memory { IsOkUnless result NoMemory }
-    ensures pushed { OnOk result (keys.new.items
+fn push_tables<G>(keys: &mut Vec<LockKey>, queries: &[Query<G>]) -> Result<(), AllocError>
+    ensures { OnOk result (keys.new.items
         ≡ keys.old.items ++ map WholeTable (map (λ q. q.table) queries.now)) }
 {
     for query in queries {
@@ -330,11 +319,9 @@ fn push_tables<G>(keys: &mut Vec<LockKey>, queries: &[Query<G>]) -> Result<(), R
     Ok(())
 }
 
-/// The keys that VERDICT reads of an assertion: each table that it names, as often as it does. NoMemory is the only
-/// error.
-pub fn tables_read(alloc: Global, form: &Form) -> Result<Vec<LockKey>, Refusal>
-    ensures only_memory { IsOkUnless result NoMemory }
-    ensures keys { IfOk result (λ keys. keys.items ≡ map WholeTable (tables_in form.now)) }
+/// The keys that VERDICT reads of an assertion: each table that it names, as often as it does.
+pub fn tables_read(alloc: Global, form: &Form) -> Result<Vec<LockKey>, AllocError>
+    ensures { IfOk result (λ keys. keys.items ≡ map WholeTable (tables_in form.now)) }
 {
     let mut keys = Vec::new(alloc);
     push_named(&mut keys, form)?;
@@ -342,9 +329,8 @@ pub fn tables_read(alloc: Global, form: &Form) -> Result<Vec<LockKey>, Refusal>
 }
 
 /// Puts the tables that an assertion names behind the keys.
-fn push_named(keys: &mut Vec<LockKey>, form: &Form) -> Result<(), Refusal>
-    ensures only_memory { IsOkUnless result NoMemory }
-    ensures pushed { OnOk result (keys.new.items
+fn push_named(keys: &mut Vec<LockKey>, form: &Form) -> Result<(), AllocError>
+    ensures { OnOk result (keys.new.items
         ≡ keys.old.items ++ map WholeTable (tables_in form.now)) }
 {
     match form {

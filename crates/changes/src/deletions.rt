@@ -1,7 +1,6 @@
 //! Rows that are taken out.
 
-ghost use Rattle.std.specs.Prelude.{◌≡◌, [], All, List, length, IfOk, IsOkUnless, IsTrue};
-ghost use Rattle.value.specs.declared.refusals.Refusal.TheVariants.{NoMemory};
+ghost use Rattle.std.specs.Prelude.{◌≡◌, [], All, List, length, IfOk, IsTrue};
 ghost use Rattle.value.specs.Ordered.{IsAscending};
 ghost use Rattle.value.specs.ValueOrder.{value_cmp};
 ghost use Rattle.table.specs.Rows.{Layout, value_in};
@@ -15,27 +14,21 @@ ghost use Rattle.delta.specs.Views.{IsFitting};
 use crate::filtered::filtered_rows;
 use mvrows::Rows;
 use roots::value_at;
-use std::alloc::Global;
+use std::alloc::{AllocError, Global};
 use table::{Change, Cond, Row};
-use value::Refusal;
 
 /// The changes of a DELETE: that each row of a table which the condition keeps is taken out, in key order. `table` is
 /// the table's place, `key` that of its key column, and `rows` are those that stand in it now.
-///
-/// # Errors
-///
-/// [`Refusal::NoMemory`] alone.
 pub fn removals(
     alloc: Global,
     table: usize,
     key: usize,
     rows: &Rows,
     filter: &Cond,
-) -> Result<Vec<Change>, Refusal>
+) -> Result<Vec<Change>, AllocError>
     requires bounded { IsTrue (is_bounded [] filter.now) }
     requires small { All IsSmallRow rows.now }
     requires ordered { IsAscending value_cmp (value_in key) rows.now }
-    ensures only_memory { IsOkUnless result NoMemory }
     ensures made { IfOk result (λ made. record { reply = Deleted (length made.items); changes = made.items }
         ≡ delete_effect table key (filtered_rows filter.now rows.now)) }
     ensures due { IfOk result (λ made. (layouts : List Layout) (state : State) → IsState layouts state
@@ -50,9 +43,8 @@ pub fn removals(
 }
 
 /// That a row is taken out.
-fn removal(table: usize, key: usize, row: &Row) -> Result<Change, Refusal>
-    ensures only_memory { IsOkUnless result NoMemory }
-    ensures change { IfOk result (λ change. change ≡ removal table key row.now) }
+fn removal(table: usize, key: usize, row: &Row) -> Result<Change, AllocError>
+    ensures { IfOk result (λ change. change ≡ removal table key row.now) }
 {
     Ok(Change {
         table,

@@ -44,8 +44,8 @@
 //!
 //! A check is over the rows that have changed alone; [`real_changes`] leaves out the changes of a row to what it held.
 //!
-//! What the layer above may rest on: the keys are those of `alone`, so that the laws there are about them; NoMemory is
-//! the only error. What it owes: for each assertion whether it is meant.
+//! What the layer above may rest on: the keys are those of `alone`, so that the laws there are about them; only memory
+//! can fail. What it owes: for each assertion whether it is meant.
 //!
 //! The definitions are those of `alone`: `specs/Reads`, `specs/Checks` and `is_real` of `specs/States`.
 //!

@@ -1,8 +1,7 @@
 //! Net changes.
 
-ghost use Rattle.std.specs.Prelude.{◌≡◌, ◌<◌, IfOk, IsOkUnless};
+ghost use Rattle.std.specs.Prelude.{◌≡◌, ◌<◌, IfOk};
 ghost use Rattle.std.specs.Option.{option_copied};
-ghost use Rattle.value.specs.declared.refusals.Refusal.TheVariants.{NoMemory};
 ghost use Rattle.alone.specs.Declarations.{layouts_in};
 ghost use Rattle.alone.specs.States.{net_change, row_in, same_row, same_there};
 ghost use Rattle.changes.specs.Nets.{DifferAt, difference_at, differences_at};
@@ -10,22 +9,21 @@ ghost use Rattle.changes.specs.Nets.{DifferAt, difference_at, differences_at};
 use crate::touched::Touched;
 use delta::View;
 use siread::{Place, is_same};
-use std::alloc::Global;
+use std::alloc::{AllocError, Global};
 use table::{Change, Row};
-use value::{Refusal, Value};
+use value::Value;
 
 /// The net change between two views, which can differ at these places alone: each row in which they differ, by table
-/// and key, with what stands there before and after. NoMemory is the only error.
+/// and key, with what stands there before and after.
 pub fn net_change(
     alloc: Global,
     before: &View,
     after: &View,
     touched: &Touched,
-) -> Result<Vec<Change>, Refusal>
+) -> Result<Vec<Change>, AllocError>
     requires declared { after.now.declared ≡ before.now.declared }
     requires differ { DifferAt (layouts_in before.now.declared) before.now.state after.now.state touched.now }
-    ensures only_memory { IsOkUnless result NoMemory }
-    ensures net { IfOk result (λ made. made.items
+    ensures { IfOk result (λ made. made.items
         ≡ net_change (layouts_in before.now.declared) before.now.state after.now.state) }
 {
     touched.recall_order();
@@ -42,10 +40,9 @@ fn differences(
     before: &View,
     after: &View,
     touched: &Touched,
-) -> Result<Vec<Change>, Refusal>
+) -> Result<Vec<Change>, AllocError>
     requires declared { after.now.declared ≡ before.now.declared }
-    ensures only_memory { IsOkUnless result NoMemory }
-    ensures made { IfOk result (λ made. made.items
+    ensures { IfOk result (λ made. made.items
         ≡ differences_at (layouts_in before.now.declared) before.now.state after.now.state touched.now) }
 {
     // A commit keeps them, so there is no room to spare.
@@ -59,10 +56,9 @@ fn differences(
 }
 
 /// The change at a place, unless both views hold the same there.
-fn difference(before: &View, after: &View, place: &Place) -> Result<Option<Change>, Refusal>
+fn difference(before: &View, after: &View, place: &Place) -> Result<Option<Change>, AllocError>
     requires declared { after.now.declared ≡ before.now.declared }
-    ensures only_memory { IsOkUnless result NoMemory }
-    ensures made { IfOk result (λ made. made
+    ensures { IfOk result (λ made. made
         ≡ difference_at (layouts_in before.now.declared) before.now.state after.now.state place.now) }
 {
     let old = row_in(before, place);
@@ -90,9 +86,8 @@ pub fn row_in<'a>(view: &'a View, place: &Place) -> Option<&'a Row>
     }
 }
 
-fn copy_row(row: Option<&Row>) -> Result<Option<Row>, Refusal>
-    ensures only_memory { IsOkUnless result NoMemory }
-    ensures equal { IfOk result (λ copy. copy ≡ option_copied row.entry) }
+fn copy_row(row: Option<&Row>) -> Result<Option<Row>, AllocError>
+    ensures { IfOk result (λ copy. copy ≡ option_copied row.entry) }
 {
     match row {
         None => Ok(None),

@@ -1,7 +1,6 @@
 //! Rows that are selected.
 
-ghost use Rattle.std.specs.Prelude.{◌≡◌, ◌<◌, [], length, IfOk, IsOkUnless, IsTrue};
-ghost use Rattle.value.specs.declared.refusals.Refusal.TheVariants.{NoMemory};
+ghost use Rattle.std.specs.Prelude.{◌≡◌, ◌<◌, [], length, IfOk, IsTrue};
 ghost use Rattle.table.specs.Bounds.{is_bounded};
 ghost use Rattle.alone.specs.Meaning.{filtered_rows, rows_of};
 ghost use Rattle.alone.specs.Statements.{selected_rows, selected_values};
@@ -9,28 +8,22 @@ ghost use Rattle.alone.specs.Statements.{selected_rows, selected_values};
 use crate::filtered::filtered_rows;
 use delta::View;
 use roots::value_at;
-use std::alloc::Global;
+use std::alloc::{AllocError, Global};
 use table::{Cond, Row};
-use value::Refusal;
 
 /// What a SELECT lists: of each row of a table that the condition keeps, in key order, what stands in these columns, in
 /// their order. A row that has no such column lists NULL there. The view knows the table's key, under which its rows
 /// stand.
-///
-/// # Errors
-///
-/// [`Refusal::NoMemory`] alone.
 pub fn selected_rows(
     alloc: Global,
     view: &View,
     table: usize,
     columns: &[usize],
     filter: &Cond,
-) -> Result<Vec<Row>, Refusal>
+) -> Result<Vec<Row>, AllocError>
     requires bounded { IsTrue (is_bounded [] filter.now) }
     requires table_in { table < length view.now.state }
-    ensures only_memory { IsOkUnless result NoMemory }
-    ensures listed { IfOk result (λ made. made.items
+    ensures { IfOk result (λ made. made.items
         ≡ selected_rows columns.now (filtered_rows filter.now (rows_of table view.now.state))) }
 {
     let mut made = Vec::new(alloc);
@@ -41,13 +34,13 @@ pub fn selected_rows(
 }
 
 /// What stands in these columns of a row.
-fn selected_values(alloc: Global, columns: &[usize], row: &Row) -> Result<Row, Refusal>
-    ensures only_memory { IsOkUnless result NoMemory }
-    ensures listed { IfOk result (λ made. made ≡ selected_values columns.now row.now) }
+fn selected_values(alloc: Global, columns: &[usize], row: &Row) -> Result<Row, AllocError>
+    ensures { IfOk result (λ made. made ≡ selected_values columns.now row.now) }
 {
     let mut values = Vec::with_capacity(alloc, columns.len())?;
     for column in columns {
         values.push(value_at(row, *column)?)?;
     }
-    Ok(Row::new(values))
+    let selected = Row::new(values)?;
+    Ok(selected)
 }

@@ -1,19 +1,17 @@
 //! Where two views may differ.
 
-ghost use Rattle.std.specs.Prelude.{◌≡◌, [], Contains, map, length, IsOkUnless, OnOk, OnErr};
+ghost use Rattle.std.specs.Prelude.{◌≡◌, [], Contains, map, length, OnOk, OnErr};
 ghost use Rattle.value.specs.Ordered.{IsAscending};
-ghost use Rattle.value.specs.declared.refusals.Refusal.TheVariants.{NoMemory};
 ghost use Rattle.siread.specs.declared.keys.Place.{Place as AnyPlace};
 ghost use Rattle.siread.specs.Keys.{place_of};
 ghost use Rattle.alone.specs.States.{place_cmp};
 
 use siread::Place;
-use std::alloc::Global;
+use std::alloc::{AllocError, Global};
 use std::collections::BTreeSet;
 use std::collections::btree_set::Iter;
 use std::marker::Model;
 use table::Change;
-use value::Refusal;
 
 /// The places of the rows that a transaction has changed, in their order, each once.
 #[derive(Drop)]
@@ -40,9 +38,8 @@ impl Touched {
         }
     }
 
-    /// Adds the places of changes. After NoMemory, the only error, some of them may have been added.
-    pub fn add(&mut self, changes: &[Change]) -> Result<(), Refusal>
-        ensures only_memory { IsOkUnless result NoMemory }
+    /// Adds the places of changes. After an error some of them may have been added.
+    pub fn add(&mut self, changes: &[Change]) -> Result<(), AllocError>
         ensures kept { (place : AnyPlace) → Contains self.old place → Contains self.new place }
         ensures added { OnOk result ((place : AnyPlace) → Contains (map place_of changes.now) place
             → Contains self.new place) }
@@ -53,8 +50,7 @@ impl Touched {
         Ok(())
     }
 
-    fn add_place(&mut self, change: &Change) -> Result<(), Refusal>
-        ensures only_memory { IsOkUnless result NoMemory }
+    fn add_place(&mut self, change: &Change) -> Result<(), AllocError>
         ensures kept { OnOk result ((place : AnyPlace) → Contains self.old place → Contains self.new place) }
         ensures added { OnOk result (Contains self.new (place_of change.now)) }
         ensures same { OnErr result (self.new ≡ self.old) }

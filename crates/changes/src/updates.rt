@@ -1,6 +1,6 @@
 //! Rows that get other values.
 
-ghost use Rattle.std.specs.Prelude.{◌≡◌, ◌≢◌, ◌<◌, false, [], All, List, length, IfOk, IfErr, IsOkUnless, IsTrue, OnOk, Ok, Err, Some, None, slice_get, slice_set};
+ghost use Rattle.std.specs.Prelude.{◌≡◌, ◌≢◌, ◌<◌, false, [], All, List, length, IfOk, IfErr, IsTrue, OnOk, Ok, Err, Some, None, slice_get, slice_set};
 ghost use Rattle.value.specs.declared.refusals.Refusal.TheVariants.{NoMemory};
 ghost use Rattle.value.specs.Ordered.{HoldsOf};
 ghost use Rattle.table.specs.Rows.{FitsColumns, IsTable, Layout};
@@ -17,7 +17,7 @@ use crate::settings::given_value;
 use assertcheck::Setting;
 use mvrows::Rows;
 use roots::value_at;
-use std::alloc::Global;
+use std::alloc::{AllocError, Global};
 use table::{Change, Column, Cond, Row, Schema};
 use value::{Refusal, Value};
 
@@ -100,7 +100,8 @@ fn updated(alloc: Global, columns: &[Column], sets: &[Setting], row: &Row) -> Re
     for setting in sets {
         values = with_setting(alloc, columns, setting, row, values)?;
     }
-    Ok(Row::new(values))
+    let new = Row::new(values)?;
+    Ok(new)
 }
 
 /// The values with what one assignment gives to its column, or the fault of that.
@@ -143,9 +144,8 @@ fn with_value(values: Vec<Value>, column: usize, value: Value) -> Vec<Value>
 }
 
 /// The values of a row.
-fn values_of(alloc: Global, row: &Row) -> Result<Vec<Value>, Refusal>
-    ensures only_memory { IsOkUnless result NoMemory }
-    ensures equal { IfOk result (λ values. values.items ≡ row.now) }
+fn values_of(alloc: Global, row: &Row) -> Result<Vec<Value>, AllocError>
+    ensures { IfOk result (λ values. values.items ≡ row.now) }
 {
     let mut values = Vec::with_capacity(alloc, row.len())?;
     for value in row.values() {

@@ -1,16 +1,16 @@
 //! The key of a WHERE.
 
-ghost use Rattle.std.specs.Prelude.{◌≡◌, IfOk, IsOkUnless};
-ghost use Rattle.value.specs.declared.refusals.Refusal.TheVariants.{NoMemory};
+ghost use Rattle.std.specs.Prelude.{◌≡◌, IfOk};
 ghost use Rattle.table.specs.declared.conds.Cond.TheViews.{out-Cond};
 ghost use Rattle.table.specs.declared.exprs.Expr.TheViews.{out-Expr};
 ghost use Rattle.alone.specs.Reads.{where_key as where_key_of, top_parts as top_parts_of, sides as sides_of, equality_in as equality_of, first_equality as first_of_all, first_on as first_of_column, key_from};
 ghost use Rattle.changes.specs.Shown.{shown};
 
 use siread::{LockKey, Place};
+use std::alloc::AllocError;
 use std::slice;
 use table::{Cond, Expr};
-use value::{Comparison, Refusal, Value};
+use value::{Comparison, Value};
 
 /// A column that is set equal to a literal.
 #[derive(Clone, Copy)]
@@ -22,10 +22,9 @@ pub struct Equality<'a> {
 /// The key under which a WHERE reads a table whose key column is this one: the row of the first `key = literal` that
 /// AND joins at the top, whether it is there or not, else the rows of the first `column = literal`, else the table
 /// (SIREAD locks: Cahill, Röhm and Fekete 2008; keys of a predicate: Ports and Grittner 2012, "index-range and
-/// relation locks"). NoMemory is the only error.
-pub fn where_key(table: usize, key: usize, filter: &Cond) -> Result<LockKey, Refusal>
-    ensures only_memory { IsOkUnless result NoMemory }
-    ensures key { IfOk result (λ read. read ≡ where_key_of table key filter.now) }
+/// relation locks").
+pub fn where_key(table: usize, key: usize, filter: &Cond) -> Result<LockKey, AllocError>
+    ensures { IfOk result (λ read. read ≡ where_key_of table key filter.now) }
 {
     key_of(
         table,
@@ -47,9 +46,8 @@ fn key_of(
     table: usize,
     row: Option<Equality<'_>>,
     rows: Option<Equality<'_>>,
-) -> Result<LockKey, Refusal>
-    ensures only_memory { IsOkUnless result NoMemory }
-    ensures key { IfOk result (λ read. read ≡ key_from table (shown row.entry) (shown rows.entry)) }
+) -> Result<LockKey, AllocError>
+    ensures { IfOk result (λ read. read ≡ key_from table (shown row.entry) (shown rows.entry)) }
 {
     if let Some(equality) = row {
         return Ok(LockKey::Row(Place {

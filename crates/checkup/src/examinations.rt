@@ -92,10 +92,7 @@ fn take(
             return Ok(());
         }
     };
-    let view = match taken.load(alloc) {
-        Ok(view) => view,
-        Err(_) => return Err(AllocError),
-    };
+    let view = taken.load(alloc)?;
     if let Some(fault) = first_false(alloc, bytes, definitions.as_slice(), &view)? {
         found.faults.push(fault)?;
     }

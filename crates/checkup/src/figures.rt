@@ -338,10 +338,7 @@ fn rows_of(
     if rows.table >= view.catalog().len() || !is_bounded(rows.filter, &[]) {
         return Ok(Vec::new(alloc));
     }
-    match selected_rows(alloc, view, rows.table, columns, rows.filter) {
-        Ok(rows) => Ok(rows),
-        Err(_) => Err(AllocError),
-    }
+    selected_rows(alloc, view, rows.table, columns, rows.filter)
 }
 
 /// The group of a row of which the grouping column is listed, if it goes to one.

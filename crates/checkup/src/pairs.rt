@@ -10,7 +10,7 @@ use delta::View;
 use mvrows::Rows;
 use std::alloc::{AllocError, Global};
 use table::{Cond, Row, Slots, is_bounded, keeps};
-use value::{Refusal, Value};
+use value::Value;
 
 /// How many pairs there are of a row of a table and a row that is linked to it and that the filter keeps beside it, and
 /// how many rows of the table are in one.
@@ -46,10 +46,7 @@ fn count_beside(
     }
     let rows = view.rows(query.table);
     let key = view.key_column(query.table);
-    match count_linked(alloc, rows, key, query, around) {
-        Ok(count) => Ok(count),
-        Err(_) => Err(AllocError),
-    }
+    count_linked(alloc, rows, key, query, around)
 }
 
 /// The same, of these rows, whose keys are in the column at `key`.
@@ -59,7 +56,7 @@ fn count_linked(
     key: usize,
     query: &Query<Link>,
     around: &Row,
-) -> Result<usize, Refusal>
+) -> Result<usize, AllocError>
     requires bounded { IsTrue (is_bounded [] query.now.filter) }
     requires small { All IsSmallRow rows.now }
     requires around_small { IsSmallRow around.now }
@@ -76,7 +73,7 @@ fn linked_rows<'a>(
     key: usize,
     link: Link,
     around: &Row,
-) -> Result<Vec<&'a Row>, Refusal>
+) -> Result<Vec<&'a Row>, AllocError>
     requires small { All IsSmallRow rows.now }
     ensures small { IfOk result (λ linked. All IsSmallRow (map (λ row. row.now) linked.items)) }
 {

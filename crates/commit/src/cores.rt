@@ -416,9 +416,9 @@ impl Core {
             read_only,
             &self.newest,
         )?;
-        if let Err(refusal) = self.live.begin(snapshot, read_only) {
+        if let Err(_) = self.live.begin(snapshot, read_only) {
             let_go(txn.abandon());
-            return Err(refusal);
+            return Err(Refusal::NoMemory);
         }
         Ok(txn)
     }
@@ -542,8 +542,8 @@ impl Core {
         ) {
             return Err(give_back(refusal, closed));
         }
-        if let Err(refusal) = self.locks.put(number, closed.reads()) {
-            return Err(give_back(refusal, closed));
+        if let Err(_) = self.locks.put(number, closed.reads()) {
+            return Err(give_back(Refusal::NoMemory, closed));
         }
         let prepared = Prepared {
             closed,

@@ -1,35 +1,30 @@
 //! Copies of net changes and of what was read.
 
-ghost use Rattle.std.specs.Prelude.{◌≡◌, IfOk, IsOkUnless};
-ghost use Rattle.value.specs.declared.refusals.Refusal.TheVariants.{NoMemory};
+ghost use Rattle.std.specs.Prelude.{◌≡◌, IfOk};
 
 use crate::parts::{Part, copy_all, copy_if};
 use siread::LockKey;
 use sqlite_items::Items;
-use std::alloc::Global;
+use std::alloc::{AllocError, Global};
 use table::Change;
-use value::Refusal;
 
-/// Changes equal to these. NoMemory is the only error.
-pub fn copy_changes(alloc: Global, changes: &[Change]) -> Result<Items<Change>, Refusal>
-    ensures only_memory { IsOkUnless result NoMemory }
-    ensures equal { IfOk result (λ copy. copy ≡ changes.now) }
+/// Changes equal to these.
+pub fn copy_changes(alloc: Global, changes: &[Change]) -> Result<Items<Change>, AllocError>
+    ensures { IfOk result (λ copy. copy ≡ changes.now) }
 {
     copy_all(alloc, changes)
 }
 
-/// Keys equal to these. NoMemory is the only error.
-pub fn copy_reads(alloc: Global, reads: &[LockKey]) -> Result<Items<LockKey>, Refusal>
-    ensures only_memory { IsOkUnless result NoMemory }
-    ensures equal { IfOk result (λ copy. copy ≡ reads.now) }
+/// Keys equal to these.
+pub fn copy_reads(alloc: Global, reads: &[LockKey]) -> Result<Items<LockKey>, AllocError>
+    ensures { IfOk result (λ copy. copy ≡ reads.now) }
 {
     copy_all(alloc, reads)
 }
 
 impl Part for Change {
-    fn copy_in(&self, alloc: Global) -> Result<Change, Refusal>
-        ensures only_memory { IsOkUnless result NoMemory }
-        ensures equal { IfOk result (λ copy. copy ≡ self.now) }
+    fn copy_in(&self, alloc: Global) -> Result<Change, AllocError>
+        ensures { IfOk result (λ copy. copy ≡ self.now) }
     {
         Ok(Change {
             table: self.table,

@@ -1,29 +1,25 @@
 //! Copies of lists and options, by the copy of one part.
 
-ghost use Rattle.std.specs.Prelude.{◌≡◌, IfOk, IsOkUnless};
-ghost use Rattle.value.specs.declared.refusals.Refusal.TheVariants.{NoMemory};
+ghost use Rattle.std.specs.Prelude.{◌≡◌, IfOk};
 
 use siread::LockKey;
 use sqlite_items::Items;
-use std::alloc::Global;
+use std::alloc::{AllocError, Global};
 use table::{Expr, Row};
-use value::{Refusal, Text};
+use value::Text;
 
 /// What has a copy equal to it where there is memory. `Clone` could not answer that there is none.
 pub trait Part {
-    ghost use Rattle.std.specs.Prelude.{◌≡◌, IfOk, IsOkUnless};
-    ghost use Rattle.value.specs.declared.refusals.Refusal.TheVariants.{NoMemory};
+    ghost use Rattle.std.specs.Prelude.{◌≡◌, IfOk};
 
-    /// NoMemory is the only error.
-    fn copy_in(&self, alloc: Global) -> Result<Self, Refusal>
-        ensures only_memory { IsOkUnless result NoMemory }
-        ensures equal { IfOk result (λ copy. copy ≡ self.now) };
+    /// A part equal to this one.
+    fn copy_in(&self, alloc: Global) -> Result<Self, AllocError>
+        ensures { IfOk result (λ copy. copy ≡ self.now) };
 }
 
-/// Parts equal to these, in their order. NoMemory is the only error.
-pub fn copy_all<T: Part + Drop>(alloc: Global, parts: &[T]) -> Result<Items<T>, Refusal>
-    ensures only_memory { IsOkUnless result NoMemory }
-    ensures equal { IfOk result (λ copy. copy ≡ parts.now) }
+/// Parts equal to these, in their order.
+pub fn copy_all<T: Part + Drop>(alloc: Global, parts: &[T]) -> Result<Items<T>, AllocError>
+    ensures { IfOk result (λ copy. copy ≡ parts.now) }
 {
     let mut made = Vec::with_capacity(alloc, parts.len())?;
     for part in parts {
@@ -32,10 +28,9 @@ pub fn copy_all<T: Part + Drop>(alloc: Global, parts: &[T]) -> Result<Items<T>, 
     Ok(Items::from_vec(made))
 }
 
-/// A part equal to this one, if there is one. NoMemory is the only error.
-pub fn copy_if<T: Part + Drop>(alloc: Global, part: &Option<T>) -> Result<Option<T>, Refusal>
-    ensures only_memory { IsOkUnless result NoMemory }
-    ensures equal { IfOk result (λ copy. copy ≡ part.now) }
+/// A part equal to this one, if there is one.
+pub fn copy_if<T: Part + Drop>(alloc: Global, part: &Option<T>) -> Result<Option<T>, AllocError>
+    ensures { IfOk result (λ copy. copy ≡ part.now) }
 {
     match part {
         None => Ok(None),
@@ -47,45 +42,40 @@ pub fn copy_if<T: Part + Drop>(alloc: Global, part: &Option<T>) -> Result<Option
 }
 
 impl Part for usize {
-    fn copy_in(&self, _alloc: Global) -> Result<usize, Refusal>
-        ensures only_memory { IsOkUnless result NoMemory }
-        ensures equal { IfOk result (λ copy. copy ≡ self.now) }
+    fn copy_in(&self, _alloc: Global) -> Result<usize, AllocError>
+        ensures { IfOk result (λ copy. copy ≡ self.now) }
     {
         Ok(*self)
     }
 }
 
 impl Part for Text {
-    fn copy_in(&self, _alloc: Global) -> Result<Text, Refusal>
-        ensures only_memory { IsOkUnless result NoMemory }
-        ensures equal { IfOk result (λ copy. copy ≡ self.now) }
+    fn copy_in(&self, _alloc: Global) -> Result<Text, AllocError>
+        ensures { IfOk result (λ copy. copy ≡ self.now) }
     {
-        Ok(self.copy()?)
+        self.copy()
     }
 }
 
 impl Part for Row {
-    fn copy_in(&self, _alloc: Global) -> Result<Row, Refusal>
-        ensures only_memory { IsOkUnless result NoMemory }
-        ensures equal { IfOk result (λ copy. copy ≡ self.now) }
+    fn copy_in(&self, _alloc: Global) -> Result<Row, AllocError>
+        ensures { IfOk result (λ copy. copy ≡ self.now) }
     {
         self.copy()
     }
 }
 
 impl Part for LockKey {
-    fn copy_in(&self, _alloc: Global) -> Result<LockKey, Refusal>
-        ensures only_memory { IsOkUnless result NoMemory }
-        ensures equal { IfOk result (λ copy. copy ≡ self.now) }
+    fn copy_in(&self, _alloc: Global) -> Result<LockKey, AllocError>
+        ensures { IfOk result (λ copy. copy ≡ self.now) }
     {
         self.copy()
     }
 }
 
 impl Part for Expr {
-    fn copy_in(&self, alloc: Global) -> Result<Expr, Refusal>
-        ensures only_memory { IsOkUnless result NoMemory }
-        ensures equal { IfOk result (λ copy. copy ≡ self.now) }
+    fn copy_in(&self, alloc: Global) -> Result<Expr, AllocError>
+        ensures { IfOk result (λ copy. copy ≡ self.now) }
     {
         self.copy(alloc)
     }

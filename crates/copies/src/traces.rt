@@ -1,27 +1,23 @@
 //! Copies of statements with their names found.
 
-ghost use Rattle.std.specs.Prelude.{◌≡◌, IfOk, IsOkUnless};
-ghost use Rattle.value.specs.declared.refusals.Refusal.TheVariants.{NoMemory};
+ghost use Rattle.std.specs.Prelude.{◌≡◌, IfOk};
 
 use crate::parts::{Part, copy_all, copy_if};
 use alone::Resolved;
 use assertcheck::{Delete, NewRow, Select, Setting, Update};
 use sqlite_items::Items;
-use std::alloc::Global;
-use value::Refusal;
+use std::alloc::{AllocError, Global};
 
-/// Statements equal to these. NoMemory is the only error.
-pub fn copy_trace(alloc: Global, trace: &[Resolved]) -> Result<Items<Resolved>, Refusal>
-    ensures only_memory { IsOkUnless result NoMemory }
-    ensures equal { IfOk result (λ copy. copy ≡ trace.now) }
+/// Statements equal to these.
+pub fn copy_trace(alloc: Global, trace: &[Resolved]) -> Result<Items<Resolved>, AllocError>
+    ensures { IfOk result (λ copy. copy ≡ trace.now) }
 {
     copy_all(alloc, trace)
 }
 
 impl Part for Resolved {
-    fn copy_in(&self, alloc: Global) -> Result<Resolved, Refusal>
-        ensures only_memory { IsOkUnless result NoMemory }
-        ensures equal { IfOk result (λ copy. copy ≡ self.now) }
+    fn copy_in(&self, alloc: Global) -> Result<Resolved, AllocError>
+        ensures { IfOk result (λ copy. copy ≡ self.now) }
     {
         match self {
             Resolved::Refused(refusal) => Ok(Resolved::Refused(refusal.copy()?)),
@@ -38,9 +34,8 @@ impl Part for Resolved {
     }
 }
 
-fn copy_new_row(new: &NewRow) -> Result<NewRow, Refusal>
-    ensures only_memory { IsOkUnless result NoMemory }
-    ensures equal { IfOk result (λ copy. copy ≡ new.now) }
+fn copy_new_row(new: &NewRow) -> Result<NewRow, AllocError>
+    ensures { IfOk result (λ copy. copy ≡ new.now) }
 {
     Ok(NewRow {
         table: new.table,
@@ -48,9 +43,8 @@ fn copy_new_row(new: &NewRow) -> Result<NewRow, Refusal>
     })
 }
 
-fn copy_delete(alloc: Global, delete: &Delete) -> Result<Delete, Refusal>
-    ensures only_memory { IsOkUnless result NoMemory }
-    ensures equal { IfOk result (λ copy. copy ≡ delete.now) }
+fn copy_delete(alloc: Global, delete: &Delete) -> Result<Delete, AllocError>
+    ensures { IfOk result (λ copy. copy ≡ delete.now) }
 {
     Ok(Delete {
         table: delete.table,
@@ -58,9 +52,8 @@ fn copy_delete(alloc: Global, delete: &Delete) -> Result<Delete, Refusal>
     })
 }
 
-fn copy_select(alloc: Global, select: &Select) -> Result<Select, Refusal>
-    ensures only_memory { IsOkUnless result NoMemory }
-    ensures equal { IfOk result (λ copy. copy ≡ select.now) }
+fn copy_select(alloc: Global, select: &Select) -> Result<Select, AllocError>
+    ensures { IfOk result (λ copy. copy ≡ select.now) }
 {
     let columns = copy_all(alloc, select.columns.as_slice())?;
     Ok(Select {
@@ -70,9 +63,8 @@ fn copy_select(alloc: Global, select: &Select) -> Result<Select, Refusal>
     })
 }
 
-fn copy_update(alloc: Global, update: &Update) -> Result<Update, Refusal>
-    ensures only_memory { IsOkUnless result NoMemory }
-    ensures equal { IfOk result (λ copy. copy ≡ update.now) }
+fn copy_update(alloc: Global, update: &Update) -> Result<Update, AllocError>
+    ensures { IfOk result (λ copy. copy ≡ update.now) }
 {
     let sets = copy_all(alloc, update.sets.as_slice())?;
     Ok(Update {
@@ -83,9 +75,8 @@ fn copy_update(alloc: Global, update: &Update) -> Result<Update, Refusal>
 }
 
 impl Part for Setting {
-    fn copy_in(&self, alloc: Global) -> Result<Setting, Refusal>
-        ensures only_memory { IsOkUnless result NoMemory }
-        ensures equal { IfOk result (λ copy. copy ≡ self.now) }
+    fn copy_in(&self, alloc: Global) -> Result<Setting, AllocError>
+        ensures { IfOk result (λ copy. copy ≡ self.now) }
     {
         Ok(Setting {
             column: self.column,

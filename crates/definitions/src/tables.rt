@@ -1,10 +1,10 @@
 //! CREATE TABLE.
 
-ghost use Rattle.std.specs.Prelude.{◌≡◌, ◌≢◌, ◌<◌, [], map, count_by, position, length, IfOk, IfErr, IfSome, IsOkUnless, Ok, Err, Some, None};
+ghost use Rattle.std.specs.Prelude.{◌≡◌, ◌≢◌, ◌<◌, [], map, count_by, position, length, IfOk, IfErr, IfSome, Ok, Err, Some, None};
 ghost use Rattle.value.specs.declared.refusals.Refusal.TheVariants.{NoMemory};
 ghost use Rattle.definitions.specs.Tables.{defined_column, is_named, layout_from, only_key, repeated_name};
 
-use std::alloc::Global;
+use std::alloc::{AllocError, Global};
 use syntax::ColumnDefinition;
 use table::{Column, Schema};
 use value::{Refusal, Text};
@@ -72,9 +72,8 @@ fn has_name(columns: &[ColumnDefinition], name: &Text) -> bool
     columns.iter().any(|column| column.name == *name)
 }
 
-fn schema_columns(alloc: Global, columns: &[ColumnDefinition]) -> Result<Vec<Column>, Refusal>
-    ensures only_memory { IsOkUnless result NoMemory }
-    ensures defined { IfOk result (λ made. made.items ≡ map defined_column columns.now) }
+fn schema_columns(alloc: Global, columns: &[ColumnDefinition]) -> Result<Vec<Column>, AllocError>
+    ensures { IfOk result (λ made. made.items ≡ map defined_column columns.now) }
 {
     let mut made = Vec::new(alloc);
     for column in columns {
@@ -83,9 +82,8 @@ fn schema_columns(alloc: Global, columns: &[ColumnDefinition]) -> Result<Vec<Col
     Ok(made)
 }
 
-fn schema_column(column: &ColumnDefinition) -> Result<Column, Refusal>
-    ensures only_memory { IsOkUnless result NoMemory }
-    ensures defined { IfOk result (λ made. made ≡ defined_column column.now) }
+fn schema_column(column: &ColumnDefinition) -> Result<Column, AllocError>
+    ensures { IfOk result (λ made. made ≡ defined_column column.now) }
 {
     Ok(Column {
         name: column.name.copy()?,

@@ -1,6 +1,6 @@
 //! Definitions are taken in one after the other.
 
-ghost use Rattle.std.specs.Prelude.{◌≡◌, ◌≢◌, ◌<◌, [], ◌∷◌, IfOk, IfErr, IsOkUnless, Ok, Err, length};
+ghost use Rattle.std.specs.Prelude.{◌≡◌, ◌≢◌, ◌<◌, [], ◌∷◌, IfOk, IfErr, IsOkUnless, Ok, Err, length, slice_index_or, slice_set};
 ghost use Rattle.value.specs.declared.refusals.Refusal.TheVariants.{NoMemory};
 ghost use Rattle.definitions.specs.Taken.{is_asserted, empty_database, taken, with_assertion, with_definition, with_table};
 ghost use Rattle.definitions.specs.Written.{AreWritten};
@@ -17,8 +17,9 @@ use assertion::Assertion;
 use changes::{insertion, name_at, schema_at};
 use delta::{View, copy_assertions, copy_catalog};
 use mvrows::Rows;
-use std::alloc::Global;
+use std::alloc::{AllocError, Global};
 use std::marker::Model;
+use std::mem;
 use syntax::{Attributes, ColumnDefinition, Condition, Definition, Insert};
 use table::{Catalog, Change, Row};
 use value::{Refusal, Text};
@@ -99,9 +100,8 @@ impl Definitions {
     /// # Errors
     ///
     /// [`Refusal::NoMemory`] alone.
-    pub fn load(self, alloc: Global) -> Result<View, Refusal>
-        ensures only_memory { IsOkUnless result NoMemory }
-        ensures loaded { IfOk result (λ view. view ≡ self) }
+    pub fn load(self, alloc: Global) -> Result<View, AllocError>
+        ensures { IfOk result (λ view. view ≡ self) }
     {
         let Definitions {
             catalog,
@@ -204,7 +204,7 @@ impl Definitions {
     {
         let NewRow { table, row } = check_insert(alloc, &self.catalog, insert)?;
         let change = self.insertion(table, row)?;
-        self.with_change(&change)
+        Ok(self.with_change(&change)?)
     }
 
     /// The change that puts a row into the table at a place.
@@ -229,11 +229,10 @@ impl Definitions {
     }
 
     /// These with a change of one row.
-    fn with_change(self, change: &Change) -> Result<Definitions, Refusal>
+    fn with_change(self, change: &Change) -> Result<Definitions, AllocError>
         requires is { IsChangeOf (layouts_in self.declared) change.now self.state }
         requires fits { IsFitting (layouts_in self.declared) change.now }
-        ensures only_memory { IsOkUnless result NoMemory }
-        ensures changed { IfOk result (λ made. made
+        ensures { IfOk result (λ made. made
             ≡ record self { state = state_after (layouts_in self.declared) change.now self.state }) }
     {
         let Definitions {
@@ -242,7 +241,8 @@ impl Definitions {
             mut rows,
         } = self;
         let key = schema_at(&catalog, change.table).key();
-        rows[change.table] = rows[change.table].with(key, change)?;
+        let old = take_rows(&mut rows, change.table);
+        rows[change.table] = old.with(key, change)?;
         Ok(Definitions {
             catalog,
             assertions,
@@ -256,4 +256,15 @@ pub(crate) fn is_asserted(assertions: &[Assertion], name: &Text) -> bool
     ensures { result ≡ is_asserted name.now assertions.now }
 {
     assertions.iter().any(|assertion| assertion.name == *name)
+}
+
+/// Takes the rows of a table out, and leaves none in their place: nobody else holds them then, so that a change is made
+/// where they stand.
+fn take_rows(rows: &mut Vec<Rows>, table: usize) -> Rows
+    requires { table < length rows.old.items }
+    ensures taken { result ≡ slice_index_or rows.old.items table result }
+    ensures left { rows.new.items ≡ slice_set rows.old.items table [] }
+{
+    let none = Rows::new(*rows.allocator());
+    mem::replace(&mut rows[table], none)
 }

@@ -1,11 +1,11 @@
 //! What all versions of a view share.
 
 ghost use Rattle.std.specs.Prelude.{◌≡◌, ◌++◌, ◌∷◌, [], IfOk, IsOkUnless};
-ghost use Rattle.value.specs.declared.refusals.Refusal.TheVariants.{NoMemory};
 ghost use Rattle.table.specs.Rows.{layouts_of};
+ghost use Rattle.value.specs.declared.refusals.Refusal.TheVariants.{NoMemory};
 
 use assertion::Assertion;
-use std::alloc::Global;
+use std::alloc::{AllocError, Global};
 use table::{Catalog, Schema};
 use value::Refusal;
 
@@ -19,9 +19,8 @@ pub struct Declarations {
 }
 
 /// The schemas of the tables, in the order of creation.
-pub fn schemas_of(alloc: Global, catalog: &Catalog) -> Result<Vec<Schema>, Refusal>
-    ensures only_memory { IsOkUnless result NoMemory }
-    ensures schemas { IfOk result (λ schemas. schemas.items ≡ layouts_of catalog.now) }
+pub fn schemas_of(alloc: Global, catalog: &Catalog) -> Result<Vec<Schema>, AllocError>
+    ensures { IfOk result (λ schemas. schemas.items ≡ layouts_of catalog.now) }
 {
     let mut schemas = Vec::new(alloc);
     for table in 0..catalog.len() {
@@ -49,9 +48,11 @@ pub fn copy_catalog(alloc: Global, catalog: &Catalog) -> Result<Catalog, Refusal
 }
 
 /// Assertions equal to these.
-pub fn copy_assertions(alloc: Global, assertions: &[Assertion]) -> Result<Vec<Assertion>, Refusal>
-    ensures only_memory { IsOkUnless result NoMemory }
-    ensures equal { IfOk result (λ made. made.items ≡ assertions.now) }
+pub fn copy_assertions(
+    alloc: Global,
+    assertions: &[Assertion],
+) -> Result<Vec<Assertion>, AllocError>
+    ensures { IfOk result (λ made. made.items ≡ assertions.now) }
 {
     let mut made = Vec::new(alloc);
     for assertion in assertions {

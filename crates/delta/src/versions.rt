@@ -1,9 +1,8 @@
 //! The tables and what is maintained for the assertions, at the start and after a change.
 
-ghost use Rattle.std.specs.Prelude.{◌≡◌, filter, map, length, not, IfOk, IsOkUnless};
+ghost use Rattle.std.specs.Prelude.{◌≡◌, filter, map, length, not, IfOk};
 ghost use Rattle.std.specs.Arc.{arc_value};
 ghost use Rattle.std.specs.Str.{bytes_eq};
-ghost use Rattle.value.specs.declared.refusals.Refusal.TheVariants.{NoMemory};
 ghost use Rattle.assertion.specs.Roots.{IsChangeOf, state_after};
 ghost use Rattle.delta.specs.Maintained.{AreShort, AreWatched, IsGood, IsStep};
 ghost use Rattle.delta.specs.Views.{AreBounded, IsFitting};
@@ -12,10 +11,10 @@ use crate::watches::{Watch, watch_after};
 use assertion::{Assertion, Form, Link, Query};
 use mvrows::Rows;
 use roots::key_column;
-use std::alloc::Global;
+use std::alloc::{AllocError, Global};
 use std::sync::Arc;
 use table::{Change, Schema};
-use value::{Refusal, Text};
+use value::Text;
 
 /// What is maintained for the assertions on these tables.
 pub fn watches_of(
@@ -23,11 +22,10 @@ pub fn watches_of(
     schemas: &[Schema],
     tables: &[Rows],
     assertions: &[Assertion],
-) -> Result<Vec<Arc<Watch>>, Refusal>
+) -> Result<Vec<Arc<Watch>>, AllocError>
     requires bounded { AreBounded assertions.now }
     requires good { IsGood schemas.now tables.now }
-    ensures only_memory { IsOkUnless result NoMemory }
-    ensures watched { IfOk result (λ made. AreWatched schemas.now tables.now assertions.now (length assertions.now)
+    ensures { IfOk result (λ made. AreWatched schemas.now tables.now assertions.now (length assertions.now)
         (map arc_value made.items)) }
 {
     let mut made = Vec::new(alloc);
@@ -44,16 +42,15 @@ pub fn tables_after(
     schemas: &[Schema],
     tables: &[Rows],
     change: &Change,
-) -> Result<Vec<Rows>, Refusal>
+) -> Result<Vec<Rows>, AllocError>
     requires good { IsGood schemas.now tables.now }
     requires is { IsChangeOf schemas.now change.now tables.now }
     requires fits { IsFitting schemas.now change.now }
-    ensures only_memory { IsOkUnless result NoMemory }
     ensures changed { IfOk result (λ made. made.items ≡ state_after schemas.now change.now tables.now) }
     ensures step { IfOk result (λ made. IsStep schemas.now change.now tables.now made.items) }
 {
     let column = key_column(schemas, change.table);
-    let rows = tables[change.table].with(column, change)?;
+    let rows = tables[change.table].copy()?.with(column, change)?;
     let mut made = copy_tables(alloc, tables)?;
     made[change.table] = rows;
     Ok(made)
@@ -68,13 +65,12 @@ pub fn watches_after(
     assertions: &[Assertion],
     watches: &[Arc<Watch>],
     change: &Change,
-) -> Result<Vec<Arc<Watch>>, Refusal>
+) -> Result<Vec<Arc<Watch>>, AllocError>
     requires bounded { AreBounded assertions.now }
     requires step { IsStep schemas.now change.now before.now after.now }
     requires watched { AreWatched schemas.now before.now assertions.now (length assertions.now)
         (map arc_value watches.now) }
-    ensures only_memory { IsOkUnless result NoMemory }
-    ensures watched { IfOk result (λ made. AreWatched schemas.now after.now assertions.now (length assertions.now)
+    ensures { IfOk result (λ made. AreWatched schemas.now after.now assertions.now (length assertions.now)
         (map arc_value made.items)) }
 {
     let mut made = Vec::new(alloc);
@@ -87,8 +83,7 @@ pub fn watches_after(
 }
 
 /// Tables equal to these, each of which can be counted.
-pub fn copy_tables(alloc: Global, tables: &[Rows]) -> Result<Vec<Rows>, Refusal>
-    ensures only_memory { IsOkUnless result NoMemory }
+pub fn copy_tables(alloc: Global, tables: &[Rows]) -> Result<Vec<Rows>, AllocError>
     ensures equal { IfOk result (λ made. made.items ≡ tables.now) }
     ensures short { IfOk result (λ made. AreShort made.items) }
 {
@@ -109,8 +104,7 @@ pub fn index_tables(
     schemas: &[Schema],
     tables: &[Rows],
     assertions: &[Assertion],
-) -> Result<Vec<Rows>, Refusal>
-    ensures only_memory { IsOkUnless result NoMemory }
+) -> Result<Vec<Rows>, AllocError>
     ensures equal { IfOk result (λ made. made.items ≡ tables.now) }
     ensures short { IfOk result (λ made. AreShort made.items) }
 {
@@ -127,8 +121,7 @@ pub fn index_for(
     schemas: &[Schema],
     tables: &[Rows],
     form: &Form,
-) -> Result<Vec<Rows>, Refusal>
-    ensures only_memory { IsOkUnless result NoMemory }
+) -> Result<Vec<Rows>, AllocError>
     ensures equal { IfOk result (λ made. made.items ≡ tables.now) }
     ensures short { IfOk result (λ made. AreShort made.items) }
 {
@@ -138,9 +131,8 @@ pub fn index_for(
 }
 
 /// Indexes the rows of a form's table by each column that links a subquery to them, and those of joint subqueries.
-fn index_form(tables: &mut [Rows], schemas: &[Schema], form: &Form) -> Result<(), Refusal>
-    ensures only_memory { IsOkUnless result NoMemory }
-    ensures same { tables.new ≡ tables.old }
+fn index_form(tables: &mut [Rows], schemas: &[Schema], form: &Form) -> Result<(), AllocError>
+    ensures { tables.new ≡ tables.old }
 {
     if let Form::ByRow { table, queries, .. } = form {
         if *table < tables.len() {
@@ -156,9 +148,12 @@ fn index_form(tables: &mut [Rows], schemas: &[Schema], form: &Form) -> Result<()
 
 /// Indexes the rows of a subquery's table by the column of its link, other than their key, where its filter asks what
 /// the row around holds: those that are linked to a row around are looked at where that row is new or another.
-fn index_joint(tables: &mut [Rows], schemas: &[Schema], query: &Query<Link>) -> Result<(), Refusal>
-    ensures only_memory { IsOkUnless result NoMemory }
-    ensures same { tables.new ≡ tables.old }
+fn index_joint(
+    tables: &mut [Rows],
+    schemas: &[Schema],
+    query: &Query<Link>,
+) -> Result<(), AllocError>
+    ensures { tables.new ≡ tables.old }
 {
     let (table, column) = (query.table, query.grouping.inner);
     let key = key_column(schemas, table);
@@ -169,9 +164,12 @@ fn index_joint(tables: &mut [Rows], schemas: &[Schema], query: &Query<Link>) -> 
 }
 
 /// Indexes rows by each column, other than that of their key, that links a subquery to them.
-fn index_links(rows: &mut Rows, key_column: usize, queries: &[Query<Link>]) -> Result<(), Refusal>
-    ensures only_memory { IsOkUnless result NoMemory }
-    ensures same { rows.new ≡ rows.old }
+fn index_links(
+    rows: &mut Rows,
+    key_column: usize,
+    queries: &[Query<Link>],
+) -> Result<(), AllocError>
+    ensures { rows.new ≡ rows.old }
 {
     for query in queries {
         let column = query.grouping.outer;
@@ -183,9 +181,8 @@ fn index_links(rows: &mut Rows, key_column: usize, queries: &[Query<Link>]) -> R
 }
 
 /// The same watches, shared.
-pub fn copy_watches(alloc: Global, watches: &[Arc<Watch>]) -> Result<Vec<Arc<Watch>>, Refusal>
-    ensures only_memory { IsOkUnless result NoMemory }
-    ensures equal { IfOk result (λ made. map arc_value made.items ≡ map arc_value watches.now) }
+pub fn copy_watches(alloc: Global, watches: &[Arc<Watch>]) -> Result<Vec<Arc<Watch>>, AllocError>
+    ensures { IfOk result (λ made. map arc_value made.items ≡ map arc_value watches.now) }
 {
     let mut made = Vec::new(alloc);
     for watch in watches {
@@ -208,10 +205,9 @@ pub fn leave_out(
     assertions: &[Assertion],
     watches: &[Arc<Watch>],
     name: &Text,
-) -> Result<Watched, Refusal>
+) -> Result<Watched, AllocError>
     requires watched { AreWatched _schemas.now _tables.now assertions.now (length assertions.now)
         (map arc_value watches.now) }
-    ensures only_memory { IsOkUnless result NoMemory }
     ensures left { IfOk result (λ made.
         made.assertions.items ≡ filter (λ a. not (bytes_eq a.name name.now)) assertions.now) }
     ensures watched { IfOk result (λ made. AreWatched _schemas.now _tables.now made.assertions.items

@@ -3,7 +3,6 @@
 ghost use Rattle.std.specs.Prelude.{◌≡◌, ◌<◌, length, map, slice_index_or, All, IfOk, IsOkUnless};
 ghost use Rattle.std.specs.Arc.{arc_value};
 ghost use Rattle.std.specs.Option.{option_copied};
-ghost use Rattle.value.specs.declared.refusals.Refusal.TheVariants.{NoMemory};
 ghost use Rattle.table.specs.Rows.{IsTable, layouts_of, row_at};
 ghost use Rattle.table.specs.Bounds.{IsSmallRow};
 ghost use Rattle.assertion.specs.Bounded.{IsBounded};
@@ -12,8 +11,9 @@ ghost use Rattle.assertion.specs.Candidates.{candidates_of};
 ghost use Rattle.assertion.specs.Declarations.{layouts_in};
 ghost use Rattle.assertion.specs.Meaning.{key_of, least_bad_of, rows_of, verdict_of};
 ghost use Rattle.assertion.specs.Roots.{AreChangesOf, IsChangeOf, state_after, state_after_all};
-ghost use Rattle.delta.specs.Maintained.{AreWatched, IsGood};
+ghost use Rattle.delta.specs.Maintained.{AreShort, AreWatched, IsGood};
 ghost use Rattle.delta.specs.Views.{AreBounded, AreTables, IsFitting, layout_at, with_assertion, without_assertion};
+ghost use Rattle.value.specs.declared.refusals.Refusal.TheVariants.{NoMemory};
 
 use crate::declarations::{Declarations, copy_assertions, copy_catalog, schemas_of};
 use crate::versions::{
@@ -24,7 +24,7 @@ use crate::watches::Watch;
 use assertion::Assertion;
 use mvrows::Rows;
 use roots::{candidates, key_column, row_under};
-use std::alloc::Global;
+use std::alloc::{AllocError, Global};
 use std::marker::Model;
 use std::sync::Arc;
 use table::{Catalog, Change, Row, Schema};
@@ -72,11 +72,10 @@ impl View {
         catalog: Catalog,
         assertions: Vec<Assertion>,
         rows: &[Rows],
-    ) -> Result<View, Refusal>
+    ) -> Result<View, AllocError>
         requires bounded { AreBounded assertions.items }
         requires tables { AreTables (layouts_of catalog) rows.now }
-        ensures only_memory { IsOkUnless result NoMemory }
-        ensures loaded { IfOk result (λ view. view
+        ensures { IfOk result (λ view. view
             ≡ record { declared = record { tables = catalog; assertions = assertions.items }; state = rows.now }) }
     {
         let schemas = schemas_of(alloc, &catalog)?;
@@ -104,11 +103,10 @@ impl View {
 
     /// The view after a change of one row. The change names what stands under its key now, and this view stays as it
     /// is. Only memory can fail.
-    pub fn with(&self, change: &Change) -> Result<View, Refusal>
+    pub fn with(&self, change: &Change) -> Result<View, AllocError>
         requires is { IsChangeOf (layouts_in self.now.declared) change.now self.now.state }
         requires fits { IsFitting (layouts_in self.now.declared) change.now }
-        ensures only_memory { IsOkUnless result NoMemory }
-        ensures changed { IfOk result (λ view. view
+        ensures { IfOk result (λ view. view
             ≡ record self.now { state = state_after (layouts_in self.now.declared) change.now self.now.state }) }
     {
         let alloc = *self.tables.allocator();
@@ -133,11 +131,10 @@ impl View {
 
     /// The view after changes of rows, put in one after the other. Each names what stands under its key when its turn
     /// comes, and this view stays as it is. Only memory can fail.
-    pub fn after(&self, changes: &[Change]) -> Result<View, Refusal>
+    pub fn after(&self, changes: &[Change]) -> Result<View, AllocError>
         requires are { AreChangesOf (layouts_in self.now.declared) changes.now self.now.state }
         requires fit { All (IsFitting (layouts_in self.now.declared)) changes.now }
-        ensures only_memory { IsOkUnless result NoMemory }
-        ensures changed { IfOk result (λ view. view
+        ensures { IfOk result (λ view. view
             ≡ record self.now { state = state_after_all (layouts_in self.now.declared) changes.now self.now.state }) }
     {
         let mut view = self.copy()?;
@@ -148,9 +145,8 @@ impl View {
     }
 
     /// A view equal to this one.
-    pub fn copy(&self) -> Result<View, Refusal>
-        ensures only_memory { IsOkUnless result NoMemory }
-        ensures equal { IfOk result (λ copy. copy ≡ self.now) }
+    pub fn copy(&self) -> Result<View, AllocError>
+        ensures { IfOk result (λ copy. copy ≡ self.now) }
     {
         let alloc = *self.tables.allocator();
         Ok(View {
@@ -179,7 +175,7 @@ impl View {
         assertions.push(assertion)?;
         self.redeclare(
             alloc,
-            &tables,
+            tables,
             Watched {
                 assertions,
                 watches,
@@ -195,6 +191,7 @@ impl View {
             ≡ record self.now { declared = without_assertion name.now self.now.declared }) }
     {
         let alloc = *self.tables.allocator();
+        let tables = copy_tables(alloc, &self.tables)?;
         let left = leave_out(
             alloc,
             &self.declarations.schemas,
@@ -203,12 +200,13 @@ impl View {
             &self.watches,
             name,
         )?;
-        self.redeclare(alloc, &self.tables, left)
+        self.redeclare(alloc, tables, left)
     }
 
-    /// The view of the same tables, as they are indexed here, with other assertions, for which this is maintained.
-    fn redeclare(&self, alloc: Global, tables: &[Rows], watched: Watched) -> Result<View, Refusal>
-        requires tables { tables.now ≡ self.now.state }
+    /// The view of these tables, which are the same, with other assertions, for which this is maintained.
+    fn redeclare(&self, alloc: Global, tables: Vec<Rows>, watched: Watched) -> Result<View, Refusal>
+        requires tables { tables.items ≡ self.now.state }
+        requires short { AreShort tables.items }
         requires bounded { AreBounded watched.assertions.items }
         requires watched { AreWatched (layouts_in self.now.declared) self.now.state watched.assertions.items
             (length watched.assertions.items) (map arc_value watched.watches.items) }
@@ -223,7 +221,6 @@ impl View {
         } = watched;
         let catalog = copy_catalog(alloc, &self.declarations.catalog)?;
         let schemas = schemas_of(alloc, &catalog)?;
-        let tables = index_tables(alloc, &schemas, tables, &assertions)?;
         let declarations = Declarations {
             catalog,
             schemas,
@@ -263,8 +260,7 @@ impl View {
     }
 
     /// The rows of each table, in the order of the catalog, shared with this view. Only memory can fail.
-    pub fn copy_rows(&self) -> Result<Vec<Rows>, Refusal>
-        ensures only_memory { IsOkUnless result NoMemory }
+    pub fn copy_rows(&self) -> Result<Vec<Rows>, AllocError>
         ensures equal { IfOk result (λ rows. rows.items ≡ self.now.state) }
         ensures good { IfOk result (λ rows. IsGood (layouts_in self.now.declared) rows.items) }
     {
@@ -287,10 +283,9 @@ impl View {
     }
 
     /// The roots at which an assertion can be another after the changes that led to this view than before them.
-    pub fn candidates(&self, assertion: usize, changes: &[Change]) -> Result<Vec<Root>, Refusal>
+    pub fn candidates(&self, assertion: usize, changes: &[Change]) -> Result<Vec<Root>, AllocError>
         requires { assertion < length self.now.declared.assertions }
-        ensures only_memory { IsOkUnless result NoMemory }
-        ensures candidates { IfOk result (λ roots. (a : AnyAssertion) → roots.items
+        ensures { IfOk result (λ roots. (a : AnyAssertion) → roots.items
             ≡ candidates_of (layouts_in self.now.declared) self.now.state changes.now
             (slice_index_or self.now.declared.assertions assertion a).form) }
     {

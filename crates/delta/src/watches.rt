@@ -1,8 +1,7 @@
 //! What is maintained for an assertion.
 
-ghost use Rattle.std.specs.Prelude.{IfOk, IsOkUnless};
+ghost use Rattle.std.specs.Prelude.{IfOk};
 ghost use Rattle.std.specs.Arc.{arc_value};
-ghost use Rattle.value.specs.declared.refusals.Refusal.TheVariants.{NoMemory};
 ghost use Rattle.assertion.specs.Bounded.{IsBounded};
 ghost use Rattle.delta.specs.Maintained.{IsGood, IsStep, IsWatched};
 
@@ -10,10 +9,10 @@ use assertion::Form;
 use groups::Totals;
 use mvrows::Rows;
 use roots::{BadRoots, bad_after, bad_of, is_over, totals_after, totals_of, truth_of};
-use std::alloc::Global;
+use std::alloc::{AllocError, Global};
 use std::sync::Arc;
 use table::{Change, Schema};
-use value::{Refusal, Truth};
+use value::Truth;
 
 /// What is maintained for an assertion: the totals that its set functions are answered from, its bad roots in order,
 /// and its truth.
@@ -31,11 +30,10 @@ impl Watch {
         schemas: &[Schema],
         tables: &[Rows],
         form: &Form,
-    ) -> Result<Watch, Refusal>
+    ) -> Result<Watch, AllocError>
         requires bounded { IsBounded form.now }
         requires good { IsGood schemas.now tables.now }
-        ensures only_memory { IsOkUnless result NoMemory }
-        ensures watched { IfOk result (IsWatched schemas.now tables.now form.now) }
+        ensures { IfOk result (IsWatched schemas.now tables.now form.now) }
     {
         let totals = totals_of(alloc, schemas, form, tables)?;
         let bad = bad_of(alloc, schemas, tables, form, &totals)?;
@@ -52,12 +50,11 @@ impl Watch {
         after: &[Rows],
         form: &Form,
         change: &Change,
-    ) -> Result<Watch, Refusal>
+    ) -> Result<Watch, AllocError>
         requires bounded { IsBounded form.now }
         requires step { IsStep schemas.now change.now before.now after.now }
         requires watched { IsWatched schemas.now before.now form.now self.now }
-        ensures only_memory { IsOkUnless result NoMemory }
-        ensures watched { IfOk result (IsWatched schemas.now after.now form.now) }
+        ensures { IfOk result (IsWatched schemas.now after.now form.now) }
     {
         let totals = totals_after(alloc, schemas, before, after, form, &self.totals, change)?;
         let bad = bad_after(alloc, schemas, after, form, &totals, &self.bad, change)?;
@@ -76,12 +73,11 @@ pub fn watch_after(
     after: &[Rows],
     form: &Form,
     change: &Change,
-) -> Result<Arc<Watch>, Refusal>
+) -> Result<Arc<Watch>, AllocError>
     requires bounded { IsBounded form.now }
     requires step { IsStep schemas.now change.now before.now after.now }
     requires watched { IsWatched schemas.now before.now form.now (arc_value watch.now) }
-    ensures only_memory { IsOkUnless result NoMemory }
-    ensures watched { IfOk result (λ made. IsWatched schemas.now after.now form.now (arc_value made)) }
+    ensures { IfOk result (λ made. IsWatched schemas.now after.now form.now (arc_value made)) }
 {
     if is_over(form, change.table) {
         let made = watch.after(alloc, schemas, before, after, form, change)?;

@@ -54,10 +54,7 @@ fn view_of(alloc: Global, definitions: &[Definition]) -> Result<Option<View>, Al
         Err(Refusal::NoMemory) => return Err(AllocError),
         Err(_) => return Ok(None),
     };
-    match taken.load(alloc) {
-        Ok(view) => Ok(Some(view)),
-        Err(_) => Err(AllocError),
-    }
+    Ok(Some(taken.load(alloc)?))
 }
 
 /// The place of the first definition that is refused, among some of which one is. Those before it are taken in, and

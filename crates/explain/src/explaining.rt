@@ -7,10 +7,9 @@ use crate::stories::Story;
 use answer::Answer;
 use history::{Source, read_history};
 use replay::{ProgramFault, flush, write_all};
-use std::alloc::Global;
+use std::alloc::{AllocError, Global};
 use std::io::Write;
 use thiserror::Error;
-use value::Refusal;
 
 /// Why a script was not explained.
 #[derive(Debug, Drop, Error)]
@@ -59,7 +58,7 @@ pub fn explain_into<W: Write>(
 }
 
 /// Both texts, in pieces.
-fn read_sources(alloc: Global, defs: &[u8], script: &[u8]) -> Result<(Source, Source), Refusal> {
+fn read_sources(alloc: Global, defs: &[u8], script: &[u8]) -> Result<(Source, Source), AllocError> {
     let definitions = Source::read(alloc, defs)?;
     let events = Source::read(alloc, script)?;
     Ok((definitions, events))

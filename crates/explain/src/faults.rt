@@ -17,13 +17,13 @@ pub fn add_refusal(
     happening: &Happening,
     refusal: &Refusal,
     out: &mut String,
-) -> Result<(), Refusal> {
+) -> Result<(), AllocError> {
     match (refusal, &happening.view, story.transaction_of(event)) {
         (Refusal::Violated { assertion, group }, Some(view), _) => {
-            add_violation(alloc, story, view, assertion, group, out)?;
+            add_violation(alloc, story, view, assertion, group, out)
         }
         (Refusal::WriteConflict { table: _, key, by }, _, Some(this)) => {
-            add_write_conflict(story, this, key, *by, out)?;
+            add_write_conflict(story, this, key, *by, out)
         }
         (
             Refusal::Dangerous {
@@ -33,16 +33,15 @@ pub fn add_refusal(
             },
             _,
             Some(this),
-        ) => add_triple(alloc, story, this, *reader, *pivot, *writer, out)?,
+        ) => add_triple(alloc, story, this, *reader, *pivot, *writer, out),
         (Refusal::DuplicateKey { table, key }, Some(view), _) => {
             add_sentence(refusal, out)?;
-            add_row_under(view, table, key, out)?;
+            add_row_under(view, table, key, out)
         }
-        (Refusal::TransactionOpen, _, _) => add_open(story, event, happening.session, out)?,
-        (Refusal::ReadOnlyTransaction, _, Some(this)) => add_read_only(this, out)?,
-        _ => add_sentence(refusal, out)?,
+        (Refusal::TransactionOpen, _, _) => add_open(story, event, happening.session, out),
+        (Refusal::ReadOnlyTransaction, _, Some(this)) => add_read_only(this, out),
+        _ => add_sentence(refusal, out),
     }
-    Ok(())
 }
 
 /// Adds since when a transaction is open in a session.
@@ -84,7 +83,12 @@ fn begun_of(story: Story<'_>, event: usize, session: usize) -> Option<usize> {
 }
 
 /// Adds the row that stands under a key.
-fn add_row_under(view: &View, table: &Text, key: &Value, out: &mut String) -> Result<(), Refusal> {
+fn add_row_under(
+    view: &View,
+    table: &Text,
+    key: &Value,
+    out: &mut String,
+) -> Result<(), AllocError> {
     let Some(table) = view.catalog().position(table) else {
         return Ok(());
     };

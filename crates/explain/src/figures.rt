@@ -8,7 +8,7 @@ use delta::View;
 use history::{add_row, add_table, column_name};
 use std::alloc::{AllocError, Global};
 use table::{Aggregate, Cond, Expr, Row, SlotValue};
-use value::{Comparison, Refusal, Root, Text, Value};
+use value::{Comparison, Root, Text, Value};
 
 /// Adds the rule, its figures at the root, and the rows that they are of, on a view on which it would be false.
 pub fn add_violation(
@@ -18,7 +18,7 @@ pub fn add_violation(
     name: &Text,
     root: &Root,
     out: &mut String,
-) -> Result<(), Refusal> {
+) -> Result<(), AllocError> {
     let Some(place) = view.assertions().iter().position(|it| it.name == *name) else {
         return Ok(());
     };
@@ -49,7 +49,12 @@ fn add_rule(story: Story<'_>, place: usize, out: &mut String) -> Result<(), Allo
 }
 
 /// Adds where the assertion would be false.
-fn add_root_line(view: &View, form: &Form, root: &Root, out: &mut String) -> Result<(), Refusal> {
+fn add_root_line(
+    view: &View,
+    form: &Form,
+    root: &Root,
+    out: &mut String,
+) -> Result<(), AllocError> {
     match (form, root) {
         (Form::ByRow { table, .. }, Root::Of(key)) => {
             write!(out, "  would be false at row {key} of ")?;
@@ -58,16 +63,15 @@ fn add_root_line(view: &View, form: &Form, root: &Root, out: &mut String) -> Res
             if let Some(row) = view.row(*table, key) {
                 add_row(row, out)?;
             }
-            out.push_str("\n")?;
+            out.push_str("\n")
         }
         (Form::ByGroup { table, group, .. }, Root::Of(value)) => {
             out.push_str("  would be false at ")?;
             add_group(view, *table, *group, value, out)?;
-            out.push_str("\n")?;
+            out.push_str("\n")
         }
-        _ => out.push_str("  would be false as a whole\n")?,
+        _ => out.push_str("  would be false as a whole\n"),
     }
-    Ok(())
 }
 
 /// Adds a group by its column and value.
@@ -92,7 +96,7 @@ fn add_figure(
     slot: usize,
     part: Part<'_>,
     out: &mut String,
-) -> Result<(), Refusal> {
+) -> Result<(), AllocError> {
     let rows = rows_at(alloc, view, part)?;
     let figure = figure_of(alloc, part.aggregate, rows.as_slice())?;
     out.push_str("    ")?;
@@ -101,8 +105,7 @@ fn add_figure(
     out.push_str(" would be ")?;
     add_slot_value(&figure, out)?;
     add_demand(&assertion.form, slot, out)?;
-    out.push_str("\n")?;
-    Ok(())
+    out.push_str("\n")
 }
 
 /// Adds a set function as SQL writes it.
@@ -138,11 +141,7 @@ fn add_scope(view: &View, form: &Form, part: Part<'_>, out: &mut String) -> Resu
         return Ok(());
     }
     out.push_str(" where ")?;
-    let around = match part.around {
-        Some(around) => around.row(view),
-        None => None,
-    };
-    add_condition(part.filter, view, part.table, around, out)
+    add_condition(part.filter, view, part.table, part.row_around(view), out)
 }
 
 /// Adds a table, and the value that its rows have in the column that links them.
@@ -244,7 +243,12 @@ fn turned(comparison: Comparison) -> Comparison {
 }
 
 /// Adds the rows that have the root's value, ten at most.
-fn add_rows(alloc: Global, view: &View, part: Part<'_>, out: &mut String) -> Result<(), Refusal> {
+fn add_rows(
+    alloc: Global,
+    view: &View,
+    part: Part<'_>,
+    out: &mut String,
+) -> Result<(), AllocError> {
     let rows = rows_at(alloc, view, part)?;
     let count = rows.len();
     write!(out, "    rows of ")?;
@@ -255,6 +259,5 @@ fn add_rows(alloc: Global, view: &View, part: Part<'_>, out: &mut String) -> Res
         add_row(row, out)?;
         out.push_str("\n")?;
     }
-    add_left_out("      ", count, out)?;
-    Ok(())
+    add_left_out("      ", count, out)
 }

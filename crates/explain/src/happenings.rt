@@ -9,7 +9,6 @@ use report::Report;
 use std::alloc::{AllocError, Global};
 use syntax::Step;
 use table::Change;
-use value::Refusal;
 
 /// Adds an event: its number, its line, its text, its answer as `replay` prints it, and what that rests on.
 pub fn add_event(
@@ -17,7 +16,7 @@ pub fn add_event(
     story: Story<'_>,
     event: usize,
     out: &mut String,
-) -> Result<(), Refusal> {
+) -> Result<(), AllocError> {
     let Some(step) = story.history.steps.as_slice().get(event) else {
         return Ok(());
     };
@@ -29,8 +28,7 @@ pub fn add_event(
         Answer::Refused(refusal) => add_refusal(alloc, story, event, happening, refusal, out)?,
         _ => add_done(alloc, story, event, happening, out)?,
     }
-    out.push_str("\n")?;
-    Ok(())
+    out.push_str("\n")
 }
 
 /// Adds an event's number, line and text, and its answer.

@@ -13,7 +13,7 @@ use roots::value_at;
 use siread::is_same;
 use std::alloc::{AllocError, Global};
 use table::{Aggregate, Cond, Row, SlotValue, Slots, is_bounded, keeps, passes};
-use value::{Refusal, Root, Value};
+use value::{Root, Value};
 
 /// Which rows of a table go to a root.
 #[derive(Clone, Copy)]
@@ -34,7 +34,7 @@ pub struct Around<'a> {
 
 impl<'a> Around<'a> {
     /// The row.
-    pub fn row(self, view: &'a View) -> Option<&'a Row>
+    fn row(self, view: &'a View) -> Option<&'a Row>
         ensures { HoldsOf IsSmallRow (option_copied result) }
     {
         if self.table < view.catalog().len() {
@@ -54,7 +54,7 @@ pub struct Part<'a> {
     pub filter: &'a Cond,
     pub share: Share<'a>,
     /// The row that holds what stands in the slots of the condition.
-    pub around: Option<Around<'a>>,
+    around: Option<Around<'a>>,
 }
 
 impl<'a> Part<'a> {
@@ -67,6 +67,13 @@ impl<'a> Part<'a> {
             share,
             around,
         }
+    }
+
+    /// The row around, if there is one.
+    pub fn row_around(self, view: &'a View) -> Option<&'a Row>
+        ensures { HoldsOf IsSmallRow (option_copied result) }
+    {
+        self.around?.row(view)
     }
 }
 
@@ -175,15 +182,15 @@ pub fn lists_of<'a>(
 }
 
 /// The rows of a table that a condition keeps and that go to the root.
-pub fn rows_at<'a>(alloc: Global, view: &'a View, part: Part<'_>) -> Result<Vec<&'a Row>, Refusal> {
+pub fn rows_at<'a>(
+    alloc: Global,
+    view: &'a View,
+    part: Part<'_>,
+) -> Result<Vec<&'a Row>, AllocError> {
     if part.table >= view.catalog().len() || !is_bounded(part.filter, &[]) {
         return Ok(Vec::new(alloc));
     }
-    let around = match part.around {
-        Some(around) => around.row(view),
-        None => None,
-    };
-    kept_rows(alloc, view.rows(part.table), part, around)
+    kept_rows(alloc, view.rows(part.table), part, part.row_around(view))
 }
 
 /// The same, of these rows, with the row around.
@@ -192,7 +199,7 @@ fn kept_rows<'a>(
     rows: &'a Rows,
     part: Part<'_>,
     around: Option<&Row>,
-) -> Result<Vec<&'a Row>, Refusal>
+) -> Result<Vec<&'a Row>, AllocError>
     requires bounded { IsTrue (is_bounded [] part.filter.now) }
     requires small { All IsSmallRow rows.now }
     requires around_small { HoldsOf IsSmallRow (option_copied around) }
@@ -207,7 +214,12 @@ fn kept_rows<'a>(
 }
 
 /// Whether a condition keeps a row, beside the one around it.
-fn is_kept(alloc: Global, filter: &Cond, row: &Row, around: Option<&Row>) -> Result<bool, Refusal>
+fn is_kept(
+    alloc: Global,
+    filter: &Cond,
+    row: &Row,
+    around: Option<&Row>,
+) -> Result<bool, AllocError>
     requires bounded { IsTrue (is_bounded [] filter.now) }
     requires small { IsSmallRow row.now }
     requires around_small { HoldsOf IsSmallRow (option_copied around) }
@@ -234,7 +246,11 @@ fn is_among(row: &Row, share: Share<'_>) -> bool {
 }
 
 /// What a set function gives of some rows.
-pub fn figure_of(alloc: Global, aggregate: Aggregate, rows: &[&Row]) -> Result<SlotValue, Refusal> {
+pub fn figure_of(
+    alloc: Global,
+    aggregate: Aggregate,
+    rows: &[&Row],
+) -> Result<SlotValue, AllocError> {
     let mut totals = Totals::new(alloc);
     for row in rows {
         let member = Member {
@@ -247,7 +263,7 @@ pub fn figure_of(alloc: Global, aggregate: Aggregate, rows: &[&Row]) -> Result<S
 }
 
 /// What a set function looks at in a row.
-fn looked_at(aggregate: Aggregate, row: &Row) -> Result<Value, Refusal> {
+fn looked_at(aggregate: Aggregate, row: &Row) -> Result<Value, AllocError> {
     match aggregate {
         Aggregate::CountRows => Ok(Value::Null),
         Aggregate::Count(column)

@@ -3,11 +3,10 @@
 use crate::diagnoses::{At, Diagnosis};
 use crate::expected::{Which, kinds_at};
 use crate::hints::{Stop, hint};
-use crate::pieces::tokens_of;
 use crate::places::{Span, between, printable};
 use crate::words::choice;
 use std::alloc::{AllocError, Global};
-use token::{Kind, Token};
+use token::{Kind, Token, read_tokens};
 use value::Refusal;
 
 /// What is wrong with a text that its parser refused so. Another refusal than `Syntax` and `TooDeep` says nothing of
@@ -51,7 +50,7 @@ struct Around {
 }
 
 fn find_around(alloc: Global, bytes: &[u8], at: usize) -> Result<Around, AllocError> {
-    let all = tokens_of(alloc, bytes)?;
+    let all = read_tokens(alloc, bytes)?;
     let mut start = 0usize;
     let mut before = Vec::new(alloc);
     let mut found = None;

@@ -20,7 +20,7 @@ pub struct Piece<'a> {
 impl<'a> Piece<'a> {
     /// The definition or step at a place of a text, from 0.
     pub fn at(alloc: Global, text: &'a [u8], place: usize) -> Result<Piece<'a>, AllocError> {
-        let all = tokens_of(alloc, text)?;
+        let all = read_tokens(alloc, text)?;
         let mut tokens = Vec::new(alloc);
         let mut leaves = Vec::new(alloc);
         let mut found = 0usize;
@@ -102,14 +102,6 @@ fn span_of(tokens: &[Token]) -> Option<Span> {
         start: first.start,
         end: last.end,
     })
-}
-
-/// All tokens of a text.
-pub fn tokens_of(alloc: Global, text: &[u8]) -> Result<Vec<Token>, AllocError> {
-    match read_tokens(alloc, text) {
-        Ok(tokens) => Ok(tokens),
-        Err(_) => Err(AllocError),
-    }
 }
 
 /// Whether a token is a leaf of the trees.

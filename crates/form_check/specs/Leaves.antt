@@ -1,5 +1,5 @@
 -- A condition over the columns of one table, with a slot for each set function and query in it.
-use Rattle.std.specs.Prelude.{ℕ, List, [], ◌∷◌, ◌++◌, length, map, Option, Result, Ok}
+use Rattle.std.specs.Prelude.{List, [], ◌∷◌, ◌++◌, length, map, Option, Result, Ok}
 use Rattle.value.specs.declared.comparisons.Comparison.{Comparison}
 use Rattle.value.specs.declared.values.Value.TheVariants as value
 use Rattle.value.specs.declared.refusals.Refusal.{Refusal}

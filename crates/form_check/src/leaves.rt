@@ -1,13 +1,13 @@
 //! Conditions over the columns of one table, with a slot for each set function and query.
 
-ghost use Rattle.std.specs.Prelude.{◌≡◌, ◌≢◌, ◌++◌, ◌∷◌, [], length, IfOk, IfErr, OnOk, IsOkUnless, Ok, Err};
+ghost use Rattle.std.specs.Prelude.{◌≡◌, ◌≢◌, ◌++◌, ◌∷◌, [], length, IfOk, IfErr, OnOk, Ok, Err};
 ghost use Rattle.value.specs.declared.refusals.Refusal.TheVariants.{NoMemory};
 ghost use Rattle.form_check.specs.Leaves.{between, compared, listed, numbered, numbered_conditions, numbered_expression, numbered_expressions, slot};
 ghost use Rattle.form_check.specs.ShownLeaves.{shown_leaf, shown_leaves, place, meant};
 
 use crate::scopes::Scope;
 use sqlite_items::{Boxed, Items};
-use std::alloc::Global;
+use std::alloc::{AllocError, Global};
 use syntax::{Aggregate, ColumnName, Condition, Expression, Query};
 use table::{Cond, Expr};
 use value::{Comparison, Refusal, Value};
@@ -98,7 +98,7 @@ pub fn numbered<'a>(
         }
         Condition::Not(part) => {
             let part = numbered(alloc, columns, part.get(), leaves)?;
-            Cond::negation(alloc, part)
+            Ok(Cond::negation(alloc, part)?)
         }
         Condition::Is(part, wanted) => {
             let part = numbered(alloc, columns, part.get(), leaves)?;
@@ -163,7 +163,7 @@ fn between<'a>(
     let subject = numbered_expression(alloc, columns, subject, leaves)?;
     let low = numbered_expression(alloc, columns, low, leaves)?;
     let high = numbered_expression(alloc, columns, high, leaves)?;
-    Cond::between(alloc, subject, low, high)
+    Ok(Cond::between(alloc, subject, low, high)?)
 }
 
 /// IN, as comparisons with each value that OR joins.
@@ -184,7 +184,7 @@ fn listed<'a>(
 {
     let subject = numbered_expression(alloc, columns, subject, leaves)?;
     let values = all_expressions(alloc, columns, values, leaves)?;
-    Cond::is_in(alloc, &subject, values)
+    Ok(Cond::is_in(alloc, &subject, values)?)
 }
 
 /// Several conditions, from the left.
@@ -231,9 +231,9 @@ pub fn numbered_expression<'a>(
             Some(meant) => Ok(meant),
             None => Err(Refusal::OutsideClass),
         },
-        Expression::CountRows => slot(leaves, Leaf::Rows),
-        Expression::Aggregate(function, column) => slot(leaves, Leaf::Of(*function, column)),
-        Expression::Subquery(query) => slot(leaves, Leaf::Value(query.get())),
+        Expression::CountRows => Ok(slot(leaves, Leaf::Rows)?),
+        Expression::Aggregate(function, column) => Ok(slot(leaves, Leaf::Of(*function, column))?),
+        Expression::Subquery(query) => Ok(slot(leaves, Leaf::Value(query.get()))?),
         Expression::Negation(part) => {
             let part = numbered_expression(alloc, columns, part.get(), leaves)?;
             Ok(Expr::Negation(Boxed::new(alloc, part)?))
@@ -272,17 +272,15 @@ fn all_expressions<'a>(
 }
 
 /// One more slot that stands for a value.
-fn slot<'a>(leaves: &mut Vec<Leaf<'a>>, leaf: Leaf<'a>) -> Result<Expr, Refusal>
-    ensures only_memory { IsOkUnless result NoMemory }
-    ensures made { IfOk result (λ made.
+fn slot<'a>(leaves: &mut Vec<Leaf<'a>>, leaf: Leaf<'a>) -> Result<Expr, AllocError>
+    ensures { IfOk result (λ made.
         slot (shown_leaf leaf.entry) (shown_leaves leaves.old.items) ≡ Ok (made, shown_leaves leaves.new.items)) }
 {
     Ok(Expr::Slot(put(leaves, leaf)?))
 }
 
 /// Puts a slot behind the others, and gives its place.
-fn put<'a>(leaves: &mut Vec<Leaf<'a>>, leaf: Leaf<'a>) -> Result<usize, Refusal>
-    ensures only_memory { IsOkUnless result NoMemory }
+fn put<'a>(leaves: &mut Vec<Leaf<'a>>, leaf: Leaf<'a>) -> Result<usize, AllocError>
     ensures place { IfOk result (λ place. place ≡ length (shown_leaves leaves.old.items)) }
     ensures behind { OnOk result (shown_leaves leaves.new.items
         ≡ shown_leaves leaves.old.items ++ shown_leaf leaf.entry ∷ []) }

@@ -1,12 +1,12 @@
 //! Where a column's name is looked up.
 
-ghost use Rattle.std.specs.Prelude.{◌≡◌, ◌≢◌, ◌∷◌, IfOk, IfErr, IsOkUnless, Some, None, unwrap_or};
+ghost use Rattle.std.specs.Prelude.{◌≡◌, ◌≢◌, ◌∷◌, IfOk, IfErr, Some, None, unwrap_or};
 ghost use Rattle.value.specs.declared.refusals.Refusal.TheVariants.{NoMemory};
 ghost use Rattle.form_check.specs.Columns.{outer_column};
 ghost use Rattle.form_check.specs.Scopes.{column_error, column_fault, is_name_of, own_column};
 ghost use Rattle.form_check.specs.ShownScopes.{shown, all_shown};
 
-use std::alloc::Global;
+use std::alloc::{AllocError, Global};
 use syntax::ColumnName;
 use table::Schema;
 use value::{Refusal, Text};
@@ -69,9 +69,8 @@ pub fn put_inside<'a>(
     alloc: Global,
     inner: Scope<'a>,
     outer: &[Scope<'a>],
-) -> Result<Vec<Scope<'a>>, Refusal>
-    ensures only_memory { IsOkUnless result NoMemory }
-    ensures inside { IfOk result (λ scopes. all_shown scopes.items ≡ shown inner.entry ∷ all_shown outer.now) }
+) -> Result<Vec<Scope<'a>>, AllocError>
+    ensures { IfOk result (λ scopes. all_shown scopes.items ≡ shown inner.entry ∷ all_shown outer.now) }
 {
     let mut scopes = Vec::new(alloc);
     scopes.push(inner)?;

@@ -1,14 +1,13 @@
 //! A multiset of values: each with how often it stands, in order.
 
-ghost use Rattle.std.specs.Prelude.{◌≡◌, ◌==◌, [], None, Some, IfOk, IsOkUnless, if◌then◌else◌};
+ghost use Rattle.std.specs.Prelude.{◌≡◌, ◌==◌, [], None, Some, IfOk, if◌then◌else◌};
 ghost use Rattle.std.specs.Option.{option_copied};
 ghost use Rattle.groups.specs.Counts.{count_at, put_count, counts_more, counts_less, first_value, last_value};
-ghost use Rattle.value.specs.declared.refusals.Refusal.TheVariants.{NoMemory};
 
 use pages::Pages;
-use std::alloc::Global;
+use std::alloc::{AllocError, Global};
 use std::marker::Model;
-use value::{Refusal, Value};
+use value::Value;
 
 /// A multiset of values that are not NULL, in the order of the values.
 #[derive(Debug, Drop)]
@@ -36,9 +35,8 @@ impl Counts {
     }
 
     /// The values with this one once more. NULL isn't counted.
-    pub fn more(&self, value: &Value) -> Result<Counts, Refusal>
-        ensures only_memory { IsOkUnless result NoMemory }
-        ensures more { IfOk result (λ counts. counts ≡ counts_more value.now self.now) }
+    pub fn more(&self, value: &Value) -> Result<Counts, AllocError>
+        ensures { IfOk result (λ counts. counts ≡ counts_more value.now self.now) }
     {
         match value {
             Value::Null => self.copy(),
@@ -49,9 +47,8 @@ impl Counts {
     }
 
     /// The values with this one once less. NULL isn't counted.
-    pub fn less(&self, value: &Value) -> Result<Counts, Refusal>
-        ensures only_memory { IsOkUnless result NoMemory }
-        ensures less { IfOk result (λ counts. counts ≡ counts_less value.now self.now) }
+    pub fn less(&self, value: &Value) -> Result<Counts, AllocError>
+        ensures { IfOk result (λ counts. counts ≡ counts_less value.now self.now) }
     {
         match value {
             Value::Null => self.copy(),
@@ -69,9 +66,8 @@ impl Counts {
     }
 
     /// The values with this one so often.
-    fn with(&self, value: &Value, number: u64) -> Result<Counts, Refusal>
-        ensures only_memory { IsOkUnless result NoMemory }
-        ensures changed { IfOk result (λ counts. counts ≡ put_count value.now number self.now) }
+    fn with(&self, value: &Value, number: u64) -> Result<Counts, AllocError>
+        ensures { IfOk result (λ counts. counts ≡ put_count value.now number self.now) }
     {
         Ok(Counts {
             pages: self.pages.with(value, unless_zero(number))?,
@@ -99,9 +95,8 @@ impl Counts {
     }
 
     /// A multiset equal to this one, which shares all with it.
-    pub fn copy(&self) -> Result<Counts, Refusal>
-        ensures only_memory { IsOkUnless result NoMemory }
-        ensures equal { IfOk result (λ copy. copy ≡ self.now) }
+    pub fn copy(&self) -> Result<Counts, AllocError>
+        ensures { IfOk result (λ copy. copy ≡ self.now) }
     {
         Ok(Counts {
             pages: self.pages.copy()?,

@@ -1,10 +1,9 @@
 //! The total of each group.
 
-ghost use Rattle.std.specs.Prelude.{◌≡◌, ◌==◌, [], None, Some, List, false, map, IfOk, IsOkUnless, if◌then◌else◌};
+ghost use Rattle.std.specs.Prelude.{◌≡◌, ◌==◌, [], None, Some, List, false, map, IfOk, if◌then◌else◌};
 ghost use Rattle.std.specs.Option.{option_copied};
 ghost use Rattle.std.specs.Ordering.{eq_by_cmp};
 ghost use Rattle.value.specs.ValueOrder.{value_cmp};
-ghost use Rattle.value.specs.declared.refusals.Refusal.TheVariants.{NoMemory};
 ghost use Rattle.value.specs.declared.values.Value.{Value as values};
 ghost use Rattle.table.specs.declared.aggregates.Aggregate.{Aggregate as functions};
 ghost use Rattle.table.specs.Aggregates.{aggregate as aggregate_of};
@@ -18,11 +17,11 @@ ghost use Rattle.groups.specs.Totals.{Members, total_at, IsEntryOf, IsTotalOf, A
 use crate::members::Member;
 use crate::totals::Total;
 use pages::Pages;
-use std::alloc::Global;
+use std::alloc::{AllocError, Global};
 use std::cmp::Ordering;
 use std::marker::Model;
 use table::{Aggregate, SlotValue};
-use value::{Refusal, Value, order};
+use value::{Value, order};
 
 /// The total of each group that has a row, in the order of the groups.
 #[derive(Debug, Drop)]
@@ -62,8 +61,7 @@ impl Totals {
 
     /// What a set function gives of a group's rows, also where it has none, where the totals are what it asks for. MIN
     /// or MAX of texts copies one, and nothing else takes memory.
-    pub fn answer(&self, group: &Value, aggregate: Aggregate) -> Result<SlotValue, Refusal>
-        ensures only_memory { IsOkUnless result NoMemory }
+    pub fn answer(&self, group: &Value, aggregate: Aggregate) -> Result<SlotValue, AllocError>
         ensures kind { IfOk result (λ answer. kind_of answer ≡ kind_of_aggregate aggregate) }
         // It is what the set function gives of the group's rows from scratch.
         ensures answer { IfOk result (λ answer. (rows : values → List RowValues)
@@ -79,20 +77,19 @@ impl Totals {
     }
 
     /// The totals after one row goes and then one comes, either of which may be none, for the set function that is
-    /// asked for. These stay as they are, also where the answer is NoMemory.
+    /// asked for. Copies of these stay as they are; what no copy shares is changed where it stands.
     pub fn with(
-        &self,
+        self,
         asked: Aggregate,
         add: &Option<Member>,
         remove: &Option<Member>,
-    ) -> Result<Totals, Refusal>
-        ensures only_memory { IsOkUnless result NoMemory }
+    ) -> Result<Totals, AllocError>
         // Totals of some groups become those of the groups with that change.
-        ensures totals { IfOk result (λ totals. (before after : Members) → IsChange add.now remove.now before after
-            → AreTotalsOf asked before self.now → AreWithin after → AreTotalsOf asked after totals) }
+        ensures { IfOk result (λ totals. (before after : Members) → IsChange add.now remove.now before after
+            → AreTotalsOf asked before self → AreWithin after → AreTotalsOf asked after totals) }
     {
         match (remove, add) {
-            (None, None) => self.copy(),
+            (None, None) => Ok(self),
             (None, Some(new)) => self.more(asked, new),
             (Some(old), None) => self.less(asked, old),
             (Some(old), Some(new)) => self.replaced(asked, old, new),
@@ -100,11 +97,10 @@ impl Totals {
     }
 
     /// The totals after one row goes and one comes.
-    fn replaced(&self, asked: Aggregate, old: &Member, new: &Member) -> Result<Totals, Refusal>
-        ensures only_memory { IsOkUnless result NoMemory }
-        ensures totals { IfOk result (λ totals. (before after : Members)
+    fn replaced(self, asked: Aggregate, old: &Member, new: &Member) -> Result<Totals, AllocError>
+        ensures { IfOk result (λ totals. (before after : Members)
             → IsChange (Some new.now) (Some old.now) before after
-            → AreTotalsOf asked before self.now → AreWithin after → AreTotalsOf asked after totals) }
+            → AreTotalsOf asked before self → AreWithin after → AreTotalsOf asked after totals) }
     {
         match order(&old.group, &new.group) {
             Ordering::Equal => self.revalued(asked, old, new),
@@ -113,15 +109,14 @@ impl Totals {
     }
 
     /// The totals after a row of a group gets another value: its total is looked up and put once.
-    fn revalued(&self, asked: Aggregate, old: &Member, new: &Member) -> Result<Totals, Refusal>
+    fn revalued(self, asked: Aggregate, old: &Member, new: &Member) -> Result<Totals, AllocError>
         requires same { old.now.group ≡ new.now.group }
-        ensures only_memory { IsOkUnless result NoMemory }
-        ensures totals { IfOk result (λ totals. (before after : Members)
+        ensures { IfOk result (λ totals. (before after : Members)
             → IsChange (Some new.now) (Some old.now) before after
-            → AreTotalsOf asked before self.now → AreWithin after → AreTotalsOf asked after totals) }
+            → AreTotalsOf asked before self → AreWithin after → AreTotalsOf asked after totals) }
     {
         match order(&old.value, &new.value) {
-            Ordering::Equal => self.copy(),
+            Ordering::Equal => Ok(self),
             Ordering::Less | Ordering::Greater => self.moved(
                 asked, &old.group, &old.value, &new.value,
             ),
@@ -130,14 +125,13 @@ impl Totals {
 
     /// The totals with another value for a row of a group.
     fn moved(
-        &self,
+        self,
         asked: Aggregate,
         group: &Value,
         old: &Value,
         new: &Value,
-    ) -> Result<Totals, Refusal>
-        ensures only_memory { IsOkUnless result NoMemory }
-        ensures moved { IfOk result (λ totals. totals ≡ entries_moved asked group.now old.now new.now self.now) }
+    ) -> Result<Totals, AllocError>
+        ensures { IfOk result (λ totals. totals ≡ entries_moved asked group.now old.now new.now self) }
     {
         let without = self.total(group)?.less(asked, old)?;
         let total = without.more(asked, new)?;
@@ -145,27 +139,24 @@ impl Totals {
     }
 
     /// The totals with one row more.
-    fn more(&self, asked: Aggregate, member: &Member) -> Result<Totals, Refusal>
-        ensures only_memory { IsOkUnless result NoMemory }
-        ensures more { IfOk result (λ totals. totals ≡ entries_more asked member.now self.now) }
+    fn more(self, asked: Aggregate, member: &Member) -> Result<Totals, AllocError>
+        ensures { IfOk result (λ totals. totals ≡ entries_more asked member.now self) }
     {
         let total = self.total(&member.group)?.more(asked, &member.value)?;
         self.put(&member.group, total)
     }
 
     /// The totals with one row less.
-    fn less(&self, asked: Aggregate, member: &Member) -> Result<Totals, Refusal>
-        ensures only_memory { IsOkUnless result NoMemory }
-        ensures less { IfOk result (λ totals. totals ≡ entries_less asked member.now self.now) }
+    fn less(self, asked: Aggregate, member: &Member) -> Result<Totals, AllocError>
+        ensures { IfOk result (λ totals. totals ≡ entries_less asked member.now self) }
     {
         let total = self.total(&member.group)?.less(asked, &member.value)?;
         self.put(&member.group, total)
     }
 
     /// The total of a group; that of no rows where none stands for it.
-    fn total(&self, group: &Value) -> Result<Total, Refusal>
-        ensures only_memory { IsOkUnless result NoMemory }
-        ensures total { IfOk result (λ total. total ≡ figures_at group.now self.now) }
+    fn total(&self, group: &Value) -> Result<Total, AllocError>
+        ensures { IfOk result (λ total. total ≡ figures_at group.now self.now) }
     {
         match self.get(group) {
             Some(total) => total.copy(),
@@ -174,24 +165,22 @@ impl Totals {
     }
 
     /// The totals with this one for a group in the place of its own, or none where it is of no rows.
-    pub fn put(&self, group: &Value, total: Total) -> Result<Totals, Refusal>
-        ensures only_memory { IsOkUnless result NoMemory }
-        ensures put { IfOk result (λ totals. totals ≡ put_entry group.now (total_entry group.now total) self.now) }
+    pub fn put(self, group: &Value, total: Total) -> Result<Totals, AllocError>
+        ensures put { IfOk result (λ totals. totals ≡ put_entry group.now (total_entry group.now total) self) }
         // Totals of some groups become those of the groups in which this one has the rows of the total.
         ensures totals { IfOk result (λ totals. (asked : functions) (before after : Members)
             → IsTotalOf asked (after group.now) total
             → ((v : values) → eq_by_cmp value_cmp v group.now ≡ false → after v ≡ before v)
-            → AreTotalsOf asked before self.now → AreTotalsOf asked after totals) }
+            → AreTotalsOf asked before self → AreTotalsOf asked after totals) }
     {
-        Ok(Totals {
-            pages: self.pages.with(group, unless_empty(total))?,
-        })
+        let mut pages = self.pages;
+        pages.put(group, unless_empty(total))?;
+        Ok(Totals { pages })
     }
 
     /// Totals equal to these, which share all with them.
-    pub fn copy(&self) -> Result<Totals, Refusal>
-        ensures only_memory { IsOkUnless result NoMemory }
-        ensures equal { IfOk result (λ copy. copy ≡ self.now) }
+    pub fn copy(&self) -> Result<Totals, AllocError>
+        ensures { IfOk result (λ copy. copy ≡ self.now) }
     {
         Ok(Totals {
             pages: self.pages.copy()?,

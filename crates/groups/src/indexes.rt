@@ -1,6 +1,6 @@
 //! Which rows of a table have a value in a column.
 
-ghost use Rattle.std.specs.Prelude.{◌≡◌, ℕ, ◌<◌, ◌^◌, ◌++◌, [], ◌∷◌, Some, List, length, IfOk, IsOkUnless};
+ghost use Rattle.std.specs.Prelude.{◌≡◌, ℕ, ◌<◌, ◌^◌, ◌++◌, [], ◌∷◌, Some, List, length, IfOk};
 ghost use Rattle.std.specs.Option.{option_copied};
 ghost use Rattle.groups.specs.Indexes.{keys_at, keys_with, IsIndexOf};
 ghost use Rattle.groups.specs.IndexSteps.{
@@ -15,15 +15,14 @@ ghost use Rattle.groups.specs.IndexSteps.{
 ghost use Rattle.table.specs.Rows.{RowValues, value_in, row_at, put_row};
 ghost use Rattle.value.specs.Ordered.{HasKey, IsAscending};
 ghost use Rattle.value.specs.ValueOrder.{value_cmp};
-ghost use Rattle.value.specs.declared.refusals.Refusal.TheVariants.{NoMemory};
 
 use crate::key_sets::{KeySet, Keys};
 use pages::Pages;
-use std::alloc::Global;
+use std::alloc::{AllocError, Global};
 use std::cmp::Ordering;
 use std::marker::Model;
 use table::Row;
-use value::{Refusal, Value, order};
+use value::{Value, order};
 
 /// For each value in a column of a table the keys of the rows that have it there, in order. NULL has no keys. A change
 /// makes a new index, which shares all but the changed paths.
@@ -71,28 +70,27 @@ impl Index {
     }
 
     /// The index by a column after the row under a key becomes another: the key leaves the keys of the old row's value
-    /// and joins those of the new row's. Where both have the same value there, or neither has one, all is shared. This
-    /// index stays as it is, also where the answer is NoMemory.
+    /// and joins those of the new row's. Where both have the same value there, or neither has one, nothing changes.
+    /// Copies of this index stay as they are; what no copy shares is changed where it stands.
     pub fn with(
-        &self,
+        self,
         column: usize,
         key: &Value,
         old: Option<&Row>,
         new: Option<&Row>,
-    ) -> Result<Index, Refusal>
-        ensures only_memory { IsOkUnless result NoMemory }
+    ) -> Result<Index, AllocError>
         // The index of a table's rows becomes that of the rows with the new one, where the old one is under the key.
-        ensures index { IfOk result (λ index. (key_column : ℕ) (rows : List RowValues)
+        ensures { IfOk result (λ index. (key_column : ℕ) (rows : List RowValues)
             → IsAscending value_cmp (value_in key_column) rows
             → row_at key_column key.now rows ≡ option_copied old.entry
             → HasKey value_cmp (value_in key_column) key.now (option_copied new.entry)
-            → IsIndexOf key_column column rows self.now
+            → IsIndexOf key_column column rows self
             → IsIndexOf key_column column (put_row key_column key.now (option_copied new.entry) rows) index) }
     {
         let gone = optional_value(old, column);
         let come = optional_value(new, column);
         match (gone, come) {
-            (None, None) => self.copy(),
+            (None, None) => Ok(self),
             (None, Some(come)) => self.more(come, key),
             (Some(gone), None) => self.less(gone, key),
             (Some(gone), Some(come)) => self.replaced(gone, come, key),
@@ -100,48 +98,46 @@ impl Index {
     }
 
     /// The index by a column with one row more, whose key is above those of the others: so an index is made in one pass
-    /// over rows in key order. This index stays as it is, also where the answer is NoMemory.
-    pub fn with_row(&self, column: usize, key: &Value, row: &Row) -> Result<Index, Refusal>
-        ensures only_memory { IsOkUnless result NoMemory }
+    /// over rows in key order. Copies of this index stay as they are.
+    pub fn with_row(self, column: usize, key: &Value, row: &Row) -> Result<Index, AllocError>
         // The index of the first rows of a table becomes that of these and the next one.
-        ensures index { IfOk result (λ index. (key_column : ℕ) (rows rest : List RowValues)
+        ensures { IfOk result (λ index. (key_column : ℕ) (rows rest : List RowValues)
             → IsAscending value_cmp (value_in key_column) (rows ++ row.now ∷ rest)
             → value_in key_column row.now ≡ key.now
-            → IsIndexOf key_column column rows self.now
+            → IsIndexOf key_column column rows self
             → IsIndexOf key_column column (rows ++ row.now ∷ []) index) }
     {
         match row_value(row, column) {
             Some(value) => self.more(value, key),
-            None => self.copy(),
+            None => Ok(self),
         }
     }
 
     /// The index after a row's value becomes another.
-    fn replaced(&self, old: &Value, new: &Value, key: &Value) -> Result<Index, Refusal>
-        ensures only_memory { IsOkUnless result NoMemory }
-        ensures after { IfOk result (λ index.
-            index ≡ index_after (Some old.now) (Some new.now) key.now self.now) }
+    fn replaced(self, old: &Value, new: &Value, key: &Value) -> Result<Index, AllocError>
+        ensures { IfOk result (λ index.
+            index ≡ index_after (Some old.now) (Some new.now) key.now self) }
     {
         match order(old, new) {
-            Ordering::Equal => self.copy(),
+            Ordering::Equal => Ok(self),
             Ordering::Less | Ordering::Greater => self.less(old, key)?.more(new, key),
         }
     }
 
     /// The index with a key more for a value.
-    fn more(&self, value: &Value, key: &Value) -> Result<Index, Refusal>
-        ensures only_memory { IsOkUnless result NoMemory }
-        ensures more { IfOk result (λ index. index ≡ index_more value.now key.now self.now) }
+    fn more(self, value: &Value, key: &Value) -> Result<Index, AllocError>
+        ensures { IfOk result (λ index. index ≡ index_more value.now key.now self) }
     {
-        self.put(value, self.key_set(value).more(key)?)
+        let keys = self.key_set(value).more(key)?;
+        self.put(value, keys)
     }
 
     /// The index with a key less for a value.
-    fn less(&self, value: &Value, key: &Value) -> Result<Index, Refusal>
-        ensures only_memory { IsOkUnless result NoMemory }
-        ensures less { IfOk result (λ index. index ≡ index_less value.now key.now self.now) }
+    fn less(self, value: &Value, key: &Value) -> Result<Index, AllocError>
+        ensures { IfOk result (λ index. index ≡ index_less value.now key.now self) }
     {
-        self.put(value, self.key_set(value).less(key)?)
+        let keys = self.key_set(value).less(key)?;
+        self.put(value, keys)
     }
 
     /// The keys of a value; no keys where it doesn't stand.
@@ -155,20 +151,20 @@ impl Index {
     }
 
     /// The index with these keys for a value, which doesn't stand where there are none.
-    fn put(&self, value: &Value, keys: KeySet) -> Result<Index, Refusal>
-        ensures only_memory { IsOkUnless result NoMemory }
-        ensures put { IfOk result (λ index. index ≡ put_keys value.now keys self.now) }
+    fn put(self, value: &Value, keys: KeySet) -> Result<Index, AllocError>
+        ensures { IfOk result (λ index. index ≡ put_keys value.now keys self) }
     {
+        let mut sets = self.sets;
+        sets.put(value, unless_empty(keys))?;
         Ok(Index {
-            sets: self.sets.with(value, unless_empty(keys))?,
-            empty: KeySet::new(self.sets.allocator()),
+            sets,
+            empty: self.empty,
         })
     }
 
     /// An index equal to this one, which shares all with it.
-    pub fn copy(&self) -> Result<Index, Refusal>
-        ensures only_memory { IsOkUnless result NoMemory }
-        ensures equal { IfOk result (λ copy. copy ≡ self.now) }
+    pub fn copy(&self) -> Result<Index, AllocError>
+        ensures { IfOk result (λ copy. copy ≡ self.now) }
     {
         Ok(Index {
             sets: self.sets.copy()?,

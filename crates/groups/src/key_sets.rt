@@ -1,15 +1,14 @@
 //! Sets of keys, of which every version stays whole.
 
-ghost use Rattle.std.specs.Prelude.{◌≡◌, ◌==◌, ◌<◌, ◌^◌, [], length, map, IfOk, IsOkUnless};
+ghost use Rattle.std.specs.Prelude.{◌≡◌, ◌==◌, ◌<◌, ◌^◌, [], length, map, IfOk};
 ghost use Rattle.std.specs.Iterator.{YieldsFirstRef, item_count};
 ghost use Rattle.groups.specs.IndexSteps.{keys_more, keys_less};
 ghost use Rattle.pages.specs.Reach.{key_of};
-ghost use Rattle.value.specs.declared.refusals.Refusal.TheVariants.{NoMemory};
 
 use pages::{Entries, Pages};
-use std::alloc::Global;
+use std::alloc::{AllocError, Global};
 use std::marker::Model;
-use value::{Refusal, Value};
+use value::{Copied, Value};
 
 /// Keys in order, each once. A change makes a new set, which shares all but the changed path.
 #[derive(Debug, Drop)]
@@ -53,9 +52,8 @@ impl KeySet {
     }
 
     /// The keys with this one.
-    pub fn more(&self, key: &Value) -> Result<KeySet, Refusal>
-        ensures only_memory { IsOkUnless result NoMemory }
-        ensures more { IfOk result (λ keys. keys ≡ keys_more key.now self.now) }
+    pub fn more(&self, key: &Value) -> Result<KeySet, AllocError>
+        ensures { IfOk result (λ keys. keys ≡ keys_more key.now self.now) }
     {
         Ok(KeySet {
             pages: self.pages.with(key, Some(()))?,
@@ -63,12 +61,19 @@ impl KeySet {
     }
 
     /// The keys without this one.
-    pub fn less(&self, key: &Value) -> Result<KeySet, Refusal>
-        ensures only_memory { IsOkUnless result NoMemory }
-        ensures less { IfOk result (λ keys. keys ≡ keys_less key.now self.now) }
+    pub fn less(&self, key: &Value) -> Result<KeySet, AllocError>
+        ensures { IfOk result (λ keys. keys ≡ keys_less key.now self.now) }
     {
         Ok(KeySet {
             pages: self.pages.with(key, None)?,
+        })
+    }
+}
+
+impl Copied for KeySet {
+    fn copied(&self) -> Result<KeySet, AllocError> {
+        Ok(KeySet {
+            pages: self.pages.copy()?,
         })
     }
 }

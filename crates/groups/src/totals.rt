@@ -1,7 +1,6 @@
 //! The total of one group.
 
-ghost use Rattle.std.specs.Prelude.{◌≡◌, ◌==◌, ◌++◌, ◌∷◌, [], List, map, IfOk, IsOkUnless};
-ghost use Rattle.value.specs.declared.refusals.Refusal.TheVariants.{NoMemory};
+ghost use Rattle.std.specs.Prelude.{◌≡◌, ◌==◌, ◌++◌, ◌∷◌, [], List, map, IfOk};
 ghost use Rattle.value.specs.declared.values.Value.{Value as values};
 ghost use Rattle.table.specs.Aggregates.{number_of, aggregate as aggregate_of};
 ghost use Rattle.table.specs.declared.aggregates.Aggregate.{Aggregate as functions};
@@ -13,10 +12,10 @@ ghost use Rattle.groups.specs.Steps.{no_figures, there_of, one_more, one_less, v
 ghost use Rattle.groups.specs.Totals.{is_extreme as is_extreme_of, IsTotalOf, IsWithin};
 
 use crate::counts::Counts;
-use std::alloc::Global;
+use std::alloc::{AllocError, Global};
 use std::marker::Model;
 use table::{Aggregate, SlotValue};
-use value::{Refusal, Value};
+use value::{Copied, Value};
 
 /// What a set function needs of a group's rows: how many there are, and of their values that are not NULL how many and
 /// their sum; and for MIN and MAX how often each of them stands.
@@ -66,8 +65,7 @@ impl Total {
 
     /// What a set function gives of the rows, where the total is what it asks for. MIN or MAX of texts copies one, and
     /// nothing else takes memory.
-    pub fn answer(&self, aggregate: Aggregate) -> Result<SlotValue, Refusal>
-        ensures only_memory { IsOkUnless result NoMemory }
+    pub fn answer(&self, aggregate: Aggregate) -> Result<SlotValue, AllocError>
         ensures kind { IfOk result (λ answer. kind_of answer ≡ kind_of_aggregate aggregate) }
         // It is what the set function gives of the rows from scratch.
         ensures answer { IfOk result (λ answer. (rows : List RowValues)
@@ -80,9 +78,8 @@ impl Total {
     }
 
     /// The figure that a set function asks for.
-    fn figure(&self, aggregate: Aggregate) -> Result<SlotValue, Refusal>
-        ensures only_memory { IsOkUnless result NoMemory }
-        ensures answer { IfOk result (λ answer. answer ≡ answer_from aggregate self.now) }
+    fn figure(&self, aggregate: Aggregate) -> Result<SlotValue, AllocError>
+        ensures { IfOk result (λ answer. answer ≡ answer_from aggregate self.now) }
     {
         match aggregate {
             Aggregate::CountRows => Ok(SlotValue::Count(self.rows)),
@@ -102,19 +99,17 @@ impl Total {
 
     /// The total with one row more, which has this value, for the set function that is asked for. This one stays as it
     /// is.
-    pub fn with(&self, asked: Aggregate, value: &Value) -> Result<Total, Refusal>
-        ensures only_memory { IsOkUnless result NoMemory }
+    pub fn with(&self, asked: Aggregate, value: &Value) -> Result<Total, AllocError>
         // The total of some values becomes that of these and the new one.
-        ensures total { IfOk result (λ total. (vs : List values) → IsTotalOf asked vs self.now
+        ensures { IfOk result (λ total. (vs : List values) → IsTotalOf asked vs self.now
             → IsWithin (vs ++ value.now ∷ []) → IsTotalOf asked (vs ++ value.now ∷ []) total) }
     {
         self.more(asked, value)
     }
 
     /// The total with one row more, which has this value.
-    pub(crate) fn more(&self, asked: Aggregate, value: &Value) -> Result<Total, Refusal>
-        ensures only_memory { IsOkUnless result NoMemory }
-        ensures more { IfOk result (λ total. total ≡ one_more asked value.now self.now) }
+    pub(crate) fn more(&self, asked: Aggregate, value: &Value) -> Result<Total, AllocError>
+        ensures { IfOk result (λ total. total ≡ one_more asked value.now self.now) }
     {
         Ok(Total {
             rows: self.rows.saturating_add(1),
@@ -125,9 +120,8 @@ impl Total {
     }
 
     /// The total with one row less, which has this value.
-    pub(crate) fn less(&self, asked: Aggregate, value: &Value) -> Result<Total, Refusal>
-        ensures only_memory { IsOkUnless result NoMemory }
-        ensures less { IfOk result (λ total. total ≡ one_less asked value.now self.now) }
+    pub(crate) fn less(&self, asked: Aggregate, value: &Value) -> Result<Total, AllocError>
+        ensures { IfOk result (λ total. total ≡ one_less asked value.now self.now) }
     {
         Ok(Total {
             rows: self.rows.saturating_sub(1),
@@ -137,10 +131,9 @@ impl Total {
         })
     }
 
-    /// A total equal to this one.
-    pub fn copy(&self) -> Result<Total, Refusal>
-        ensures only_memory { IsOkUnless result NoMemory }
-        ensures equal { IfOk result (λ copy. copy ≡ self.now) }
+    /// A total equal to this one, which shares all values with it.
+    pub fn copy(&self) -> Result<Total, AllocError>
+        ensures { IfOk result (λ copy. copy ≡ self.now) }
     {
         Ok(Total {
             rows: self.rows,
@@ -151,10 +144,15 @@ impl Total {
     }
 }
 
+impl Copied for Total {
+    fn copied(&self) -> Result<Total, AllocError> {
+        self.copy()
+    }
+}
+
 /// The values with this one once more, where one of them is asked for.
-fn values_more(values: &Counts, asked: Aggregate, value: &Value) -> Result<Counts, Refusal>
-    ensures only_memory { IsOkUnless result NoMemory }
-    ensures more { IfOk result (λ counts. counts ≡ values_more_of asked value.now values.now) }
+fn values_more(values: &Counts, asked: Aggregate, value: &Value) -> Result<Counts, AllocError>
+    ensures { IfOk result (λ counts. counts ≡ values_more_of asked value.now values.now) }
 {
     if is_extreme(asked) {
         values.more(value)
@@ -164,9 +162,8 @@ fn values_more(values: &Counts, asked: Aggregate, value: &Value) -> Result<Count
 }
 
 /// The values with this one once less, where one of them is asked for.
-fn values_less(values: &Counts, asked: Aggregate, value: &Value) -> Result<Counts, Refusal>
-    ensures only_memory { IsOkUnless result NoMemory }
-    ensures less { IfOk result (λ counts. counts ≡ values_less_of asked value.now values.now) }
+fn values_less(values: &Counts, asked: Aggregate, value: &Value) -> Result<Counts, AllocError>
+    ensures { IfOk result (λ counts. counts ≡ values_less_of asked value.now values.now) }
 {
     if is_extreme(asked) {
         values.less(value)

@@ -1,18 +1,16 @@
 //! What the check of each assertion read.
 
-ghost use Rattle.std.specs.Prelude.{◌≡◌, length, IfOk, IsOkUnless};
-ghost use Rattle.value.specs.declared.refusals.Refusal.TheVariants.{NoMemory};
+ghost use Rattle.std.specs.Prelude.{◌≡◌, length, IfOk};
 
 use crate::histories::{Read, Reader};
 use changes::checks_read;
 use delta::View;
 use siread::LockKey;
-use std::alloc::Global;
+use std::alloc::{AllocError, Global};
 use table::Change;
-use value::Refusal;
 
 /// Puts what the check of each assertion that is meant reads over these changes behind the reads, as read by this
-/// event. NoMemory is the only error.
+/// event.
 pub fn push_checks(
     alloc: Global,
     reads: &mut Vec<Read>,
@@ -20,7 +18,7 @@ pub fn push_checks(
     meant: &[bool],
     changes: &[Change],
     event: usize,
-) -> Result<(), Refusal> {
+) -> Result<(), AllocError> {
     for (place, is_meant) in meant.iter().enumerate() {
         if *is_meant {
             push_check(alloc, reads, view, place, changes, event)?;
@@ -37,7 +35,7 @@ fn push_check(
     place: usize,
     changes: &[Change],
     event: usize,
-) -> Result<(), Refusal> {
+) -> Result<(), AllocError> {
     let only = only_one(alloc, view.assertions().len(), place)?;
     let keys = checks_read(alloc, view, only.as_slice(), changes)?;
     push_reads(reads, keys, event, Reader::Check(place))
@@ -49,7 +47,7 @@ fn push_reads(
     keys: Vec<LockKey>,
     event: usize,
     reader: Reader,
-) -> Result<(), Refusal> {
+) -> Result<(), AllocError> {
     for key in keys {
         reads.push(Read { key, event, reader })?;
     }
@@ -57,9 +55,8 @@ fn push_reads(
 }
 
 /// Of so many assertions the one at a place.
-fn only_one(alloc: Global, count: usize, place: usize) -> Result<Vec<bool>, Refusal>
-    ensures only_memory { IsOkUnless result NoMemory }
-    ensures long { IfOk result (λ meant. length meant.items ≡ count) }
+fn only_one(alloc: Global, count: usize, place: usize) -> Result<Vec<bool>, AllocError>
+    ensures { IfOk result (λ meant. length meant.items ≡ count) }
 {
     let mut meant = vec![in alloc; false; count]?;
     if place < count {

@@ -10,7 +10,7 @@ use copies::copy_changes;
 use delta::View;
 use modes::Modes;
 use sqlite_items::Items;
-use std::alloc::Global;
+use std::alloc::{AllocError, Global};
 use std::mem;
 use syntax::{Event, Mode, Statement, Step};
 use txn::{Closed, Txn, Unclosed};
@@ -32,8 +32,8 @@ pub struct Notes {
     pub transactions: Vec<Transaction>,
 }
 
-/// Follows an event, with what it was answered, in the session's own transaction. NoMemory is the only error, also
-/// where it is the answer.
+/// Follows an event, with what it was answered, in the session's own transaction. That memory is wanting is an error
+/// also where it is the answer.
 pub fn follow(
     alloc: Global,
     engine: &Engine,
@@ -42,10 +42,10 @@ pub fn follow(
     step: &Step,
     happening: &mut Happening,
     notes: &mut Notes,
-) -> Result<(), Refusal> {
+) -> Result<(), AllocError> {
     let core = engine.core();
     match &happening.answer {
-        Answer::Refused(Refusal::NoMemory) => Err(Refusal::NoMemory),
+        Answer::Refused(Refusal::NoMemory) => Err(AllocError),
         Answer::Begun(snapshot) => {
             let snapshot = *snapshot;
             let read_only = matches!(step.event, Event::BeginReadOnly);
@@ -68,7 +68,7 @@ fn follow_inside(
     step: &Step,
     happening: &mut Happening,
     notes: &mut Notes,
-) -> Result<(), Refusal> {
+) -> Result<(), AllocError> {
     if mirror.seat.txn.is_none() {
         return Ok(());
     }
@@ -104,7 +104,7 @@ fn follow_begin(
     event: usize,
     happening: &mut Happening,
     notes: &mut Notes,
-) -> Result<(), Refusal> {
+) -> Result<(), AllocError> {
     let (read_only, snapshot) = (txn.is_read_only(), txn.snapshot());
     let modes = Modes::initial(alloc, txn.own().assertions());
     set_txn(&mut mirror.seat, Some(txn));
@@ -133,7 +133,7 @@ fn follow_statement(
     statement: &Statement,
     happening: &mut Happening,
     transaction: &mut Transaction,
-) -> Result<(), Refusal> {
+) -> Result<(), AllocError> {
     let Some(txn) = &mut mirror.seat.txn else {
         return Ok(());
     };
@@ -169,10 +169,10 @@ fn execute(
     event: usize,
     statement: &Statement,
     transaction: &mut Transaction,
-) -> Result<(), Refusal> {
+) -> Result<(), AllocError> {
     let before = txn.reads().len();
     if let Err(Refusal::NoMemory) = txn.execute(statement) {
-        return Err(Refusal::NoMemory);
+        return Err(AllocError);
     }
     let most = match txn.trace().last() {
         Some(Resolved::Refused(_) | Resolved::SetModes { .. }) | None => 0,
@@ -196,13 +196,13 @@ fn follow_modes(
     event: usize,
     happening: &Happening,
     transaction: &mut Transaction,
-) -> Result<(), Refusal> {
+) -> Result<(), AllocError> {
     let Some(txn) = mirror.seat.txn.take() else {
         return Ok(());
     };
     let closed = match txn.close_check() {
         Ok(closed) => closed,
-        Err(unclosed) => return give_up(unclosed),
+        Err(unclosed) => return Err(give_up(unclosed)),
     };
     let followed = follow_modes_in(alloc, &closed, mirror, event, happening, transaction);
     set_txn(&mut mirror.seat, Some(closed.reopen()));
@@ -216,7 +216,7 @@ fn follow_modes_in(
     event: usize,
     happening: &Happening,
     transaction: &mut Transaction,
-) -> Result<(), Refusal> {
+) -> Result<(), AllocError> {
     let Some(Resolved::SetModes { names, mode }) = closed.trace().last() else {
         return Ok(());
     };
@@ -249,13 +249,13 @@ fn follow_commit(
     event: usize,
     happening: &mut Happening,
     transaction: &mut Transaction,
-) -> Result<(), Refusal> {
+) -> Result<(), AllocError> {
     let Some(txn) = mirror.seat.txn.take() else {
         return Ok(());
     };
     let closed = match txn.close_check() {
         Ok(closed) => closed,
-        Err(unclosed) => return give_up(unclosed),
+        Err(unclosed) => return Err(give_up(unclosed)),
     };
     match &happening.answer {
         Answer::Committed(number) => {
@@ -278,7 +278,7 @@ fn note_closed(
     event: usize,
     happening: &mut Happening,
     transaction: &mut Transaction,
-) -> Result<(), Refusal> {
+) -> Result<(), AllocError> {
     let own = closed.own();
     let meant = Modes::all_immediate(alloc, own.assertions())?;
     let changes = closed.changes();
@@ -297,10 +297,10 @@ fn note_closed(
 }
 
 /// The transaction could not be taken to COMMIT for want of memory.
-fn give_up(unclosed: Unclosed) -> Result<(), Refusal> {
-    let Unclosed { refusal, txn } = unclosed;
+fn give_up(unclosed: Unclosed) -> AllocError {
+    let Unclosed { refusal: _, txn } = unclosed;
     let_go(txn.abandon());
-    Err(refusal)
+    AllocError
 }
 
 /// Seats a transaction, or none. One that was open is ended.

@@ -8,9 +8,9 @@ use commit::{Engine, Seat};
 use modes::Modes;
 use replay::{ProgramFault, begin_run};
 use sqlite_items::Items;
-use std::alloc::Global;
+use std::alloc::{AllocError, Global};
 use syntax::Step;
-use value::{Refusal, Text};
+use value::Text;
 
 /// What happens when a script of any sessions is run on definitions, with at most so many commits.
 ///
@@ -34,7 +34,7 @@ pub fn read_history(
 }
 
 /// Runs the events, and notes what happened.
-fn record(alloc: Global, engine: Engine, steps: Items<Step>) -> Result<History, Refusal> {
+fn record(alloc: Global, engine: Engine, steps: Items<Step>) -> Result<History, AllocError> {
     let mut engine = engine;
     let mut mirrors = make_mirrors(alloc, engine.seats())?;
     let mut notes = Notes {
@@ -66,7 +66,7 @@ fn record(alloc: Global, engine: Engine, steps: Items<Step>) -> Result<History, 
 }
 
 /// A place for the transaction of each session.
-fn make_mirrors(alloc: Global, seats: &[Seat]) -> Result<Vec<Mirror>, Refusal> {
+fn make_mirrors(alloc: Global, seats: &[Seat]) -> Result<Vec<Mirror>, AllocError> {
     let mut mirrors = Vec::new(alloc);
     for seat in seats {
         let mirror = Mirror {
@@ -83,7 +83,7 @@ fn make_mirrors(alloc: Global, seats: &[Seat]) -> Result<Vec<Mirror>, Refusal> {
 }
 
 /// The names of the sessions.
-fn names_of(alloc: Global, mirrors: &[Mirror]) -> Result<Vec<Text>, Refusal> {
+fn names_of(alloc: Global, mirrors: &[Mirror]) -> Result<Vec<Text>, AllocError> {
     let mut names = Vec::new(alloc);
     for mirror in mirrors {
         names.push(mirror.seat.session.copy()?)?;
@@ -97,7 +97,7 @@ fn record_all(
     mirrors: &mut Vec<Mirror>,
     steps: &[Step],
     notes: &mut Notes,
-) -> Result<(), Refusal> {
+) -> Result<(), AllocError> {
     for (event, step) in steps.iter().enumerate() {
         record_step(alloc, engine, mirrors, event, step, notes)?;
     }
@@ -112,7 +112,7 @@ fn record_step(
     event: usize,
     step: &Step,
     notes: &mut Notes,
-) -> Result<(), Refusal> {
+) -> Result<(), AllocError> {
     let answer = engine.answer(step);
     let found = mirrors
         .iter()

@@ -3,7 +3,6 @@
 use crate::words::add_bytes;
 use std::alloc::{AllocError, Global};
 use token::{Kind, Token, read_tokens};
-use value::Refusal;
 
 /// A text of pieces that end with a semicolon, as definitions and scripts are, by its tokens.
 #[derive(Drop)]
@@ -14,8 +13,8 @@ pub struct Source {
 }
 
 impl Source {
-    /// The pieces of a text. NoMemory is the only error.
-    pub fn read(alloc: Global, text: &[u8]) -> Result<Source, Refusal> {
+    /// The pieces of a text.
+    pub fn read(alloc: Global, text: &[u8]) -> Result<Source, AllocError> {
         let tokens = read_tokens(alloc, text)?;
         let pieces = pieces_of(alloc, tokens.as_slice())?;
         Ok(Source { tokens, pieces })

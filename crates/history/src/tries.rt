@@ -1,7 +1,5 @@
 //! What a statement does to the rows of a view, whatever its assertions say of it.
 
-ghost use Rattle.std.specs.Prelude.{IsOkUnless};
-ghost use Rattle.value.specs.declared.refusals.Refusal.TheVariants.{NoMemory};
 ghost use Rattle.assertion.specs.Declarations.{layouts_in};
 ghost use Rattle.txn.specs.Effects.{ArePutIn};
 ghost use Rattle.txn.specs.Runnable.{IsRunnable};
@@ -9,7 +7,7 @@ ghost use Rattle.txn.specs.Runnable.{IsRunnable};
 use alone::Resolved;
 use changes::real_changes;
 use delta::View;
-use std::alloc::Global;
+use std::alloc::{AllocError, Global};
 use syntax::Statement;
 use table::Change;
 use txn::{Effect, delete_effect, insert_effect, recall_order, resolve, update_effect};
@@ -23,22 +21,23 @@ pub struct Trial {
 }
 
 /// What a statement changes of the rows of a view, and the view after it. Nothing where it changes no row by its kind,
-/// or is refused for another reason than an assertion, as in a read-only transaction. NoMemory is the only error.
+/// or is refused for another reason than an assertion, as in a read-only transaction.
 pub fn try_statement(
     alloc: Global,
     own: &View,
     read_only: bool,
     statement: &Statement,
-) -> Result<Option<Trial>, Refusal>
-    ensures only_memory { IsOkUnless result NoMemory }
-{
+) -> Result<Option<Trial>, AllocError> {
     let resolved = resolve(alloc, own, read_only, statement)?;
     try_resolved(alloc, own, &resolved)
 }
 
-fn try_resolved(alloc: Global, own: &View, statement: &Resolved) -> Result<Option<Trial>, Refusal>
+fn try_resolved(
+    alloc: Global,
+    own: &View,
+    statement: &Resolved,
+) -> Result<Option<Trial>, AllocError>
     requires runnable { IsRunnable own.now.declared statement.now }
-    ensures only_memory { IsOkUnless result NoMemory }
 {
     match statement {
         Resolved::Insert(new) => match insert_effect(alloc, own, new) {
@@ -58,9 +57,8 @@ fn try_resolved(alloc: Global, own: &View, statement: &Resolved) -> Result<Optio
 }
 
 /// The view with the changes of an effect.
-fn put_in(own: &View, effect: Effect) -> Result<Option<Trial>, Refusal>
+fn put_in(own: &View, effect: Effect) -> Result<Option<Trial>, AllocError>
     requires changes { ArePutIn (layouts_in own.now.declared) effect.changes.items own.now.state }
-    ensures only_memory { IsOkUnless result NoMemory }
 {
     let Effect { reply: _, changes } = effect;
     recall_order(own);
@@ -72,11 +70,9 @@ fn put_in(own: &View, effect: Effect) -> Result<Option<Trial>, Refusal>
 }
 
 /// Nothing, unless memory ran out.
-fn unless_memory(refusal: Refusal) -> Result<Option<Trial>, Refusal>
-    ensures only_memory { IsOkUnless result NoMemory }
-{
+fn unless_memory(refusal: Refusal) -> Result<Option<Trial>, AllocError> {
     match refusal {
-        Refusal::NoMemory => Err(Refusal::NoMemory),
+        Refusal::NoMemory => Err(AllocError),
         _ => Ok(None),
     }
 }

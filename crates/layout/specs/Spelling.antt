@@ -1,6 +1,5 @@
 -- How numbers, texts, values and rows are spelled in bytes.
-use Rattle.std.specs.Prelude.{ℕ, ℤ, pos, negsuc, ◌-◌, ◌^◌, List, [], ◌∷◌, ◌++◌, length}
-use Rattle.std.specs.List.{flat_map}
+use Rattle.std.specs.Prelude.{ℕ, ℤ, pos, negsuc, ◌-◌, List, [], ◌∷◌, ◌++◌, length}
 use Rattle.std.specs.Int.{w64, to_le_bytes}
 use Rattle.value.specs.declared.values.Value.{Value}
 use Rattle.value.specs.declared.values.Value.TheVariants.{Null, Int, Text}

@@ -63,7 +63,7 @@ fn read_value(alloc: Global, bytes: &[u8]) -> Result<(Value, &[u8]), FieldFault>
             let Some((text, rest)) = read_text(rest) else {
                 return Err(FieldFault::Malformed);
             };
-            let text = Text::new(Vec::from_slice(alloc, text)?);
+            let text = Text::new(Vec::from_slice(alloc, text)?)?;
             Ok((Value::Text(text), rest))
         }
         _ => Err(FieldFault::Malformed),

@@ -1,12 +1,11 @@
 //! Names, numbers and texts.
 
-ghost use Rattle.std.specs.Prelude.{◌≡◌, ◌≤◌, [], ◌∷◌, IfOk, IsOkUnless};
+ghost use Rattle.std.specs.Prelude.{◌≡◌, ◌≤◌, [], ◌∷◌, IfOk};
 ghost use Rattle.syntax.specs.Reading as rd;
 ghost use Rattle.token.specs.declared.kinds.Kind.TheVariants as k;
 ghost use Rattle.token.specs.Spellings.{largest_number};
 ghost use Rattle.syntax.specs.Grammar as spec;
 ghost use Rattle.syntax.specs.Readers as reader;
-ghost use Rattle.leaf_parser.specs.declared.stops.Stop.TheVariants.{Memory};
 ghost use Rattle.leaf_parser.specs.Reads.{Reads};
 
 use crate::cursors::{Cursor, Piece};
@@ -64,14 +63,11 @@ pub fn parse_number(cursor: &mut Cursor<'_>, is_negative: bool) -> Result<Expres
 
 /// The name that a word spells.
 #[tactic(auto, unfolding(syntax::specs::Grammar::name_of))]
-pub fn name_of(alloc: Global, piece: &Piece<'_>) -> Result<Text, Stop>
-    ensures only_memory { IsOkUnless result Memory }
-    ensures upper { IfOk result (λ name. name ≡ spec.name_of piece.now) }
+pub fn name_of(alloc: Global, piece: &Piece<'_>) -> Result<Text, AllocError>
+    ensures { IfOk result (λ name. name ≡ spec.name_of piece.now) }
 {
-    match name_bytes(alloc, piece.spelling()) {
-        Ok(bytes) => Ok(Text::new(bytes)),
-        Err(_) => Err(Stop::Memory),
-    }
+    let bytes = name_bytes(alloc, piece.spelling())?;
+    Text::new(bytes)
 }
 
 /// A name.
@@ -80,7 +76,7 @@ pub fn parse_name(alloc: Global, cursor: &mut Cursor<'_>) -> Result<Text, Stop>
     ensures { Reads (reader.name cursor.old) result cursor.new }
 {
     let piece = cursor.expect(Kind::Name)?;
-    name_of(alloc, &piece)
+    Ok(name_of(alloc, &piece)?)
 }
 
 /// A name, as a part of a list.
@@ -102,14 +98,11 @@ impl Part for NamePart {
 }
 
 #[tactic(auto, unfolding(syntax::specs::Grammar::quoted))]
-fn text_of(alloc: Global, piece: &Piece<'_>) -> Result<Text, Stop>
-    ensures only_memory { IsOkUnless result Memory }
-    ensures inside { IfOk result (λ text. text ≡ spec.quoted piece.now) }
+fn text_of(alloc: Global, piece: &Piece<'_>) -> Result<Text, AllocError>
+    ensures { IfOk result (λ text. text ≡ spec.quoted piece.now) }
 {
-    match text_bytes(alloc, piece.spelling()) {
-        Ok(bytes) => Ok(Text::new(bytes)),
-        Err(_) => Err(Stop::Memory),
-    }
+    let bytes = text_bytes(alloc, piece.spelling())?;
+    Text::new(bytes)
 }
 
 /// A text in quotes.
@@ -117,5 +110,5 @@ pub fn parse_text(alloc: Global, cursor: &mut Cursor<'_>) -> Result<Text, Stop>
     ensures { Reads (rd.◌<$>◌ spec.quoted (rd.expect k.Text) cursor.old) result cursor.new }
 {
     let piece = cursor.expect(Kind::Text)?;
-    text_of(alloc, &piece)
+    Ok(text_of(alloc, &piece)?)
 }

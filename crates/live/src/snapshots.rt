@@ -1,13 +1,11 @@
 //! The snapshots of open transactions.
 
-ghost use Rattle.std.specs.Prelude.{◌≡◌, true, Contains, IfOk, IsOkUnless, OnErr, OnOk};
-ghost use Rattle.value.specs.declared.refusals.Refusal.TheVariants.{NoMemory};
+ghost use Rattle.std.specs.Prelude.{◌≡◌, true, Contains, IfOk, OnErr, OnOk};
 ghost use Rattle.live.specs.Held.{is_held};
 ghost use Rattle.live.specs.Live.{least_with, least_writing, none_live, with_begin, without, writers_hold};
 
-use std::alloc::Global;
+use std::alloc::{AllocError, Global};
 use std::marker::Model;
-use value::Refusal;
 
 /// An open transaction: its ticket, how many commits its snapshot holds, and whether it is read only.
 #[derive(Clone, Copy, Debug, PartialEq, Eq)]
@@ -56,15 +54,14 @@ impl Live {
     ///
     /// # Errors
     ///
-    /// [`Refusal::NoMemory`] alone, also where 2^64 - 1 transactions have begun. All is then as it was.
-    pub fn begin(&mut self, snapshot: u64, read_only: bool) -> Result<(), Refusal>
-        ensures only_memory { IsOkUnless result NoMemory }
+    /// Want of memory, also said where 2^64 - 1 transactions have begun. All is then as it was.
+    pub fn begin(&mut self, snapshot: u64, read_only: bool) -> Result<(), AllocError>
         ensures begun { OnOk result (self.new ≡ with_begin snapshot read_only self.old) }
         ensures same { OnErr result (self.new ≡ self.old) }
     {
         let ticket = self.begun;
         let Some(begun) = ticket.checked_add(1) else {
-            return Err(Refusal::NoMemory);
+            return Err(AllocError);
         };
         self.snapshots.push(LiveSnapshot {
             ticket,

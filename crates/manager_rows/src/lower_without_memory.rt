@@ -20,14 +20,14 @@ use pages::Pages;
 use parse::parse_schema;
 use session::Limits;
 use siread::{LockKey, LockTable, Place, touches};
-use std::alloc::Global;
+use std::alloc::{AllocError, Global};
 use std::cmp::Ordering;
 use std::process::Abort;
 use std::test::Fail;
 use syntax::{Event, Mode, Step};
 use table::{Aggregate, Change, Cond, Expr, Row, Slots, bound, eval, is_bounded};
 use txn::{Closed, Txn, Unclosed};
-use value::{Comparison, Refusal, Root, Text, Truth, Value, compare, order};
+use value::{Comparison, Root, Text, Truth, Value, compare, order};
 
 #[test]
 fn values(rt: HostRuntime) -> Result<(), Fail> {
@@ -48,10 +48,10 @@ fn values(rt: HostRuntime) -> Result<(), Fail> {
     Ok(())
 }
 
-fn small_row(alloc: Global) -> Result<Row, Refusal>
+fn small_row(alloc: Global) -> Result<Row, AllocError>
     ensures { IfOk result (λ row. IsSmallRow row) }
 {
-    Ok(Row::new(vec![in alloc; Value::Int(7), Value::Null]?))
+    Row::new(vec![in alloc; Value::Int(7), Value::Null]?)
 }
 
 fn no_slots(alloc: Global) -> Slots
@@ -124,7 +124,7 @@ fn finds_each(rows: &Rows) -> bool {
 }
 
 /// One row of the group 7.
-fn totals(alloc: Global) -> Result<Totals, Refusal> {
+fn totals(alloc: Global) -> Result<Totals, AllocError> {
     let member = Some(Member {
         group: Value::Int(7),
         value: Value::Int(1),
@@ -151,12 +151,12 @@ fn hold_one<R: Abort>(rt: &R, pages: &Pages<u64>, key: &Value) {
 }
 
 /// The row of a key is put into the first table.
-fn insertion(alloc: Global, key: i64) -> Result<Change, Refusal> {
+fn insertion(alloc: Global, key: i64) -> Result<Change, AllocError> {
     Ok(Change {
         table: 0,
         key: Value::Int(key),
         old: None,
-        new: Some(Row::new(vec![in alloc; Value::Int(key)]?)),
+        new: Some(Row::new(vec![in alloc; Value::Int(key)]?)?),
     })
 }
 

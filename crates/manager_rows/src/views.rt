@@ -10,16 +10,16 @@ ghost use Rattle.delta.specs.Views.{IsFitting};
 use crate::again::{for_ever, is_same, page, show_view};
 use crate::printed::{COVER, SEVEN, defined};
 use delta::View;
-use std::alloc::Global;
+use std::alloc::{AllocError, Global};
 use std::test::Fail;
 use table::{Change, Row, Schema};
-use value::{Refusal, Value};
+use value::Value;
 
 /// A shift that no one covers is put in, which turns an assertion.
 #[test]
 fn changed(rt: HostRuntime) -> Result<(), Fail> {
     let view = loaded(rt.alloc(), "")?;
-    let row = Row::new(vec![in rt.alloc(); Value::Int(8)]?);
+    let row = Row::new(vec![in rt.alloc(); Value::Int(8)]?)?;
     let after = put(rt.alloc(), &view, row)?;
     let want = loaded(rt.alloc(), "INSERT INTO SHIFTS VALUES (8);")?;
     let (found, want) = (shown(rt.alloc(), &after)?, shown(rt.alloc(), &want)?);
@@ -56,7 +56,7 @@ fn put(alloc: Global, view: &View, row: Row) -> Result<View, Fail> {
 }
 
 /// What stands under a key of the first table, which has this schema.
-fn old_row(view: &View, schema: &Schema, key: &Value) -> Result<Option<Row>, Refusal>
+fn old_row(view: &View, schema: &Schema, key: &Value) -> Result<Option<Row>, AllocError>
     requires { 0 < length view.now.state }
     ensures { IfOk result (λ old. row_at schema.now.key key.now (rows_of 0 view.now.state) ≡ old) }
 {

@@ -1,14 +1,13 @@
 //! Names of the language.
 
-ghost use Rattle.std.specs.Prelude.{◌≡◌, IfOk, IsOkUnless};
+ghost use Rattle.std.specs.Prelude.{◌≡◌, IfOk};
 ghost use Rattle.token.specs.Bytes.{name_of};
 ghost use Rattle.syntax.specs.Reading.{same_kind};
-ghost use Rattle.value.specs.declared.refusals.Refusal.TheVariants.{NoMemory};
 ghost use Rattle.messages.specs.Names as spec;
 
-use std::alloc::Global;
+use std::alloc::{AllocError, Global};
 use token::{Kind, Token, name_bytes, next_token};
-use value::{Refusal, Text};
+use value::Text;
 
 /// Whether a kind is that of names.
 #[tactic(auto, unfolding(syntax::specs::Reading::same_kind))]
@@ -35,11 +34,10 @@ pub fn is_name(bytes: &[u8]) -> bool
     }
 }
 
-/// A name in upper case, since case does not count. NoMemory is the only error.
-pub fn read_name(alloc: Global, bytes: &[u8]) -> Result<Text, Refusal>
-    ensures only_memory { IsOkUnless result NoMemory }
-    ensures upper { IfOk result (λ name. name ≡ name_of bytes.now) }
+/// A name in upper case, since case does not count.
+pub fn read_name(alloc: Global, bytes: &[u8]) -> Result<Text, AllocError>
+    ensures { IfOk result (λ name. name ≡ name_of bytes.now) }
 {
     let name = name_bytes(alloc, bytes)?;
-    Ok(Text::new(name))
+    Text::new(name)
 }

@@ -1,15 +1,14 @@
 //! The mode of each assertion.
 
-ghost use Rattle.std.specs.Prelude.{◌≡◌, ◌<◌, true, length, slice_index_or, IfOk, IsOkUnless};
-ghost use Rattle.value.specs.declared.refusals.Refusal.TheVariants.{NoMemory};
+ghost use Rattle.std.specs.Prelude.{◌≡◌, ◌<◌, true, length, slice_index_or, IfOk};
 ghost use Rattle.modes.specs.Modes.{all_immediate, initial_modes, is_immediate, mode_of, mode_with, modes_with, named_immediate};
 
 use crate::names::is_named;
 use assertion::Assertion;
-use std::alloc::Global;
+use std::alloc::{AllocError, Global};
 use std::marker::Model;
 use syntax::Mode;
-use value::{Refusal, Text};
+use value::Text;
 
 /// The modes of a transaction: for each assertion, in the order of their creation, whether it is immediate.
 #[derive(Debug, Drop)]
@@ -26,10 +25,9 @@ impl Model for Modes {
 }
 
 impl Modes {
-    /// The modes in which a transaction begins. NoMemory is the only error.
-    pub fn initial(alloc: Global, assertions: &[Assertion]) -> Result<Modes, Refusal>
-        ensures only_memory { IsOkUnless result NoMemory }
-        ensures initial { IfOk result (λ modes. modes ≡ initial_modes assertions.now) }
+    /// The modes in which a transaction begins.
+    pub fn initial(alloc: Global, assertions: &[Assertion]) -> Result<Modes, AllocError>
+        ensures { IfOk result (λ modes. modes ≡ initial_modes assertions.now) }
     {
         let mut immediate = Vec::with_capacity(alloc, assertions.len())?;
         for assertion in assertions {
@@ -38,10 +36,9 @@ impl Modes {
         Ok(Modes { immediate })
     }
 
-    /// All assertions are immediate, as COMMIT takes them. NoMemory is the only error.
-    pub fn all_immediate(alloc: Global, assertions: &[Assertion]) -> Result<Modes, Refusal>
-        ensures only_memory { IsOkUnless result NoMemory }
-        ensures modes { IfOk result (λ modes. modes ≡ all_immediate assertions.now) }
+    /// All assertions are immediate, as COMMIT takes them.
+    pub fn all_immediate(alloc: Global, assertions: &[Assertion]) -> Result<Modes, AllocError>
+        ensures { IfOk result (λ modes. modes ≡ all_immediate assertions.now) }
     {
         let mut immediate = Vec::with_capacity(alloc, assertions.len())?;
         for _assertion in assertions {
@@ -51,14 +48,12 @@ impl Modes {
     }
 
     /// The assertions of these names are immediate and no others, as SET CONSTRAINTS .. IMMEDIATE checks them.
-    /// NoMemory is the only error.
     pub fn named_immediate(
         alloc: Global,
         assertions: &[Assertion],
         names: &[Text],
-    ) -> Result<Modes, Refusal>
-        ensures only_memory { IsOkUnless result NoMemory }
-        ensures modes { IfOk result (λ modes. modes ≡ named_immediate names.now assertions.now) }
+    ) -> Result<Modes, AllocError>
+        ensures { IfOk result (λ modes. modes ≡ named_immediate names.now assertions.now) }
     {
         let mut immediate = Vec::with_capacity(alloc, assertions.len())?;
         for assertion in assertions {
@@ -67,16 +62,15 @@ impl Modes {
         Ok(Modes { immediate })
     }
 
-    /// These modes, of these assertions, with that of some set, by their names. NoMemory is the only error.
+    /// These modes, of these assertions, with that of some set, by their names.
     pub fn set(
         &self,
         assertions: &[Assertion],
         names: &[Text],
         mode: Mode,
-    ) -> Result<Modes, Refusal>
+    ) -> Result<Modes, AllocError>
         requires { length self.now ≡ length assertions.now }
-        ensures only_memory { IsOkUnless result NoMemory }
-        ensures set { IfOk result (λ modes. modes ≡ modes_with names.now (is_immediate mode) assertions.now self.now) }
+        ensures { IfOk result (λ modes. modes ≡ modes_with names.now (is_immediate mode) assertions.now self.now) }
     {
         let mut immediate = Vec::new(*self.immediate.allocator());
         for place in 0..assertions.len() {

@@ -1,13 +1,13 @@
 //! Assertions by their names.
 
-ghost use Rattle.std.specs.Prelude.{◌≡◌, ◌≢◌, IfOk, IfErr, IsOkUnless, Ok, Err};
+ghost use Rattle.std.specs.Prelude.{◌≡◌, ◌≢◌, IfOk, IfErr, Ok, Err};
 ghost use Rattle.value.specs.declared.refusals.Refusal.TheVariants.{NoMemory};
 ghost use Rattle.std.specs.Option.{option_copied};
 ghost use Rattle.modes.specs.Modes.{assertion_of, deferrable_names, is_named, set_names, settable, tested_names};
 
 use assertion::Assertion;
 use sqlite_items::Items;
-use std::alloc::Global;
+use std::alloc::{AllocError, Global};
 use syntax::Which;
 use value::{Refusal, Text};
 
@@ -25,14 +25,13 @@ pub fn settable_names(
     ensures refused { IfErr result (λ refusal. refusal ≢ NoMemory → set_names assertions.now which.now ≡ Err refusal) }
 {
     match which {
-        Which::All => deferrable_names(alloc, assertions),
+        Which::All => Ok(deferrable_names(alloc, assertions)?),
         Which::Names(names) => require_deferrable(alloc, assertions, names.as_slice()),
     }
 }
 
-fn deferrable_names(alloc: Global, assertions: &[Assertion]) -> Result<Items<Text>, Refusal>
-    ensures only_memory { IsOkUnless result NoMemory }
-    ensures all { IfOk result (λ names. names ≡ deferrable_names assertions.now) }
+fn deferrable_names(alloc: Global, assertions: &[Assertion]) -> Result<Items<Text>, AllocError>
+    ensures { IfOk result (λ names. names ≡ deferrable_names assertions.now) }
 {
     let mut names = Vec::new(alloc);
     for assertion in assertions {

@@ -1,8 +1,6 @@
 -- What stands at a key, and a change, are the same with the keys kept beside the rows.
-use Rattle.std.proofs.Common.{◌≡◌, ℕ, zero, suc, ◌+◌, ◌<◌, List, [], ◌∷◌, ◌++◌, take, drop, length, map, Option, Some, None, refl, sym, ◌∙◌, ap, arith, option_map, subst, slice_index_or, Global}
+use Rattle.std.proofs.Common.{◌≡◌, ℕ, zero, suc, ◌+◌, ◌<◌, List, [], ◌∷◌, ◌++◌, take, drop, length, Option, Some, None, refl, sym, ◌∙◌, ap, arith, option_map, subst, slice_index_or}
 use Rattle.std.proofs.lemmas.List.{drop_more, take_more}
-use Rattle.std.specs.Arc.{arc_value}
-use Rattle.std.specs.declared.sync.Arc.{Arc}
 use Rattle.std.specs.Prelude.{option_to_list}
 use Rattle.std.specs.declared.cmp.Ordering.{Ordering}
 use Rattle.std.specs.declared.cmp.Ordering.TheVariants.{Less, Equal, Greater}
@@ -68,13 +66,13 @@ rows_of-drop zero (e ∷ es) = refl
 rows_of-drop (suc n) (e ∷ es) = rows_of-drop n es
 
 -- the first entry of what stands from a place on
-pub first_row : (es : List (Value × RowValues)) (at : ℕ) (page : List (Arc (Value × RowValues) Global)) (x : Arc (Value × RowValues) Global) → at < length es → 0 < length page
-    → map arc_value page ≡ take (length page) (drop at es) → x ≡ slice_index_or page 0 x → drop at (rows_of es) ≡ (arc_value x).1 ∷ drop (at + 1) (rows_of es)
+pub first_row : (es : List (Value × RowValues)) (at : ℕ) (page : List (Value × RowValues)) (x : Value × RowValues) → at < length es → 0 < length page
+    → page ≡ take (length page) (drop at es) → x ≡ slice_index_or page 0 x → drop at (rows_of es) ≡ x.1 ∷ drop (at + 1) (rows_of es)
 first_row es at [] x h n e i = absurd (omega (arith, n))
 first_row es at (y ∷ page) x h n e i =
-    let head : arc_value y ≡ slice_index_or es at (arc_value x) = ap (first_or (arc_value x)) (e ∙ ap (take (length (y ∷ page))) (drop_more es at (arc_value x) h)) in
-    let same : arc_value x ≡ slice_index_or es at (arc_value x) = ap arc_value i ∙ head in
-    sym (rows_of-drop at es) ∙ ap rows_of (drop_more es at (arc_value x) h) ∙ ap (λ (p : Value × RowValues). p.1 ∷ rows_of (drop (at + 1) es)) (sym same) ∙ ap (λ rs. (arc_value x).1 ∷ rs) (rows_of-drop (at + 1) es)
+    let head : y ≡ slice_index_or es at x = ap (first_or x) (e ∙ ap (take (length (y ∷ page))) (drop_more es at x h)) in
+    let same : x ≡ slice_index_or es at x = i ∙ head in
+    sym (rows_of-drop at es) ∙ ap rows_of (drop_more es at x h) ∙ ap (λ (p : Value × RowValues). p.1 ∷ rows_of (drop (at + 1) es)) (sym same) ∙ ap (λ rs. x.1 ∷ rs) (rows_of-drop (at + 1) es)
 
 -- one row more, behind those that stand under their keys so far
 pub rows_more : (column : ℕ) (k : Value) (made : List (Value × RowValues)) (row : RowValues) (at : ℕ) (rows : List RowValues) → k ≡ value_in column row → AreKeyed column made → rows_of made ≡ take at rows

@@ -1,17 +1,16 @@
 //! The indexes of a version's rows.
 
-ghost use Rattle.std.specs.Prelude.{◌≡◌, ◌==◌, ℕ, List, [], ◌∷◌, ◌++◌, length, IfOk, IfSome, IsOkUnless};
+ghost use Rattle.std.specs.Prelude.{◌≡◌, ◌==◌, ℕ, List, [], ◌∷◌, ◌++◌, length, IfOk, IfSome};
 ghost use Rattle.std.specs.Option.{option_copied};
 ghost use Rattle.groups.specs.Indexes.{IsIndexOf};
 ghost use Rattle.mvrows.specs.Indexed.{AreIndexesOf, IsReplacement};
 ghost use Rattle.table.specs.Rows.{RowValues, put_row};
-ghost use Rattle.value.specs.declared.refusals.Refusal.TheVariants.{NoMemory};
 
 use groups::Index;
-use std::alloc::Global;
+use std::alloc::{AllocError, Global};
 use std::marker::Model;
 use table::Row;
-use value::{Refusal, Value};
+use value::Value;
 
 /// The index of rows by one of their columns.
 #[derive(Debug, Drop)]
@@ -72,16 +71,15 @@ impl Indexes {
         key: &Value,
         old: Option<&Row>,
         new: Option<&Row>,
-    ) -> Result<Indexes, Refusal>
-        ensures only_memory { IsOkUnless result NoMemory }
-        ensures indexes { IfOk result (λ indexes. (key_column : ℕ) (rows : List RowValues)
+    ) -> Result<Indexes, AllocError>
+        ensures { IfOk result (λ indexes. (key_column : ℕ) (rows : List RowValues)
             → IsReplacement key_column key.now (option_copied old.entry) (option_copied new.entry) rows
             → AreIndexesOf key_column rows self.now
             → AreIndexesOf key_column (put_row key_column key.now (option_copied new.entry) rows) indexes) }
     {
         let mut list = Vec::new(*self.list.allocator());
         for it in &self.list {
-            let index = it.index.with(it.column, key, old, new)?;
+            let index = it.index.copy()?.with(it.column, key, old, new)?;
             list.push(ColumnIndex {
                 column: it.column,
                 index,
@@ -91,9 +89,8 @@ impl Indexes {
     }
 
     /// These indexes and one by another column.
-    pub fn with_index(self, column: usize, index: Index) -> Result<Indexes, Refusal>
-        ensures only_memory { IsOkUnless result NoMemory }
-        ensures more { IfOk result (λ indexes.
+    pub fn with_index(self, column: usize, index: Index) -> Result<Indexes, AllocError>
+        ensures { IfOk result (λ indexes.
             indexes ≡ self ++ record { column = column; index = index } ∷ []) }
     {
         let mut list = self.list;
@@ -102,9 +99,8 @@ impl Indexes {
     }
 
     /// Indexes equal to these, which share all with them.
-    pub fn copy(&self) -> Result<Indexes, Refusal>
-        ensures only_memory { IsOkUnless result NoMemory }
-        ensures equal { IfOk result (λ copy. copy ≡ self.now) }
+    pub fn copy(&self) -> Result<Indexes, AllocError>
+        ensures { IfOk result (λ copy. copy ≡ self.now) }
     {
         let mut list = Vec::new(*self.list.allocator());
         for it in &self.list {

@@ -1,6 +1,6 @@
 //! Versions of a table's rows.
 
-ghost use Rattle.std.specs.Prelude.{◌≡◌, ◌<◌, ◌^◌, ◌+◌, ◌⊎◌, [], ◌∷◌, drop, filter_map, length, map, not, option_to_list, Some, IfOk, IfSome, IsOkUnless, IsTrue, if◌then◌else◌};
+ghost use Rattle.std.specs.Prelude.{◌≡◌, ◌<◌, ◌^◌, ◌+◌, ◌⊎◌, [], ◌∷◌, drop, filter_map, length, map, not, option_to_list, Some, IfOk, IfSome, IsTrue, if◌then◌else◌};
 ghost use Rattle.std.specs.Option.{option_copied};
 ghost use Rattle.std.specs.Ordering.{eq_by_cmp};
 ghost use Rattle.table.specs.Rows.{value_in, row_at, put_row};
@@ -12,18 +12,17 @@ ghost use Rattle.mvrows.specs.Keyed.{rows_of, AreKeyed};
 ghost use Rattle.mvrows.specs.Looked.{keys_with, rows_with};
 ghost use Rattle.value.specs.Ordered.{HasKey, IsAscending};
 ghost use Rattle.value.specs.ValueOrder.{value_cmp};
-ghost use Rattle.value.specs.declared.refusals.Refusal.TheVariants.{NoMemory};
 ghost use Rattle.value.specs.declared.values.Value.{Value as values};
 
 use crate::indexes::Indexes;
 use crate::iterators::RowIter;
 use groups::{Index, Keys};
 use pages::Pages;
-use std::alloc::Global;
+use std::alloc::{AllocError, Global};
 use std::cmp::Ordering;
 use std::marker::Model;
 use table::{Change, Row};
-use value::{Refusal, Value, order};
+use value::{Value, order};
 
 /// One version of the rows of a table, in the order of their keys. Each is kept under its key, which stands in the
 /// column at `column`.
@@ -95,9 +94,8 @@ impl Rows {
         key_column: usize,
         column: usize,
         value: &Value,
-    ) -> Result<Vec<Value>, Refusal>
-        ensures only_memory { IsOkUnless result NoMemory }
-        ensures keys { IfOk result (λ keys. keys.items ≡ keys_with key_column column value.now self.now) }
+    ) -> Result<Vec<Value>, AllocError>
+        ensures { IfOk result (λ keys. keys.items ≡ keys_with key_column column value.now self.now) }
     {
         match self.index_for(key_column, column, value) {
             Some(index) => copy_keys(alloc, index.keys(value)),
@@ -112,9 +110,8 @@ impl Rows {
         key_column: usize,
         column: usize,
         value: &Value,
-    ) -> Result<Vec<&Row>, Refusal>
-        ensures only_memory { IsOkUnless result NoMemory }
-        ensures rows { IfOk result (λ rows. map (λ row. row.now) rows.items ≡ rows_with column value.now self.now) }
+    ) -> Result<Vec<&Row>, AllocError>
+        ensures { IfOk result (λ rows. map (λ row. row.now) rows.items ≡ rows_with column value.now self.now) }
     {
         // The proof reads that rows are in the order of the column that they are kept by.
         let is_keyed = is_keyed(&self.pages, self.column, key_column);
@@ -130,9 +127,13 @@ impl Rows {
     }
 
     /// The row under a key, as the only one, if there is one.
-    fn row_alone(&self, alloc: Global, key_column: usize, key: &Value) -> Result<Vec<&Row>, Refusal>
-        ensures only_memory { IsOkUnless result NoMemory }
-        ensures row { IfOk result (λ rows.
+    fn row_alone(
+        &self,
+        alloc: Global,
+        key_column: usize,
+        key: &Value,
+    ) -> Result<Vec<&Row>, AllocError>
+        ensures { IfOk result (λ rows.
             map (λ row. row.now) rows.items ≡ option_to_list (row_at key_column key.now self.now)) }
     {
         let mut rows = Vec::new(alloc);
@@ -148,9 +149,8 @@ impl Rows {
         alloc: Global,
         key_column: usize,
         keys: Keys<'_>,
-    ) -> Result<Vec<&Row>, Refusal>
-        ensures only_memory { IsOkUnless result NoMemory }
-        ensures rows { IfOk result (λ rows.
+    ) -> Result<Vec<&Row>, AllocError>
+        ensures { IfOk result (λ rows.
             map (λ row. row.now) rows.items ≡ filter_map (λ key. row_at key_column key self.now) keys.entry) }
     {
         let mut rows = Vec::new(alloc);
@@ -163,9 +163,13 @@ impl Rows {
     }
 
     /// The same rows, found among all.
-    fn scan_rows(&self, alloc: Global, column: usize, value: &Value) -> Result<Vec<&Row>, Refusal>
-        ensures only_memory { IsOkUnless result NoMemory }
-        ensures rows { IfOk result (λ rows. map (λ row. row.now) rows.items ≡ rows_with column value.now self.now) }
+    fn scan_rows(
+        &self,
+        alloc: Global,
+        column: usize,
+        value: &Value,
+    ) -> Result<Vec<&Row>, AllocError>
+        ensures { IfOk result (λ rows. map (λ row. row.now) rows.items ≡ rows_with column value.now self.now) }
     {
         let mut rows = Vec::new(alloc);
         for row in self.iter() {
@@ -194,9 +198,8 @@ impl Rows {
         key_column: usize,
         column: usize,
         value: &Value,
-    ) -> Result<Vec<Value>, Refusal>
-        ensures only_memory { IsOkUnless result NoMemory }
-        ensures keys { IfOk result (λ keys. keys.items ≡ keys_with key_column column value.now self.now) }
+    ) -> Result<Vec<Value>, AllocError>
+        ensures { IfOk result (λ keys. keys.items ≡ keys_with key_column column value.now self.now) }
     {
         let mut keys = Vec::new(alloc);
         for row in self.iter() {
@@ -210,8 +213,7 @@ impl Rows {
     /// A version equal to this one, in which rows are found by their value in a column without a look at the others. It
     /// takes one pass over the rows, and none where they are found so already, or where the key stands in another
     /// column than that of this version. Only memory can fail.
-    pub fn indexed(&self, key_column: usize, column: usize) -> Result<Rows, Refusal>
-        ensures only_memory { IsOkUnless result NoMemory }
+    pub fn indexed(&self, key_column: usize, column: usize) -> Result<Rows, AllocError>
         ensures equal { IfOk result (λ rows. rows ≡ self.now) }
         ensures short { IfOk result (λ rows. length rows < 2 ^ 63) }
     {
@@ -229,21 +231,20 @@ impl Rows {
 
     /// The version after a change: under its key, which stands in the column at `key_column`, its new row or none, and
     /// nothing else is another than before. The keys in that column have to ascend, and the new row has to have the
-    /// change's key there. This version stays as it is, also where the answer is NoMemory.
-    pub fn with(&self, key_column: usize, change: &Change) -> Result<Rows, Refusal>
+    /// change's key there. Copies of this version stay as they are; what no copy shares is changed where it stands.
+    pub fn with(self, key_column: usize, change: &Change) -> Result<Rows, AllocError>
         requires keyed { HasKey value_cmp (value_in key_column) change.now.key change.now.new }
-        requires ordered { IsAscending value_cmp (value_in key_column) self.now }
-        ensures only_memory { IsOkUnless result NoMemory }
-        ensures changed { IfOk result (λ rows. rows ≡ put_row key_column change.now.key change.now.new self.now) }
+        requires ordered { IsAscending value_cmp (value_in key_column) self }
+        ensures changed { IfOk result (λ rows. rows ≡ put_row key_column change.now.key change.now.new self) }
         ensures ordered { IfOk result (λ rows. IsAscending value_cmp (value_in key_column) rows) }
         ensures others { IfOk result (λ rows. (other : values) → row_at key_column other rows
-            ≡ if eq_by_cmp value_cmp other change.now.key then change.now.new else row_at key_column other self.now) }
+            ≡ if eq_by_cmp value_cmp other change.now.key then change.now.new else row_at key_column other self) }
         ensures short { IfOk result (λ rows. length rows < 2 ^ 63) }
     {
         let indexes = self.indexes_after(key_column, change)?;
         let new = copy_of(&change.new)?;
-        let keyed = by_column(&self.pages, self.column, key_column)?;
-        let pages = keyed.with(&change.key, new)?;
+        let mut pages = by_column(self.pages, self.column, key_column)?;
+        pages.put(&change.key, new)?;
         Ok(Rows {
             column: key_column,
             pages,
@@ -252,11 +253,10 @@ impl Rows {
     }
 
     /// The indexes of the version after a change; none where the key stands in another column than before.
-    fn indexes_after(&self, key_column: usize, change: &Change) -> Result<Indexes, Refusal>
+    fn indexes_after(&self, key_column: usize, change: &Change) -> Result<Indexes, AllocError>
         requires keyed { HasKey value_cmp (value_in key_column) change.now.key change.now.new }
         requires ordered { IsAscending value_cmp (value_in key_column) self.now }
-        ensures only_memory { IsOkUnless result NoMemory }
-        ensures indexes { IfOk result (λ indexes. AreIndexesOf key_column
+        ensures { IfOk result (λ indexes. AreIndexesOf key_column
             (put_row key_column change.now.key change.now.new self.now) indexes) }
     {
         if key_column != self.column || self.indexes.is_empty() {
@@ -267,9 +267,8 @@ impl Rows {
     }
 
     /// A version equal to this one, which shares all rows with it.
-    pub fn copy(&self) -> Result<Rows, Refusal>
-        ensures only_memory { IsOkUnless result NoMemory }
-        ensures equal { IfOk result (λ copy. copy ≡ self.now) }
+    pub fn copy(&self) -> Result<Rows, AllocError>
+        ensures { IfOk result (λ copy. copy ≡ self.now) }
     {
         Ok(Rows {
             column: self.column,
@@ -290,11 +289,10 @@ fn is_keyed(pages: &Pages<Row>, column: usize, key_column: usize) -> bool
 }
 
 /// The index of rows by a column, made in one pass. Each stands under its key.
-fn index_of(pages: &Pages<Row>, key_column: usize, column: usize) -> Result<Index, Refusal>
+fn index_of(pages: &Pages<Row>, key_column: usize, column: usize) -> Result<Index, AllocError>
     requires keyed { AreKeyed key_column pages.now }
     requires order { AreInOrder pages.now }
-    ensures only_memory { IsOkUnless result NoMemory }
-    ensures index { IfOk result (λ index. IsIndexOf key_column column (rows_of pages.now) index) }
+    ensures { IfOk result (λ index. IsIndexOf key_column column (rows_of pages.now) index) }
 {
     let mut index = Index::new(pages.allocator());
     for entry in pages.iter() {
@@ -304,9 +302,8 @@ fn index_of(pages: &Pages<Row>, key_column: usize, column: usize) -> Result<Inde
 }
 
 /// Keys equal to these.
-fn copy_keys(alloc: Global, keys: Keys<'_>) -> Result<Vec<Value>, Refusal>
-    ensures only_memory { IsOkUnless result NoMemory }
-    ensures equal { IfOk result (λ copy. copy.items ≡ keys.entry) }
+fn copy_keys(alloc: Global, keys: Keys<'_>) -> Result<Vec<Value>, AllocError>
+    ensures { IfOk result (λ copy. copy.items ≡ keys.entry) }
 {
     let mut copy = Vec::new(alloc);
     for key in keys {
@@ -323,9 +320,8 @@ fn is_null(value: &Value) -> bool
 }
 
 /// A row equal to this one, if there is one.
-fn copy_of(row: &Option<Row>) -> Result<Option<Row>, Refusal>
-    ensures only_memory { IsOkUnless result NoMemory }
-    ensures equal { IfOk result (λ copy. copy ≡ row.now) }
+fn copy_of(row: &Option<Row>) -> Result<Option<Row>, AllocError>
+    ensures { IfOk result (λ copy. copy ≡ row.now) }
 {
     match row {
         Some(row) => Ok(Some(row.copy()?)),
@@ -334,24 +330,22 @@ fn copy_of(row: &Option<Row>) -> Result<Option<Row>, Refusal>
 }
 
 /// The rows, each under its key in a column, in which the keys ascend.
-fn by_column(pages: &Pages<Row>, column: usize, key_column: usize) -> Result<Pages<Row>, Refusal>
-    requires keyed { AreKeyed column pages.now }
-    requires ordered { IsAscending value_cmp (value_in key_column) (rows_of pages.now) }
-    ensures only_memory { IsOkUnless result NoMemory }
-    ensures rows { IfOk result (λ made. rows_of made ≡ rows_of pages.now) }
+fn by_column(pages: Pages<Row>, column: usize, key_column: usize) -> Result<Pages<Row>, AllocError>
+    requires keyed { AreKeyed column pages }
+    requires ordered { IsAscending value_cmp (value_in key_column) (rows_of pages) }
+    ensures rows { IfOk result (λ made. rows_of made ≡ rows_of pages) }
     ensures keyed { IfOk result (λ made. AreKeyed key_column made) }
 {
     if key_column == column {
-        pages.copy()
+        Ok(pages)
     } else {
-        keyed_by(pages, key_column)
+        keyed_by(&pages, key_column)
     }
 }
 
 /// The rows, each under its key in another column, in which the keys ascend too.
-fn keyed_by(pages: &Pages<Row>, key_column: usize) -> Result<Pages<Row>, Refusal>
+fn keyed_by(pages: &Pages<Row>, key_column: usize) -> Result<Pages<Row>, AllocError>
     requires { IsAscending value_cmp (value_in key_column) (rows_of pages.now) }
-    ensures only_memory { IsOkUnless result NoMemory }
     ensures rows { IfOk result (λ made. rows_of made ≡ rows_of pages.now) }
     ensures keyed { IfOk result (λ made. AreKeyed key_column made) }
 {
@@ -359,15 +353,15 @@ fn keyed_by(pages: &Pages<Row>, key_column: usize) -> Result<Pages<Row>, Refusal
     for at in 0..pages.len() {
         let row = row_from(pages, at);
         let key = key_of(row, key_column)?;
-        made = made.with(&key, Some(row.copy()?))?;
+        let row = row.copy()?;
+        made.put(&key, Some(row))?;
     }
     Ok(made)
 }
 
 /// The key of a row in a column; NULL where it has no such column.
-fn key_of(row: &Row, key_column: usize) -> Result<Value, Refusal>
-    ensures only_memory { IsOkUnless result NoMemory }
-    ensures key { IfOk result (λ key. key ≡ value_in key_column row.now) }
+fn key_of(row: &Row, key_column: usize) -> Result<Value, AllocError>
+    ensures { IfOk result (λ key. key ≡ value_in key_column row.now) }
 {
     match row.values().get(key_column) {
         Some(value) => value.copy(),

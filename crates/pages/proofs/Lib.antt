@@ -1,6 +1,9 @@
 mod Orders
 mod Trees
 mod Walks
-mod Added
+mod Parting
+mod Separators
 mod Descents
-mod Shaped
+mod Halves
+mod Shifts
+mod Changes

@@ -12,11 +12,10 @@ use Rattle.value.specs.ValueOrder.{value_cmp}
 use Rattle.value.specs.Ordered.{by_order, at, put, AreAbove}
 use Rattle.value.proofs.ValueOrders.{value_cmp_total}
 use Rattle.value.proofs.OrderedLists.{AreAbove-below, at-above, flipped}
-use Rattle.std.proofs.lemmas.Cmp.{tied_itself}
-use Rattle.std.proofs.Math.Bool.{or_assoc, or-true, or-false}
-use Rattle.pages.specs.Reach.{key_of, reaches, IsGreatest, AreInOrder}
+use Rattle.std.proofs.Math.Bool.{or_assoc, or-true}
+use Rattle.pages.specs.Reach.{key_of, reaches, AreInOrder}
 
-passed_first : (c : Ordering) (b : Bool) → not (is_gt c) || b ≡ false → c ≡ Greater
+pub passed_first : (c : Ordering) (b : Bool) → not (is_gt c) || b ≡ false → c ≡ Greater
 passed_first Less b h = cc
 passed_first Equal b h = cc
 passed_first Greater b h = refl
@@ -134,7 +133,7 @@ module _ {V : Type 0} where
       ]
       in case (value_cmp k (key_of x)) h
 
-  above_front : (k : Value) (xs ys : List (Value × V)) → AreAbove value_cmp key_of k (xs ++ ys) → AreAbove value_cmp key_of k xs
+  pub above_front : (k : Value) (xs ys : List (Value × V)) → AreAbove value_cmp key_of k (xs ++ ys) → AreAbove value_cmp key_of k xs
   above_front k [] ys a = tt
   above_front k (x ∷ xs) ys a = (a.0, above_front k xs ys a.1)
 
@@ -181,25 +180,12 @@ module _ {V : Type 0} where
       ]
       in case (reaches k ys) refl
 
-  -- a list that goes as far as a key has an entry
-  pub some_entry : (greatest : Value) (xs : List (Value × V)) → IsGreatest greatest xs → 0 < length xs
-  some_entry greatest [] g = let none : false ≡ true = g greatest ∙ ap (λ c. not (is_gt c)) (tied_itself value_cmp_total greatest) in cc
-  some_entry greatest (x ∷ xs) g = omega arith
-
-  -- the last entry of a page is the greatest
-  pub last_entry : (page : List (Value × V)) (x : Value × V) → AreInOrder page → 0 < length page → x ≡ slice_index_or page (length page - 1) x → IsGreatest (key_of x) page
-  last_entry page x s n e k =
-      let last : ℕ = length page - 1 in
-      let h : last < length page = omega (arith, n) in
-      let whole : page ≡ take last page ++ x ∷ [] = sym (take_all (last + 1) page (omega (arith, n))) ∙ take_more page last x h ∙ ap (λ z. take last page ++ z ∷ []) (sym e) in
-      ap (reaches k) whole ∙ last_reaches k (take last page) (x ∷ []) (subst AreInOrder whole s) (omega arith) ∙ or-false (not (is_gt (value_cmp k (key_of x))))
-
-  put_above : (k : Value) (new : Option (Value × V)) (xs : List (Value × V)) → AreAbove value_cmp key_of k xs → put value_cmp key_of k new xs ≡ option_to_list new ++ xs
+  pub put_above : (k : Value) (new : Option (Value × V)) (xs : List (Value × V)) → AreAbove value_cmp key_of k xs → put value_cmp key_of k new xs ≡ option_to_list new ++ xs
   put_above k new [] a = sym (append-nil (option_to_list new))
   put_above k new (x ∷ xs) a = ap (λ c. by_order c (option_to_list new ++ x ∷ xs) (option_to_list new ++ xs) (x ∷ put value_cmp key_of k new xs)) a.0
 
   -- what stands before the key's own entry is below it
-  before_equal : (k : Value) (xs : List (Value × V)) (x : Value × V) (ys : List (Value × V)) → AreInOrder (xs ++ x ∷ ys) → value_cmp k (key_of x) ≡ Equal → reaches k xs ≡ false
+  pub before_equal : (k : Value) (xs : List (Value × V)) (x : Value × V) (ys : List (Value × V)) → AreInOrder (xs ++ x ∷ ys) → value_cmp k (key_of x) ≡ Equal → reaches k xs ≡ false
   before_equal k [] x ys s e = refl
   before_equal k (z ∷ xs) x ys s e =
       let high : value_cmp k (key_of z) ≡ Greater = value_cmp_total.congr k (key_of x) (key_of z) e ∙ value_cmp_total.antisymm (key_of x) (key_of z) ∙ ap ordering_reverse (above_item (key_of z) xs x ys s.0) in
@@ -250,3 +236,8 @@ length-take_le zero [] = omega arith
 length-take_le zero (x ∷ xs) = omega arith
 length-take_le (suc n) [] = omega arith
 length-take_le (suc n) (x ∷ xs) = omega (arith, length-take_le n xs)
+
+pub long_take : {X : Type 0} (n : ℕ) (xs : List X) → n ≤ length xs → n ≤ length (take n xs)
+long_take zero xs h = omega arith
+long_take (suc n) [] h = absurd (omega (arith, h))
+long_take (suc n) (x ∷ xs) h = omega (arith, long_take n xs (omega (arith, h)))

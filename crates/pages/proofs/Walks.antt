@@ -1,8 +1,7 @@
 -- From one page to the next.
-use Rattle.std.proofs.lemmas.List.{length-map, length-drop, take-append-drop}
-use Rattle.std.proofs.Common.{◌≡◌, ℕ, zero, suc, ◌+◌, ◌≤◌, List, [], ◌∷◌, ◌++◌, take, drop, length, map, refl, sym, ◌∙◌, ap, arith, Global}
-use Rattle.std.specs.Arc.{arc_value}
-use Rattle.std.specs.declared.sync.Arc.{Arc}
+use Rattle.std.proofs.lemmas.List.{length-drop, take-append-drop}
+use Rattle.std.proofs.Common.{◌≡◌, ℕ, zero, suc, ◌+◌, ◌-◌, ◌≤◌, List, [], ◌∷◌, ◌++◌, take, drop, length, refl, sym, ◌∙◌, ap, arith}
+use Rattle.pages.proofs.Orders.{take_all}
 
 pub none_in : {X : Type 0} (xs : List X) → length xs ≡ 0 → xs ≡ []
 none_in [] h = refl
@@ -15,9 +14,9 @@ drop_drop_suc (suc n) (suc m) [] = let e : suc (m + suc n) ≡ suc m + suc n = o
 drop_drop_suc n (suc m) (x ∷ xs) = let e : suc (m + n) ≡ suc m + n = omega arith in drop_drop_suc n m xs ∙ ap (λ (i : ℕ). drop i (x ∷ xs)) e
 
 -- the page at a place, and what stands behind it
-pub page_within : {X : Type 0} (page : List (Arc X Global)) (es : List X) (place : ℕ) → map arc_value page ≡ take (length page) (drop place es) → place ≤ length es → place + length page ≤ length es
+pub page_within : {X : Type 0} (page es : List X) (place : ℕ) → page ≡ take (length page) (drop place es) → place ≤ length es → place + length page ≤ length es
 page_within page es place e h =
-    let long : length page ≤ length (drop place es) = at_most (length page) (drop place es) (sym (length-map page arc_value) ∙ ap length e) in
+    let long : length page ≤ length (drop place es) = at_most (length page) (drop place es) (ap length e) in
     omega (arith, h, long, length-drop place es)
   where
     at_most : {X : Type 0} (n : ℕ) (xs : List X) → n ≡ length (take n xs) → n ≤ length xs
@@ -28,8 +27,14 @@ page_within page es place e h =
         e_absurd n e = absurd (omega (arith, e))
     at_most (suc n) (x ∷ xs) e = omega (arith, at_most n xs (omega (arith, e)))
 
-pub page_left : {X : Type 0} (old page : List (Arc X Global)) (es : List X) (place : ℕ) → length old ≡ 0 → map arc_value page ≡ take (length page) (drop place es)
-    → map arc_value page ++ drop (place + length page) es ≡ map arc_value old ++ drop place es
-page_left {X = X} old page es place n e =
+pub page_left : {X : Type 0} (old page es : List X) (place : ℕ) → length old ≡ 0 → page ≡ take (length page) (drop place es)
+    → page ++ drop (place + length page) es ≡ old ++ drop place es
+page_left old page es place n e =
     ap (λ xs. xs ++ drop (place + length page) es) e ∙ ap (λ xs. take (length page) (drop place es) ++ xs) (sym (drop_drop_suc (length page) place es)) ∙ take-append-drop (length page) (drop place es)
-    ∙ ap (λ (xs : List (Arc X Global)). map arc_value xs ++ drop place es) (sym (none_in old n))
+    ∙ ap (λ xs. xs ++ drop place es) (sym (none_in old n))
+
+-- what is left of a page
+pub rest_of_page : {X : Type 0} (at : ℕ) (page : List X) → take (length page - at) (drop at page) ≡ take (length (take (length page - at) (drop at page))) (drop at page)
+rest_of_page at page =
+    let all : take (length page - at) (drop at page) ≡ drop at page = take_all (length page - at) (drop at page) (sym (length-drop at page)) in
+    all ∙ sym (take_all (length (take (length page - at) (drop at page))) (drop at page) (ap length all))

@@ -6,31 +6,42 @@ use Rattle.std.proofs.Common.{Global}
 use Rattle.value.specs.declared.values.Value.{Value}
 use Rattle.pages.specs.declared.nodes.Shape.{Shape}
 use Rattle.pages.specs.declared.nodes.Shape.TheVariants.{Leaf, Inner}
-use Rattle.pages.specs.Reach.{IsGreatest, AreInOrder}
-use Rattle.pages.specs.Levels.{Tree, entries_of, highest, HaveHeight}
+use Rattle.pages.specs.Reach.{AreInOrder}
+use Rattle.pages.specs.Levels.{Tree, entries_of, highest}
+use Rattle.pages.specs.Parts.{AreBelow, AreFilled}
 
 module _ {V : Type 0} where
-  -- a node's height and its entries
+  -- a page and a node over others, by what they hold
+  abbrev pub page_tree : List (Value × V) → Tree V
+  page_tree page = ((0, length page), page)
+
+  abbrev pub tree_over : List (Tree V) → Tree V
+  tree_over ts = ((highest ts + 1, length ts), entries_of ts)
+
+  -- a node's height, its width and its entries
   abbrev pub seen : Shape V → Tree V
-  seen (Leaf page) = (0, map arc_value page.items)
-  seen (Inner nodes) = (highest (map arc_value nodes.items) + 1, entries_of (map arc_value nodes.items))
+  seen (Leaf page) = page_tree page.items
+  seen (Inner count seps nodes) = tree_over (map arc_value nodes.items)
 
-  -- nodes below a node: some, at most 32, of one height
-  pub record AreBelow (nodes : List (Tree V)) : Type 0 where
-    pub some : 0 < length nodes
-    pub most : length nodes ≤ 32
-    pub level : HaveHeight (highest nodes) nodes
+  -- a page has at most 32 entries, and they ascend
+  pub record IsPage (page : List (Value × V)) : Type 0 where
+    pub most : length page ≤ 32
+    pub order : AreInOrder page
 
-  -- a page has at most 64 entries
+  -- an inner node knows how many entries there are below it, and has no empty node beside another
+  pub record IsOver (number : ℕ) (seps : List Value) (ts : List (Tree V)) : Type 0 where
+    pub count : number ≡ length (entries_of ts)
+    pub below : AreBelow seps ts
+    pub filled : AreFilled ts
+
   abbrev pub IsWhole : Shape V → Type 0
-  IsWhole (Leaf page) = length page.items ≤ 64
-  IsWhole (Inner nodes) = AreBelow (map arc_value nodes.items)
+  IsWhole (Leaf page) = IsPage page.items
+  IsWhole (Inner count seps nodes) = IsOver count seps.items (map arc_value nodes.items)
 
-  -- what a node says of the entries below it
-  pub record Tells (key : Value) (number : ℕ) (entries : List (Value × V)) : Type 0 where
-    pub greatest : IsGreatest key entries
-    pub count : number ≡ length entries
-    pub order : AreInOrder entries
+  -- a node takes what is to come: something only where it has room
+  abbrev pub HasRoom : Option V → Tree V → Type 0
+  HasRoom None t = Unit {0}
+  HasRoom (Some v) t = t.0.1 < 32
 
   -- the entries below a root, if there is one
   abbrev pub entries_in : Option (Arc (Tree V) Global) → List (Value × V)

@@ -1,26 +1,25 @@
 //! The map.
 
-ghost use Rattle.std.specs.Prelude.{◌≡◌, ◌<◌, ◌≤◌, ◌^◌, [], length, map, take, drop, IfOk, IsOkUnless, option_map, option_to_list, slice_get, ◌-◌};
+ghost use Rattle.std.specs.Prelude.{◌≡◌, ◌<◌, ◌^◌, true, [], length, take, drop, OnOk, OnErr, IfOk, IfSome, option_map, option_to_list, slice_get, ◌-◌};
 ghost use Rattle.std.specs.Option.{option_copied};
 ghost use Rattle.std.specs.Arc.{arc_value};
-ghost use Rattle.pages.specs.Levels.{Tree, entries_of, highest, HaveHeight};
+ghost use Rattle.pages.specs.Levels.{IsNarrow};
 ghost use Rattle.pages.specs.Shapes.{entries_in};
 ghost use Rattle.pages.specs.Reach.{key_of, value_of, entry_of, AreInOrder};
-ghost use Rattle.value.specs.Ordered.{at, put, HasKey};
+ghost use Rattle.value.specs.Ordered.{at, put};
 ghost use Rattle.value.specs.ValueOrder.{value_cmp};
-ghost use Rattle.value.specs.declared.refusals.Refusal.TheVariants.{NoMemory};
 
-use crate::changes::push_new;
 use crate::entries::Entries;
-use crate::nodes::{Node, inner, leaf};
-use std::alloc::Global;
+use crate::nodes::{MOST, Node, over, page_of_one};
+use crate::parts::own;
+use std::alloc::{AllocError, Global};
 use std::fmt;
 use std::marker::Model;
 use std::sync::Arc;
-use value::{Refusal, Value};
+use value::{Copied, Value};
 
 /// More entries than any memory has.
-const MOST: usize = 1 << 63;
+const TOO_MANY: usize = 1 << 62;
 
 /// The number of entries, and not the entries.
 impl<V> fmt::Debug for Pages<V> {
@@ -29,7 +28,7 @@ impl<V> fmt::Debug for Pages<V> {
     }
 }
 
-/// An ordered map. A change makes a new one, which shares all but the changed path.
+/// An ordered map. What a copy shares with it stays as it is, whatever is put into either.
 #[derive(Drop)]
 pub struct Pages<V> {
     alloc: Global,
@@ -76,9 +75,9 @@ impl<V> Pages<V> {
     }
 
     /// The entries from a place on, as far as they stand together: at least one where there is one.
-    pub fn page_from(&self, at: usize) -> &[Arc<(Value, V)>]
+    pub fn page_from(&self, at: usize) -> &[(Value, V)]
         ensures some { at < length self.now → 0 < length result.now }
-        ensures entries { map arc_value result.now ≡ take (length result.now) (drop at self.now) }
+        ensures entries { result.now ≡ take (length result.now) (drop at self.now) }
         ensures short { length self.now < 2 ^ 63 }
     {
         match &self.root {
@@ -101,14 +100,14 @@ impl<V> Pages<V> {
     pub fn first(&self) -> Option<&(Value, V)>
         ensures { option_copied result ≡ slice_get self.now 0 }
     {
-        first_of(self.page_from(0))
+        self.page_from(0).first()
     }
 
     /// The entry of the greatest key, if there is one. It takes no memory.
     pub fn last(&self) -> Option<&(Value, V)>
         ensures { option_copied result ≡ slice_get self.now (length self.now - 1) }
     {
-        first_of(self.page_from(self.len().saturating_sub(1)))
+        self.page_from(self.len().saturating_sub(1)).first()
     }
 
     /// What stands at a key. It takes no memory.
@@ -126,9 +125,8 @@ impl<V> Pages<V> {
     }
 
     /// A map equal to this one. It shares all entries.
-    pub fn copy(&self) -> Result<Pages<V>, Refusal>
-        ensures only_memory { IsOkUnless result NoMemory }
-        ensures equal { IfOk result (λ copy. copy ≡ self.now) }
+    pub fn copy(&self) -> Result<Pages<V>, AllocError>
+        ensures { IfOk result (λ copy. copy ≡ self.now) }
     {
         let root = match &self.root {
             Some(root) => Some(Arc::try_clone(root)?),
@@ -141,131 +139,174 @@ impl<V> Pages<V> {
     }
 }
 
-impl<V: Drop> Pages<V> {
+impl<V: Copied> Pages<V> {
+    /// Changes the map: at the key stands this value from now on, or none. Copies see nothing of it. Where the answer is
+    /// NoMemory, the map is as it was.
+    pub fn put(&mut self, key: &Value, value: Option<V>) -> Result<(), AllocError>
+        ensures changed { OnOk result (self.new ≡ put value_cmp key_of key.now (entry_of key.now value) self.old) }
+        ensures same { OnErr result (self.new ≡ self.old) }
+        ensures order { AreInOrder self.new }
+        ensures short { length self.new < 2 ^ 63 }
+    {
+        if self.changes_nothing(key, &value) {
+            return Ok(());
+        }
+        put_root(self.alloc, &mut self.root, key, value)
+    }
+
+    /// Whether a change takes away what isn't there.
+    fn changes_nothing(&self, key: &Value, value: &Option<V>) -> bool
+        ensures { result ≡ true
+            → self.now ≡ put value_cmp key_of key.now (entry_of key.now value.now) self.now }
+    {
+        match value {
+            Some(_) => false,
+            None => self.get(key).is_none(),
+        }
+    }
+
     /// The map after a change: at the key stands this value, or none. This map stays as it is, also where the answer is
     /// NoMemory.
-    pub fn with(&self, key: &Value, value: Option<V>) -> Result<Pages<V>, Refusal>
-        ensures only_memory { IsOkUnless result NoMemory }
+    pub fn with(&self, key: &Value, value: Option<V>) -> Result<Pages<V>, AllocError>
         ensures changed { IfOk result (λ pages.
             pages ≡ put value_cmp key_of key.now (entry_of key.now value) self.now) }
         ensures order { IfOk result (λ pages. AreInOrder pages) }
         ensures short { IfOk result (λ pages. length pages < 2 ^ 63) }
     {
-        let alloc = self.alloc;
-        let new = new_entry(alloc, key, value)?;
-        let root = next_root(alloc, &self.root, key, &new)?;
-        with_root(alloc, root)
+        let mut made = self.copy()?;
+        made.put(key, value)?;
+        Ok(made)
     }
 }
 
-/// The first entry of a page, if there is one.
-fn first_of<V>(page: &[Arc<(Value, V)>]) -> Option<&(Value, V)>
-    ensures { option_copied result ≡ slice_get (map arc_value page.now) 0 }
+/// Puts a value at a key below a root, or takes it away.
+fn put_root<V: Copied>(
+    alloc: Global,
+    root: &mut Option<Arc<Node<V>>>,
+    key: &Value,
+    value: Option<V>,
+) -> Result<(), AllocError>
+    requires order { AreInOrder (entries_in root.old) }
+    requires short { length (entries_in root.old) < 2 ^ 63 }
+    ensures changed { OnOk result (entries_in root.new ≡ put value_cmp key_of key.now (entry_of key.now value) (entries_in root.old)) }
+    ensures same { OnErr result (entries_in root.new ≡ entries_in root.old) }
+    ensures order { AreInOrder (entries_in root.new) }
+    ensures short { length (entries_in root.new) < 2 ^ 63 }
 {
-    match page.first() {
-        Some(entry) => Some(entry),
+    put_either(alloc, root, key, value)?;
+    lower(root);
+    Ok(())
+}
+
+/// Puts a value at a key below a root, or into a page of its own.
+fn put_either<V: Copied>(
+    alloc: Global,
+    root: &mut Option<Arc<Node<V>>>,
+    key: &Value,
+    value: Option<V>,
+) -> Result<(), AllocError>
+    requires { length (entries_in root.old) < 2 ^ 63 }
+    ensures changed { OnOk result (entries_in root.new ≡ put value_cmp key_of key.now (entry_of key.now value) (entries_in root.old)) }
+    ensures same { OnErr result (entries_in root.new ≡ entries_in root.old) }
+    ensures short { length (entries_in root.new) < 2 ^ 63 }
+{
+    match root {
+        Some(node) => put_below(alloc, node, key, value),
+        None => {
+            *root = first_root(alloc, key, value)?;
+            Ok(())
+        }
+    }
+}
+
+/// No root where there is no entry, and none over one node alone.
+fn lower<V: Copied>(root: &mut Option<Arc<Node<V>>>)
+    ensures { entries_in root.new ≡ entries_in root.old }
+{
+    if is_empty(root) {
+        *root = None;
+        return;
+    }
+    let below = only_below(root);
+    if below.is_some() {
+        *root = below;
+    }
+}
+
+/// The only node below a root, shared.
+fn only_below<V: Copied>(root: &Option<Arc<Node<V>>>) -> Option<Arc<Node<V>>>
+    ensures { IfSome result (λ below. (arc_value below).1 ≡ entries_in root.now) }
+{
+    match root {
+        Some(node) => match node.only() {
+            Some(below) => Arc::try_clone(below).ok(),
+            None => None,
+        },
         None => None,
     }
 }
 
-/// The root of the map after a change below a root, or of the first entry.
-fn next_root<V: Drop>(
-    alloc: Global,
-    root: &Option<Arc<Node<V>>>,
-    key: &Value,
-    new: &Option<Arc<(Value, V)>>,
-) -> Result<Option<Arc<Node<V>>>, Refusal>
-    requires keyed { HasKey value_cmp key_of key.now (option_map arc_value new.now) }
-    requires order { AreInOrder (entries_in root.now) }
-    ensures only_memory { IsOkUnless result NoMemory }
-    ensures changed { IfOk result (λ made.
-        entries_in made ≡ put value_cmp key_of key.now (option_map arc_value new.now) (entries_in root.now)) }
-    ensures order { IfOk result (λ made. AreInOrder (entries_in made)) }
+/// Whether there is a root and no entry.
+fn is_empty<V>(root: &Option<Arc<Node<V>>>) -> bool
+    ensures { result ≡ true → entries_in root.now ≡ [] }
 {
     match root {
-        Some(root) => changed_root(alloc, root, key, new),
-        None => first_root(alloc, new),
+        Some(node) => node.count() == 0,
+        None => false,
     }
 }
 
-/// The root of the map after a change below a root.
-fn changed_root<V: Drop>(
-    alloc: Global,
-    root: &Node<V>,
-    key: &Value,
-    new: &Option<Arc<(Value, V)>>,
-) -> Result<Option<Arc<Node<V>>>, Refusal>
-    requires keyed { HasKey value_cmp key_of key.now (option_map arc_value new.now) }
-    requires order { AreInOrder root.now.1 }
-    ensures only_memory { IsOkUnless result NoMemory }
-    ensures changed { IfOk result (λ made.
-        entries_in made ≡ put value_cmp key_of key.now (option_map arc_value new.now) root.now.1) }
-    ensures order { IfOk result (λ made. AreInOrder (entries_in made)) }
-{
-    let mut made = Vec::new(alloc);
-    root.push_changed(alloc, &mut made, key, new)?;
-    root_over(alloc, made)
-}
-
-/// One node over the nodes, if there are any.
-fn root_over<V: Drop>(
-    alloc: Global,
-    mut nodes: Vec<Arc<Node<V>>>,
-) -> Result<Option<Arc<Node<V>>>, Refusal>
-    requires most { length nodes.items ≤ 32 }
-    requires level { HaveHeight (highest (map arc_value nodes.items)) (map arc_value nodes.items) }
-    requires order { AreInOrder (entries_of (map arc_value nodes.items)) }
-    ensures only_memory { IsOkUnless result NoMemory }
-    ensures root { IfOk result (λ root. entries_in root ≡ entries_of (map arc_value nodes.items)) }
-{
-    if nodes.len() > 1 {
-        return inner(alloc, nodes);
-    }
-    Ok(nodes.pop())
-}
-
-/// One page of one entry, if there is one.
-fn first_root<V: Drop>(
-    alloc: Global,
-    new: &Option<Arc<(Value, V)>>,
-) -> Result<Option<Arc<Node<V>>>, Refusal>
-    ensures only_memory { IsOkUnless result NoMemory }
-    ensures root { IfOk result (λ root. entries_in root ≡ option_to_list (option_map arc_value new.now)) }
-    ensures order { IfOk result (λ root. AreInOrder (entries_in root)) }
-{
-    let mut page = Vec::new(alloc);
-    push_new(&mut page, new)?;
-    leaf(alloc, page)
-}
-
-/// The map with this root, where it isn't too large.
-fn with_root<V: Drop>(alloc: Global, root: Option<Arc<Node<V>>>) -> Result<Pages<V>, Refusal>
-    requires { AreInOrder (entries_in root) }
-    ensures only_memory { IsOkUnless result NoMemory }
-    ensures entries { IfOk result (λ pages. pages ≡ entries_in root) }
-    ensures short { IfOk result (λ pages. length pages < 2 ^ 63) }
-{
-    match root {
-        Some(root) if root.count() < MOST => Ok(Pages {
-            alloc,
-            root: Some(root),
-        }),
-        Some(_) => Err(Refusal::NoMemory),
-        None => Ok(Pages { alloc, root: None }),
-    }
-}
-
-/// The entry of a key and a value, if there is one, to be shared.
-fn new_entry<V: Drop>(
+/// A page of one entry, if there is one.
+fn first_root<V: Copied>(
     alloc: Global,
     key: &Value,
     value: Option<V>,
-) -> Result<Option<Arc<(Value, V)>>, Refusal>
-    ensures only_memory { IsOkUnless result NoMemory }
-    ensures entry { IfOk result (λ new. option_map arc_value new ≡ entry_of key.now value) }
+) -> Result<Option<Arc<Node<V>>>, AllocError>
+    ensures { IfOk result (λ root. entries_in root ≡ option_to_list (entry_of key.now value)) }
 {
     match value {
-        Some(value) => Ok(Some(Arc::new(alloc, (key.copy()?, value))?)),
+        Some(value) => Ok(Some(Arc::new(alloc, page_of_one(alloc, key, value)?)?)),
         None => Ok(None),
     }
+}
+
+/// Puts a value at a key below a shared node, or takes it away; others who share it see nothing of it.
+fn put_below<V: Copied>(
+    alloc: Global,
+    node: &mut Arc<Node<V>>,
+    key: &Value,
+    value: Option<V>,
+) -> Result<(), AllocError>
+    requires { length (arc_value node.old).1 < 2 ^ 63 }
+    ensures changed { OnOk result ((arc_value node.new).1 ≡ put value_cmp key_of key.now (entry_of key.now value) (arc_value node.old).1) }
+    ensures same { OnErr result ((arc_value node.new).1 ≡ (arc_value node.old).1) }
+    ensures short { length (arc_value node.new).1 < 2 ^ 63 }
+{
+    if node.count() >= TOO_MANY {
+        return Err(AllocError);
+    }
+    make_ready(alloc, node, value.is_some())?;
+    match Arc::get_mut(node) {
+        Some(node) => {
+            node.put(alloc, key, value)?;
+            Ok(())
+        }
+        None => Err(AllocError),
+    }
+}
+
+/// Nobody else shares the root then, and where an entry may come it has room for one more below it.
+fn make_ready<V: Copied>(
+    alloc: Global,
+    node: &mut Arc<Node<V>>,
+    grows: bool,
+) -> Result<(), AllocError>
+    ensures same { (arc_value node.new).1 ≡ (arc_value node.old).1 }
+    ensures room { OnOk result (grows ≡ true → IsNarrow (arc_value node.new)) }
+{
+    if grows && node.width() >= MOST {
+        *node = Arc::new(alloc, over(alloc, node)?)?;
+        return Ok(());
+    }
+    own(alloc, node)
 }

@@ -1,12 +1,14 @@
 //! Where a key, or the entry of a number, stands among entries or nodes that stand beside each other.
 
-ghost use Rattle.std.specs.Prelude.{◌≡◌, ◌<◌, ◌≤◌, ◌+◌, ◌++◌, None, Option, map, take, drop, length, option_to_list, slice_get, IfOk, IfErr};
+ghost use Rattle.std.specs.Prelude.{◌≡◌, ◌<◌, ◌≤◌, ◌+◌, ◌^◌, ◌⊎◌, ◌++◌, suc, List, None, Some, option_map, map, drop, length, slice_get, IfOk, IfErr};
+ghost use Rattle.std.specs.List.{insert};
 ghost use Rattle.std.specs.Option.{option_copied};
 ghost use Rattle.std.specs.Arc.{arc_value};
 ghost use Rattle.pages.specs.Reach.{key_of, AreInOrder};
 ghost use Rattle.pages.specs.Levels.{entries_of, entries_at};
+ghost use Rattle.pages.specs.Parts.{AreRising, Leads};
 ghost use Rattle.pages.specs.Taken.{IsTakenFrom};
-ghost use Rattle.value.specs.Ordered.{at as item_at, put};
+ghost use Rattle.value.specs.Ordered.{at as item_at};
 ghost use Rattle.value.specs.ValueOrder.{value_cmp};
 ghost use Rattle.value.specs.declared.values.Value.{Value as values};
 
@@ -16,14 +18,15 @@ use std::sync::Arc;
 use value::{Value, order};
 
 /// Where an entry stands at a key of a page; where there is none, the place where it would stand.
-fn seek<V>(page: &[Arc<(Value, V)>], key: &Value) -> Result<usize, usize>
-    requires { AreInOrder (map arc_value page.now) }
+pub fn seek<V>(page: &[(Value, V)], key: &Value) -> Result<usize, usize>
+    requires { AreInOrder page.now }
     ensures within { IfOk result (λ place. place < length page.now) }
     ensures found { IfOk result (λ place.
-        item_at value_cmp key_of key.now (map arc_value page.now) ≡ slice_get (map arc_value page.now) place) }
-    ensures put { IfOk result (λ place. IsTakenFrom key.now place (place + 1) (map arc_value page.now)) }
-    ensures none { IfErr result (λ _. item_at value_cmp key_of key.now (map arc_value page.now) ≡ None) }
-    ensures beside { IfErr result (λ place. IsTakenFrom key.now place place (map arc_value page.now)) }
+        item_at value_cmp key_of key.now page.now ≡ slice_get page.now place) }
+    ensures put { IfOk result (λ place. IsTakenFrom key.now place (place + 1) page.now) }
+    ensures same { IfOk result (λ place. option_map key_of (slice_get page.now place) ≡ Some key.now) }
+    ensures none { IfErr result (λ _. item_at value_cmp key_of key.now page.now ≡ None) }
+    ensures beside { IfErr result (λ place. IsTakenFrom key.now place place page.now) }
 {
     let mut low = 0;
     let mut high = page.len();
@@ -39,9 +42,9 @@ fn seek<V>(page: &[Arc<(Value, V)>], key: &Value) -> Result<usize, usize>
 }
 
 /// The entry at a key of a page.
-pub fn find<'a, V>(page: &'a [Arc<(Value, V)>], key: &Value) -> Option<&'a (Value, V)>
-    requires { AreInOrder (map arc_value page.now) }
-    ensures { option_copied result ≡ item_at value_cmp key_of key.now (map arc_value page.now) }
+pub fn find<'a, V>(page: &'a [(Value, V)], key: &Value) -> Option<&'a (Value, V)>
+    requires { AreInOrder page.now }
+    ensures { option_copied result ≡ item_at value_cmp key_of key.now page.now }
 {
     match seek(page, key) {
         Ok(place) => Some(&page[place]),
@@ -49,42 +52,64 @@ pub fn find<'a, V>(page: &'a [Arc<(Value, V)>], key: &Value) -> Option<&'a (Valu
     }
 }
 
-/// Which entries of a page a change at a key takes away: those from the first place up to the second, at most one. The
-/// new entry stands there.
-pub fn span<V>(page: &[Arc<(Value, V)>], key: &Value) -> (usize, usize)
-    requires { AreInOrder (map arc_value page.now) }
-    ensures { IsTakenFrom key.now result.0 result.1 (map arc_value page.now) }
-{
-    match seek(page, key) {
-        Ok(place) => (place, place + 1),
-        Err(place) => (place, place),
-    }
-}
-
-/// The place of the first node that reaches the key; the last where none does.
-pub fn place<V>(nodes: &[Arc<Node<V>>], key: &Value) -> usize
-    requires some { 0 < length nodes.now }
-    requires order { AreInOrder (entries_of (map arc_value nodes.now)) }
-    ensures within { result < length nodes.now }
-    ensures found { item_at value_cmp key_of key.now (entries_of (map arc_value nodes.now))
-        ≡ item_at value_cmp key_of key.now (entries_at (map arc_value nodes.now) result) }
-    ensures changed { (new : Option (values × V))
-        → put value_cmp key_of key.now new (entries_of (map arc_value nodes.now))
-        ≡ entries_of (take result (map arc_value nodes.now))
-        ++ (put value_cmp key_of key.now new (entries_at (map arc_value nodes.now) result)
-        ++ entries_of (drop (result + 1) (map arc_value nodes.now))) }
+/// The place of the node that the key belongs to, among nodes that are parted so.
+pub fn route(seps: &[Value], key: &Value) -> usize
+    requires { AreRising seps.now }
+    ensures { Leads key.now seps.now result }
 {
     let mut low = 0;
-    let mut high = nodes.len() - 1;
+    let mut high = seps.len();
     while low < high {
         let middle = low + (high - low) / 2;
-        if order(key, &nodes[middle].greatest().0).is_gt() {
-            low = middle + 1;
-        } else {
+        if order(key, &seps[middle]).is_lt() {
             high = middle;
+        } else {
+            low = middle + 1;
         }
     }
     low
+}
+
+/// The place that the key belongs to once the node at its place is cut there.
+pub fn side(at: usize, parting: &Value, key: &Value) -> usize
+    requires { at < 2 ^ 63 }
+    ensures led { (seps : List values) → Leads key.now seps at → Leads key.now (insert seps at parting.now) result }
+    ensures either { (result ≡ at) ⊎ (result ≡ suc at) }
+{
+    if order(key, parting).is_lt() {
+        at
+    } else {
+        at + 1
+    }
+}
+
+/// Where a page is cut, in which several entries stand: in the middle, or before its last entry where the next key is
+/// above that, so that keys which come upwards leave full pages.
+pub fn page_half<V>(page: &[(Value, V)], next: &Value) -> usize
+    requires { 1 < length page.now }
+    ensures some { 0 < result }
+    ensures within { result < length page.now }
+{
+    let last = page.len() - 1;
+    if order(next, &page[last].0).is_gt() {
+        last
+    } else {
+        page.len() / 2
+    }
+}
+
+/// The place of the separator at which nodes are parted in two: in the middle, or the last where the next key isn't
+/// below that.
+pub fn nodes_half(seps: &[Value], next: &Value) -> usize
+    requires { 0 < length seps.now }
+    ensures { result < length seps.now }
+{
+    let last = seps.len() - 1;
+    if order(next, &seps[last]).is_lt() {
+        last / 2
+    } else {
+        last
+    }
 }
 
 /// The place of the node below which the entry of a number stands, and its number there.

@@ -1,6 +1,6 @@
 //! Conditions, expressions and queries with values in the places of their parameters.
 
-ghost use Rattle.std.specs.Prelude.{◌≡◌, ◌≢◌, List, map, Option, IfOk, IfErr, IsOkUnless, Ok, Err};
+ghost use Rattle.std.specs.Prelude.{◌≡◌, ◌≢◌, List, map, Option, IfOk, IfErr, Ok, Err};
 ghost use Rattle.std.specs.Option.{option_map};
 ghost use Rattle.prepared.specs.declared.faults.FillFault.TheVariants.{NoMemory};
 ghost use Rattle.prepared.specs.Constants.{all, if_there};
@@ -11,7 +11,7 @@ use crate::constants::Constants;
 use crate::copies::{copy_column, copy_group, copy_name, drop_and_fail, put_behind};
 use crate::faults::FillFault;
 use sqlite_items::{Boxed, Items};
-use std::alloc::Global;
+use std::alloc::{AllocError, Global};
 use syntax::{ColumnName, Condition, Expression, Query, SelectList};
 use value::Text;
 
@@ -200,10 +200,8 @@ fn fill_clause(
 }
 
 /// The names that a query has beside its list and its conditions: its table's, the correlation's and the group's.
-/// NoMemory is the only error.
-fn copy_names_of(query: &Query) -> Result<(Text, Option<Text>, Option<ColumnName>), FillFault>
-    ensures only_memory { IsOkUnless result NoMemory }
-    ensures equal { IfOk result (λ names. let q = out-Query query.now in
+fn copy_names_of(query: &Query) -> Result<(Text, Option<Text>, Option<ColumnName>), AllocError>
+    ensures { IfOk result (λ names. let q = out-Query query.now in
         names ≡ (q.table, q.correlation_name, q.group)) }
 {
     let table = query.table.copy()?;

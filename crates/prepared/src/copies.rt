@@ -1,11 +1,10 @@
 //! Copies of what has no number in it, and lists of what is made.
 
-ghost use Rattle.std.specs.Prelude.{◌≡◌, [], ◌∷◌, ◌++◌, IfOk, IsOkUnless};
-ghost use Rattle.prepared.specs.declared.faults.FillFault.TheVariants.{NoMemory};
+ghost use Rattle.std.specs.Prelude.{◌≡◌, [], ◌∷◌, ◌++◌, IfOk};
 
 use crate::faults::FillFault;
 use sqlite_items::Items;
-use std::alloc::Global;
+use std::alloc::{AllocError, Global};
 use syntax::{ColumnName, Which};
 use value::Text;
 
@@ -16,19 +15,17 @@ pub fn drop_and_fail<T: Drop>(fault: FillFault, _made: T) -> FillFault
     fault
 }
 
-/// A part more. NoMemory is the only error.
-pub fn put_behind<T: Drop>(mut made: Vec<T>, part: T) -> Result<Vec<T>, FillFault>
-    ensures only_memory { IsOkUnless result NoMemory }
-    ensures put { IfOk result (λ more. more.items ≡ made.items ++ part ∷ []) }
+/// A part more.
+pub fn put_behind<T: Drop>(mut made: Vec<T>, part: T) -> Result<Vec<T>, AllocError>
+    ensures { IfOk result (λ more. more.items ≡ made.items ++ part ∷ []) }
 {
     made.push(part)?;
     Ok(made)
 }
 
-/// A name equal to this one, if there is one. NoMemory is the only error.
-pub fn copy_name(name: &Option<Text>) -> Result<Option<Text>, FillFault>
-    ensures only_memory { IsOkUnless result NoMemory }
-    ensures equal { IfOk result (λ copy. copy ≡ name.now) }
+/// A name equal to this one, if there is one.
+pub fn copy_name(name: &Option<Text>) -> Result<Option<Text>, AllocError>
+    ensures { IfOk result (λ copy. copy ≡ name.now) }
 {
     match name {
         None => Ok(None),
@@ -36,20 +33,18 @@ pub fn copy_name(name: &Option<Text>) -> Result<Option<Text>, FillFault>
     }
 }
 
-/// A column's name equal to this one. NoMemory is the only error.
-pub fn copy_column(column: &ColumnName) -> Result<ColumnName, FillFault>
-    ensures only_memory { IsOkUnless result NoMemory }
-    ensures equal { IfOk result (λ copy. copy ≡ column.now) }
+/// A column's name equal to this one.
+pub fn copy_column(column: &ColumnName) -> Result<ColumnName, AllocError>
+    ensures { IfOk result (λ copy. copy ≡ column.now) }
 {
     let qualifier = copy_name(&column.qualifier)?;
     let name = column.name.copy()?;
     Ok(ColumnName { qualifier, name })
 }
 
-/// A column of GROUP BY equal to this one, if there is one. NoMemory is the only error.
-pub fn copy_group(group: &Option<ColumnName>) -> Result<Option<ColumnName>, FillFault>
-    ensures only_memory { IsOkUnless result NoMemory }
-    ensures equal { IfOk result (λ copy. copy ≡ group.now) }
+/// A column of GROUP BY equal to this one, if there is one.
+pub fn copy_group(group: &Option<ColumnName>) -> Result<Option<ColumnName>, AllocError>
+    ensures { IfOk result (λ copy. copy ≡ group.now) }
 {
     match group {
         None => Ok(None),
@@ -57,10 +52,9 @@ pub fn copy_group(group: &Option<ColumnName>) -> Result<Option<ColumnName>, Fill
     }
 }
 
-/// Names equal to these, in their order. NoMemory is the only error.
-pub fn copy_names(alloc: Global, names: &[Text]) -> Result<Items<Text>, FillFault>
-    ensures only_memory { IsOkUnless result NoMemory }
-    ensures equal { IfOk result (λ copy. copy ≡ names.now) }
+/// Names equal to these, in their order.
+pub fn copy_names(alloc: Global, names: &[Text]) -> Result<Items<Text>, AllocError>
+    ensures { IfOk result (λ copy. copy ≡ names.now) }
 {
     let mut copies = Vec::with_capacity(alloc, names.len())?;
     for name in names {
@@ -69,13 +63,12 @@ pub fn copy_names(alloc: Global, names: &[Text]) -> Result<Items<Text>, FillFaul
     Ok(Items::from_vec(copies))
 }
 
-/// The columns of an INSERT, if they are listed. NoMemory is the only error.
+/// The columns of an INSERT, if they are listed.
 pub fn copy_columns(
     alloc: Global,
     columns: &Option<Items<Text>>,
-) -> Result<Option<Items<Text>>, FillFault>
-    ensures only_memory { IsOkUnless result NoMemory }
-    ensures equal { IfOk result (λ copy. copy ≡ columns.now) }
+) -> Result<Option<Items<Text>>, AllocError>
+    ensures { IfOk result (λ copy. copy ≡ columns.now) }
 {
     match columns {
         None => Ok(None),
@@ -83,10 +76,9 @@ pub fn copy_columns(
     }
 }
 
-/// All, or the names. NoMemory is the only error.
-pub fn copy_which(alloc: Global, which: &Which) -> Result<Which, FillFault>
-    ensures only_memory { IsOkUnless result NoMemory }
-    ensures equal { IfOk result (λ copy. copy ≡ which.now) }
+/// All, or the names.
+pub fn copy_which(alloc: Global, which: &Which) -> Result<Which, AllocError>
+    ensures { IfOk result (λ copy. copy ≡ which.now) }
 {
     match which {
         Which::All => Ok(Which::All),

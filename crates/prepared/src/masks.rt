@@ -1,11 +1,10 @@
 //! The text with a `0` for each parameter.
 
-ghost use Rattle.std.specs.Prelude.{◌≡◌, ℕ, ◌+◌, ◌^◌, ◌<◌, ◌++◌, List, Some, IfOk, IfSome, IsOkUnless, IsTrue, length};
-ghost use Rattle.value.specs.declared.refusals.Refusal.TheVariants.{NoMemory};
+ghost use Rattle.std.specs.Prelude.{◌≡◌, ℕ, ◌+◌, ◌^◌, ◌<◌, ◌++◌, List, Some, IfOk, IfSome, IsTrue, length};
 ghost use Rattle.prepared.specs.declared.masks.Next.TheVariants as which;
 ghost use Rattle.prepared.specs.Masks as spec;
 
-use std::alloc::Global;
+use std::alloc::{AllocError, Global};
 use token::next_token;
 use value::Refusal;
 
@@ -47,11 +46,9 @@ fn find_next(text: &[u8], from: usize) -> Option<Next>
 }
 
 /// Passes what stands next, which is put behind the other places where it is a parameter, and gives where it ends.
-/// NoMemory is the only error.
-fn pass(next: Next, places: &mut Vec<usize>) -> Result<usize, Refusal>
+fn pass(next: Next, places: &mut Vec<usize>) -> Result<usize, AllocError>
     requires { (at : ℕ) → next ≡ which.Parameter at → at + 1 < 2 ^ 64 }
-    ensures only_memory { IsOkUnless result NoMemory }
-    ensures put { IfOk result (λ end. (behind : ℕ → List ℕ)
+    ensures { IfOk result (λ end. (behind : ℕ → List ℕ)
         → places.new.items ++ behind end ≡ places.old.items ++ spec.places_by behind (Some next)) }
 {
     match next {
@@ -63,11 +60,10 @@ fn pass(next: Next, places: &mut Vec<usize>) -> Result<usize, Refusal>
     }
 }
 
-/// Where the parameters of a text stand. NoMemory is the only error.
+/// Where the parameters of a text stand.
 #[tactic(auto, unfolding(crate::specs::Masks::places))]
-fn find_places(alloc: Global, text: &[u8]) -> Result<Vec<usize>, Refusal>
-    ensures only_memory { IsOkUnless result NoMemory }
-    ensures found { IfOk result (λ places. places.items ≡ spec.places text.now) }
+fn find_places(alloc: Global, text: &[u8]) -> Result<Vec<usize>, AllocError>
+    ensures { IfOk result (λ places. places.items ≡ spec.places text.now) }
 {
     let mut places = Vec::new(alloc);
     let mut from = 0;
@@ -92,11 +88,10 @@ fn put_zeros(text: &mut [u8], places: &[usize])
     }
 }
 
-/// The text with a `0` for each parameter. NoMemory is the only error.
+/// The text with a `0` for each parameter.
 #[tactic(auto, unfolding(crate::specs::Masks::mask))]
-pub fn mask(alloc: Global, text: &[u8]) -> Result<Vec<u8>, Refusal>
-    ensures only_memory { IsOkUnless result NoMemory }
-    ensures made { IfOk result (λ mask. mask.items ≡ spec.mask text.now) }
+pub fn mask(alloc: Global, text: &[u8]) -> Result<Vec<u8>, AllocError>
+    ensures { IfOk result (λ mask. mask.items ≡ spec.mask text.now) }
 {
     let mut mask = Vec::from_slice(alloc, text)?;
     let places = find_places(alloc, text)?;

@@ -1,16 +1,14 @@
 //! Which numbers of a text are parameters, and where none may stand.
 
-ghost use Rattle.std.specs.Prelude.{◌≡◌, ◌≤◌, ◌<◌, ◌+◌, ◌^◌, ◌∷◌, ◌++◌, List, length, not, IfOk, IsOkUnless};
+ghost use Rattle.std.specs.Prelude.{◌≡◌, ◌≤◌, ◌<◌, ◌+◌, ◌^◌, ◌∷◌, ◌++◌, List, length, not, IfOk};
 ghost use Rattle.std.specs.List.{prefix_len};
-ghost use Rattle.value.specs.declared.refusals.Refusal.TheVariants.{NoMemory};
 ghost use Rattle.token.specs.declared.spans.Token.{Token};
 ghost use Rattle.syntax.specs.Lexemes.{bytes_of};
 ghost use Rattle.prepared.specs.Masks.{is_question};
 ghost use Rattle.prepared.specs.Numbers as spec;
 
-use std::alloc::Global;
+use std::alloc::{AllocError, Global};
 use token::{Kind, Token};
-use value::Refusal;
 
 /// The bytes of a token; none where it is no part of the text.
 fn bytes<'a>(text: &'a [u8], token: &Token) -> &'a [u8]
@@ -91,16 +89,14 @@ pub fn find_stray(text: &[u8], tokens: &[Token]) -> Option<usize>
     None
 }
 
-/// Puts a number behind the others, where a token is one, and gives how many parameters there are then. NoMemory is
-/// the only error.
+/// Puts a number behind the others, where a token is one, and gives how many parameters there are then.
 fn put_number(
     text: &[u8],
     token: &Token,
     numbers: &mut Vec<Option<usize>>,
     count: usize,
-) -> Result<usize, Refusal>
+) -> Result<usize, AllocError>
     requires { count + 1 < 2 ^ 64 }
-    ensures only_memory { IsOkUnless result NoMemory }
     ensures put { IfOk result (λ more. (rest : List Token)
         → numbers.new.items ++ spec.numbers_from text.now more rest
         ≡ numbers.old.items ++ spec.numbers_from text.now count (token.now ∷ rest)) }
@@ -117,15 +113,13 @@ fn put_number(
     Ok(count + 1)
 }
 
-/// For each number among the tokens of a text's mask, in reading order, which parameter it is, if it is one. NoMemory
-/// is the only error.
+/// For each number among the tokens of a text's mask, in reading order, which parameter it is, if it is one.
 pub fn find_numbers(
     alloc: Global,
     text: &[u8],
     tokens: &[Token],
-) -> Result<Vec<Option<usize>>, Refusal>
-    ensures only_memory { IsOkUnless result NoMemory }
-    ensures found { IfOk result (λ numbers. numbers.items ≡ spec.numbers_from text.now 0 tokens.now) }
+) -> Result<Vec<Option<usize>>, AllocError>
+    ensures { IfOk result (λ numbers. numbers.items ≡ spec.numbers_from text.now 0 tokens.now) }
 {
     let mut numbers = Vec::new(alloc);
     let mut count = 0;

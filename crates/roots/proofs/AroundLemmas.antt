@@ -7,7 +7,6 @@ use Rattle.std.specs.declared.cmp.Ordering.TheVariants.{Equal, Greater}
 use Rattle.std.proofs.lemmas.Cmp.{tied_itself}
 use Rattle.std.proofs.lemmas.List.{drop_more, get_or-map, length-map, length-take, take_more}
 use Rattle.std.proofs.lemmas.List.Elements.{All-take, filter_agree}
-use Rattle.std.proofs.lemmas.List.Sums.{length-filter, count_by-le-length}
 use Rattle.value.specs.declared.values.Value.{Value}
 use Rattle.value.specs.declared.values.Value.TheVariants.{Null, Int, Text}
 use Rattle.value.specs.declared.values.Root.TheVariants.{Of}
@@ -45,16 +44,6 @@ use Rattle.roots.specs.Summaries.{rows_beside, rows_beside_one}
 itself : (v : Value) → eq_by_cmp value_cmp v v ≡ true
 itself v = ap is_eq (tied_itself value_cmp_total v)
 
--- a value that is there is equal to what ties with it
-pub known_equal : (v w : Value) → is_there v ≡ true → is_equal v w ≡ eq_by_cmp value_cmp v w
-known_equal Null w h = absurd (let e : false ≡ true = h in cc)
-known_equal (Int m) Null h = refl
-known_equal (Int m) (Int n) h = equals-there (Int m) (Int n)
-known_equal (Int m) (Text t) h = refl
-known_equal (Text s) Null h = refl
-known_equal (Text s) (Int n) h = refl
-known_equal (Text s) (Text t) h = equals-there (Text s) (Text t)
-
 -- NULL is equal to nothing
 pub null_unequal : (w : Value) → is_equal Null w ≡ false
 null_unequal Null = refl
@@ -84,9 +73,6 @@ none_equal column [] = refl
 none_equal column (row ∷ rows) =
     let rest : List RowValues = filter (λ row. is_equal Null (value_in column row)) rows in
     ap (λ b. cond b (row ∷ rest) rest) (null_unequal (value_in column row)) ∙ none_equal column rows
-
-pub filter_less : (p : RowValues → Bool) (rows : List RowValues) → length (filter p rows) ≤ length rows
-filter_less p rows = omega (arith, length-filter p rows, count_by-le-length p rows)
 
 -- those of the linked rows that are kept are the rows beside
 pub kept_are : (link : Link) (restriction : Cond) (rows : List RowValues) (row : RowValues)

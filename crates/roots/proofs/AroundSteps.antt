@@ -52,10 +52,6 @@ module _ (layouts : List Layout) (change : Change) (before after : State) (step 
     pub outer_in_order : (t : State) → IsOrdered layouts t → IsAscending value_cmp (value_in around.key) (rows_of around.table t)
     outer_in_order t o = subst (λ k. IsAscending value_cmp (value_in k) (rows_of around.table t)) (sym keyed) (o around.table)
 
-    -- where it is another table the rows around stay
-    pub outer_same : (es : Entries) → around.table ≢ change.table → AreTotalsOf q.aggregate (around_members around q outer linked) es → AreTotalsOf q.aggregate (around_members around q (rows_of around.table after) linked) es
-    outer_same es e = subst (λ rows. AreTotalsOf q.aggregate (around_members around q rows linked) es) (sym (table_same around.table e))
-
     module _ (here : around.table ≡ change.table) where
       outer_changed : rows_of around.table after ≡ put_row around.key change.key change.new outer
       outer_changed = table_changed around.table here ∙ ap (λ k. put_row k change.key change.new outer) (sym keyed)

@@ -15,11 +15,10 @@ use Rattle.assertion.specs.declared.queries.Query.{Query}
 use Rattle.assertion.specs.declared.queries.Link.{Link}
 use Rattle.assertion.specs.Meaning.{State, links, rows_of, key_of}
 use Rattle.assertion.specs.Roots.{IsChangeOf, state_after}
-use Rattle.assertion.proofs.KeptTruth.{rows-changed, rows-same}
+use Rattle.assertion.proofs.KeptTruth.{rows-changed}
 use Rattle.groups.specs.Answers.{value_for}
 use Rattle.groups.specs.Members.{member_of}
 use Rattle.groups.specs.Totals.{Entries, AreTotalsOf, AreWithin, IsChange, IsWithin}
-use Rattle.groups.proofs.EntryLemmas.{AreTotalsOf-along}
 use Rattle.groups.proofs.RowLemmas.{filtered_within, members_change, members_within}
 use Rattle.roots.specs.declared.grouped.Around.{Around}
 use Rattle.roots.specs.declared.grouped.Grouping.{Grouping}
@@ -64,10 +63,6 @@ module _ (layouts : List Layout) (change : Change) (state : State) (is : IsChang
       (subst (λ (rows : List RowValues). IsChange (member_of (place s) (value_for s.aggregate) change.new) (member_of (place s) (value_for s.aggregate) (row_at (key_of t layouts) change.key (rows_of t state))) (row_members s (rows_of t state)) (row_members s rows))
       (sym (rows-changed layouts change state is t (test_true t change.table e)))
       (members_change (place s) (value_for s.aggregate) (key_of t layouts) change.key change.new (rows_of t state)))
-
-  -- those of another table stay
-  pub totals-same : (s : Query Grouping) (es : Entries) → s.table ≢ change.table → AreTotalsOf s.aggregate (row_members s (rows_of s.table state)) es → AreTotalsOf s.aggregate (row_members s (rows_of s.table (state_after layouts change state))) es
-  totals-same s es e k = AreTotalsOf-along s.aggregate (row_members s (rows_of s.table state)) (row_members s (rows_of s.table (state_after layouts change state))) es (λ v. ap (λ rows. row_members s rows v) (rows-same layouts change state s.table (test_false s.table change.table e))) k
 
 -- one more of the maintained totals
 pub AreSoFar-more : (state : State) (summaries : List (Query Grouping)) (n : ℕ) (totals more : List Entries) (es : Entries) → more ≡ totals ++ es ∷ [] → ((d : Query Grouping) → AreTotalsFor state (get_or summaries n d) es) → AreSoFar state summaries n totals → AreSoFar state summaries (n + 1) more

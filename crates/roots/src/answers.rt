@@ -1,7 +1,6 @@
 //! What the slots of a form's condition hold for a group, from the maintained totals.
 
-ghost use Rattle.std.specs.Prelude.{◌≡◌, [], length, IfOk, IsOkUnless};
-ghost use Rattle.value.specs.declared.refusals.Refusal.TheVariants.{NoMemory};
+ghost use Rattle.std.specs.Prelude.{◌≡◌, [], length, IfOk};
 ghost use Rattle.value.specs.declared.values.Value.TheVariants.{Null};
 ghost use Rattle.table.specs.declared.aggregates.Aggregate.{Aggregate};
 ghost use Rattle.table.specs.Bounds.{IsSmallRow};
@@ -22,9 +21,9 @@ use crate::summaries::{slot_count, summary_of};
 use assertion::Form;
 use groups::Totals;
 use mvrows::Rows;
-use std::alloc::Global;
+use std::alloc::{AllocError, Global};
 use table::{Row, Schema, SlotValue, Slots};
-use value::{Refusal, Value};
+use value::Value;
 
 /// What the slots hold for the row that the form's condition sees: one of its table, or one of a group's value alone,
 /// or one of no value.
@@ -35,12 +34,11 @@ pub fn slots(
     form: &Form,
     totals: &[Totals],
     row: &Row,
-) -> Result<Slots, Refusal>
+) -> Result<Slots, AllocError>
     requires bounded { IsBounded form.now }
     requires small { IsSmallState tables.now }
     requires row_small { IsSmallRow row.now }
     requires totals { AreMaintained schemas.now tables.now form.now totals.now }
-    ensures only_memory { IsOkUnless result NoMemory }
     ensures kinds { IfOk result (λ slots. kinds_of slots ≡ kinds_in (queries_of schemas.now form.now)) }
     ensures values { IfOk result (λ slots.
         values_of slots ≡ answers_of tables.now (queries_of schemas.now form.now) row.now) }
@@ -61,12 +59,11 @@ fn answer(
     summary: Summary,
     totals: &Totals,
     row: &Row,
-) -> Result<SlotValue, Refusal>
+) -> Result<SlotValue, AllocError>
     requires bounded { IsBoundedOver [] summary.filter.now }
     requires small { IsSmallState tables.now }
     requires row_small { IsSmallRow row.now }
     requires totals { AreTotalsFor tables.now (shown summary) totals.now }
-    ensures only_memory { IsOkUnless result NoMemory }
     ensures kind { IfOk result (λ answer. kind_of answer ≡ kind_of_aggregate summary.entry.aggregate) }
     ensures value { IfOk result (λ answer. value_of answer ≡ given tables.now row.now (shown summary.entry)) }
     ensures within { IfOk result IsWithinKind }

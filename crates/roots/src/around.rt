@@ -1,11 +1,10 @@
 //! Totals of a query whose filter asks what the row around holds: one for each row around, of the rows that are linked
 //! to it and that the filter keeps beside it.
 
-ghost use Rattle.std.specs.Prelude.{◌≡◌, ◌<◌, ◌^◌, ◌++◌, ◌∷◌, ◌&&◌, [], ℕ, false, All, List, Some, filter, length, map, IfOk, IsOkUnless};
+ghost use Rattle.std.specs.Prelude.{◌≡◌, ◌<◌, ◌^◌, ◌++◌, ◌∷◌, ◌&&◌, [], ℕ, false, All, List, Some, filter, length, map, IfOk};
 ghost use Rattle.std.specs.Ordering.{eq_by_cmp};
 ghost use Rattle.value.specs.Ordered.{HoldsOf, IsAscending};
 ghost use Rattle.value.specs.ValueOrder.{value_cmp};
-ghost use Rattle.value.specs.declared.refusals.Refusal.TheVariants.{NoMemory};
 ghost use Rattle.value.specs.declared.values.Value.{Value as values};
 ghost use Rattle.value.specs.declared.values.Value.TheVariants.{Null};
 ghost use Rattle.table.specs.Bounds.{IsSmallRow};
@@ -28,10 +27,10 @@ use crate::grouped::{Around, Summary, counted_by};
 use assertion::Link;
 use groups::{Member, Total, Totals};
 use mvrows::Rows;
-use std::alloc::Global;
+use std::alloc::{AllocError, Global};
 use std::cmp::Ordering;
 use table::{Change, Row, Schema, Slots, keeps};
-use value::{Refusal, Value, compare, order};
+use value::{Value, compare, order};
 
 /// The totals for the rows around in these tables. For each of them the rows that are linked to it are looked at.
 pub fn totals_around(
@@ -40,14 +39,13 @@ pub fn totals_around(
     tables: &[Rows],
     summary: Summary,
     around: Around,
-) -> Result<Totals, Refusal>
+) -> Result<Totals, AllocError>
     requires bounded { IsBoundedOver [] summary.filter.now }
     requires small { IsSmallState tables.now }
     requires in_order { IsOrdered schemas.now tables.now }
     requires around { around_of summary.grouping ≡ Some around }
     requires keyed { IsKeyed schemas.now (shown summary) }
-    ensures only_memory { IsOkUnless result NoMemory }
-    ensures totals { IfOk result (AreTotalsFor tables.now (shown summary.entry)) }
+    ensures { IfOk result (AreTotalsFor tables.now (shown summary.entry)) }
 {
     match tables.get(around.table) {
         Some(outer) => totals_for_rows(alloc, schemas, tables, summary, around, outer),
@@ -63,18 +61,17 @@ fn totals_for_rows(
     summary: Summary,
     around: Around,
     outer: &Rows,
-) -> Result<Totals, Refusal>
+) -> Result<Totals, AllocError>
     requires bounded { IsBoundedOver [] summary.filter.now }
     requires small { IsSmallState tables.now }
     requires outer_small { All IsSmallRow outer.now }
     requires in_order { IsAscending value_cmp (value_in around.key) outer.now }
-    ensures only_memory { IsOkUnless result NoMemory }
-    ensures totals { IfOk result (AreTotalsOf summary.entry.aggregate (around_members around (shown summary.entry)
+    ensures { IfOk result (AreTotalsOf summary.entry.aggregate (around_members around (shown summary.entry)
         outer.now (rows_of summary.entry.table tables.now))) }
 {
     let mut made = Totals::new(alloc);
     for row in outer.iter() {
-        made = with_row(alloc, schemas, tables, summary, around, &made, row)?;
+        made = with_row(alloc, schemas, tables, summary, around, made, row)?;
     }
     Ok(made)
 }
@@ -86,18 +83,17 @@ fn with_row(
     tables: &[Rows],
     summary: Summary,
     around: Around,
-    totals: &Totals,
+    totals: Totals,
     row: &Row,
-) -> Result<Totals, Refusal>
+) -> Result<Totals, AllocError>
     requires bounded { IsBoundedOver [] summary.filter.now }
     requires small { IsSmallState tables.now }
     requires row_small { IsSmallRow row.now }
-    ensures only_memory { IsOkUnless result NoMemory }
-    ensures totals { IfOk result (λ made. (before after : Members)
+    ensures { IfOk result (λ made. (before after : Members)
         → after (value_in around.key row.now)
         ≡ values_beside around (shown summary.entry) (rows_of summary.entry.table tables.now) row.now
         → ((v : values) → eq_by_cmp value_cmp v (value_in around.key row.now) ≡ false → after v ≡ before v)
-        → AreTotalsOf summary.entry.aggregate before totals.now
+        → AreTotalsOf summary.entry.aggregate before totals
         → AreTotalsOf summary.entry.aggregate after made) }
 {
     let null = Value::Null;
@@ -114,12 +110,11 @@ pub fn total_beside(
     summary: Summary,
     link: Link,
     row: &Row,
-) -> Result<Total, Refusal>
+) -> Result<Total, AllocError>
     requires bounded { IsBoundedOver [] summary.filter.now }
     requires small { IsSmallState tables.now }
     requires row_small { IsSmallRow row.now }
-    ensures only_memory { IsOkUnless result NoMemory }
-    ensures total { IfOk result (IsTotalOf summary.entry.aggregate (map (value_for summary.entry.aggregate)
+    ensures { IfOk result (IsTotalOf summary.entry.aggregate (map (value_for summary.entry.aggregate)
         (rows_beside link (shown summary.entry).filter (rows_of summary.entry.table tables.now) row.now))) }
 {
     let slots = Slots::of_row(alloc, row)?;
@@ -135,9 +130,8 @@ fn linked_rows<'a>(
     table: usize,
     link: Link,
     row: &Row,
-) -> Result<Vec<&'a Row>, Refusal>
-    ensures only_memory { IsOkUnless result NoMemory }
-    ensures linked { IfOk result (λ found. map (λ row. row.now) found.items
+) -> Result<Vec<&'a Row>, AllocError>
+    ensures { IfOk result (λ found. map (λ row. row.now) found.items
         ≡ filter (λ linked. links link row.now linked) (rows_of table tables.now)) }
 {
     let null = Value::Null;
@@ -160,9 +154,8 @@ fn rows_equal_to<'a>(
     key_column: usize,
     column: usize,
     value: &Value,
-) -> Result<Vec<&'a Row>, Refusal>
-    ensures only_memory { IsOkUnless result NoMemory }
-    ensures equal { IfOk result (λ found. map (λ row. row.now) found.items
+) -> Result<Vec<&'a Row>, AllocError>
+    ensures { IfOk result (λ found. map (λ row. row.now) found.items
         ≡ filter (λ row. is_equal_of value.now (value_in column row)) rows.now) }
 {
     match value {
@@ -177,12 +170,11 @@ fn total_of_kept(
     summary: Summary,
     rows: &[&Row],
     slots: &Slots,
-) -> Result<Total, Refusal>
+) -> Result<Total, AllocError>
     requires bounded { IsBoundedOver (kinds_of slots.now) summary.filter.now }
     requires small { All IsSmallRow (map (λ row. row.now) rows.now) }
     requires short { length (map (λ row. row.now) rows.now) < 2 ^ 63 }
-    ensures only_memory { IsOkUnless result NoMemory }
-    ensures total { IfOk result (IsTotalOf summary.entry.aggregate
+    ensures { IfOk result (IsTotalOf summary.entry.aggregate
         (kept_values (shown summary.entry) (values_of slots.now) (map (λ row. row.now) rows.now))) }
 {
     let mut total = Total::new(alloc);
@@ -198,11 +190,10 @@ fn counted_if_kept(
     total: Total,
     row: &Row,
     slots: &Slots,
-) -> Result<Total, Refusal>
+) -> Result<Total, AllocError>
     requires bounded { IsBoundedOver (kinds_of slots.now) summary.filter.now }
     requires small { IsSmallRow row.now }
-    ensures only_memory { IsOkUnless result NoMemory }
-    ensures total { IfOk result (λ made. (rows : List RowValues)
+    ensures { IfOk result (λ made. (rows : List RowValues)
         → IsTotalOf summary.entry.aggregate (kept_values (shown summary.entry) (values_of slots.now) rows) total
         → IsWithin (kept_values (shown summary.entry) (values_of slots.now) (rows ++ row.now ∷ []))
         → IsTotalOf summary.entry.aggregate
@@ -226,23 +217,21 @@ pub fn around_after(
     around: Around,
     totals: &Totals,
     change: &Change,
-) -> Result<Totals, Refusal>
+) -> Result<Totals, AllocError>
     requires bounded { IsBoundedOver [] summary.filter.now }
     requires step { IsStepOf schemas.now change.now before.now after.now }
     requires around { around_of summary.grouping ≡ Some around }
     requires keyed { IsKeyed schemas.now (shown summary) }
     requires totals { AreTotalsFor before.now (shown summary) totals.now }
-    ensures only_memory { IsOkUnless result NoMemory }
-    ensures totals { IfOk result (AreTotalsFor after.now (shown summary.entry)) }
+    ensures { IfOk result (AreTotalsFor after.now (shown summary.entry)) }
 {
-    let made = outer_after(
-        alloc, schemas, before, after, summary, around, totals, change,
-    )?;
+    let same = totals.copy()?;
+    let made = outer_after(alloc, schemas, before, after, summary, around, same, change)?;
     if summary.table != change.table {
         return Ok(made);
     }
     match after.get(around.table) {
-        Some(outer) => linked_after(alloc, outer, summary, around, &made, change),
+        Some(outer) => linked_after(alloc, outer, summary, around, made, change),
         None => Ok(made),
     }
 }
@@ -255,20 +244,19 @@ fn outer_after(
     _after: &[Rows],
     summary: Summary,
     around: Around,
-    totals: &Totals,
+    totals: Totals,
     change: &Change,
-) -> Result<Totals, Refusal>
+) -> Result<Totals, AllocError>
     requires bounded { IsBoundedOver [] summary.filter.now }
     requires step { IsStepOf schemas.now change.now before.now _after.now }
     requires around { around_of summary.grouping ≡ Some around }
     requires keyed { IsKeyed schemas.now (shown summary) }
-    requires totals { AreTotalsFor before.now (shown summary) totals.now }
-    ensures only_memory { IsOkUnless result NoMemory }
-    ensures totals { IfOk result (AreTotalsOf summary.entry.aggregate (around_members around (shown summary.entry)
+    requires totals { AreTotalsFor before.now (shown summary) totals }
+    ensures { IfOk result (AreTotalsOf summary.entry.aggregate (around_members around (shown summary.entry)
         (rows_of around.table _after.now) (rows_of summary.entry.table before.now))) }
 {
     if around.table != change.table {
-        return totals.copy();
+        return Ok(totals);
     }
     match &change.new {
         Some(row) => with_row(alloc, schemas, before, summary, around, totals, row),
@@ -282,21 +270,20 @@ fn linked_after(
     outer: &Rows,
     summary: Summary,
     around: Around,
-    totals: &Totals,
+    totals: Totals,
     change: &Change,
-) -> Result<Totals, Refusal>
+) -> Result<Totals, AllocError>
     requires bounded { IsBoundedOver [] summary.filter.now }
     requires old_small { HoldsOf IsSmallRow change.now.old }
     requires new_small { HoldsOf IsSmallRow change.now.new }
     requires outer_small { All IsSmallRow outer.now }
     requires in_order { IsAscending value_cmp (value_in around.key) outer.now }
-    ensures only_memory { IsOkUnless result NoMemory }
-    ensures totals { IfOk result (λ made. (key : ℕ) (rows : List RowValues)
+    ensures { IfOk result (λ made. (key : ℕ) (rows : List RowValues)
         → row_at key change.now.key rows ≡ change.now.old
         → AreWithin (around_members around (shown summary.entry) outer.now rows)
         → AreWithin (around_members around (shown summary.entry) outer.now
         (put_row key change.now.key change.now.new rows))
-        → AreTotalsOf summary.entry.aggregate (around_members around (shown summary.entry) outer.now rows) totals.now
+        → AreTotalsOf summary.entry.aggregate (around_members around (shown summary.entry) outer.now rows) totals
         → AreTotalsOf summary.entry.aggregate (around_members around (shown summary.entry) outer.now
         (put_row key change.now.key change.now.new rows)) made) }
 {
@@ -307,7 +294,7 @@ fn linked_after(
     match order(old, new) {
         Ordering::Equal => Ok(made),
         Ordering::Less | Ordering::Greater => linked_to(
-            alloc, outer, summary, around, &made, change, new,
+            alloc, outer, summary, around, made, change, new,
         ),
     }
 }
@@ -329,27 +316,26 @@ fn linked_to(
     outer: &Rows,
     summary: Summary,
     around: Around,
-    totals: &Totals,
+    totals: Totals,
     change: &Change,
     value: &Value,
-) -> Result<Totals, Refusal>
+) -> Result<Totals, AllocError>
     requires bounded { IsBoundedOver [] summary.filter.now }
     requires old_small { HoldsOf IsSmallRow change.now.old }
     requires new_small { HoldsOf IsSmallRow change.now.new }
     requires outer_small { All IsSmallRow outer.now }
     requires in_order { IsAscending value_cmp (value_in around.key) outer.now }
-    ensures only_memory { IsOkUnless result NoMemory }
-    ensures totals { IfOk result (λ made. (key : ℕ) (rows : List RowValues) (before after : Members)
+    ensures { IfOk result (λ made. (key : ℕ) (rows : List RowValues) (before after : Members)
         → row_at key change.now.key rows ≡ change.now.old
         → IsTurn around (shown summary.entry) outer.now value.now rows
         (put_row key change.now.key change.now.new rows) before after
-        → AreTotalsOf summary.entry.aggregate before totals.now
+        → AreTotalsOf summary.entry.aggregate before totals
         → AreTotalsOf summary.entry.aggregate after made) }
 {
     let rows = rows_equal_to(alloc, outer, around.key, around.link.outer, value)?;
-    let mut made = totals.copy()?;
+    let mut made = totals;
     for row in &rows {
-        made = beside_one(alloc, summary, around, &made, change, row)?;
+        made = beside_one(alloc, summary, around, made, change, row)?;
     }
     Ok(made)
 }
@@ -359,23 +345,22 @@ fn beside_one(
     alloc: Global,
     summary: Summary,
     around: Around,
-    totals: &Totals,
+    totals: Totals,
     change: &Change,
     row: &Row,
-) -> Result<Totals, Refusal>
+) -> Result<Totals, AllocError>
     requires bounded { IsBoundedOver [] summary.filter.now }
     requires old_small { HoldsOf IsSmallRow change.now.old }
     requires new_small { HoldsOf IsSmallRow change.now.new }
     requires row_small { IsSmallRow row.now }
-    ensures only_memory { IsOkUnless result NoMemory }
-    ensures totals { IfOk result (λ made. (key : ℕ) (rows : List RowValues) (before after : Members)
+    ensures { IfOk result (λ made. (key : ℕ) (rows : List RowValues) (before after : Members)
         → row_at key change.now.key rows ≡ change.now.old
         → before (value_in around.key row.now) ≡ values_beside around (shown summary.entry) rows row.now
         → after (value_in around.key row.now)
         ≡ values_beside around (shown summary.entry) (put_row key change.now.key change.now.new rows) row.now
         → ((v : values) → eq_by_cmp value_cmp v (value_in around.key row.now) ≡ false → after v ≡ before v)
         → AreWithin after
-        → AreTotalsOf summary.entry.aggregate before totals.now
+        → AreTotalsOf summary.entry.aggregate before totals
         → AreTotalsOf summary.entry.aggregate after made) }
 {
     let slots = Slots::of_row(alloc, row)?;
@@ -391,12 +376,11 @@ fn member_beside(
     linked: &Option<Row>,
     row: &Row,
     slots: &Slots,
-) -> Result<Option<Member>, Refusal>
+) -> Result<Option<Member>, AllocError>
     requires bounded { IsBoundedOver (kinds_of slots.now) summary.filter.now }
     requires slots { values_of slots.now ≡ row.now }
     requires small { HoldsOf IsSmallRow linked.now }
-    ensures only_memory { IsOkUnless result NoMemory }
-    ensures member { IfOk result (λ member. member
+    ensures { IfOk result (λ member. member
         ≡ member_of (place_beside around (shown summary.entry).filter row.now) (value_for summary.entry.aggregate)
         linked.now) }
 {

@@ -1,9 +1,8 @@
 //! Whether an assertion is false at a root, from the maintained totals and from rows that are looked up by their keys.
 
-ghost use Rattle.std.specs.Prelude.{◌≡◌, ◌<◌, ◌≤◌, ◌^◌, ◌∷◌, [], length, slice_index_or, IfOk, IsOkUnless};
+ghost use Rattle.std.specs.Prelude.{◌≡◌, ◌<◌, ◌≤◌, ◌^◌, ◌∷◌, [], length, slice_index_or, IfOk};
 ghost use Rattle.std.specs.Option.{option_copied};
 ghost use Rattle.value.specs.Ordered.{HoldsOf};
-ghost use Rattle.value.specs.declared.refusals.Refusal.TheVariants.{NoMemory};
 ghost use Rattle.value.specs.Truths.{is_of};
 ghost use Rattle.value.specs.declared.truths.Truth.TheVariants.{False};
 ghost use Rattle.table.specs.Bounds.{IsSmallRow};
@@ -23,9 +22,9 @@ use crate::lists::BadRoots;
 use assertion::Form;
 use groups::Totals;
 use mvrows::Rows;
-use std::alloc::Global;
+use std::alloc::{AllocError, Global};
 use table::{Cond, Row, Schema, eval, keeps};
-use value::{Refusal, Root, Truth, Value};
+use value::{Root, Truth, Value};
 
 /// Whether an assertion is false at a root. By rows, `row` is the row under the root's key in the root table, if
 /// there is one; by groups and for a single condition it isn't looked at.
@@ -37,14 +36,13 @@ pub fn is_bad(
     row: Option<&Row>,
     totals: &[Totals],
     root: &Root,
-) -> Result<bool, Refusal>
+) -> Result<bool, AllocError>
     requires bounded { IsBounded form.now }
     requires small { IsSmallState tables.now }
     requires totals { AreMaintained schemas.now tables.now form.now totals.now }
     requires row_small { HoldsOf IsSmallRow (option_copied row) }
     requires root_small { IsSmallRoot form.now root.now }
-    ensures only_memory { IsOkUnless result NoMemory }
-    ensures bad { IfOk result (λ bad. IsRowOf schemas.now form.now tables.now root.now (option_copied row.entry)
+    ensures { IfOk result (λ bad. IsRowOf schemas.now form.now tables.now root.now (option_copied row.entry)
         → bad ≡ is_bad_root schemas.now form.now tables.now root.now) }
 {
     match (form, root) {
@@ -71,12 +69,11 @@ pub fn truth_of(
     form: &Form,
     totals: &[Totals],
     bad: &BadRoots,
-) -> Result<Truth, Refusal>
+) -> Result<Truth, AllocError>
     requires bounded { IsBounded form.now }
     requires small { IsSmallState tables.now }
     requires totals { AreMaintained schemas.now tables.now form.now totals.now }
-    ensures only_memory { IsOkUnless result NoMemory }
-    ensures truth { IfOk result (λ truth. IsOrdered schemas.now tables.now
+    ensures { IfOk result (λ truth. IsOrdered schemas.now tables.now
         → AreBad schemas.now form.now tables.now bad.now → truth ≡ verdict_of schemas.now form.now tables.now) }
 {
     match form {
@@ -106,14 +103,13 @@ fn row_passes(
     totals: &[Totals],
     condition: &Cond,
     row: Option<&Row>,
-) -> Result<bool, Refusal>
+) -> Result<bool, AllocError>
     requires form_bounded { IsBounded form.now }
     requires bounded { IsBoundedOver (kinds_in (queries_of schemas.now form.now)) condition.now }
     requires small { IsSmallState tables.now }
     requires totals { AreMaintained schemas.now tables.now form.now totals.now }
     requires row_small { HoldsOf IsSmallRow (option_copied row) }
-    ensures only_memory { IsOkUnless result NoMemory }
-    ensures bad { IfOk result (λ bad.
+    ensures { IfOk result (λ bad.
         bad ≡ row_passes_by tables.now (queries_of schemas.now form.now) condition.now (option_copied row.entry)) }
 {
     match row {
@@ -135,15 +131,14 @@ fn group_passes(
     totals: &[Totals],
     having: &Cond,
     group: &Value,
-) -> Result<bool, Refusal>
+) -> Result<bool, AllocError>
     requires form_bounded { IsBounded form.now }
     requires bounded { IsBoundedOver (kinds_in (queries_of schemas.now form.now)) having.now }
     requires small { IsSmallState tables.now }
     requires totals { AreMaintained schemas.now tables.now form.now totals.now }
     requires some { 0 < length (summaries_of schemas.now form.now) }
     requires group_small { magnitude group.now ≤ 10 ^ 15 }
-    ensures only_memory { IsOkUnless result NoMemory }
-    ensures bad { IfOk result (λ bad. (summary : Query Grouping)
+    ensures { IfOk result (λ bad. (summary : Query Grouping)
         → bad ≡ group_passes_by tables.now (slice_index_or (summaries_of schemas.now form.now) 0 summary)
         (queries_of schemas.now form.now) having.now group.now) }
 {
@@ -156,13 +151,12 @@ fn group_passes(
 }
 
 /// A row of one value.
-fn row_with(alloc: Global, value: &Value) -> Result<Row, Refusal>
-    ensures only_memory { IsOkUnless result NoMemory }
-    ensures row { IfOk result (λ row. row ≡ value.now ∷ []) }
+fn row_with(alloc: Global, value: &Value) -> Result<Row, AllocError>
+    ensures { IfOk result (λ row. row ≡ value.now ∷ []) }
 {
     let mut values = Vec::new(alloc);
     values.push(value.copy()?)?;
-    Ok(Row::new(values))
+    Row::new(values)
 }
 
 /// Whether a condition that sees no row is false.
@@ -173,13 +167,12 @@ fn whole_is_false(
     form: &Form,
     totals: &[Totals],
     condition: &Cond,
-) -> Result<bool, Refusal>
+) -> Result<bool, AllocError>
     requires form_bounded { IsBounded form.now }
     requires bounded { IsBoundedOver (kinds_in (queries_of schemas.now form.now)) condition.now }
     requires small { IsSmallState tables.now }
     requires totals { AreMaintained schemas.now tables.now form.now totals.now }
-    ensures only_memory { IsOkUnless result NoMemory }
-    ensures bad { IfOk result (λ bad.
+    ensures { IfOk result (λ bad.
         bad ≡ is_of (whole_truth tables.now (queries_of schemas.now form.now) condition.now) False) }
 {
     let truth = truth_of_whole(alloc, schemas, tables, form, totals, condition)?;
@@ -194,16 +187,15 @@ fn truth_of_whole(
     form: &Form,
     totals: &[Totals],
     condition: &Cond,
-) -> Result<Truth, Refusal>
+) -> Result<Truth, AllocError>
     requires form_bounded { IsBounded form.now }
     requires bounded { IsBoundedOver (kinds_in (queries_of schemas.now form.now)) condition.now }
     requires small { IsSmallState tables.now }
     requires totals { AreMaintained schemas.now tables.now form.now totals.now }
-    ensures only_memory { IsOkUnless result NoMemory }
-    ensures truth { IfOk result (λ truth.
+    ensures { IfOk result (λ truth.
         truth ≡ whole_truth tables.now (queries_of schemas.now form.now) condition.now) }
 {
-    let row = Row::new(Vec::new(alloc));
+    let row = Row::new(Vec::new(alloc))?;
     let slots = slots(alloc, schemas, tables, form, totals, &row)?;
     Ok(eval(condition, &row, &slots))
 }

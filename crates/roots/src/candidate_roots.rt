@@ -1,11 +1,10 @@
 //! The roots at which changes can turn an assertion.
 
-ghost use Rattle.std.specs.Prelude.{◌≡◌, ◌++◌, filter, flat_map, map, IfOk, OnOk, IsOkUnless, option_to_list};
+ghost use Rattle.std.specs.Prelude.{◌≡◌, ◌++◌, filter, flat_map, map, IfOk, OnOk, option_to_list};
 ghost use Rattle.std.specs.Ordering.{eq_by_cmp};
 ghost use Rattle.value.specs.ValueOrder.{value_cmp};
 ghost use Rattle.table.specs.Rows.{value_in};
 ghost use Rattle.value.specs.declared.values.Root.TheVariants.{Of};
-ghost use Rattle.value.specs.declared.refusals.Refusal.TheVariants.{NoMemory};
 ghost use Rattle.assertion.specs.Candidates.{candidates as candidates_by, candidates_of, group_candidates, is_named as is_named_of, linked_roots, linked_values, query_candidates};
 ghost use Rattle.assertion.specs.Meaning.{key_of, rows_of};
 ghost use Rattle.roots.specs.Over.{is_over as is_over_of};
@@ -13,9 +12,9 @@ ghost use Rattle.roots.specs.Over.{is_over as is_over_of};
 use crate::columns::{key_column, value_at};
 use assertion::{Form, Link, Query};
 use mvrows::Rows;
-use std::alloc::Global;
+use std::alloc::{AllocError, Global};
 use table::{Change, Row, Schema};
-use value::{Refusal, Root, Value};
+use value::{Root, Value};
 
 /// The roots at which an assertion can be another after the changes than before, in the order of the changes; `tables`
 /// are those after them. A root may stand more than once. Every other root keeps its truth.
@@ -25,9 +24,8 @@ pub fn candidates(
     tables: &[Rows],
     form: &Form,
     changes: &[Change],
-) -> Result<Vec<Root>, Refusal>
-    ensures only_memory { IsOkUnless result NoMemory }
-    ensures candidates { IfOk result (λ roots.
+) -> Result<Vec<Root>, AllocError>
+    ensures { IfOk result (λ roots.
         roots.items ≡ candidates_of schemas.now tables.now changes.now form.now) }
 {
     let mut roots = Vec::new(alloc);
@@ -44,9 +42,8 @@ pub(crate) fn push_candidates(
     tables: &[Rows],
     form: &Form,
     change: &Change,
-) -> Result<(), Refusal>
-    ensures only_memory { IsOkUnless result NoMemory }
-    ensures pushed { OnOk result (roots.new.items
+) -> Result<(), AllocError>
+    ensures { OnOk result (roots.new.items
         ≡ roots.old.items ++ candidates_by schemas.now tables.now change.now form.now) }
 {
     match form {
@@ -90,9 +87,8 @@ fn push_links(
     of: RootTable,
     queries: &[Query<Link>],
     change: &Change,
-) -> Result<(), Refusal>
-    ensures only_memory { IsOkUnless result NoMemory }
-    ensures pushed { OnOk result (roots.new.items ≡ roots.old.items
+) -> Result<(), AllocError>
+    ensures { OnOk result (roots.new.items ≡ roots.old.items
         ++ flat_map (query_candidates of.entry.key (rows_of of.entry.table of.entry.tables.now) change.now)
         queries.now) }
 {
@@ -111,9 +107,8 @@ fn push_linked(
     of: RootTable,
     link: Link,
     row: &Option<Row>,
-) -> Result<(), Refusal>
-    ensures only_memory { IsOkUnless result NoMemory }
-    ensures pushed { OnOk result (roots.new.items ≡ roots.old.items
+) -> Result<(), AllocError>
+    ensures { OnOk result (roots.new.items ≡ roots.old.items
         ++ flat_map (linked_roots of.entry.key link (rows_of of.entry.table of.entry.tables.now))
         (linked_values link (option_to_list row.now))) }
 {
@@ -132,9 +127,8 @@ fn push_roots_with(
     of: RootTable,
     link: Link,
     value: &Value,
-) -> Result<(), Refusal>
-    ensures only_memory { IsOkUnless result NoMemory }
-    ensures pushed { OnOk result (roots.new.items ≡ roots.old.items
+) -> Result<(), AllocError>
+    ensures { OnOk result (roots.new.items ≡ roots.old.items
         ++ linked_roots of.entry.key link (rows_of of.entry.table of.entry.tables.now) value.now) }
 {
     if link.outer == of.key {
@@ -155,9 +149,8 @@ fn push_rows_with(
     key_column: usize,
     column: usize,
     value: &Value,
-) -> Result<(), Refusal>
-    ensures only_memory { IsOkUnless result NoMemory }
-    ensures pushed { OnOk result (roots.new.items ≡ roots.old.items ++ map (λ row. Of (value_in key_column row))
+) -> Result<(), AllocError>
+    ensures { OnOk result (roots.new.items ≡ roots.old.items ++ map (λ row. Of (value_in key_column row))
         (filter (λ row. eq_by_cmp value_cmp value.now (value_in column row)) rows.now)) }
 {
     let keys = rows.keys_with(*roots.allocator(), key_column, column, value)?;
@@ -165,9 +158,8 @@ fn push_rows_with(
 }
 
 /// Puts keys behind the roots.
-fn push_keys(roots: &mut Vec<Root>, keys: &[Value]) -> Result<(), Refusal>
-    ensures only_memory { IsOkUnless result NoMemory }
-    ensures pushed { OnOk result (roots.new.items ≡ roots.old.items ++ map Of keys.now) }
+fn push_keys(roots: &mut Vec<Root>, keys: &[Value]) -> Result<(), AllocError>
+    ensures { OnOk result (roots.new.items ≡ roots.old.items ++ map Of keys.now) }
 {
     for key in keys {
         roots.push(Root::Of(key.copy()?))?;
@@ -176,9 +168,8 @@ fn push_keys(roots: &mut Vec<Root>, keys: &[Value]) -> Result<(), Refusal>
 }
 
 /// Puts the group of a row, if there is one, behind the roots. NULL is a group.
-fn push_group(roots: &mut Vec<Root>, group: usize, row: &Option<Row>) -> Result<(), Refusal>
-    ensures only_memory { IsOkUnless result NoMemory }
-    ensures pushed { OnOk result (roots.new.items
+fn push_group(roots: &mut Vec<Root>, group: usize, row: &Option<Row>) -> Result<(), AllocError>
+    ensures { OnOk result (roots.new.items
         ≡ roots.old.items ++ group_candidates group (option_to_list row.now)) }
 {
     if let Some(row) = row {

@@ -1,18 +1,17 @@
 //! A row's value in a column, and a table's key column.
 
-ghost use Rattle.std.specs.Prelude.{◌≡◌, IfOk, IsOkUnless};
-ghost use Rattle.value.specs.declared.refusals.Refusal.TheVariants.{NoMemory};
+ghost use Rattle.std.specs.Prelude.{◌≡◌, IfOk};
 ghost use Rattle.table.specs.Rows.{value_in};
 ghost use Rattle.value.specs.declared.values.Value.TheVariants.{Null};
 ghost use Rattle.assertion.specs.Meaning.{key_of};
 
+use std::alloc::AllocError;
 use table::{Row, Schema};
-use value::{Refusal, Value};
+use value::Value;
 
-/// A copy of a row's value in a column; NULL past its end. NoMemory is the only error.
-pub fn value_at(row: &Row, column: usize) -> Result<Value, Refusal>
-    ensures only_memory { IsOkUnless result NoMemory }
-    ensures value { IfOk result (λ value. value ≡ value_in column row.now) }
+/// A copy of a row's value in a column; NULL past its end.
+pub fn value_at(row: &Row, column: usize) -> Result<Value, AllocError>
+    ensures { IfOk result (λ value. value ≡ value_in column row.now) }
 {
     match row.values().get(column) {
         Some(value) => value.copy(),

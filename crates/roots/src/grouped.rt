@@ -1,7 +1,6 @@
 //! The rows of a table in groups.
 
-ghost use Rattle.std.specs.Prelude.{◌≡◌, [], Some, IfOk, IsOkUnless};
-ghost use Rattle.value.specs.declared.refusals.Refusal.TheVariants.{NoMemory};
+ghost use Rattle.std.specs.Prelude.{◌≡◌, [], Some, IfOk};
 ghost use Rattle.value.specs.Ordered.{HoldsOf};
 ghost use Rattle.table.specs.Bounds.{IsSmallRow};
 ghost use Rattle.assertion.specs.Bounded.{IsBoundedOver};
@@ -13,9 +12,9 @@ ghost use Rattle.roots.specs.Summaries.{around_of, group_of, key_link, place as 
 use crate::columns::value_at;
 use assertion::Link;
 use groups::Member;
-use std::alloc::Global;
+use std::alloc::{AllocError, Global};
 use table::{Aggregate, Cond, Row, passes};
-use value::{Refusal, Value};
+use value::Value;
 
 /// How rows go into groups.
 #[derive(Clone, Copy, Debug)]
@@ -52,11 +51,14 @@ pub struct Summary<'a> {
 }
 
 /// What a row, if there is one, is to its group, if it goes to one.
-pub fn member(alloc: Global, summary: Summary, row: &Option<Row>) -> Result<Option<Member>, Refusal>
+pub fn member(
+    alloc: Global,
+    summary: Summary,
+    row: &Option<Row>,
+) -> Result<Option<Member>, AllocError>
     requires bounded { IsBoundedOver [] summary.filter.now }
     requires small { HoldsOf IsSmallRow row.now }
-    ensures only_memory { IsOkUnless result NoMemory }
-    ensures member { IfOk result (λ member. member
+    ensures { IfOk result (λ member. member
         ≡ member_of (place_of (shown summary.entry)) (value_for summary.entry.aggregate) row.now) }
 {
     match row {
@@ -66,11 +68,14 @@ pub fn member(alloc: Global, summary: Summary, row: &Option<Row>) -> Result<Opti
 }
 
 /// What a row is to its group, if it goes to one.
-pub fn member_of_row(alloc: Global, summary: Summary, row: &Row) -> Result<Option<Member>, Refusal>
+pub fn member_of_row(
+    alloc: Global,
+    summary: Summary,
+    row: &Row,
+) -> Result<Option<Member>, AllocError>
     requires bounded { IsBoundedOver [] summary.filter.now }
     requires small { IsSmallRow row.now }
-    ensures only_memory { IsOkUnless result NoMemory }
-    ensures member { IfOk result (λ member. member
+    ensures { IfOk result (λ member. member
         ≡ member_of (place_of (shown summary.entry)) (value_for summary.entry.aggregate) (Some row.now)) }
 {
     match place(alloc, summary, row)? {
@@ -83,9 +88,8 @@ pub fn member_of_row(alloc: Global, summary: Summary, row: &Row) -> Result<Optio
 }
 
 /// What a set function looks at in a row: what its column holds, or NULL where it has none.
-pub fn counted_by(row: &Row, aggregate: Aggregate) -> Result<Value, Refusal>
-    ensures only_memory { IsOkUnless result NoMemory }
-    ensures value { IfOk result (λ value. value ≡ value_for aggregate row.now) }
+pub fn counted_by(row: &Row, aggregate: Aggregate) -> Result<Value, AllocError>
+    ensures { IfOk result (λ value. value ≡ value_for aggregate row.now) }
 {
     match aggregate {
         Aggregate::CountRows => Ok(Value::Null),
@@ -97,11 +101,10 @@ pub fn counted_by(row: &Row, aggregate: Aggregate) -> Result<Value, Refusal>
 }
 
 /// The group to which a row goes by itself, if WHERE keeps it.
-fn place(alloc: Global, summary: Summary, row: &Row) -> Result<Option<Value>, Refusal>
+fn place(alloc: Global, summary: Summary, row: &Row) -> Result<Option<Value>, AllocError>
     requires bounded { IsBoundedOver [] summary.filter.now }
     requires small { IsSmallRow row.now }
-    ensures only_memory { IsOkUnless result NoMemory }
-    ensures placed { IfOk result (λ placed. placed ≡ place_of (shown summary.entry) row.now) }
+    ensures { IfOk result (λ placed. placed ≡ place_of (shown summary.entry) row.now) }
 {
     if !passes(alloc, summary.filter, row) {
         return Ok(None);
@@ -130,9 +133,8 @@ pub fn link_to_key(grouping: Grouping) -> Option<Link>
 }
 
 /// The group of a row that WHERE keeps; none where the filter asks what the row around holds.
-fn group(grouping: Grouping, row: &Row) -> Result<Option<Value>, Refusal>
-    ensures only_memory { IsOkUnless result NoMemory }
-    ensures group { IfOk result (λ group. group ≡ group_of grouping row.now) }
+fn group(grouping: Grouping, row: &Row) -> Result<Option<Value>, AllocError>
+    ensures { IfOk result (λ group. group ≡ group_of grouping row.now) }
 {
     match grouping {
         Grouping::Whole => Ok(Some(Value::Null)),

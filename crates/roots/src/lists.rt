@@ -1,19 +1,18 @@
 //! Roots in order, of which every version stays whole.
 
-ghost use Rattle.std.specs.Prelude.{◌≡◌, [], None, Some, IfOk, IsOkUnless, if◌then◌else◌, slice_get};
+ghost use Rattle.std.specs.Prelude.{◌≡◌, [], None, Some, IfOk, if◌then◌else◌, slice_get};
 ghost use Rattle.std.specs.Option.{option_copied};
 ghost use Rattle.pages.specs.Reach.{key_of, entry_of};
 ghost use Rattle.value.specs.Ordered.{put};
 ghost use Rattle.value.specs.ValueOrder.{value_cmp};
-ghost use Rattle.value.specs.declared.refusals.Refusal.TheVariants.{NoMemory};
 ghost use Rattle.value.specs.declared.values.Root.TheVariants.{All, Of};
 ghost use Rattle.roots.specs.Bad.{put_root};
 ghost use Rattle.roots.specs.Listed.{AreUnder};
 
 use pages::Pages;
-use std::alloc::Global;
+use std::alloc::{AllocError, Global};
 use std::marker::Model;
-use value::{Refusal, Root, Value};
+use value::{Root, Value};
 
 /// Bad roots in order, each once. A change makes a new list, which shares all but the changed path.
 #[derive(Debug, Drop)]
@@ -60,10 +59,9 @@ impl BadRoots {
         }
     }
 
-    /// The roots with this one in or out. These stay as they are, also where the answer is NoMemory.
-    pub fn with(&self, root: &Root, is_in: bool) -> Result<BadRoots, Refusal>
-        ensures only_memory { IsOkUnless result NoMemory }
-        ensures changed { IfOk result (λ made. made ≡ put_root root.now is_in self.now) }
+    /// The roots with this one in or out. Copies of these stay as they are.
+    pub fn with(self, root: &Root, is_in: bool) -> Result<BadRoots, AllocError>
+        ensures { IfOk result (λ made. made ≡ put_root root.now is_in self) }
     {
         match root {
             Root::All => self.with_whole(is_in),
@@ -72,32 +70,28 @@ impl BadRoots {
     }
 
     /// The roots with the whole in or out.
-    fn with_whole(&self, is_in: bool) -> Result<BadRoots, Refusal>
-        ensures only_memory { IsOkUnless result NoMemory }
-        ensures changed { IfOk result (λ made. made ≡ put_root All is_in self.now) }
+    fn with_whole(self, is_in: bool) -> Result<BadRoots, AllocError>
+        ensures { IfOk result (λ made. made ≡ put_root All is_in self) }
     {
         Ok(BadRoots {
             whole: the_whole(is_in),
-            values: self.values.copy()?,
+            values: self.values,
         })
     }
 
     /// The roots with the root of a value in or out.
-    fn with_value(&self, value: &Value, is_in: bool) -> Result<BadRoots, Refusal>
-        ensures only_memory { IsOkUnless result NoMemory }
-        ensures changed { IfOk result (λ made. made ≡ put_root (Of value.now) is_in self.now) }
+    fn with_value(self, value: &Value, is_in: bool) -> Result<BadRoots, AllocError>
+        ensures { IfOk result (λ made. made ≡ put_root (Of value.now) is_in self) }
     {
-        let whole = copy_of(&self.whole)?;
         Ok(BadRoots {
-            whole,
-            values: with_value(&self.values, value, is_in)?,
+            whole: self.whole,
+            values: with_value(self.values, value, is_in)?,
         })
     }
 
     /// Roots equal to these, which share all with them.
-    pub fn copy(&self) -> Result<BadRoots, Refusal>
-        ensures only_memory { IsOkUnless result NoMemory }
-        ensures equal { IfOk result (λ copy. copy ≡ self.now) }
+    pub fn copy(&self) -> Result<BadRoots, AllocError>
+        ensures { IfOk result (λ copy. copy ≡ self.now) }
     {
         Ok(BadRoots {
             whole: copy_of(&self.whole)?,
@@ -114,9 +108,8 @@ fn the_whole(is_in: bool) -> Option<Root>
 }
 
 /// A root equal to this one, if there is one.
-fn copy_of(root: &Option<Root>) -> Result<Option<Root>, Refusal>
-    ensures only_memory { IsOkUnless result NoMemory }
-    ensures equal { IfOk result (λ copy. copy ≡ root.now) }
+fn copy_of(root: &Option<Root>) -> Result<Option<Root>, AllocError>
+    ensures { IfOk result (λ copy. copy ≡ root.now) }
 {
     match root {
         Some(root) => Ok(Some(root.copy()?)),
@@ -124,24 +117,25 @@ fn copy_of(root: &Option<Root>) -> Result<Option<Root>, Refusal>
     }
 }
 
-/// What is held with the root of a value in or out; where it is so already, the same is shared.
-fn with_value(values: &Pages<Root>, value: &Value, is_in: bool) -> Result<Pages<Root>, Refusal>
-    requires { AreUnder values.now }
-    ensures only_memory { IsOkUnless result NoMemory }
-    ensures changed { IfOk result (λ made. made
+/// What is held with the root of a value in or out; where it is so already, nothing changes.
+fn with_value(values: Pages<Root>, value: &Value, is_in: bool) -> Result<Pages<Root>, AllocError>
+    requires { AreUnder values }
+    ensures { IfOk result (λ made. made
         ≡ put value_cmp key_of value.now (entry_of value.now
-        (if is_in then Some (Of value.now) else None)) values.now) }
+        (if is_in then Some (Of value.now) else None)) values) }
 {
     if values.get(value).is_some() == is_in {
-        return values.copy();
+        return Ok(values);
     }
-    values.with(value, root_of(value, is_in)?)
+    let root = root_of(value, is_in)?;
+    let mut values = values;
+    values.put(value, root)?;
+    Ok(values)
 }
 
 /// The root of a value, if it is in.
-fn root_of(value: &Value, is_in: bool) -> Result<Option<Root>, Refusal>
-    ensures only_memory { IsOkUnless result NoMemory }
-    ensures root { IfOk result (λ root. root ≡ (if is_in then Some (Of value.now) else None)) }
+fn root_of(value: &Value, is_in: bool) -> Result<Option<Root>, AllocError>
+    ensures { IfOk result (λ root. root ≡ (if is_in then Some (Of value.now) else None)) }
 {
     if is_in {
         Ok(Some(Root::Of(value.copy()?)))

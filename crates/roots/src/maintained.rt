@@ -1,7 +1,6 @@
 //! The maintained totals of a form, of tables and after a change.
 
-ghost use Rattle.std.specs.Prelude.{◌≡◌, ◌<◌, ◌^◌, ◌++◌, ◌∷◌, [], All, List, length, IfOk, IsOkUnless};
-ghost use Rattle.value.specs.declared.refusals.Refusal.TheVariants.{NoMemory};
+ghost use Rattle.std.specs.Prelude.{◌≡◌, ◌<◌, ◌^◌, ◌++◌, ◌∷◌, [], All, List, length, IfOk};
 ghost use Rattle.value.specs.Ordered.{HoldsOf};
 ghost use Rattle.table.specs.Rows.{Layout, RowValues};
 ghost use Rattle.table.specs.Bounds.{IsSmallRow};
@@ -19,9 +18,8 @@ use crate::summaries::{summary_count, summary_of};
 use assertion::Form;
 use groups::Totals;
 use mvrows::Rows;
-use std::alloc::Global;
+use std::alloc::{AllocError, Global};
 use table::{Change, Row, Schema};
-use value::Refusal;
 
 /// The totals to keep for a form on these tables. Each is made in one pass over the rows of its table; where the rows
 /// around are its groups, in one over those, for each of which the rows that are linked to it are looked at.
@@ -30,12 +28,11 @@ pub fn totals_of(
     schemas: &[Schema],
     form: &Form,
     tables: &[Rows],
-) -> Result<Vec<Totals>, Refusal>
+) -> Result<Vec<Totals>, AllocError>
     requires bounded { IsBounded form.now }
     requires small { IsSmallState tables.now }
     requires in_order { IsOrdered schemas.now tables.now }
-    ensures only_memory { IsOkUnless result NoMemory }
-    ensures totals { IfOk result (λ totals. AreMaintained schemas.now tables.now form.now totals.items) }
+    ensures { IfOk result (λ totals. AreMaintained schemas.now tables.now form.now totals.items) }
 {
     let mut made = Vec::new(alloc);
     for index in 0..summary_count(form) {
@@ -51,13 +48,12 @@ fn total_of(
     schemas: &[Schema],
     summary: Summary,
     tables: &[Rows],
-) -> Result<Totals, Refusal>
+) -> Result<Totals, AllocError>
     requires bounded { IsBoundedOver [] summary.filter.now }
     requires small { IsSmallState tables.now }
     requires in_order { IsOrdered schemas.now tables.now }
     requires keyed { IsKeyed schemas.now (shown summary) }
-    ensures only_memory { IsOkUnless result NoMemory }
-    ensures totals { IfOk result (AreTotalsFor tables.now (shown summary.entry)) }
+    ensures { IfOk result (AreTotalsFor tables.now (shown summary.entry)) }
 {
     match rows_around(summary.grouping) {
         Some(around) => totals_around(alloc, schemas, tables, summary, around),
@@ -66,11 +62,10 @@ fn total_of(
 }
 
 /// The totals of one summary, to whose groups rows go by themselves.
-fn total_of_table(alloc: Global, summary: Summary, tables: &[Rows]) -> Result<Totals, Refusal>
+fn total_of_table(alloc: Global, summary: Summary, tables: &[Rows]) -> Result<Totals, AllocError>
     requires bounded { IsBoundedOver [] summary.filter.now }
     requires small { IsSmallState tables.now }
-    ensures only_memory { IsOkUnless result NoMemory }
-    ensures totals { IfOk result (AreTotalsOf summary.entry.aggregate
+    ensures { IfOk result (AreTotalsOf summary.entry.aggregate
         (row_members (shown summary.entry) (rows_of summary.entry.table tables.now))) }
 {
     match tables.get(summary.table) {
@@ -80,17 +75,16 @@ fn total_of_table(alloc: Global, summary: Summary, tables: &[Rows]) -> Result<To
 }
 
 /// The totals of one summary over these rows.
-fn total_of_rows(alloc: Global, summary: Summary, rows: &Rows) -> Result<Totals, Refusal>
+fn total_of_rows(alloc: Global, summary: Summary, rows: &Rows) -> Result<Totals, AllocError>
     requires bounded { IsBoundedOver [] summary.filter.now }
     requires small { All IsSmallRow rows.now }
     requires short { length rows.now < 2 ^ 63 }
-    ensures only_memory { IsOkUnless result NoMemory }
-    ensures totals { IfOk result
+    ensures { IfOk result
         (AreTotalsOf summary.entry.aggregate (row_members (shown summary.entry) rows.now)) }
 {
     let mut made = Totals::new(alloc);
     for row in rows.iter() {
-        made = total_with(alloc, summary, &made, row)?;
+        made = total_with(alloc, summary, made, row)?;
     }
     Ok(made)
 }
@@ -99,15 +93,14 @@ fn total_of_rows(alloc: Global, summary: Summary, rows: &Rows) -> Result<Totals,
 fn total_with(
     alloc: Global,
     summary: Summary,
-    totals: &Totals,
+    totals: Totals,
     row: &Row,
-) -> Result<Totals, Refusal>
+) -> Result<Totals, AllocError>
     requires bounded { IsBoundedOver [] summary.filter.now }
     requires small { IsSmallRow row.now }
-    ensures only_memory { IsOkUnless result NoMemory }
-    ensures totals { IfOk result (λ made. (rows : List RowValues)
+    ensures { IfOk result (λ made. (rows : List RowValues)
         → AreWithin (row_members (shown summary.entry) (rows ++ row.now ∷ []))
-        → AreTotalsOf summary.entry.aggregate (row_members (shown summary.entry) rows) totals.now
+        → AreTotalsOf summary.entry.aggregate (row_members (shown summary.entry) rows) totals
         → AreTotalsOf summary.entry.aggregate (row_members (shown summary.entry) (rows ++ row.now ∷ [])) made) }
 {
     let add = member_of_row(alloc, summary, row)?;
@@ -123,12 +116,11 @@ pub fn totals_after(
     form: &Form,
     totals: &[Totals],
     change: &Change,
-) -> Result<Vec<Totals>, Refusal>
+) -> Result<Vec<Totals>, AllocError>
     requires bounded { IsBounded form.now }
     requires step { IsStepOf schemas.now change.now before.now after.now }
     requires totals { AreMaintained schemas.now before.now form.now totals.now }
-    ensures only_memory { IsOkUnless result NoMemory }
-    ensures totals { IfOk result (λ made. AreMaintained schemas.now after.now form.now made.items) }
+    ensures { IfOk result (λ made. AreMaintained schemas.now after.now form.now made.items) }
 {
     let mut made = Vec::new(alloc);
     for index in 0..summary_count(form) {
@@ -148,13 +140,12 @@ fn total_after(
     summary: Summary,
     totals: &Totals,
     change: &Change,
-) -> Result<Totals, Refusal>
+) -> Result<Totals, AllocError>
     requires bounded { IsBoundedOver [] summary.filter.now }
     requires step { IsStepOf schemas.now change.now before.now after.now }
     requires keyed { IsKeyed schemas.now (shown summary) }
     requires totals { AreTotalsFor before.now (shown summary) totals.now }
-    ensures only_memory { IsOkUnless result NoMemory }
-    ensures totals { IfOk result (AreTotalsFor after.now (shown summary.entry)) }
+    ensures { IfOk result (AreTotalsFor after.now (shown summary.entry)) }
 {
     match rows_around(summary.grouping) {
         Some(around) => around_after(
@@ -170,22 +161,22 @@ fn total_with_change(
     summary: Summary,
     totals: &Totals,
     change: &Change,
-) -> Result<Totals, Refusal>
+) -> Result<Totals, AllocError>
     requires bounded { IsBoundedOver [] summary.filter.now }
     requires old_small { HoldsOf IsSmallRow change.now.old }
     requires new_small { HoldsOf IsSmallRow change.now.new }
-    ensures only_memory { IsOkUnless result NoMemory }
-    ensures totals { IfOk result (λ made. (layouts : List Layout) (state : State)
+    ensures { IfOk result (λ made. (layouts : List Layout) (state : State)
         → IsChangeOf layouts change.now state → IsSmallState (state_after layouts change.now state)
         → AreTotalsOf summary.entry.aggregate (row_members (shown summary.entry) (rows_of summary.entry.table state))
         totals.now
         → AreTotalsOf summary.entry.aggregate (row_members (shown summary.entry)
         (rows_of summary.entry.table (state_after layouts change.now state))) made) }
 {
+    let same = totals.copy()?;
     if summary.table != change.table {
-        return totals.copy();
+        return Ok(same);
     }
     let remove = member(alloc, summary, &change.old)?;
     let add = member(alloc, summary, &change.new)?;
-    totals.with(summary.aggregate, &add, &remove)
+    same.with(summary.aggregate, &add, &remove)
 }

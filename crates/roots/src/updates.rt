@@ -1,10 +1,9 @@
 //! The maintained bad roots of a form, of tables and after a change.
 
-ghost use Rattle.std.specs.Prelude.{◌≡◌, ◌<◌, true, All, length, take, slice_index_or, IfOk, IsOkUnless, IsTrue};
+ghost use Rattle.std.specs.Prelude.{◌≡◌, ◌<◌, true, All, length, take, slice_index_or, IfOk, IsTrue};
 ghost use Rattle.std.specs.Option.{option_copied};
 ghost use Rattle.value.specs.Ordered as ordered;
 ghost use Rattle.value.specs.ValueOrder.{root_cmp};
-ghost use Rattle.value.specs.declared.refusals.Refusal.TheVariants.{NoMemory};
 ghost use Rattle.value.specs.declared.values.Root.{Root as roots};
 ghost use Rattle.table.specs.Rows.{row_at};
 ghost use Rattle.table.specs.Bounds.{IsSmallRow};
@@ -22,10 +21,10 @@ use crate::lists::BadRoots;
 use assertion::Form;
 use groups::Totals;
 use mvrows::Rows;
-use std::alloc::Global;
+use std::alloc::{AllocError, Global};
 use std::cmp::Ordering;
 use table::{Change, Row, Schema};
-use value::{Refusal, Root, Value, order_roots};
+use value::{Root, Value, order_roots};
 
 /// The bad roots of these tables, in order, by their maintained totals. Only roots that a row names are looked at,
 /// since no other can be bad.
@@ -35,12 +34,11 @@ pub fn bad_of(
     tables: &[Rows],
     form: &Form,
     totals: &[Totals],
-) -> Result<BadRoots, Refusal>
+) -> Result<BadRoots, AllocError>
     requires bounded { IsBounded form.now }
     requires small { IsSmallState tables.now }
     requires totals { AreMaintained schemas.now tables.now form.now totals.now }
-    ensures only_memory { IsOkUnless result NoMemory }
-    ensures bad { IfOk result (AreBad schemas.now form.now tables.now) }
+    ensures { IfOk result (AreBad schemas.now form.now tables.now) }
 {
     let named = named_roots(alloc, schemas, tables, form)?;
     let none = BadRoots::new(alloc);
@@ -53,9 +51,8 @@ fn named_roots(
     schemas: &[Schema],
     tables: &[Rows],
     form: &Form,
-) -> Result<Vec<Root>, Refusal>
-    ensures only_memory { IsOkUnless result NoMemory }
-    ensures named { IfOk result (λ roots. roots.items ≡ named_roots_of schemas.now form.now tables.now) }
+) -> Result<Vec<Root>, AllocError>
+    ensures { IfOk result (λ roots. roots.items ≡ named_roots_of schemas.now form.now tables.now) }
 {
     match form {
         Form::ByRow { table, .. } => {
@@ -76,9 +73,8 @@ fn roots_in_table(
     tables: &[Rows],
     table: usize,
     column: usize,
-) -> Result<Vec<Root>, Refusal>
-    ensures only_memory { IsOkUnless result NoMemory }
-    ensures roots { IfOk result (λ roots. roots.items ≡ group_candidates column (rows_of table tables.now)) }
+) -> Result<Vec<Root>, AllocError>
+    ensures { IfOk result (λ roots. roots.items ≡ group_candidates column (rows_of table tables.now)) }
 {
     match tables.get(table) {
         Some(rows) => roots_in_rows(alloc, rows, column),
@@ -87,9 +83,8 @@ fn roots_in_table(
 }
 
 /// What a column holds in each row, as roots.
-fn roots_in_rows(alloc: Global, rows: &Rows, column: usize) -> Result<Vec<Root>, Refusal>
-    ensures only_memory { IsOkUnless result NoMemory }
-    ensures roots { IfOk result (λ roots. roots.items ≡ group_candidates column rows.now) }
+fn roots_in_rows(alloc: Global, rows: &Rows, column: usize) -> Result<Vec<Root>, AllocError>
+    ensures { IfOk result (λ roots. roots.items ≡ group_candidates column rows.now) }
 {
     let mut roots = Vec::new(alloc);
     for row in rows.iter() {
@@ -109,14 +104,13 @@ pub fn bad_after(
     totals: &[Totals],
     bad: &BadRoots,
     change: &Change,
-) -> Result<BadRoots, Refusal>
+) -> Result<BadRoots, AllocError>
     requires bounded { IsBounded form.now }
     requires small { IsSmallState tables.now }
     requires old_small { ordered.HoldsOf IsSmallRow change.now.old }
     requires new_small { ordered.HoldsOf IsSmallRow change.now.new }
     requires totals { AreMaintained schemas.now tables.now form.now totals.now }
-    ensures only_memory { IsOkUnless result NoMemory }
-    ensures bad { IfOk result (λ made. (before : State) → IsOrdered schemas.now before
+    ensures { IfOk result (λ made. (before : State) → IsOrdered schemas.now before
         → IsChangeOf schemas.now change.now before
         → tables.now ≡ state_after schemas.now change.now before → AreBad schemas.now form.now before bad.now
         → AreBad schemas.now form.now tables.now made) }
@@ -135,13 +129,12 @@ fn updated(
     totals: &[Totals],
     bad: &BadRoots,
     touched: &[Root],
-) -> Result<BadRoots, Refusal>
+) -> Result<BadRoots, AllocError>
     requires bounded { IsBounded form.now }
     requires small { IsSmallState tables.now }
     requires roots_small { All (IsSmallRoot form.now) touched.now }
     requires totals { AreMaintained schemas.now tables.now form.now totals.now }
-    ensures only_memory { IsOkUnless result NoMemory }
-    ensures updated { IfOk result (λ made. ordered.IsAscending root_cmp (λ k. k) bad.now
+    ensures { IfOk result (λ made. ordered.IsAscending root_cmp (λ k. k) bad.now
         → AreUpdated schemas.now form.now tables.now touched.now bad.now made) }
 {
     let mut made = bad.copy()?;
@@ -164,13 +157,12 @@ fn judged(
     totals: &[Totals],
     root: &Root,
     made: BadRoots,
-) -> Result<BadRoots, Refusal>
+) -> Result<BadRoots, AllocError>
     requires bounded { IsBounded form.now }
     requires small { IsSmallState tables.now }
     requires root_small { IsSmallRoot form.now root.now }
     requires totals { AreMaintained schemas.now tables.now form.now totals.now }
-    ensures only_memory { IsOkUnless result NoMemory }
-    ensures judged { IfOk result (λ next.
+    ensures { IfOk result (λ next.
         next ≡ put_root root.now (is_bad_root schemas.now form.now tables.now root.now) made) }
 {
     let row = row_of(schemas, tables, form, root);

@@ -221,7 +221,7 @@ impl<N: Named> Txn<N> {
         ensures only_memory { IsOkUnless result NoMemory }
         ensures names { IfOk result (λ names. names.items ≡ false_names (own_view self.now.inner)) }
     {
-        self.inner.pending()
+        Ok(self.inner.pending()?)
     }
 
     /// Takes the transaction to COMMIT: its net change, and the check of all assertions on its own view. NoMemory is

@@ -64,7 +64,7 @@ pub fn read_address(alloc: Global, bytes: &[u8]) -> Result<Address, Refusal>
     match find(bytes, name.end, Kind::Colon) {
         None => nameless(alloc),
         Some(colon) => Ok(Address {
-            session: Text::new(name_bytes(alloc, &bytes[name.start..name.end])?),
+            session: Text::new(name_bytes(alloc, &bytes[name.start..name.end])?)?,
             from: colon.end,
         }),
     }

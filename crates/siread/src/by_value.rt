@@ -1,15 +1,14 @@
 //! The readers of one family of keys.
 
-ghost use Rattle.std.specs.Prelude.{◌≡◌, [], true, filter, not, IsOkUnless, OnOk, OnErr};
+ghost use Rattle.std.specs.Prelude.{◌≡◌, [], true, filter, not, OnOk, OnErr};
 ghost use Rattle.siread.specs.Families.{changed_value, is_no_entry, no_readers, reaching_each, readers_of, IsValueCount};
 ghost use Rattle.siread.specs.Readers.{is_none, last_reaching, left_out, reaches_above, with_last};
-ghost use Rattle.value.specs.declared.refusals.Refusal.TheVariants.{NoMemory};
 
 use crate::readers::{Reach, Readers, last_reaching};
-use std::alloc::Global;
+use std::alloc::{AllocError, Global};
 use std::collections::BTreeMap;
 use std::marker::Model;
-use value::{Refusal, Value};
+use value::Value;
 
 /// For each value its readers.
 #[derive(Drop)]
@@ -52,10 +51,8 @@ impl ByValue {
         last_reaching(self.readers(value), reach)
     }
 
-    /// One reader more of a value, if it isn't the last of them already. NoMemory is the only error, and leaves all as
-    /// it was.
-    pub fn put(&mut self, alloc: Global, number: u64, value: &Value) -> Result<(), Refusal>
-        ensures only_memory { IsOkUnless result NoMemory }
+    /// One reader more of a value, if it isn't the last of them already. Where it finds no memory, all is as it was.
+    pub fn put(&mut self, alloc: Global, number: u64, value: &Value) -> Result<(), AllocError>
         ensures put { OnOk result (readers_of self.new
             ≡ changed_value value.now (with_last number) (readers_of self.old)) }
         ensures unchanged { OnErr result (readers_of self.new ≡ readers_of self.old) }

@@ -1,14 +1,14 @@
 //! Places of rows, keys of reads, and the changes that touch a key.
 
-ghost use Rattle.std.specs.Prelude.{◌≡◌, IfOk, IsOkUnless};
-ghost use Rattle.value.specs.declared.refusals.Refusal.TheVariants.{NoMemory};
+ghost use Rattle.std.specs.Prelude.{◌≡◌, IfOk};
 ghost use Rattle.value.specs.declared.values.Value.TheVariants.{Null};
 ghost use Rattle.table.specs.Rows.{value_in};
 ghost use Rattle.siread.specs.Keys.{holds, is_under, same_value, touches};
 ghost use Rattle.siread.specs.Families.{family_of, value_of};
 
+use std::alloc::AllocError;
 use table::{Change, Row};
-use value::{Refusal, Value, order};
+use value::{Value, order};
 
 /// Where a row stands: its table, by the table's place in the order of creation, and its key there. In order by
 /// table, and then by key.
@@ -68,10 +68,9 @@ impl LockKey {
         }
     }
 
-    /// A key equal to this one. NoMemory is the only error.
-    pub fn copy(&self) -> Result<LockKey, Refusal>
-        ensures only_memory { IsOkUnless result NoMemory }
-        ensures equal { IfOk result (λ copy. copy ≡ self.now) }
+    /// A key equal to this one.
+    pub fn copy(&self) -> Result<LockKey, AllocError>
+        ensures { IfOk result (λ copy. copy ≡ self.now) }
     {
         match self {
             LockKey::Row(place) => Ok(LockKey::Row(Place {

@@ -1,20 +1,19 @@
 //! The table of all reads.
 
-ghost use Rattle.std.specs.Prelude.{◌≡◌, ◌+◌, ◌∷◌, [], ℕ, not, IsOkUnless, OnOk, OnErr};
+ghost use Rattle.std.specs.Prelude.{◌≡◌, ◌+◌, ◌∷◌, [], ℕ, not, OnOk, OnErr};
 ghost use Rattle.table.specs.Rows.{value_in};
 ghost use Rattle.siread.specs.Families.{is_no_entry, last_in, last_over, last_under, reaching_each, readers_of, IsFamilyCount};
 ghost use Rattle.siread.specs.Locks.{changed_at, no_reads, reaching, readers_at, with_reader, without_reader, AreBelow, IsCount, IsGreatestReader, IsPartlyPut, IsUndone};
 ghost use Rattle.siread.specs.Readers.{last_reaching, left_out, with_last, ReachNoFurther};
-ghost use Rattle.value.specs.declared.refusals.Refusal.TheVariants.{NoMemory};
 
 use crate::by_value::ByValue;
 use crate::keys::{Family, LockKey};
 use crate::readers::Reach;
-use std::alloc::Global;
+use std::alloc::{AllocError, Global};
 use std::collections::BTreeMap;
 use std::marker::Model;
 use table::{Change, Row};
-use value::{Refusal, Value};
+use value::Value;
 
 /// Who read what: for each key the ascending list of its readers, each the number of a commit. The keys of a family
 /// stand under their values, so that a value of a row is looked up as it stands there.
@@ -88,19 +87,18 @@ impl LockTable {
     ///
     /// # Errors
     ///
-    /// [`Refusal::NoMemory`] alone. The table is then as it was.
-    pub fn put(&mut self, number: u64, keys: &[LockKey]) -> Result<(), Refusal>
+    /// Want of memory. The table is then as it was.
+    pub fn put(&mut self, number: u64, keys: &[LockKey]) -> Result<(), AllocError>
         requires { AreBelow number (readers_at self.old) }
-        ensures only_memory { IsOkUnless result NoMemory }
         ensures put { OnOk result (readers_at self.new ≡ with_reader number keys.now (readers_at self.old)) }
         ensures below { OnOk result (AreBelow (number + 1) (readers_at self.new)) }
         ensures unchanged { OnErr result (readers_at self.new ≡ readers_at self.old) }
     {
         match self.put_each(number, keys) {
             Ok(()) => Ok(()),
-            Err(refusal) => {
+            Err(error) => {
                 self.take_back(number, keys);
-                Err(refusal)
+                Err(error)
             }
         }
     }
@@ -124,9 +122,8 @@ impl LockTable {
     }
 
     /// Puts a reader to these keys one after the other, up to the first that finds no memory.
-    fn put_each(&mut self, number: u64, keys: &[LockKey]) -> Result<(), Refusal>
+    fn put_each(&mut self, number: u64, keys: &[LockKey]) -> Result<(), AllocError>
         requires { AreBelow number (readers_at self.old) }
-        ensures only_memory { IsOkUnless result NoMemory }
         ensures put { OnOk result (readers_at self.new ≡ with_reader number keys.now (readers_at self.old)) }
         ensures part { OnErr result (IsPartlyPut number keys.now (readers_at self.old) (readers_at self.new)) }
     {
@@ -137,9 +134,8 @@ impl LockTable {
     }
 
     /// One reader more of a key, if it isn't the last of them already.
-    fn put_one(&mut self, number: u64, key: &LockKey) -> Result<(), Refusal>
+    fn put_one(&mut self, number: u64, key: &LockKey) -> Result<(), AllocError>
         requires { AreBelow (number + 1) (readers_at self.old) }
-        ensures only_memory { IsOkUnless result NoMemory }
         ensures put { OnOk result (readers_at self.new ≡ changed_at key.now (with_last number) (readers_at self.old)) }
         ensures unchanged { OnErr result (readers_at self.new ≡ readers_at self.old) }
     {

@@ -1,12 +1,10 @@
 //! The readers of one key.
 
-ghost use Rattle.std.specs.Prelude.{◌≡◌, [], ◌∷◌, length, filter, not, slice_index_or, IfOk, IsOkUnless, OnOk, OnErr};
+ghost use Rattle.std.specs.Prelude.{◌≡◌, [], ◌∷◌, length, filter, not, slice_index_or, IfOk, OnOk, OnErr};
 ghost use Rattle.siread.specs.Readers.{ends_in, is_none, last_reaching, left_out, reach_of, reaches_above, with_last};
-ghost use Rattle.value.specs.declared.refusals.Refusal.TheVariants.{NoMemory};
 
-use std::alloc::Global;
+use std::alloc::{AllocError, Global};
 use std::marker::Model;
-use value::Refusal;
 
 /// The numbers of those who read one key.
 #[derive(Debug, Drop)]
@@ -23,19 +21,17 @@ impl Model for Readers {
 }
 
 impl Readers {
-    /// One reader. NoMemory is the only error.
-    pub fn from_one(alloc: Global, number: u64) -> Result<Readers, Refusal>
-        ensures only_memory { IsOkUnless result NoMemory }
-        ensures one { IfOk result (λ readers. readers ≡ number ∷ []) }
+    /// One reader.
+    pub fn from_one(alloc: Global, number: u64) -> Result<Readers, AllocError>
+        ensures { IfOk result (λ readers. readers ≡ number ∷ []) }
     {
         let mut numbers = Vec::new(alloc);
         numbers.push(number)?;
         Ok(Readers { numbers })
     }
 
-    /// Puts a number last, unless it stands there. NoMemory is the only error, and leaves them as they were.
-    pub fn put_last(&mut self, number: u64) -> Result<(), Refusal>
-        ensures only_memory { IsOkUnless result NoMemory }
+    /// Puts a number last, unless it stands there. Where it finds no memory, they are as they were.
+    pub fn put_last(&mut self, number: u64) -> Result<(), AllocError>
         ensures put { OnOk result (self.new ≡ with_last number self.old) }
         ensures unchanged { OnErr result (self.new ≡ self.old) }
     {

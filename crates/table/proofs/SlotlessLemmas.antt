@@ -1,11 +1,10 @@
 -- What slots change: nothing where there are none, and no bound where they hold a row's values.
-use Rattle.std.proofs.Common.{◌≡◌, ℕ, zero, suc, ◌^◌, Bool, true, false, List, [], ◌∷◌, Option, Some, map, refl, sym, ◌∙◌, ap, subst}
-use Rattle.std.specs.Prelude.{◌||◌, ◌&&◌, is_some}
+use Rattle.std.proofs.Common.{◌≡◌, ℕ, zero, suc, Bool, false, List, [], ◌∷◌, Option, Some, map, refl, sym, ◌∙◌, ap, subst}
+use Rattle.std.specs.Prelude.{◌&&◌, is_some}
 use Rattle.std.proofs.lemmas.Bool.{or_parts}
 use Rattle.value.specs.declared.values.Value.{Value}
 use Rattle.value.specs.declared.truths.Truth.{Truth}
 use Rattle.table.specs.Rows.{RowValues}
-use Rattle.table.specs.declared.slots.SlotKind.{SlotKind}
 use Rattle.table.specs.declared.slots.SlotKind.TheVariants.{Extreme}
 use Rattle.table.specs.declared.exprs.Expr.{Expr}
 use Rattle.table.specs.declared.exprs.Expr.TheOpen.{Expr-F}

@@ -1,14 +1,13 @@
 //! Conditions.
 
-ghost use Rattle.std.specs.Prelude.{◌≡◌, IfOk, IsOkUnless};
-ghost use Rattle.value.specs.declared.refusals.Refusal.TheVariants.{NoMemory};
+ghost use Rattle.std.specs.Prelude.{◌≡◌, IfOk};
 ghost use Rattle.table.specs.Conditions.{between_of, in_of};
 ghost use Rattle.table.specs.Slotless.{has_slots};
 
 use crate::exprs::Expr;
 use sqlite_items::{Boxed, Items};
-use std::alloc::Global;
-use value::{Comparison, Refusal, Truth};
+use std::alloc::{AllocError, Global};
+use value::{Comparison, Truth};
 
 /// A condition over the columns of a row and the slots beside it. An And of no part is true, and an Or of none false.
 #[derive(Debug, Drop)]
@@ -45,17 +44,15 @@ impl Cond {
     }
 
     /// NOT of a condition.
-    pub fn negation(alloc: Global, part: Cond) -> Result<Cond, Refusal>
-        ensures only_memory { IsOkUnless result NoMemory }
-        ensures made { IfOk result (λ made. made ≡ Cond.Not part) }
+    pub fn negation(alloc: Global, part: Cond) -> Result<Cond, AllocError>
+        ensures { IfOk result (λ made. made ≡ Cond.Not part) }
     {
         Ok(Cond::Not(Boxed::new(alloc, part)?))
     }
 
     /// `subject BETWEEN low AND high`: at least the one and at most the other.
-    pub fn between(alloc: Global, subject: Expr, low: Expr, high: Expr) -> Result<Cond, Refusal>
-        ensures only_memory { IsOkUnless result NoMemory }
-        ensures made { IfOk result (λ made. made ≡ between_of subject low high) }
+    pub fn between(alloc: Global, subject: Expr, low: Expr, high: Expr) -> Result<Cond, AllocError>
+        ensures { IfOk result (λ made. made ≡ between_of subject low high) }
     {
         let again = subject.copy(alloc)?;
         let mut parts = Vec::with_capacity(alloc, 2)?;
@@ -65,9 +62,8 @@ impl Cond {
     }
 
     /// `subject IN (values)`: an Or of one equality for each value, also where there is one value alone.
-    pub fn is_in(alloc: Global, subject: &Expr, values: Vec<Expr>) -> Result<Cond, Refusal>
-        ensures only_memory { IsOkUnless result NoMemory }
-        ensures made { IfOk result (λ made. made ≡ in_of subject.now values.items) }
+    pub fn is_in(alloc: Global, subject: &Expr, values: Vec<Expr>) -> Result<Cond, AllocError>
+        ensures { IfOk result (λ made. made ≡ in_of subject.now values.items) }
     {
         let mut parts = Vec::new(alloc);
         for value in values {
@@ -77,9 +73,8 @@ impl Cond {
     }
 
     /// A condition equal to this one.
-    pub fn copy(&self, alloc: Global) -> Result<Cond, Refusal>
-        ensures only_memory { IsOkUnless result NoMemory }
-        ensures equal { IfOk result (λ copy. copy ≡ self.now) }
+    pub fn copy(&self, alloc: Global) -> Result<Cond, AllocError>
+        ensures { IfOk result (λ copy. copy ≡ self.now) }
     {
         match self {
             Cond::Compare(comparison, left, right) => {

@@ -1,12 +1,11 @@
 //! Expressions.
 
-ghost use Rattle.std.specs.Prelude.{◌≡◌, IfOk, IsOkUnless};
+ghost use Rattle.std.specs.Prelude.{◌≡◌, IfOk};
 ghost use Rattle.table.specs.Slotless.{expression_has_slots};
-ghost use Rattle.value.specs.declared.refusals.Refusal.TheVariants.{NoMemory};
 
 use sqlite_items::{Boxed, Items};
-use std::alloc::Global;
-use value::{Refusal, Value};
+use std::alloc::{AllocError, Global};
+use value::Value;
 
 /// An expression over the columns of a row and the slots beside it. A sum or a product goes from the left; of no part
 /// it is 0 or 1. What SQL writes `a - b` is the sum of `a` and the negation of `b`.
@@ -43,9 +42,8 @@ impl Expr {
     }
 
     /// An expression equal to this one.
-    pub fn copy(&self, alloc: Global) -> Result<Expr, Refusal>
-        ensures only_memory { IsOkUnless result NoMemory }
-        ensures equal { IfOk result (λ copy. copy ≡ self.now) }
+    pub fn copy(&self, alloc: Global) -> Result<Expr, AllocError>
+        ensures { IfOk result (λ copy. copy ≡ self.now) }
     {
         match self {
             Expr::Literal(value) => Ok(Expr::Literal(value.copy()?)),

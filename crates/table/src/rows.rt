@@ -1,32 +1,35 @@
 //! Rows, and changes of rows.
 
-ghost use Rattle.std.specs.Prelude.{◌≡◌, ◌<◌, length, IfOk, IsOkUnless};
+ghost use Rattle.std.specs.Prelude.{◌≡◌, ◌<◌, length, IfOk};
 ghost use Rattle.table.specs.Rows.{value_in};
-ghost use Rattle.value.specs.declared.refusals.Refusal.TheVariants.{NoMemory};
 
+use std::alloc::AllocError;
 use std::marker::Model;
-use value::{Refusal, Value};
+use std::sync::Arc;
+use value::{Copied, Refusal, Value};
 
-/// A row: a value for each column, in the order of the columns.
+/// A row: a value for each column, in the order of the columns. A copy shares the values.
 #[derive(Debug, Drop)]
 pub struct Row {
-    values: Vec<Value>,
+    values: Arc<Vec<Value>>,
 }
 
 impl Model for Row {
+    ghost use Rattle.std.specs.Arc.{arc_value};
     ghost use Rattle.table.specs.Rows.{RowValues};
 
     ghost Value = { RowValues };
 
-    ghost view = { λ row. row.values.items };
+    ghost view = { λ row. (arc_value row.values).items };
 }
 
 impl Row {
     /// The row of these values.
-    pub fn new(values: Vec<Value>) -> Row
-        ensures { result ≡ values.items }
+    pub fn new(values: Vec<Value>) -> Result<Row, AllocError>
+        ensures { IfOk result (λ row. row ≡ values.items) }
     {
-        Row { values }
+        let values = Arc::new(*values.allocator(), values)?;
+        Ok(Row { values })
     }
 
     /// The number of values.
@@ -50,16 +53,18 @@ impl Row {
         &self.values[column]
     }
 
-    /// A row equal to this one.
-    pub fn copy(&self) -> Result<Row, Refusal>
-        ensures only_memory { IsOkUnless result NoMemory }
-        ensures equal { IfOk result (λ copy. copy ≡ self.now) }
+    /// A row equal to this one. It shares the values, and takes no memory.
+    pub fn copy(&self) -> Result<Row, AllocError>
+        ensures { IfOk result (λ copy. copy ≡ self.now) }
     {
-        let mut values = Vec::with_capacity(*self.values.allocator(), self.values.len())?;
-        for value in &self.values {
-            values.push(value.copy()?)?;
-        }
+        let values = Arc::try_clone(&self.values)?;
         Ok(Row { values })
+    }
+}
+
+impl Copied for Row {
+    fn copied(&self) -> Result<Row, AllocError> {
+        self.copy()
     }
 }
 

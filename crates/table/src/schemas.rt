@@ -1,12 +1,13 @@
 //! Columns, schemas, and the tests of a row against them.
 
-ghost use Rattle.std.specs.Prelude.{◌≡◌, ◌<◌, ◌⊎◌, length, IsTrue, IsNone, IsOk, Some, None, OnOk, IfOk, IfErr, IsOkUnless};
+ghost use Rattle.std.specs.Prelude.{◌≡◌, ◌<◌, ◌⊎◌, length, IsTrue, IsNone, IsOk, Some, None, OnOk, IfOk, IfErr};
 ghost use Rattle.table.specs.Rows.{FitsColumns, column_of};
 ghost use Rattle.table.specs.Faults.{is_typed, are_typed, fault_in, row_fault, row_refusal};
 ghost use Rattle.value.specs.declared.refusals.Refusal.TheVariants.{NoMemory, OutOfRange};
 ghost use Rattle.value.specs.declared.values.Value.TheVariants.{Null};
 
 use crate::rows::Row;
+use std::alloc::AllocError;
 use std::marker::Model;
 use value::{ColType, Excess, Refusal, Text, Value};
 
@@ -37,8 +38,7 @@ impl Column {
 
     /// What is wrong with a value of the column's type: NULL where the column takes none, a number beyond the range,
     /// or a text longer than the column.
-    pub fn fault(&self, value: &Value) -> Result<Option<Refusal>, Refusal>
-        ensures only_memory { IsOkUnless result NoMemory }
+    pub fn fault(&self, value: &Value) -> Result<Option<Refusal>, AllocError>
         ensures fault { IfOk result (λ fault. fault ≡ fault_in self.now value.now) }
         ensures none { IsNone (fault_in self.now value.now) → IsOk result }
     {
@@ -54,8 +54,7 @@ impl Column {
     }
 
     /// What is wrong with NULL in the column.
-    fn null_fault(&self) -> Result<Option<Refusal>, Refusal>
-        ensures only_memory { IsOkUnless result NoMemory }
+    fn null_fault(&self) -> Result<Option<Refusal>, AllocError>
         ensures fault { IfOk result (λ fault. fault ≡ fault_in self.now Null) }
         ensures none { IsNone (fault_in self.now Null) → IsOk result }
     {
@@ -68,9 +67,8 @@ impl Column {
     }
 
     /// The fault of a value that is too much for the column.
-    fn excess(&self, excess: Excess) -> Result<Option<Refusal>, Refusal>
-        ensures only_memory { IsOkUnless result NoMemory }
-        ensures fault { IfOk result (λ fault. fault ≡ Some (OutOfRange self.now.name excess)) }
+    fn excess(&self, excess: Excess) -> Result<Option<Refusal>, AllocError>
+        ensures { IfOk result (λ fault. fault ≡ Some (OutOfRange self.now.name excess)) }
     {
         Ok(Some(Refusal::OutOfRange {
             column: self.name.copy()?,
@@ -79,9 +77,8 @@ impl Column {
     }
 
     /// A column equal to this one.
-    pub fn copy(&self) -> Result<Column, Refusal>
-        ensures only_memory { IsOkUnless result NoMemory }
-        ensures equal { IfOk result (λ copy. copy ≡ self.now) }
+    pub fn copy(&self) -> Result<Column, AllocError>
+        ensures { IfOk result (λ copy. copy ≡ self.now) }
     {
         Ok(Column {
             name: self.name.copy()?,
@@ -171,9 +168,8 @@ impl Schema {
     }
 
     /// A schema equal to this one.
-    pub fn copy(&self) -> Result<Schema, Refusal>
-        ensures only_memory { IsOkUnless result NoMemory }
-        ensures equal { IfOk result (λ copy. copy ≡ self.now) }
+    pub fn copy(&self) -> Result<Schema, AllocError>
+        ensures { IfOk result (λ copy. copy ≡ self.now) }
     {
         let mut columns = Vec::new(*self.columns.allocator());
         for column in &self.columns {
@@ -203,9 +199,8 @@ fn are_typed(columns: &[Column], values: &[Value]) -> bool
 }
 
 /// The first fault of the values, by columns.
-fn first_fault(columns: &[Column], values: &[Value]) -> Result<Option<Refusal>, Refusal>
+fn first_fault(columns: &[Column], values: &[Value]) -> Result<Option<Refusal>, AllocError>
     requires { length values.now ≡ length columns.now }
-    ensures only_memory { IsOkUnless result NoMemory }
     ensures fault { IfOk result (λ fault. fault ≡ row_fault columns.now values.now) }
     ensures none { IsNone (row_fault columns.now values.now) → IsOk result }
 {

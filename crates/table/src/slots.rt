@@ -1,7 +1,6 @@
 //! The values of aggregates and subqueries beside a row.
 
-ghost use Rattle.std.specs.Prelude.{◌≡◌, ◌≤◌, [], ◌∷◌, ◌++◌, map, IfOk, IsOkUnless, OnOk, OnErr, slice_index_or};
-ghost use Rattle.value.specs.declared.refusals.Refusal.TheVariants.{NoMemory};
+ghost use Rattle.std.specs.Prelude.{◌≡◌, ◌≤◌, [], ◌∷◌, ◌++◌, map, IfOk, OnOk, OnErr, slice_index_or};
 ghost use Rattle.value.specs.declared.values.Value.TheVariants as value;
 ghost use Rattle.table.specs.Bounds.{IsSmallRow, limit_at};
 ghost use Rattle.table.specs.Slots.{IsWithinKind, kinds_of, magnitude, values_of};
@@ -10,9 +9,9 @@ ghost use Rattle.table.specs.Shown.{shown};
 
 use crate::evals::{Given, lent};
 use crate::rows::Row;
-use std::alloc::Global;
+use std::alloc::{AllocError, Global};
 use std::marker::Model;
-use value::{Refusal, Value};
+use value::Value;
 
 /// Which set function a slot holds, where that decides how large its number can be.
 #[derive(Clone, Copy, Debug, PartialEq, Eq)]
@@ -60,9 +59,8 @@ impl Slots {
     }
 
     /// The values of a row, each in the slot of its column's place.
-    pub fn of_row(alloc: Global, row: &Row) -> Result<Slots, Refusal>
+    pub fn of_row(alloc: Global, row: &Row) -> Result<Slots, AllocError>
         requires { IsSmallRow row.now }
-        ensures only_memory { IsOkUnless result NoMemory }
         ensures kinds { IfOk result (λ slots. kinds_of slots ≡ map (λ v. kind.Extreme) row.now) }
         ensures values { IfOk result (λ slots. values_of slots ≡ row.now) }
     {
@@ -74,9 +72,8 @@ impl Slots {
     }
 
     /// Puts one more slot behind the others. After an error they are as before.
-    pub fn push(&mut self, value: SlotValue) -> Result<(), Refusal>
+    pub fn push(&mut self, value: SlotValue) -> Result<(), AllocError>
         requires { IsWithinKind value }
-        ensures only_memory { IsOkUnless result NoMemory }
         ensures ok { OnOk result (self.new ≡ self.old ++ value ∷ []) }
         ensures err { OnErr result (self.new ≡ self.old) }
     {

@@ -3,13 +3,13 @@
 use crate::forms::{all_rows, by_group, by_row, single};
 use crate::shared::let_go;
 use assertion::{Assertion, ConstraintAttributes, Form, kind};
-use std::alloc::Global;
+use std::alloc::{AllocError, Global};
 use std::test::Fail;
 use table::{Aggregate, SlotKind};
-use value::{Comparison, Refusal, Text};
+use value::{Comparison, Text};
 
 /// A copy of the assertion COVER of this form, which is deferred from the start.
-fn copied(alloc: Global, form: &Form) -> Result<Assertion, Refusal> {
+fn copied(alloc: Global, form: &Form) -> Result<Assertion, AllocError> {
     let name = Text::from_str(alloc, "COVER")?;
     let assertion = Assertion {
         name,
@@ -58,10 +58,10 @@ fn is_cover(copy: &Assertion, table: usize, aggregate: Aggregate) -> bool {
 /// Whether the copy of an assertion of this form is such an assertion.
 fn is_copied(
     alloc: Global,
-    made: Result<Form, Refusal>,
+    made: Result<Form, AllocError>,
     table: usize,
     aggregate: Aggregate,
-) -> Result<bool, Refusal> {
+) -> Result<bool, AllocError> {
     let form = made?;
     let copied = copied(alloc, &form);
     let_go(form);
@@ -72,19 +72,19 @@ fn is_copied(
 }
 
 /// Whether an assertion on each row is copied.
-fn row_is_copied(alloc: Global) -> Result<bool, Refusal> {
+fn row_is_copied(alloc: Global) -> Result<bool, AllocError> {
     let count = Aggregate::CountRows;
     is_copied(alloc, by_row(alloc, 1, 1, Comparison::Equal, 0), 0, count)
 }
 
 /// Whether an assertion on each group is copied.
-fn group_is_copied(alloc: Global) -> Result<bool, Refusal> {
+fn group_is_copied(alloc: Global) -> Result<bool, AllocError> {
     let sum = Aggregate::Sum(2);
     is_copied(alloc, by_group(alloc, 2, sum, Comparison::Less, 0), 2, sum)
 }
 
 /// Whether an assertion on a whole table is copied.
-fn single_is_copied(alloc: Global) -> Result<bool, Refusal> {
+fn single_is_copied(alloc: Global) -> Result<bool, AllocError> {
     let sum = Aggregate::Sum(2);
     is_copied(alloc, single(alloc, 2, all_rows(alloc), sum, 100), 0, sum)
 }

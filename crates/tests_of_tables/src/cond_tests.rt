@@ -6,7 +6,7 @@ ghost use Rattle.table.specs.Slots.{kinds_of};
 
 use crate::shared::{let_go, same, text};
 use sqlite_items::{Boxed, Items};
-use std::alloc::Global;
+use std::alloc::{AllocError, Global};
 use std::process::Abort;
 use std::test::Fail;
 use table::{Cond, Expr, Row, SlotKind, SlotValue, Slots, bound, eval, is_bounded, keeps};
@@ -37,7 +37,7 @@ fn known(truth: Truth) -> Cond {
 }
 
 /// A list of two items.
-fn two<T: Drop>(alloc: Global, first: T, second: T) -> Result<Items<T>, Refusal> {
+fn two<T: Drop>(alloc: Global, first: T, second: T) -> Result<Items<T>, AllocError> {
     let mut items = Vec::new(alloc);
     items.push(first)?;
     items.push(second)?;
@@ -45,14 +45,14 @@ fn two<T: Drop>(alloc: Global, first: T, second: T) -> Result<Items<T>, Refusal>
 }
 
 /// A row of NULL and 5.
-fn row(alloc: Global) -> Result<Row, Refusal>
+fn row(alloc: Global) -> Result<Row, AllocError>
     ensures { IfOk result (λ row. IsSmallRow row) }
 {
-    Ok(Row::new(vec![in alloc; Value::Null, Value::Int(5)]?))
+    Row::new(vec![in alloc; Value::Null, Value::Int(5)]?)
 }
 
 /// A SUM of nothing, a COUNT of nothing and a COUNT of 3.
-fn slots(alloc: Global) -> Result<Slots, Refusal>
+fn slots(alloc: Global) -> Result<Slots, AllocError>
     ensures { IfOk result (λ slots. kinds_of slots ≡ SlotKind.Sum ∷ SlotKind.Count ∷ SlotKind.Count ∷ []) }
 {
     let mut slots = Slots::new(alloc);
@@ -79,7 +79,7 @@ fn name_of(cond: &Cond, row: &Row, slots: &Slots) -> &'static str
 }
 
 /// The name of the condition's truth, on the row and with the slots above.
-fn told(alloc: Global, cond: &Cond) -> Result<&'static str, Refusal> {
+fn told(alloc: Global, cond: &Cond) -> Result<&'static str, AllocError> {
     let row = row(alloc)?;
     let slots = slots(alloc)?;
     Ok(name_of(cond, &row, &slots))
@@ -88,7 +88,7 @@ fn told(alloc: Global, cond: &Cond) -> Result<&'static str, Refusal> {
 /// Ends the test where the condition has another truth.
 fn is_told(
     rt: &(impl Abort + Alloc<A = Global>),
-    made: Result<Cond, Refusal>,
+    made: Result<Cond, AllocError>,
     wanted: &str,
 ) -> Result<(), Fail> {
     let cond = made?;
@@ -99,17 +99,17 @@ fn is_told(
 }
 
 /// Both of two truths.
-fn both(alloc: Global, left: Truth, right: Truth) -> Result<Cond, Refusal> {
+fn both(alloc: Global, left: Truth, right: Truth) -> Result<Cond, AllocError> {
     Ok(Cond::And(two(alloc, known(left), known(right))?))
 }
 
 /// Either of two truths.
-fn either(alloc: Global, left: Truth, right: Truth) -> Result<Cond, Refusal> {
+fn either(alloc: Global, left: Truth, right: Truth) -> Result<Cond, AllocError> {
     Ok(Cond::Or(two(alloc, known(left), known(right))?))
 }
 
 /// A copy of a condition.
-fn copied(alloc: Global, made: Result<Cond, Refusal>) -> Result<Cond, Refusal> {
+fn copied(alloc: Global, made: Result<Cond, AllocError>) -> Result<Cond, AllocError> {
     let cond = made?;
     let copy = cond.copy(alloc);
     let_go(cond);
@@ -117,7 +117,7 @@ fn copied(alloc: Global, made: Result<Cond, Refusal>) -> Result<Cond, Refusal> {
 }
 
 /// NOT of a condition.
-fn negated(alloc: Global, made: Result<Cond, Refusal>) -> Result<Cond, Refusal> {
+fn negated(alloc: Global, made: Result<Cond, AllocError>) -> Result<Cond, AllocError> {
     Cond::negation(alloc, made?)
 }
 
@@ -147,7 +147,7 @@ fn tables_of_and_or_not(rt: HostRuntime) -> Result<(), Fail> {
 }
 
 /// `(1 = NULL) IS UNKNOWN`.
-fn asked(alloc: Global) -> Result<Cond, Refusal> {
+fn asked(alloc: Global) -> Result<Cond, AllocError> {
     let part = Boxed::new(alloc, known(Truth::Unknown))?;
     Ok(Cond::Is(part, Truth::Unknown))
 }
@@ -158,7 +158,7 @@ fn a_truth_is_asked_for(rt: HostRuntime) -> Result<(), Fail> {
 }
 
 /// `5 BETWEEN low AND high`.
-fn between(alloc: Global, low: Option<i64>, high: Option<i64>) -> Result<Cond, Refusal> {
+fn between(alloc: Global, low: Option<i64>, high: Option<i64>) -> Result<Cond, AllocError> {
     Cond::between(
         alloc,
         Expr::Column(1),
@@ -185,7 +185,7 @@ fn betweens(rt: HostRuntime) -> Result<(), Fail> {
 }
 
 /// `subject IN (NULL, 5)`.
-fn among(alloc: Global, subject: i64) -> Result<Cond, Refusal> {
+fn among(alloc: Global, subject: i64) -> Result<Cond, AllocError> {
     let values = vec![in alloc; number_or_null(None), Expr::Column(1)]?;
     Cond::is_in(alloc, &number(subject), values)
 }
@@ -204,7 +204,7 @@ fn lists(rt: HostRuntime) -> Result<(), Fail> {
 }
 
 /// Whether `5 IN (5)` is an OR of one part.
-fn is_or(alloc: Global) -> Result<bool, Refusal> {
+fn is_or(alloc: Global) -> Result<bool, AllocError> {
     let made = Cond::is_in(alloc, &number(5), vec![in alloc; number(5)]?);
     let is_or = matches!(&made, Ok(Cond::Or(_)));
     let_go(made);
@@ -218,36 +218,36 @@ fn a_list_of_one_is_an_or(rt: HostRuntime) -> Result<(), Fail> {
 }
 
 /// `NULL + 1 IS NULL`.
-fn null_sum(alloc: Global) -> Result<Cond, Refusal> {
+fn null_sum(alloc: Global) -> Result<Cond, AllocError> {
     let parts = two(alloc, Expr::Column(0), number(1))?;
     Ok(Cond::IsNull(Expr::Sum(parts)))
 }
 
 /// `- 5 * 3`.
-fn negated_product(alloc: Global) -> Result<Expr, Refusal> {
+fn negated_product(alloc: Global) -> Result<Expr, AllocError> {
     let product = Expr::Product(two(alloc, Expr::Column(1), number(3))?);
     Ok(Expr::Negation(Boxed::new(alloc, product)?))
 }
 
 /// `- 5 * 3 = -15`.
-fn minus_fifteen(alloc: Global) -> Result<Cond, Refusal> {
+fn minus_fifteen(alloc: Global) -> Result<Cond, AllocError> {
     Ok(equal(negated_product(alloc)?, number(-15)))
 }
 
 /// KIM is equal to itself.
-fn equal_copy(alloc: Global) -> Result<Cond, Refusal> {
+fn equal_copy(alloc: Global) -> Result<Cond, AllocError> {
     let text = Expr::Literal(text(alloc, "KIM")?);
     let copy = text.copy(alloc);
     equal_where_copied(text, copy)
 }
 
 /// The one is equal to the other, which may be missing.
-fn equal_where_copied(text: Expr, copy: Result<Expr, Refusal>) -> Result<Cond, Refusal> {
+fn equal_where_copied(text: Expr, copy: Result<Expr, AllocError>) -> Result<Cond, AllocError> {
     match copy {
         Ok(copy) => Ok(equal(copy, text)),
-        Err(refusal) => {
+        Err(error) => {
             let_go(text);
-            Err(refusal)
+            Err(error)
         }
     }
 }
@@ -274,7 +274,7 @@ fn slots_of_nothing(rt: HostRuntime) -> Result<(), Fail> {
 }
 
 /// BAL * BAL * factor.
-fn square(alloc: Global, factor: i64) -> Result<Expr, Refusal> {
+fn square(alloc: Global, factor: i64) -> Result<Expr, AllocError> {
     let balance = Expr::Column(2);
     let parts = vec![in alloc; balance, Expr::Column(2), number(factor)]?;
     Ok(Expr::Product(Items::from_vec(parts)))
@@ -298,7 +298,7 @@ fn bound_in(expr: &Expr, kinds: &[SlotKind]) -> u128 {
 }
 
 /// The bound of BAL * BAL * factor.
-fn bound_of_square(alloc: Global, factor: i64) -> Result<u128, Refusal> {
+fn bound_of_square(alloc: Global, factor: i64) -> Result<u128, AllocError> {
     let square = square(alloc, factor)?;
     let found = bound_in(&square, &[]);
     let_go(square);

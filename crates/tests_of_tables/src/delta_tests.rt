@@ -18,38 +18,38 @@ use table::{Aggregate, Catalog, Change, Row, Schema};
 use value::{ColType, Comparison, Refusal, Root, Text, Value};
 
 /// ACCOUNT (ID INTEGER, NAME VARCHAR(3), BAL INTEGER), with the key ID.
-fn schema(alloc: Global) -> Result<Schema, Refusal> {
+fn schema(alloc: Global) -> Result<Schema, AllocError> {
     let mut columns = columns(alloc)?;
     columns.push(column(alloc, "BAL", ColType::Integer, false)?)?;
     Ok(Schema::new(columns, 0))
 }
 
 /// A row of that table; without a name it is NULL.
-fn row(alloc: Global, id: i64, name: &str, balance: i64) -> Result<Row, Refusal> {
+fn row(alloc: Global, id: i64, name: &str, balance: i64) -> Result<Row, AllocError> {
     let name = if name.is_empty() {
         Value::Null
     } else {
         text(alloc, name)?
     };
-    Ok(Row::new(vec![in alloc; Value::Int(id), name, Value::Int(balance)]?))
+    Row::new(vec![in alloc; Value::Int(id), name, Value::Int(balance)]?)
 }
 
 /// No owner's least balance is above 5.
-fn high(alloc: Global) -> Result<Form, Refusal>
+fn high(alloc: Global) -> Result<Form, AllocError>
     ensures { IfOk result (λ form. IsBounded form) }
 {
     by_group(alloc, 0, Aggregate::Min(2), Comparison::Greater, 5)
 }
 
 /// The sum of the balances above 100 is at most 300.
-fn few(alloc: Global) -> Result<Form, Refusal>
+fn few(alloc: Global) -> Result<Form, AllocError>
     ensures { IfOk result (λ form. IsBounded form) }
 {
     single(alloc, 0, above_a_hundred(), Aggregate::Sum(2), 300)
 }
 
 /// No account's number is the balance of two.
-fn own(alloc: Global) -> Result<Form, Refusal>
+fn own(alloc: Global) -> Result<Form, AllocError>
     ensures { IfOk result (λ form. IsBounded form) }
 {
     by_row(alloc, 0, 2, Comparison::AtLeast, 2)
@@ -70,7 +70,11 @@ fn named(name: Text, form: Form) -> Assertion
 }
 
 /// Adds an assertion of this form.
-fn add(made: &mut Vec<Assertion>, name: Text, form: Result<Form, Refusal>) -> Result<(), Refusal>
+fn add(
+    made: &mut Vec<Assertion>,
+    name: Text,
+    form: Result<Form, AllocError>,
+) -> Result<(), AllocError>
     requires bounded { IfOk form (λ form. IsBounded form) }
     requires all { AreBounded made.now.items }
     ensures all { IfOk result (λ done. AreBounded made.new.items) }
@@ -80,7 +84,7 @@ fn add(made: &mut Vec<Assertion>, name: Text, form: Result<Form, Refusal>) -> Re
 }
 
 /// An assertion of each form, in the order by groups, single, by rows.
-fn assertions(alloc: Global) -> Result<Vec<Assertion>, Refusal>
+fn assertions(alloc: Global) -> Result<Vec<Assertion>, AllocError>
     ensures { IfOk result (λ made. AreBounded made.items) }
 {
     let mut made = Vec::new(alloc);
@@ -101,7 +105,7 @@ fn table_of(alloc: Global, schema: &Schema, row: Row) -> Result<Rows, Refusal>
         old: None,
         new: Some(row),
     };
-    Rows::new(alloc).with(schema.key(), &change)
+    Ok(Rows::new(alloc).with(schema.key(), &change)?)
 }
 
 /// The view of a table of this row alone.
@@ -110,11 +114,11 @@ fn view_of(alloc: Global, row: Row) -> Result<View, Refusal> {
     let tables = [table_of(alloc, &schema, row)?];
     let mut catalog = Catalog::new(alloc);
     catalog.add(Text::from_str(alloc, "ACCOUNT")?, schema)?;
-    View::load(alloc, catalog, assertions(alloc)?, &tables)
+    Ok(View::load(alloc, catalog, assertions(alloc)?, &tables)?)
 }
 
 /// What stands under a key of the only table, which has this schema.
-fn old_row(view: &View, schema: &Schema, key: &Value) -> Result<Option<Row>, Refusal>
+fn old_row(view: &View, schema: &Schema, key: &Value) -> Result<Option<Row>, AllocError>
     requires { 0 < length view.now.state }
     ensures { IfOk result (λ old. row_at schema.now.key key.now (rows_of 0 view.now.state) ≡ old) }
 {
@@ -127,21 +131,21 @@ fn old_row(view: &View, schema: &Schema, key: &Value) -> Result<Option<Row>, Ref
 /// The view with the row in place of the one under its key.
 fn put(view: &View, row: Row) -> Result<View, Refusal> {
     let Some(schema) = view.catalog().at(0) else {
-        return view.copy();
+        return Ok(view.copy()?);
     };
     schema.admits(&row)?;
     let key = row.value(schema.key()).copy()?;
     let old = old_row(view, schema, &key)?;
-    view.with(&Change {
+    Ok(view.with(&Change {
         table: 0,
         key,
         old,
         new: Some(row),
-    })
+    })?)
 }
 
 /// The view without the row of this number.
-fn remove(view: &View, id: i64) -> Result<View, Refusal> {
+fn remove(view: &View, id: i64) -> Result<View, AllocError> {
     let Some(schema) = view.catalog().at(0) else {
         return view.copy();
     };
@@ -209,7 +213,7 @@ fn judges(rt: &(impl Abort + Alloc<A = Global>), view: &View, wanted: &str) -> R
 }
 
 /// The view without the rows 1 and 2.
-fn without_two(view: &View) -> Result<View, Refusal> {
+fn without_two(view: &View) -> Result<View, AllocError> {
     let fewer = remove(view, 1)?;
     remove(&fewer, 2)
 }
@@ -241,7 +245,7 @@ fn sum_of_nothing_is_unknown(rt: HostRuntime) -> Result<(), Fail> {
 }
 
 /// The number of roots at which the first assertion can turn as the row (7, NULL, 6) goes, and whether they are NULL.
-fn candidates(alloc: Global, view: &View) -> Result<(usize, bool), Refusal> {
+fn candidates(alloc: Global, view: &View) -> Result<(usize, bool), AllocError> {
     if view.assertions().is_empty() {
         return Ok((0, false));
     }
@@ -259,7 +263,7 @@ fn candidates(alloc: Global, view: &View) -> Result<(usize, bool), Refusal> {
 /// A copy of the view of the row (7, NULL, 6).
 fn copied(alloc: Global) -> Result<View, Refusal> {
     let view = begun(alloc, 7, "", 6)?;
-    view.copy()
+    Ok(view.copy()?)
 }
 
 #[test]

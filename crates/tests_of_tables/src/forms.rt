@@ -6,12 +6,12 @@ ghost use Rattle.value.specs.declared.values.Value.TheVariants as values;
 
 use assertion::{Form, Link, Query, Whole};
 use sqlite_items::Items;
-use std::alloc::Global;
+use std::alloc::{AllocError, Global};
 use table::{Aggregate, Cond, Expr};
-use value::{Comparison, Refusal, Value};
+use value::{Comparison, Value};
 
 /// A list of one item.
-pub fn one<T: Drop>(alloc: Global, item: T) -> Result<Items<T>, Refusal>
+pub fn one<T: Drop>(alloc: Global, item: T) -> Result<Items<T>, AllocError>
     ensures { IfOk result (λ items. items ≡ item ∷ []) }
 {
     let mut items = Vec::new(alloc);
@@ -50,7 +50,7 @@ pub fn by_row(
     column: usize,
     comparison: Comparison,
     number: i64,
-) -> Result<Form, Refusal>
+) -> Result<Form, AllocError>
     ensures { IfOk result (λ form. IsBounded form) }
 {
     let queries = one(alloc, linked(alloc, table, column))?;
@@ -68,7 +68,7 @@ pub fn by_group(
     aggregate: Aggregate,
     comparison: Comparison,
     number: i64,
-) -> Result<Form, Refusal>
+) -> Result<Form, AllocError>
     ensures { IfOk result (λ form. IsBounded form) }
 {
     let aggregates = one(alloc, aggregate)?;
@@ -106,7 +106,7 @@ pub fn single(
     filter: Cond,
     aggregate: Aggregate,
     number: i64,
-) -> Result<Form, Refusal>
+) -> Result<Form, AllocError>
     requires { IsBoundedOver [] filter }
     ensures { IfOk result (λ form. IsBounded form) }
 {

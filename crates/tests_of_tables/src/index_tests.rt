@@ -2,10 +2,10 @@
 
 use crate::shared::{let_go, text};
 use groups::Index;
-use std::alloc::Global;
+use std::alloc::{AllocError, Global};
 use std::test::Fail;
 use table::Row;
-use value::{Refusal, Value};
+use value::Value;
 
 /// How many keys come, change and go.
 const COUNT: i64 = 1_000;
@@ -23,17 +23,23 @@ enum Cell {
 }
 
 /// The row of a key, if it has one.
-fn row(alloc: Global, key: i64, cell: Cell) -> Result<Option<Row>, Refusal> {
+fn row(alloc: Global, key: i64, cell: Cell) -> Result<Option<Row>, AllocError> {
     let value = match cell {
         Cell::Absent => return Ok(None),
         Cell::Null => Value::Null,
         Cell::Number(number) => Value::Int(number),
     };
-    Ok(Some(Row::new(vec![in alloc; Value::Int(key), value]?)))
+    Ok(Some(Row::new(vec![in alloc; Value::Int(key), value]?)?))
 }
 
 /// The index after what a key has becomes another.
-fn changed(alloc: Global, index: &Index, key: i64, old: Cell, new: Cell) -> Result<Index, Refusal> {
+fn changed(
+    alloc: Global,
+    index: Index,
+    key: i64,
+    old: Cell,
+    new: Cell,
+) -> Result<Index, AllocError> {
     let old = row(alloc, key, old)?;
     let new = row(alloc, key, new)?;
     let index = index.with(COLUMN, &Value::Int(key), old.as_ref(), new.as_ref());
@@ -66,7 +72,7 @@ fn key_of(step: i64) -> i64 {
 }
 
 /// Every version, from the first without rows to the last without rows.
-fn versions(alloc: Global) -> Result<Vec<Index>, Refusal> {
+fn versions(alloc: Global) -> Result<Vec<Index>, AllocError> {
     let mut versions = Vec::new(alloc);
     let mut index = Index::new(alloc);
     for step in 0..3_000 {
@@ -75,7 +81,7 @@ fn versions(alloc: Global) -> Result<Vec<Index>, Refusal> {
             cell_after(changes, key),
             cell_after(changes.wrapping_add(1), key),
         );
-        let next = changed(alloc, &index, key, old, new)?;
+        let next = changed(alloc, index.copy()?, key, old, new)?;
         versions.push(index)?;
         index = next;
     }
@@ -84,7 +90,7 @@ fn versions(alloc: Global) -> Result<Vec<Index>, Refusal> {
 }
 
 /// What each key has after so many steps, as a plain list.
-fn plain(alloc: Global, steps: i64) -> Result<Vec<Cell>, Refusal> {
+fn plain(alloc: Global, steps: i64) -> Result<Vec<Cell>, AllocError> {
     let mut cells = Vec::new(alloc);
     for _ in 0..COUNT {
         cells.push(Cell::Absent)?;
@@ -101,7 +107,7 @@ fn plain(alloc: Global, steps: i64) -> Result<Vec<Cell>, Refusal> {
 }
 
 /// The keys that have a number in the list, in order.
-fn keys_of(alloc: Global, cells: &[Cell], number: i64) -> Result<Vec<i64>, Refusal> {
+fn keys_of(alloc: Global, cells: &[Cell], number: i64) -> Result<Vec<i64>, AllocError> {
     let mut keys = Vec::new(alloc);
     let mut key: i64 = 0;
     for cell in cells {
@@ -134,7 +140,7 @@ fn are_keys(index: &Index, number: i64, keys: &[i64]) -> bool {
 }
 
 /// Whether an index has the keys of the list for each number, also for one that no row has, and none for NULL.
-fn agrees(alloc: Global, index: &Index, cells: &[Cell]) -> Result<bool, Refusal> {
+fn agrees(alloc: Global, index: &Index, cells: &[Cell]) -> Result<bool, AllocError> {
     for number in 0..11 {
         let keys = keys_of(alloc, cells, number)?;
         if !are_keys(index, number, &keys) {
@@ -145,7 +151,7 @@ fn agrees(alloc: Global, index: &Index, cells: &[Cell]) -> Result<bool, Refusal>
 }
 
 /// How many versions don't agree with the list of their steps.
-fn wrong(alloc: Global, versions: &[Index]) -> Result<i64, Refusal> {
+fn wrong(alloc: Global, versions: &[Index]) -> Result<i64, AllocError> {
     let mut wrong: i64 = 0;
     let mut steps: i64 = 0;
     for index in versions {
@@ -184,19 +190,19 @@ fn digit(key: &Value) -> i64 {
 }
 
 /// The index with a row behind the others.
-fn with_last(alloc: Global, index: &Index, key: i64, value: Value) -> Result<Index, Refusal> {
-    let row = Row::new(vec![in alloc; Value::Int(key), value]?);
+fn with_last(alloc: Global, index: Index, key: i64, value: Value) -> Result<Index, AllocError> {
+    let row = Row::new(vec![in alloc; Value::Int(key), value]?)?;
     index.with_row(COLUMN, &Value::Int(key), &row)
 }
 
 /// The index of rows with these numbers in the column, NULL where there is none, and the keys from 1 on.
-fn index_of(alloc: Global, numbers: &[Option<i64>]) -> Result<Index, Refusal> {
+fn index_of(alloc: Global, numbers: &[Option<i64>]) -> Result<Index, AllocError> {
     let mut index = Index::new(alloc);
     let mut key: i64 = 0;
     for number in numbers {
         key = key.wrapping_add(1);
         let value = number.map_or(Value::Null, Value::Int);
-        index = with_last(alloc, &index, key, value)?;
+        index = with_last(alloc, index, key, value)?;
     }
     Ok(index)
 }
@@ -210,10 +216,14 @@ struct Step {
 }
 
 /// The index of these rows after these steps.
-fn index_after(alloc: Global, numbers: &[Option<i64>], steps: &[Step]) -> Result<Index, Refusal> {
+fn index_after(
+    alloc: Global,
+    numbers: &[Option<i64>],
+    steps: &[Step],
+) -> Result<Index, AllocError> {
     let mut index = index_of(alloc, numbers)?;
     for step in steps {
-        index = changed(alloc, &index, step.key, step.old, step.new)?;
+        index = changed(alloc, index, step.key, step.old, step.new)?;
     }
     Ok(index)
 }
@@ -232,7 +242,7 @@ fn found(
     alloc: Global,
     numbers: &[Option<i64>],
     steps: &[Step],
-) -> Result<(i64, i64, i64), Refusal> {
+) -> Result<(i64, i64, i64), AllocError> {
     let index = index_after(alloc, numbers, steps)?;
     Ok(shown(&index))
 }
@@ -245,7 +255,7 @@ fn rows_come_behind_the_others(rt: HostRuntime) -> Result<(), Fail> {
 }
 
 /// The keys of 7, of 8 and of NULL in a copy of the index of these rows.
-fn found_in_copy(alloc: Global, numbers: &[Option<i64>]) -> Result<(i64, i64, i64), Refusal> {
+fn found_in_copy(alloc: Global, numbers: &[Option<i64>]) -> Result<(i64, i64, i64), AllocError> {
     let index = index_of(alloc, numbers)?;
     let copy = index.copy()?;
     Ok(shown(&copy))
@@ -319,13 +329,13 @@ fn a_value_without_keys_begins_again(rt: HostRuntime) -> Result<(), Fail> {
 }
 
 /// The index of a row whose column is a text.
-fn of_text(alloc: Global) -> Result<Index, Refusal> {
+fn of_text(alloc: Global) -> Result<Index, AllocError> {
     let value = text(alloc, "AB")?;
-    with_last(alloc, &Index::new(alloc), 4, value)
+    with_last(alloc, Index::new(alloc), 4, value)
 }
 
 /// The keys of a text there.
-fn found_text(alloc: Global, wanted: &str) -> Result<i64, Refusal> {
+fn found_text(alloc: Global, wanted: &str) -> Result<i64, AllocError> {
     let index = of_text(alloc)?;
     let value = text(alloc, wanted)?;
     Ok(digits(&index, &value))

@@ -8,10 +8,10 @@ ghost use Rattle.value.specs.declared.values.Value.TheVariants.{Int};
 
 use crate::shared::{let_go, text};
 use mvrows::Rows;
-use std::alloc::Global;
+use std::alloc::{AllocError, Global};
 use std::test::Fail;
 use table::{Change, Row};
-use value::{Refusal, Value};
+use value::Value;
 
 /// How many rows there are at first, and how many changes come then.
 const COUNT: i64 = 1_000;
@@ -31,14 +31,14 @@ enum Cell {
 }
 
 /// A row of a key and what stands in the column.
-fn row(alloc: Global, key: i64, value: Value) -> Result<Row, Refusal>
+fn row(alloc: Global, key: i64, value: Value) -> Result<Row, AllocError>
     ensures { IfOk result (λ row. value_in 0 row ≡ Int key) }
 {
-    Ok(Row::new(vec![in alloc; Value::Int(key), value]?))
+    Row::new(vec![in alloc; Value::Int(key), value]?)
 }
 
 /// The row of a key, if it has one.
-fn new_row(alloc: Global, key: i64, cell: Cell) -> Result<Option<Row>, Refusal>
+fn new_row(alloc: Global, key: i64, cell: Cell) -> Result<Option<Row>, AllocError>
     ensures { IfOk result (λ new. HasKey value_cmp (value_in 0) (Int key) new) }
 {
     match cell {
@@ -49,8 +49,8 @@ fn new_row(alloc: Global, key: i64, cell: Cell) -> Result<Option<Row>, Refusal>
 }
 
 /// The version after what a key has becomes another.
-fn changed(alloc: Global, version: &Rows, key: i64, cell: Cell) -> Result<Rows, Refusal>
-    requires { IsAscending value_cmp (value_in 0) version.now }
+fn changed(alloc: Global, version: Rows, key: i64, cell: Cell) -> Result<Rows, AllocError>
+    requires { IsAscending value_cmp (value_in 0) version }
     ensures { IfOk result (λ rows. IsAscending value_cmp (value_in 0) rows) }
 {
     let new = new_row(alloc, key, cell)?;
@@ -73,12 +73,12 @@ fn number_or_null(number: i64) -> Cell {
 }
 
 /// The version of the first thousand keys.
-fn first_version(alloc: Global) -> Result<Rows, Refusal>
+fn first_version(alloc: Global) -> Result<Rows, AllocError>
     ensures { IfOk result (λ rows. IsAscending value_cmp (value_in 0) rows) }
 {
     let mut version = Rows::new(alloc);
     for key in 0..COUNT {
-        version = changed(alloc, &version, key, number_or_null(key))?;
+        version = changed(alloc, version, key, number_or_null(key))?;
     }
     Ok(version)
 }
@@ -98,14 +98,14 @@ fn change(step: i64) -> (i64, Cell) {
 }
 
 /// Every version from this one on.
-fn versions(alloc: Global, first: Rows) -> Result<Vec<Rows>, Refusal>
+fn versions(alloc: Global, first: Rows) -> Result<Vec<Rows>, AllocError>
     requires { IsAscending value_cmp (value_in 0) first }
 {
     let mut versions = Vec::new(alloc);
     let mut version = first;
     for step in 0..COUNT {
         let (key, cell) = change(step);
-        let next = changed(alloc, &version, key, cell)?;
+        let next = changed(alloc, version.copy()?, key, cell)?;
         versions.push(version)?;
         version = next;
     }
@@ -114,14 +114,14 @@ fn versions(alloc: Global, first: Rows) -> Result<Vec<Rows>, Refusal>
 }
 
 /// Whether two versions find the same keys of a value.
-fn agree_on(alloc: Global, one: &Rows, other: &Rows, value: &Value) -> Result<bool, Refusal> {
+fn agree_on(alloc: Global, one: &Rows, other: &Rows, value: &Value) -> Result<bool, AllocError> {
     let found = one.keys_with(alloc, KEY, COLUMN, value)?;
     let wanted = other.keys_with(alloc, KEY, COLUMN, value)?;
     Ok(found == wanted)
 }
 
 /// Whether two versions find the same keys of each number, of one that no row has, and of NULL.
-fn agree(alloc: Global, one: &Rows, other: &Rows) -> Result<bool, Refusal> {
+fn agree(alloc: Global, one: &Rows, other: &Rows) -> Result<bool, AllocError> {
     for number in 0..11 {
         if !agree_on(alloc, one, other, &Value::Int(number))? {
             return Ok(false);
@@ -131,7 +131,7 @@ fn agree(alloc: Global, one: &Rows, other: &Rows) -> Result<bool, Refusal> {
 }
 
 /// How many of some versions find other keys than their counterparts.
-fn wrong(alloc: Global, versions: &[Rows], others: &[Rows]) -> Result<i64, Refusal> {
+fn wrong(alloc: Global, versions: &[Rows], others: &[Rows]) -> Result<i64, AllocError> {
     let mut wrong: i64 = 0;
     for at in 0..versions.len() {
         let right = match others.get(at) {
@@ -156,7 +156,7 @@ fn an_index_changes_no_answer(rt: HostRuntime) -> Result<(), Fail> {
 }
 
 /// The keys of a value in order, as the digits of a number.
-fn digits(alloc: Global, version: &Rows, value: &Value) -> Result<i64, Refusal> {
+fn digits(alloc: Global, version: &Rows, value: &Value) -> Result<i64, AllocError> {
     let mut digits: i64 = 0;
     let keys = version.keys_with(alloc, KEY, COLUMN, value)?;
     for key in &keys {
@@ -174,7 +174,7 @@ fn digit(key: &Value) -> i64 {
 }
 
 /// The keys of 7, of 8 and of NULL.
-fn found(alloc: Global, version: &Rows) -> Result<(i64, i64, i64), Refusal> {
+fn found(alloc: Global, version: &Rows) -> Result<(i64, i64, i64), AllocError> {
     Ok((
         digits(alloc, version, &Value::Int(7))?,
         digits(alloc, version, &Value::Int(8))?,
@@ -183,23 +183,23 @@ fn found(alloc: Global, version: &Rows) -> Result<(i64, i64, i64), Refusal> {
 }
 
 /// 7 under the keys 1 and 3, and NULL under 2 and 4; indexed before the first row comes.
-fn nulls(alloc: Global) -> Result<Rows, Refusal>
+fn nulls(alloc: Global) -> Result<Rows, AllocError>
     ensures { IfOk result (λ rows. IsAscending value_cmp (value_in 0) rows) }
 {
     let none = Rows::new(alloc).indexed(KEY, COLUMN)?;
-    let one = changed(alloc, &none, 1, Cell::Number(7))?;
-    let two = changed(alloc, &one, 2, Cell::Null)?;
-    let three = changed(alloc, &two, 3, Cell::Number(7))?;
-    changed(alloc, &three, 4, Cell::Null)
+    let one = changed(alloc, none, 1, Cell::Number(7))?;
+    let two = changed(alloc, one, 2, Cell::Null)?;
+    let three = changed(alloc, two, 3, Cell::Number(7))?;
+    changed(alloc, three, 4, Cell::Null)
 }
 
 /// The version in which 8 stands under the key 2, and NULL under 3.
-fn moved(alloc: Global, old: &Rows) -> Result<Rows, Refusal>
+fn moved(alloc: Global, old: &Rows) -> Result<Rows, AllocError>
     requires { IsAscending value_cmp (value_in 0) old.now }
     ensures { IfOk result (λ rows. IsAscending value_cmp (value_in 0) rows) }
 {
-    let one = changed(alloc, old, 2, Cell::Number(8))?;
-    changed(alloc, &one, 3, Cell::Null)
+    let one = changed(alloc, old.copy()?, 2, Cell::Number(8))?;
+    changed(alloc, one, 3, Cell::Null)
 }
 
 #[test]
@@ -215,7 +215,7 @@ fn null_is_found_too(rt: HostRuntime) -> Result<(), Fail> {
 }
 
 /// The version of these rows, of which one has a text in the column.
-fn with_text(alloc: Global, old: &Rows) -> Result<Rows, Refusal>
+fn with_text(alloc: Global, old: &Rows) -> Result<Rows, AllocError>
     requires { IsAscending value_cmp (value_in 0) old.now }
 {
     let change = Change {
@@ -224,7 +224,7 @@ fn with_text(alloc: Global, old: &Rows) -> Result<Rows, Refusal>
         old: None,
         new: Some(row(alloc, 5, text(alloc, "AB")?)?),
     };
-    let made = old.with(KEY, &change);
+    let made = old.copy()?.with(KEY, &change);
     let_go(change);
     made
 }

@@ -2,9 +2,9 @@
 
 use crate::shared::{count, text};
 use pages::Pages;
-use std::alloc::Global;
+use std::alloc::{AllocError, Global};
 use std::test::Fail;
-use value::{Refusal, Value};
+use value::Value;
 
 /// How many keys come and go.
 const COUNT: i64 = 1_000;
@@ -18,12 +18,12 @@ fn mixed(index: i64) -> i64 {
 }
 
 /// The map with this number under itself.
-fn with_number(pages: &Pages<i64>, number: i64) -> Result<Pages<i64>, Refusal> {
+fn with_number(pages: &Pages<i64>, number: i64) -> Result<Pages<i64>, AllocError> {
     pages.with(&Value::Int(number), Some(number))
 }
 
 /// Every version while the keys come.
-fn grown(alloc: Global) -> Result<Vec<Pages<i64>>, Refusal> {
+fn grown(alloc: Global) -> Result<Vec<Pages<i64>>, AllocError> {
     let mut versions = Vec::new(alloc);
     let mut pages = Pages::new(alloc);
     for index in 0..COUNT {
@@ -36,7 +36,7 @@ fn grown(alloc: Global) -> Result<Vec<Pages<i64>>, Refusal> {
 }
 
 /// Every version while they go.
-fn emptied(alloc: Global, full: &Pages<i64>) -> Result<Vec<Pages<i64>>, Refusal> {
+fn emptied(alloc: Global, full: &Pages<i64>) -> Result<Vec<Pages<i64>>, AllocError> {
     let mut versions = Vec::new(alloc);
     let mut pages = full.copy()?;
     for index in 0..COUNT {
@@ -49,7 +49,7 @@ fn emptied(alloc: Global, full: &Pages<i64>) -> Result<Vec<Pages<i64>>, Refusal>
 }
 
 /// The keys of these indexes as a plain list.
-fn plain(alloc: Global, first: i64, last: i64) -> Result<Vec<i64>, Refusal> {
+fn plain(alloc: Global, first: i64, last: i64) -> Result<Vec<i64>, AllocError> {
     let mut keys = Vec::new(alloc);
     for index in first..last {
         keys.push(mixed(index))?;
@@ -81,7 +81,7 @@ fn is_plain(pages: &Pages<i64>, keys: &[i64]) -> bool {
 }
 
 /// How many of the versions aren't the plain list of their keys, which begin or end at the version's place.
-fn wrong(alloc: Global, versions: &[Pages<i64>], grows: bool) -> Result<i64, Refusal> {
+fn wrong(alloc: Global, versions: &[Pages<i64>], grows: bool) -> Result<i64, AllocError> {
     let mut wrong: i64 = 0;
     let mut index: i64 = 0;
     for pages in versions {
@@ -99,7 +99,7 @@ fn wrong(alloc: Global, versions: &[Pages<i64>], grows: bool) -> Result<i64, Ref
 }
 
 /// How many versions aren't the plain list of their keys while the keys go.
-fn wrong_while_emptied(alloc: Global, full: &Pages<i64>) -> Result<i64, Refusal> {
+fn wrong_while_emptied(alloc: Global, full: &Pages<i64>) -> Result<i64, AllocError> {
     let emptied = emptied(alloc, full)?;
     wrong(alloc, &emptied, false)
 }
@@ -125,8 +125,48 @@ fn every_version_stays_whole(rt: HostRuntime) -> Result<(), Fail> {
     Ok(())
 }
 
+/// Puts the keys of these indexes into a map.
+fn put_keys(pages: &mut Pages<i64>, first: i64, last: i64) -> Result<(), AllocError> {
+    for index in first..last {
+        pages.put(&Value::Int(mixed(index)), Some(mixed(index)))?;
+    }
+    Ok(())
+}
+
+/// Takes the keys of these indexes out of a map.
+fn take_keys(pages: &mut Pages<i64>, first: i64, last: i64) -> Result<(), AllocError> {
+    for index in first..last {
+        pages.put(&Value::Int(mixed(index)), None)?;
+    }
+    Ok(())
+}
+
+#[test]
+fn a_map_is_changed_in_place(rt: HostRuntime) -> Result<(), Fail> {
+    let mut pages = Pages::new(rt.alloc());
+    put_keys(&mut pages, 0, 600)?;
+    assert!(rt; is_plain(&pages, &plain(rt.alloc(), 0, 600)?));
+    take_keys(&mut pages, 0, 250)?;
+    assert!(rt; is_plain(&pages, &plain(rt.alloc(), 250, 600)?));
+    Ok(())
+}
+
+#[test]
+fn copies_see_no_change_in_place(rt: HostRuntime) -> Result<(), Fail> {
+    let mut pages = Pages::new(rt.alloc());
+    put_keys(&mut pages, 0, 600)?;
+    let before = pages.copy()?;
+    put_keys(&mut pages, 600, COUNT)?;
+    let full = pages.copy()?;
+    take_keys(&mut pages, 0, 900)?;
+    assert!(rt; is_plain(&before, &plain(rt.alloc(), 0, 600)?));
+    assert!(rt; is_plain(&full, &plain(rt.alloc(), 0, COUNT)?));
+    assert!(rt; is_plain(&pages, &plain(rt.alloc(), 900, COUNT)?));
+    Ok(())
+}
+
 /// The map of the numbers from 1 to this one, put upwards, or downwards.
-fn counted(alloc: Global, last: i64, upwards: bool) -> Result<Pages<i64>, Refusal> {
+fn counted(alloc: Global, last: i64, upwards: bool) -> Result<Pages<i64>, AllocError> {
     let mut pages = Pages::new(alloc);
     for index in 0..last {
         let number = if upwards {
@@ -146,17 +186,25 @@ fn are_long(pages: &Pages<i64>, first: (usize, usize), second: (usize, usize)) -
 
 #[test]
 fn a_full_page_is_cut(rt: HostRuntime) -> Result<(), Fail> {
-    let full = counted(rt.alloc(), 64, true)?;
-    assert!(rt; are_long(&full, (0, 64), (63, 1)));
-    let cut = with_number(&full, 65)?;
-    assert!(rt; are_long(&cut, (0, 32), (32, 33)));
-    assert!(rt; are_long(&cut, (31, 1), (65, 0)));
-    count(&rt, full.len(), 64);
+    let full = counted(rt.alloc(), 32, true)?;
+    assert!(rt; are_long(&full, (0, 32), (31, 1)));
+    let cut = with_number(&full, 0)?;
+    assert!(rt; are_long(&cut, (0, 17), (17, 16)));
+    assert!(rt; are_long(&cut, (16, 1), (33, 0)));
+    count(&rt, full.len(), 32);
+    Ok(())
+}
+
+#[test]
+fn pages_of_keys_that_come_upwards_are_full(rt: HostRuntime) -> Result<(), Fail> {
+    let pages = counted(rt.alloc(), 100, true)?;
+    assert!(rt; are_long(&pages, (0, 31), (31, 31)));
+    assert!(rt; are_long(&pages, (62, 31), (93, 7)));
     Ok(())
 }
 
 /// The map of one number, without it.
-fn emptied_of_one(alloc: Global) -> Result<Pages<i64>, Refusal> {
+fn emptied_of_one(alloc: Global) -> Result<Pages<i64>, AllocError> {
     let one = counted(alloc, 1, true)?;
     one.with(&Value::Int(1), None)
 }
@@ -167,7 +215,7 @@ fn is_empty(pages: &Pages<i64>) -> bool {
 }
 
 /// The map with a 2, after a key goes that isn't there.
-fn begun_again(none: &Pages<i64>) -> Result<Pages<i64>, Refusal> {
+fn begun_again(none: &Pages<i64>) -> Result<Pages<i64>, AllocError> {
     let still_none = none.with(&Value::Int(3), None)?;
     with_number(&still_none, 2)
 }
@@ -208,13 +256,13 @@ fn a_map_has_a_first_and_a_last_entry(rt: HostRuntime) -> Result<(), Fail> {
 }
 
 /// The map with this under a text, or without the text.
-fn with_text(pages: &Pages<i64>, key: &str, number: Option<i64>) -> Result<Pages<i64>, Refusal> {
+fn with_text(pages: &Pages<i64>, key: &str, number: Option<i64>) -> Result<Pages<i64>, AllocError> {
     let key = text(pages.allocator(), key)?;
     pages.with(&key, number)
 }
 
 /// A map whose keys are NULL, numbers and texts.
-fn of_all_kinds(alloc: Global) -> Result<Pages<i64>, Refusal> {
+fn of_all_kinds(alloc: Global) -> Result<Pages<i64>, AllocError> {
     let mut pages = with_text(&Pages::new(alloc), "AB", Some(5))?;
     pages = pages.with(&Value::Int(7), Some(3))?;
     pages = with_text(&pages, "A", Some(4))?;
@@ -223,13 +271,13 @@ fn of_all_kinds(alloc: Global) -> Result<Pages<i64>, Refusal> {
 }
 
 /// The number under a text.
-fn number_under_text(pages: &Pages<i64>, key: &str) -> Result<Option<i64>, Refusal> {
+fn number_under_text(pages: &Pages<i64>, key: &str) -> Result<Option<i64>, AllocError> {
     let key = text(pages.allocator(), key)?;
     Ok(pages.get(&key).copied())
 }
 
 /// The map without the text A and without NULL.
-fn without_two(pages: &Pages<i64>) -> Result<Pages<i64>, Refusal> {
+fn without_two(pages: &Pages<i64>) -> Result<Pages<i64>, AllocError> {
     let fewer = with_text(pages, "A", None)?;
     fewer.with(&Value::Null, None)
 }
@@ -266,7 +314,7 @@ fn missing(pages: &Pages<i64>, last: i64) -> i64 {
 }
 
 /// Whether many keys that come in order stand under themselves.
-fn stand(alloc: Global, upwards: bool) -> Result<bool, Refusal> {
+fn stand(alloc: Global, upwards: bool) -> Result<bool, AllocError> {
     let pages = counted(alloc, MANY, upwards)?;
     Ok(pages.len() == 100_000 && missing(&pages, MANY) == 0)
 }

@@ -18,10 +18,10 @@ use std::alloc::{AllocError, Global};
 use std::process::Abort;
 use std::test::Fail;
 use table::{Aggregate, Change, Row};
-use value::{Comparison, Refusal, Root, Truth, Value};
+use value::{Comparison, Root, Truth, Value};
 
 /// The row (1, NULL, 101) is put into table 0.
-fn insertion(alloc: Global) -> Result<Change, Refusal>
+fn insertion(alloc: Global) -> Result<Change, AllocError>
     ensures table { IfOk result (λ change. change.table ≡ 0) }
     ensures old { IfOk result (λ change. change.old ≡ None) }
     ensures keyed { IfOk result (λ change. HasKey value_cmp (value_in 0) change.key change.new) }
@@ -31,7 +31,7 @@ fn insertion(alloc: Global) -> Result<Change, Refusal>
         table: 0,
         key: Value::Int(1),
         old: None,
-        new: Some(Row::new(vec![in alloc; Value::Int(1), Value::Null, Value::Int(101)]?)),
+        new: Some(Row::new(vec![in alloc; Value::Int(1), Value::Null, Value::Int(101)]?)?),
     })
 }
 
@@ -44,7 +44,7 @@ fn write_first(bad: &BadRoots, shown: &mut String) -> Result<(), AllocError> {
 }
 
 /// The first bad root, the truth, and whether it is bad as a whole.
-fn shown(alloc: Global, bad: &BadRoots, truth: Truth, is_bad: bool) -> Result<String, Refusal> {
+fn shown(alloc: Global, bad: &BadRoots, truth: Truth, is_bad: bool) -> Result<String, AllocError> {
     let mut shown = String::new(alloc);
     write_first(bad, &mut shown)?;
     shown.push_str(" ")?;
@@ -60,7 +60,7 @@ fn judged(
     form: &Form,
     totals: &[Totals],
     bad: &BadRoots,
-) -> Result<String, Refusal>
+) -> Result<String, AllocError>
     requires bounded { IsBounded form.now }
     requires small { IsSmallState tables.now }
     requires totals { AreMaintained [] tables.now form.now totals.now }
@@ -79,7 +79,7 @@ fn told_after(
     before: &[Rows],
     after: &[Rows],
     change: &Change,
-) -> Result<String, Refusal>
+) -> Result<String, AllocError>
     requires bounded { IsBounded form.now }
     requires step { IsStepOf [] change.now before.now after.now }
     requires totals { AreMaintained [] before.now form.now totals.now }
@@ -90,7 +90,7 @@ fn told_after(
 }
 
 /// What is shown of an assertion over one table, which had no row, after a change.
-fn told(alloc: Global, form: &Form, change: &Change) -> Result<String, Refusal>
+fn told(alloc: Global, form: &Form, change: &Change) -> Result<String, AllocError>
     requires bounded { IsBounded form.now }
     requires table { change.now.table ≡ 0 }
     requires old { change.now.old ≡ None }
@@ -104,7 +104,7 @@ fn told(alloc: Global, form: &Form, change: &Change) -> Result<String, Refusal>
 }
 
 /// What is shown after the insertion.
-fn told_of_insertion(alloc: Global, form: &Form) -> Result<String, Refusal>
+fn told_of_insertion(alloc: Global, form: &Form) -> Result<String, AllocError>
     requires { IsBounded form.now }
 {
     let change = insertion(alloc)?;
@@ -114,7 +114,7 @@ fn told_of_insertion(alloc: Global, form: &Form) -> Result<String, Refusal>
 /// Ends the test where something else is shown of an assertion of this form after the insertion.
 fn tells(
     rt: &(impl Abort + Alloc<A = Global>),
-    made: Result<Form, Refusal>,
+    made: Result<Form, AllocError>,
     wanted: &str,
 ) -> Result<(), Fail>
     requires { IfOk made (λ form. IsBounded form) }
@@ -127,21 +127,21 @@ fn tells(
 }
 
 /// No group of column 1 has a sum of column 2 above 100.
-fn sums(alloc: Global) -> Result<Form, Refusal>
+fn sums(alloc: Global) -> Result<Form, AllocError>
     ensures { IfOk result (λ form. IsBounded form) }
 {
     by_group(alloc, 0, Aggregate::Sum(2), Comparison::Greater, 100)
 }
 
 /// The least of column 2 is at most a number.
-fn least(alloc: Global, number: i64) -> Result<Form, Refusal>
+fn least(alloc: Global, number: i64) -> Result<Form, AllocError>
     ensures { IfOk result (λ form. IsBounded form) }
 {
     single(alloc, 0, all_rows(alloc), Aggregate::Min(2), number)
 }
 
 /// Each row has one whose column 1 holds its key.
-fn followed(alloc: Global) -> Result<Form, Refusal>
+fn followed(alloc: Global) -> Result<Form, AllocError>
     ensures { IfOk result (λ form. IsBounded form) }
 {
     by_row(alloc, 0, 1, Comparison::Equal, 0)
@@ -165,7 +165,7 @@ fn listed(alloc: Global, roots: &[Root]) -> Result<String, AllocError> {
 }
 
 /// The roots at which an assertion of this form can turn by the insertion.
-fn candidate_roots(alloc: Global, form: &Form) -> Result<String, Refusal> {
+fn candidate_roots(alloc: Global, form: &Form) -> Result<String, AllocError> {
     let change = insertion(alloc)?;
     let roots = candidates(alloc, &[], &[], form, &[change])?;
     Ok(listed(alloc, &roots)?)
@@ -174,7 +174,7 @@ fn candidate_roots(alloc: Global, form: &Form) -> Result<String, Refusal> {
 /// Ends the test where the candidates are others.
 fn turns_at(
     rt: &(impl Abort + Alloc<A = Global>),
-    made: Result<Form, Refusal>,
+    made: Result<Form, AllocError>,
     wanted: &str,
 ) -> Result<(), Fail> {
     let form = made?;

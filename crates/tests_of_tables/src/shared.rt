@@ -2,10 +2,10 @@
 
 ghost use Rattle.std.specs.Prelude.{◌≡◌, length, IfOk};
 
-use std::alloc::Global;
+use std::alloc::{AllocError, Global};
 use std::process::Abort;
 use table::Column;
-use value::{ColType, Refusal, Text, Value};
+use value::{ColType, Text, Value};
 
 /// Ends the test where a text isn't the wanted one.
 pub fn same(rt: &impl Abort, found: &str, wanted: &str) {
@@ -21,12 +21,17 @@ pub fn count(rt: &impl Abort, found: usize, wanted: usize) {
 pub fn let_go<T: Drop>(_value: T) {}
 
 /// A text as a value.
-pub fn text(alloc: Global, text: &str) -> Result<Value, Refusal> {
+pub fn text(alloc: Global, text: &str) -> Result<Value, AllocError> {
     Ok(Value::Text(Text::from_str(alloc, text)?))
 }
 
 /// A column; a key is never NULL.
-pub fn column(alloc: Global, name: &str, kind: ColType, is_key: bool) -> Result<Column, Refusal> {
+pub fn column(
+    alloc: Global,
+    name: &str,
+    kind: ColType,
+    is_key: bool,
+) -> Result<Column, AllocError> {
     Ok(Column {
         name: Text::from_str(alloc, name)?,
         kind,
@@ -35,7 +40,7 @@ pub fn column(alloc: Global, name: &str, kind: ColType, is_key: bool) -> Result<
 }
 
 /// ID INTEGER, which is the key, and NAME VARCHAR(3).
-pub fn columns(alloc: Global) -> Result<Vec<Column>, Refusal>
+pub fn columns(alloc: Global) -> Result<Vec<Column>, AllocError>
     ensures { IfOk result (λ columns. length columns.items ≡ 2) }
 {
     let mut columns = Vec::new(alloc);

@@ -20,14 +20,14 @@ fn word(answer: &Result<(), Refusal>) -> &'static str {
 }
 
 /// A row of a number or NULL, and a text.
-fn row(alloc: Global, first: Option<i64>, second: &str) -> Result<Row, Refusal> {
+fn row(alloc: Global, first: Option<i64>, second: &str) -> Result<Row, AllocError> {
     let second = text(alloc, second)?;
     let first = first.map_or(Value::Null, Value::Int);
-    Ok(Row::new(vec![in alloc; first, second]?))
+    Row::new(vec![in alloc; first, second]?)
 }
 
 /// What two columns answer to such a row.
-fn answer(alloc: Global, first: Option<i64>, second: &str) -> Result<&'static str, Refusal> {
+fn answer(alloc: Global, first: Option<i64>, second: &str) -> Result<&'static str, AllocError> {
     let row = row(alloc, first, second)?;
     let schema = Schema::new(columns(alloc)?, 0);
     Ok(word(&schema.admits(&row)))
@@ -62,7 +62,7 @@ fn schemas_lend_their_parts(rt: HostRuntime) -> Result<(), Fail> {
 
 #[test]
 fn rows_lend_their_parts(rt: HostRuntime) -> Result<(), Fail> {
-    let row = Row::new(vec![in rt.alloc(); Value::Int(1), Value::Null]?).copy()?;
+    let row = Row::new(vec![in rt.alloc(); Value::Int(1), Value::Null]?)?.copy()?;
     assert_eq!(rt; row.len(), 2);
     assert!(rt; row.value(1) == &Value::Null);
     Ok(())
@@ -104,7 +104,7 @@ fn tables_are_found_by_name(rt: HostRuntime) -> Result<(), Fail> {
 }
 
 /// Whether another table of the name A is refused.
-fn is_taken(alloc: Global, catalog: &mut Catalog) -> Result<bool, Refusal> {
+fn is_taken(alloc: Global, catalog: &mut Catalog) -> Result<bool, AllocError> {
     let columns = columns(alloc)?;
     let name = Text::from_str(alloc, "A")?;
     Ok(catalog.add(name, Schema::new(columns, 0)).is_err())

@@ -9,7 +9,7 @@ use std::test::Fail;
 use value::{Comparison, Excess, Party, Refusal, Root, Text, Value, compare, order, order_roots};
 
 /// NULL, numbers and texts, in their order.
-fn in_order(alloc: Global) -> Result<Vec<Value>, Refusal> {
+fn in_order(alloc: Global) -> Result<Vec<Value>, AllocError> {
     let mut values = vec![in alloc; Value::Null, Value::Int(-1), Value::Int(2), Value::Int(10)]?;
     for string in ["", "10", "A", "A ", "AB", "B"] {
         values.push(text(alloc, string)?)?;
@@ -43,7 +43,7 @@ fn values_stand_in_order(rt: HostRuntime) -> Result<(), Fail> {
 }
 
 /// ALL, and copies of the values as roots, in their order.
-fn roots_in_order(alloc: Global, values: &[Value]) -> Result<Vec<Root>, Refusal> {
+fn roots_in_order(alloc: Global, values: &[Value]) -> Result<Vec<Root>, AllocError> {
     let mut roots = Vec::new(alloc);
     roots.push(Root::All)?;
     for value in values {
@@ -93,7 +93,7 @@ fn comparisons_hold(rt: HostRuntime) {
 
 #[test]
 fn texts_keep_their_bytes(rt: HostRuntime) -> Result<(), Fail> {
-    let text = Text::new(Vec::from_slice(rt.alloc(), b"DUTY")?);
+    let text = Text::new(Vec::from_slice(rt.alloc(), b"DUTY")?)?;
     assert!(rt; text.as_bytes() == b"DUTY".as_slice() && text.len() == 4);
     assert!(rt; text.copy()? == Text::from_str(rt.alloc(), "DUTY")?);
     Ok(())
@@ -170,7 +170,7 @@ fn violated(alloc: Global) -> Result<Refusal, AllocError> {
 }
 
 /// A copy of that refusal.
-fn copied(alloc: Global) -> Result<Refusal, Refusal> {
+fn copied(alloc: Global) -> Result<Refusal, AllocError> {
     let refusal = violated(alloc)?;
     let copy = refusal.copy();
     let_go(refusal);

@@ -21,7 +21,7 @@ fn one<T: Drop>(alloc: Global, item: T) -> Result<Vec<T>, Refusal> {
 
 /// A net change of one row.
 fn row_put_in(alloc: Global) -> Result<Items<Change>, Refusal> {
-    let row = Row::new(one(alloc, Value::Int(7))?);
+    let row = Row::new(one(alloc, Value::Int(7))?)?;
     let change = Change {
         table: 0,
         key: Value::Int(7),

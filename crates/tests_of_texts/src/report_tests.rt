@@ -101,9 +101,9 @@ fn verdicts_print(rt: HostRuntime) -> Result<(), Fail> {
 }
 
 /// A row of a number, a text and NULL.
-fn mixed(alloc: Global, number: i64) -> Result<Row, Refusal> {
+fn mixed(alloc: Global, number: i64) -> Result<Row, AllocError> {
     let text = Text::from_str(alloc, "O'HARA")?;
-    Ok(Row::new(vec![in alloc; Value::Int(number), Value::Text(text), Value::Null]?))
+    Row::new(vec![in alloc; Value::Int(number), Value::Text(text), Value::Null]?)
 }
 
 /// Two rows.

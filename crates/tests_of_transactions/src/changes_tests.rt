@@ -9,7 +9,7 @@ use assertcheck::Setting;
 use changes::{insertion, removals, renewals, selected_rows};
 use delta::View;
 use sqlite_items::Items;
-use std::alloc::Global;
+use std::alloc::{AllocError, Global};
 use std::process::Abort;
 use std::test::Fail;
 use table::{Change, Cond, Expr, Row, bound, is_bounded};
@@ -48,10 +48,10 @@ fn answer(
     view: &View,
     shift: Option<i64>,
     person: Option<i64>,
-) -> Result<&'static str, Refusal>
+) -> Result<&'static str, AllocError>
     requires { 0 < length view.now.state }
 {
-    let row = Row::new(vec![in alloc; value_of(shift), value_of(person)]?);
+    let row = Row::new(vec![in alloc; value_of(shift), value_of(person)]?)?;
     let answer = insertion(name, 0, view.schema(0), view.rows(0), row);
     let told = word(&answer);
     let_go(answer);
@@ -90,7 +90,7 @@ fn person_is(number: i64) -> Cond {
 }
 
 /// How many rows a DELETE takes out.
-fn count_gone(alloc: Global, view: &View, filter: &Cond) -> Result<usize, Refusal>
+fn count_gone(alloc: Global, view: &View, filter: &Cond) -> Result<usize, AllocError>
     requires bounded { IsTrue (is_bounded [] filter.now) }
     requires table { 0 < length view.now.state }
 {
@@ -99,7 +99,7 @@ fn count_gone(alloc: Global, view: &View, filter: &Cond) -> Result<usize, Refusa
 }
 
 /// How many rows a SELECT of SHIFT lists.
-fn count_listed(alloc: Global, view: &View, filter: &Cond) -> Result<usize, Refusal>
+fn count_listed(alloc: Global, view: &View, filter: &Cond) -> Result<usize, AllocError>
     requires bounded { IsTrue (is_bounded [] filter.now) }
     requires table { 0 < length view.now.state }
 {
@@ -150,7 +150,7 @@ fn rows_are_taken_out_and_listed(rt: HostRuntime) -> Result<(), Fail> {
 }
 
 /// A list of one item.
-fn one<T: Drop>(alloc: Global, item: T) -> Result<Vec<T>, Refusal>
+fn one<T: Drop>(alloc: Global, item: T) -> Result<Vec<T>, AllocError>
     ensures { IfOk result (λ items. items.items ≡ item ∷ []) }
 {
     let mut items = Vec::new(alloc);
@@ -163,13 +163,13 @@ fn shift_to(alloc: Global, value: Expr) -> Result<Vec<Setting>, Refusal>
     ensures { IfOk result (λ sets. All IsBoundedSetting sets.items) }
 {
     bound(&value, &[])?;
-    one(
+    Ok(one(
         alloc,
         Setting {
             column: 0,
             value: Some(value),
         },
-    )
+    )?)
 }
 
 /// A word for an answer to an UPDATE.

@@ -13,7 +13,7 @@ use std::marker::Model;
 use std::process::Abort;
 use std::test::Fail;
 use table::{Change, Row};
-use value::{Refusal, Text, Value};
+use value::{Text, Value};
 
 /// What a transaction did: it read one row of the first table, and put in another one. Where there is none, it is read
 /// only.
@@ -38,8 +38,8 @@ fn reader(read: i64) -> Ran {
 }
 
 /// Puts the row of a key into the first table.
-fn insertion(alloc: Global, key: i64) -> Result<Change, Refusal> {
-    let row = Row::new(vec![in alloc; Value::Int(key)]?);
+fn insertion(alloc: Global, key: i64) -> Result<Change, AllocError> {
+    let row = Row::new(vec![in alloc; Value::Int(key)]?)?;
     Ok(Change {
         table: 0,
         key: Value::Int(key),
@@ -57,7 +57,7 @@ fn row_key(key: i64) -> LockKey {
 }
 
 /// The net change that puts in the row of a key, if there is one.
-fn changes_of(alloc: Global, written: Option<i64>) -> Result<Items<Change>, Refusal>
+fn changes_of(alloc: Global, written: Option<i64>) -> Result<Items<Change>, AllocError>
     ensures { IfOk result (λ changes. is_none written ≡ true → changes ≡ []) }
 {
     match written {
@@ -68,7 +68,7 @@ fn changes_of(alloc: Global, written: Option<i64>) -> Result<Items<Change>, Refu
 
 impl Ran {
     /// It as the commit of a number.
-    fn commit(&self, alloc: Global, number: u64) -> Result<Record, Refusal>
+    fn commit(&self, alloc: Global, number: u64) -> Result<Record, AllocError>
         ensures number { IfOk result (λ made. made.number ≡ number) }
         ensures snapshot { IfOk result (λ made. made.snapshot ≡ 0) }
         ensures changes_nothing { IfOk result (λ made. made.read_only ≡ true → made.changes ≡ []) }
@@ -130,7 +130,7 @@ impl History {
     }
 
     /// Judges the next transaction. One that may join those before it then does.
-    fn submit(&mut self, alloc: Global, ran: &Ran) -> Result<Verdict, Refusal> {
+    fn submit(&mut self, alloc: Global, ran: &Ran) -> Result<Verdict, AllocError> {
         let commit = ran.commit(alloc, self.committed.len() as u64 + 1)?;
         let verdict = self.judge(&commit);
         if let Verdict::Fine { place } = verdict {
@@ -180,7 +180,7 @@ impl History {
     }
 
     /// Judges transactions one after the other, and answers the last verdict.
-    fn submit_all(&mut self, alloc: Global, all: &[Ran]) -> Result<Verdict, Refusal> {
+    fn submit_all(&mut self, alloc: Global, all: &[Ran]) -> Result<Verdict, AllocError> {
         let mut last = Verdict::Fine { place: 0 };
         for ran in all {
             last = self.submit(alloc, ran)?;
@@ -280,7 +280,7 @@ fn the_pivot_comes_last(rt: HostRuntime) -> Result<(), Fail> {
 }
 
 /// Who reads what the first wrote stands before it, and who is read only right behind its snapshot.
-fn are_in_order<R: Abort>(rt: &R, alloc: Global, history: &mut History) -> Result<(), Refusal> {
+fn are_in_order<R: Abort>(rt: &R, alloc: Global, history: &mut History) -> Result<(), AllocError> {
     history.submit_all(alloc, &[writer(9, 1), writer(1, 2)])?;
     assert_eq!(rt; history.order.as_slice(), [2u64, 1].as_slice());
     history.submit(alloc, &writer(7, 7))?;
@@ -300,7 +300,7 @@ fn commits_stand_in_serial_order(rt: HostRuntime) -> Result<(), Fail> {
 }
 
 /// Whether the snapshot that holds so many of these transactions is safe.
-fn safety(alloc: Global, all: &[Ran], snapshot: u64) -> Result<Option<bool>, Refusal> {
+fn safety(alloc: Global, all: &[Ran], snapshot: u64) -> Result<Option<bool>, AllocError> {
     let mut history = History::new(alloc);
     let verdict = history.submit_all(alloc, all);
     let safe = history.is_safe(snapshot);

@@ -9,7 +9,7 @@ use definitions::{Definitions, NewAssertion, new_assertions};
 use delta::View;
 use parse::{parse_schema, parse_script};
 use report::Report;
-use std::alloc::Global;
+use std::alloc::{AllocError, Global};
 use std::test::Fail;
 use syntax::Step;
 use value::{Refusal, Text};
@@ -59,7 +59,7 @@ fn tables_of(alloc: Global, text: &str) -> Result<View, Refusal>
 }
 
 /// Adds what the events of an epoch were answered.
-fn add_outcome(report: &mut Report, steps: &[Step], outcome: &Outcome) -> Result<(), Refusal> {
+fn add_outcome(report: &mut Report, steps: &[Step], outcome: &Outcome) -> Result<(), AllocError> {
     for (step, answer) in steps.iter().zip(outcome.answers.iter()) {
         report.add_answer(step, answer)?;
     }

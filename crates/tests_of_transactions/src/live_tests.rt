@@ -2,12 +2,12 @@
 
 use crate::texts::let_go;
 use live::Live;
+use std::alloc::AllocError;
 use std::process::Abort;
 use std::test::Fail;
-use value::Refusal;
 
 /// One that is read only begins on the tables after the first commit, and two on those after the second and the third.
-fn begin_three(live: &mut Live) -> Result<(), Refusal> {
+fn begin_three(live: &mut Live) -> Result<(), AllocError> {
     live.begin(1, true)?;
     live.begin(2, false)?;
     live.begin(3, false)

@@ -6,7 +6,7 @@ use crate::texts::{let_go, view_of};
 use assertion::Assertion;
 use modes::{Modes, settable_names};
 use sqlite_items::Items;
-use std::alloc::Global;
+use std::alloc::{AllocError, Global};
 use std::process::Abort;
 use std::test::Fail;
 use syntax::{Mode, Which};
@@ -18,7 +18,7 @@ const ASSERTIONS: &str = "CREATE TABLE DUTY (ID INTEGER PRIMARY KEY);
     CREATE ASSERTION FUNDS CHECK ((SELECT COUNT(*) FROM DUTY) >= 0);";
 
 /// SET CONSTRAINTS of one name.
-fn one_name(alloc: Global, name: &str) -> Result<Which, Refusal> {
+fn one_name(alloc: Global, name: &str) -> Result<Which, AllocError> {
     let name = Text::from_str(alloc, name)?;
     Ok(Which::Names(Items::from_vec(vec![in alloc; name]?)))
 }
@@ -47,7 +47,7 @@ fn taken_by_name(
     alloc: Global,
     assertions: &[Assertion],
     name: &str,
-) -> Result<&'static str, Refusal> {
+) -> Result<&'static str, AllocError> {
     let which = one_name(alloc, name)?;
     let told = taken(alloc, assertions, &which);
     let_go(which);
@@ -59,7 +59,7 @@ fn all_immediate(alloc: Global, assertions: &[Assertion], modes: &Modes) -> Resu
     requires { length modes.now ≡ length assertions.now }
 {
     let names = settable_names(alloc, assertions, &Which::All)?;
-    modes.set(assertions, names.as_slice(), Mode::Immediate)
+    Ok(modes.set(assertions, names.as_slice(), Mode::Immediate)?)
 }
 
 /// A word for the modes of COVER and FUNDS.

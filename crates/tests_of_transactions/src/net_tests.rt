@@ -12,7 +12,7 @@ use crate::texts::{let_go, view_of};
 use changes::{Touched, is_same_there, net_change, row_in};
 use delta::View;
 use siread::Place;
-use std::alloc::Global;
+use std::alloc::{AllocError, Global};
 use std::slice;
 use std::test::Fail;
 use table::{Change, Row, Schema};
@@ -23,12 +23,12 @@ const ACCOUNT: &str = "CREATE TABLE ACCOUNT (ID INTEGER PRIMARY KEY, BAL INTEGER
     INSERT INTO ACCOUNT VALUES (1, 3);";
 
 /// The account 1 with a balance.
-fn account(alloc: Global, balance: i64) -> Result<Row, Refusal> {
-    Ok(Row::new(vec![in alloc; Value::Int(1), Value::Int(balance)]?))
+fn account(alloc: Global, balance: i64) -> Result<Row, AllocError> {
+    Row::new(vec![in alloc; Value::Int(1), Value::Int(balance)]?)
 }
 
 /// What stands under a key of the only table, which has this schema.
-fn old_row(view: &View, schema: &Schema, key: &Value) -> Result<Option<Row>, Refusal>
+fn old_row(view: &View, schema: &Schema, key: &Value) -> Result<Option<Row>, AllocError>
     requires { 0 < length view.now.state }
     ensures { IfOk result (λ old. row_at schema.now.key key.now (rows_of 0 view.now.state) ≡ old) }
 {
@@ -86,7 +86,7 @@ fn net_by(
     let twice = put(start, once, touched, account(alloc, balance)?)?;
     let net = net_change(alloc, start, &twice, touched);
     let_go(twice);
-    net
+    Ok(net?)
 }
 
 /// The net change over two balances of the account, one after the other.
@@ -115,7 +115,7 @@ fn rows_changed_back_are_no_change(rt: HostRuntime) -> Result<(), Fail> {
 }
 
 /// Whether the row of the account is one with this balance.
-fn has_balance(alloc: Global, view: &View, balance: i64) -> Result<bool, Refusal> {
+fn has_balance(alloc: Global, view: &View, balance: i64) -> Result<bool, AllocError> {
     let place = Place {
         table: 0,
         key: Value::Int(1),
@@ -125,7 +125,7 @@ fn has_balance(alloc: Global, view: &View, balance: i64) -> Result<bool, Refusal
 }
 
 /// Whether it is one with three, and one with four.
-fn balances(alloc: Global, view: &View) -> Result<(bool, bool), Refusal> {
+fn balances(alloc: Global, view: &View) -> Result<(bool, bool), AllocError> {
     let three = has_balance(alloc, view, 3)?;
     let four = has_balance(alloc, view, 4)?;
     Ok((three, four))

@@ -8,7 +8,7 @@ use changes::{Equality, checks_read, equality_on, real_changes, tables_read, whe
 use delta::View;
 use siread::{LockKey, Place};
 use sqlite_items::Items;
-use std::alloc::Global;
+use std::alloc::{AllocError, Global};
 use std::process::Abort;
 use std::test::Fail;
 use table::{Change, Cond, Expr, Row};
@@ -21,7 +21,7 @@ const ACCOUNTS: &str = "CREATE TABLE ACCOUNT (ID INTEGER PRIMARY KEY, BAL INTEGE
     CREATE ASSERTION SOME_TWO CHECK ((SELECT COUNT(*) FROM ACCOUNT) >= 2);";
 
 /// A list of two.
-fn two<T: Drop>(alloc: Global, first: T, second: T) -> Result<Vec<T>, Refusal> {
+fn two<T: Drop>(alloc: Global, first: T, second: T) -> Result<Vec<T>, AllocError> {
     let mut items = Vec::new(alloc);
     items.push(first)?;
     items.push(second)?;
@@ -38,7 +38,7 @@ fn beside(column: usize, comparison: Comparison, number: i64) -> Cond {
 }
 
 /// `column 1 = 3 AND column` of this place `= 7`.
-fn both(alloc: Global, column: usize) -> Result<Cond, Refusal> {
+fn both(alloc: Global, column: usize) -> Result<Cond, AllocError> {
     let first = beside(1, Comparison::Equal, 3);
     let second = beside(column, Comparison::Equal, 7);
     Ok(Cond::And(Items::from_vec(two(alloc, first, second)?)))
@@ -64,19 +64,19 @@ fn describe(key: &LockKey) -> (&'static str, i64) {
 }
 
 /// The key that a WHERE reads, described.
-fn key_read(filter: Cond) -> Result<(&'static str, i64), Refusal> {
+fn key_read(filter: Cond) -> Result<(&'static str, i64), AllocError> {
     let key = where_key(0, 0, &filter);
     let_go(filter);
     Ok(describe(&key?))
 }
 
 /// The same of two equalities.
-fn key_of_both(alloc: Global, column: usize) -> Result<(&'static str, i64), Refusal> {
+fn key_of_both(alloc: Global, column: usize) -> Result<(&'static str, i64), AllocError> {
     key_read(both(alloc, column)?)
 }
 
 /// The same of a comparison that sets nothing equal.
-fn key_of_less() -> Result<(&'static str, i64), Refusal> {
+fn key_of_less() -> Result<(&'static str, i64), AllocError> {
     key_read(beside(0, Comparison::Less, 7))
 }
 
@@ -111,12 +111,12 @@ fn first_equality_on_a_column(rt: HostRuntime) -> Result<(), Fail> {
 }
 
 /// A row of two numbers.
-fn row(alloc: Global, key: i64, balance: i64) -> Result<Row, Refusal> {
-    Ok(Row::new(vec![in alloc; Value::Int(key), Value::Int(balance)]?))
+fn row(alloc: Global, key: i64, balance: i64) -> Result<Row, AllocError> {
+    Row::new(vec![in alloc; Value::Int(key), Value::Int(balance)]?)
 }
 
 /// The row under 7 gets 3 where it had this.
-fn to_three(alloc: Global, balance: i64) -> Result<Change, Refusal> {
+fn to_three(alloc: Global, balance: i64) -> Result<Change, AllocError> {
     Ok(Change {
         table: 0,
         key: Value::Int(7),
@@ -168,7 +168,7 @@ fn checks_read_at_candidates(rt: HostRuntime) -> Result<(), Fail> {
 }
 
 /// How many keys VERDICT of each assertion reads.
-fn key_counts(alloc: Global, assertions: &[Assertion]) -> Result<Vec<usize>, Refusal> {
+fn key_counts(alloc: Global, assertions: &[Assertion]) -> Result<Vec<usize>, AllocError> {
     let mut counts = Vec::new(alloc);
     for assertion in assertions {
         let keys = tables_read(alloc, &assertion.form)?;

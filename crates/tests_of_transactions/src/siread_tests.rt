@@ -4,19 +4,19 @@ ghost use Rattle.siread.specs.Locks.{AreBelow, readers_at};
 
 use crate::texts::let_go;
 use siread::{LockKey, LockTable, Place, touches};
-use std::alloc::Global;
+use std::alloc::{AllocError, Global};
 use std::process::Abort;
 use std::test::Fail;
 use table::{Change, Row};
-use value::{Refusal, Value};
+use value::Value;
 
 /// A row under this key with a value in its second column.
-fn row(alloc: Global, key: i64, value: Value) -> Result<Row, Refusal> {
-    Ok(Row::new(vec![in alloc; Value::Int(key), value]?))
+fn row(alloc: Global, key: i64, value: Value) -> Result<Row, AllocError> {
+    Row::new(vec![in alloc; Value::Int(key), value]?)
 }
 
 /// The row under 7 in the second table gets 1 where it had NULL.
-fn null_to_one(alloc: Global) -> Result<Change, Refusal> {
+fn null_to_one(alloc: Global) -> Result<Change, AllocError> {
     Ok(Change {
         table: 1,
         key: Value::Int(7),
@@ -69,7 +69,7 @@ fn no_reads(alloc: Global) -> LockTable
 }
 
 /// The first reads NULL in a column and a table, the second the table twice.
-fn put_by_key(locks: &mut LockTable) -> Result<(), Refusal>
+fn put_by_key(locks: &mut LockTable) -> Result<(), AllocError>
     requires { AreBelow 1 (readers_at locks.old) }
 {
     locks.put(1, &[second_column(Value::Null), LockKey::Table(0)])?;
@@ -94,7 +94,7 @@ fn readers_are_kept_by_key(rt: HostRuntime) -> Result<(), Fail> {
 }
 
 /// Three read one table, and the second another one besides.
-fn put_three(locks: &mut LockTable) -> Result<(), Refusal>
+fn put_three(locks: &mut LockTable) -> Result<(), AllocError>
     requires { AreBelow 1 (readers_at locks.old) }
 {
     locks.put(1, &[LockKey::Table(0)])?;
@@ -126,7 +126,7 @@ fn readers_are_taken_back_and_trimmed(rt: HostRuntime) -> Result<(), Fail> {
 }
 
 /// Each reads another value of a column, and the second a table besides.
-fn put_values(locks: &mut LockTable) -> Result<(), Refusal>
+fn put_values(locks: &mut LockTable) -> Result<(), AllocError>
     requires { AreBelow 1 (readers_at locks.old) }
 {
     locks.put(1, &[second_column(Value::Null)])?;

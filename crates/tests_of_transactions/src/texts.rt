@@ -14,5 +14,5 @@ pub fn view_of(alloc: Global, text: &str) -> Result<View, Refusal> {
     let definitions = parse_schema(alloc, text.as_bytes())?;
     let taken = Definitions::take(alloc, definitions.as_slice());
     let_go(definitions);
-    taken?.load(alloc)
+    Ok(taken?.load(alloc)?)
 }

@@ -1,7 +1,6 @@
 //! The next token of a text, and all of them.
 
-ghost use Rattle.std.specs.Prelude.{◌≡◌, ◌<◌, ◌≤◌, false, drop, length, Option, Result, IfSome, IfOk, IsOkUnless};
-ghost use Rattle.value.specs.declared.refusals.Refusal.TheVariants.{NoMemory};
+ghost use Rattle.std.specs.Prelude.{◌≡◌, ◌<◌, ◌≤◌, false, drop, length, Option, Result, IfSome, IfOk};
 ghost use Rattle.token.specs.Bytes as byte;
 ghost use Rattle.token.specs.Lexer as spec;
 ghost use Rattle.token.specs.Rules.{Tells, AreTokens, AreApart};
@@ -12,7 +11,7 @@ use crate::kinds::Kind;
 use crate::marks::read_mark;
 use crate::spans::Token;
 use crate::words::{Front, read_number, read_text, read_word};
-use std::alloc::Global;
+use std::alloc::{AllocError, Global};
 use value::Refusal;
 
 fn is_blank(b: u8) -> bool
@@ -123,10 +122,8 @@ pub fn next_token(text: &[u8], from: usize) -> Result<Option<Token>, Refusal>
 
 /// All tokens of a text, in their order.
 ///
-/// A bad token is the last one: its kind is `Bad`, and it has all that is left of the text. The only
-/// refusal is `NoMemory`.
-pub fn read_tokens(alloc: Global, text: &[u8]) -> Result<Vec<Token>, Refusal>
-    ensures only_memory { IsOkUnless result NoMemory }
+/// A bad token is the last one: its kind is `Bad`, and it has all that is left of the text.
+pub fn read_tokens(alloc: Global, text: &[u8]) -> Result<Vec<Token>, AllocError>
     // As a function of the text.
     ensures all { IfOk result (λ found. found.items ≡ spec.tokens_of text.now) }
     // Each is the next one behind the one before, and behind the last is none.

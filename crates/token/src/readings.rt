@@ -1,19 +1,15 @@
 //! What the bytes of a name and of a text stand for.
 
-ghost use Rattle.std.specs.Prelude.{◌≡◌, ◌-◌, false, IfOk, IsOkUnless};
-ghost use Rattle.value.specs.declared.refusals.Refusal.TheVariants.{NoMemory};
+ghost use Rattle.std.specs.Prelude.{◌≡◌, ◌-◌, false, IfOk};
 ghost use Rattle.token.specs.Bytes.{Text, name_of};
 ghost use Rattle.token.specs.Rules.{in_quotes};
 ghost use Rattle.token.specs.Readings.{undoubled, between_quotes};
 
-use std::alloc::Global;
-use value::Refusal;
+use std::alloc::{AllocError, Global};
 
-/// A word as a name: in upper case, since case does not count (SQL-92, identifiers). The only
-/// refusal is `NoMemory`.
-pub fn name_bytes(alloc: Global, spelling: &[u8]) -> Result<Vec<u8>, Refusal>
-    ensures only_memory { IsOkUnless result NoMemory }
-    ensures upper { IfOk result (λ name. name.items ≡ name_of spelling.now) }
+/// A word as a name: in upper case, since case does not count (SQL-92, identifiers).
+pub fn name_bytes(alloc: Global, spelling: &[u8]) -> Result<Vec<u8>, AllocError>
+    ensures { IfOk result (λ name. name.items ≡ name_of spelling.now) }
 {
     let mut name = Vec::with_capacity(alloc, spelling.len())?;
     for b in spelling {
@@ -31,9 +27,8 @@ fn strip_quotes<'a>(spelling: &'a [u8]) -> &'a [u8]
     &spelling[1..spelling.len() - 1]
 }
 
-fn undouble(alloc: Global, bytes: &[u8]) -> Result<Vec<u8>, Refusal>
-    ensures only_memory { IsOkUnless result NoMemory }
-    ensures once { IfOk result (λ text. text.items ≡ undoubled false bytes.now) }
+fn undouble(alloc: Global, bytes: &[u8]) -> Result<Vec<u8>, AllocError>
+    ensures { IfOk result (λ text. text.items ≡ undoubled false bytes.now) }
 {
     let mut text = Vec::with_capacity(alloc, bytes.len())?;
     let mut second = false;
@@ -49,9 +44,7 @@ fn undouble(alloc: Global, bytes: &[u8]) -> Result<Vec<u8>, Refusal>
 }
 
 /// What a text in quotes stands for: the bytes between its quotes, with each doubled quote once.
-/// The only refusal is `NoMemory`.
-pub fn text_bytes(alloc: Global, spelling: &[u8]) -> Result<Vec<u8>, Refusal>
-    ensures only_memory { IsOkUnless result NoMemory }
+pub fn text_bytes(alloc: Global, spelling: &[u8]) -> Result<Vec<u8>, AllocError>
     ensures value { IfOk result (λ text. text.items ≡ undoubled false (between_quotes spelling.now)) }
     ensures inside { (inside : Text) → spelling.now ≡ in_quotes inside → IfOk result (λ text. text.items ≡ inside) }
 {

@@ -1,6 +1,6 @@
 //! Checks of assertions.
 
-ghost use Rattle.std.specs.Prelude.{◌≡◌, ◌≢◌, ◌<◌, ◌++◌, length, slice_index_or, IfOk, IfNone, IfSome, IsOkUnless, OnOk, None, Some};
+ghost use Rattle.std.specs.Prelude.{◌≡◌, ◌≢◌, ◌<◌, ◌++◌, length, slice_index_or, IfOk, IfNone, IfSome, OnOk, None, Some};
 ghost use Rattle.value.specs.Ordered.{HoldsOf};
 ghost use Rattle.value.specs.declared.refusals.Refusal.TheVariants.{NoMemory};
 ghost use Rattle.assertion.specs.declared.assertions.Assertion.{Assertion as AnyAssertion};
@@ -12,14 +12,13 @@ ghost use Rattle.txn.specs.Transactions.{false_names, name_if_false, truth_of};
 
 use assertion::Assertion;
 use delta::View;
-use std::alloc::Global;
+use std::alloc::{AllocError, Global};
 use value::{Refusal, Text, Truth};
 
 /// The refusal by the first assertion, of those that are meant, that is false on a view, with the least root at
-/// which it is. What is unknown is not false. NoMemory is the only error.
-pub fn find_violation(view: &View, meant: &[bool]) -> Result<Option<Refusal>, Refusal>
+/// which it is. What is unknown is not false.
+pub fn find_violation(view: &View, meant: &[bool]) -> Result<Option<Refusal>, AllocError>
     requires { length meant.now ≡ length view.now.declared.assertions }
-    ensures only_memory { IsOkUnless result NoMemory }
     ensures named { IfOk result (HoldsOf (λ refusal. refusal ≢ NoMemory)) }
     ensures first { IfOk result (λ found.
         found
@@ -35,9 +34,8 @@ pub fn find_violation(view: &View, meant: &[bool]) -> Result<Option<Refusal>, Re
 }
 
 /// The refusal by one assertion, if it is meant and false.
-fn find_violation_at(view: &View, meant: bool, place: usize) -> Result<Option<Refusal>, Refusal>
+fn find_violation_at(view: &View, meant: bool, place: usize) -> Result<Option<Refusal>, AllocError>
     requires { place < length view.now.declared.assertions }
-    ensures only_memory { IsOkUnless result NoMemory }
     ensures named { IfOk result (HoldsOf (λ refusal. refusal ≢ NoMemory)) }
     ensures found { IfOk result (λ found. (a : AnyAssertion)
         → found
@@ -82,10 +80,9 @@ pub fn verdict_on(view: &View, name: &Text) -> Option<Truth>
     }
 }
 
-/// The names of the assertions that are false on a view, in the order of their creation. NoMemory is the only error.
-pub fn list_false(alloc: Global, view: &View) -> Result<Vec<Text>, Refusal>
-    ensures only_memory { IsOkUnless result NoMemory }
-    ensures names { IfOk result (λ names. names.items ≡ false_names view.now) }
+/// The names of the assertions that are false on a view, in the order of their creation.
+pub fn list_false(alloc: Global, view: &View) -> Result<Vec<Text>, AllocError>
+    ensures { IfOk result (λ names. names.items ≡ false_names view.now) }
 {
     let mut names = Vec::new(alloc);
     for place in 0..view.assertions().len() {
@@ -95,10 +92,9 @@ pub fn list_false(alloc: Global, view: &View) -> Result<Vec<Text>, Refusal>
 }
 
 /// Puts the name of an assertion behind the names, if it is false.
-fn push_if_false(names: &mut Vec<Text>, view: &View, place: usize) -> Result<(), Refusal>
+fn push_if_false(names: &mut Vec<Text>, view: &View, place: usize) -> Result<(), AllocError>
     requires { place < length view.now.declared.assertions }
-    ensures only_memory { IsOkUnless result NoMemory }
-    ensures pushed { OnOk result ((a : AnyAssertion)
+    ensures { OnOk result ((a : AnyAssertion)
         → names.new.items
         ≡ names.old.items ++ name_if_false view.now (slice_index_or view.now.declared.assertions place a)) }
 {

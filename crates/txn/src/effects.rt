@@ -1,6 +1,6 @@
 //! What statements do to the rows of a view.
 
-ghost use Rattle.std.specs.Prelude.{◌≡◌, ◌≢◌, ◌<◌, [], length, slice_index_or, IfOk, IfErr, IsOkUnless, Ok, Err};
+ghost use Rattle.std.specs.Prelude.{◌≡◌, ◌≢◌, ◌<◌, [], length, slice_index_or, IfOk, IfErr, Ok, Err};
 ghost use Rattle.value.specs.declared.refusals.Refusal.TheVariants.{NoMemory};
 ghost use Rattle.assertion.specs.Declarations.{layouts_in};
 ghost use Rattle.table.specs.Rows.{names_of};
@@ -13,7 +13,7 @@ use answer::Reply;
 use assertcheck::{Delete, NewRow, Update};
 use changes::{insertion, removals, renewals};
 use delta::View;
-use std::alloc::Global;
+use std::alloc::{AllocError, Global};
 use table::Change;
 use value::{Refusal, Text};
 
@@ -75,10 +75,9 @@ pub fn update_effect(alloc: Global, view: &View, update: &Update) -> Result<Effe
     })
 }
 
-/// DELETE of the rows that its condition keeps. NoMemory is the only error.
-pub fn delete_effect(alloc: Global, view: &View, delete: &Delete) -> Result<Effect, Refusal>
+/// DELETE of the rows that its condition keeps.
+pub fn delete_effect(alloc: Global, view: &View, delete: &Delete) -> Result<Effect, AllocError>
     requires runnable { IsRunnableDelete view.now.declared delete.now }
-    ensures only_memory { IsOkUnless result NoMemory }
     ensures made { IfOk result (λ effect.
         delete_of view.now delete.now ≡ record { reply = effect.reply; changes = effect.changes.items }) }
     ensures put_in { IfOk result (λ effect.

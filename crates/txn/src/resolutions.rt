@@ -1,6 +1,6 @@
 //! Statements with their names found.
 
-ghost use Rattle.std.specs.Prelude.{◌≡◌, ◌≢◌, IfOk, IsOkUnless, Err};
+ghost use Rattle.std.specs.Prelude.{◌≡◌, ◌≢◌, IfOk, Err};
 ghost use Rattle.value.specs.declared.refusals.Refusal.TheVariants.{NoMemory};
 ghost use Rattle.alone.specs.Resolve.{resolved};
 ghost use Rattle.alone.specs.declared.statements.Resolved.TheVariants as forms;
@@ -10,20 +10,19 @@ use alone::{Resolved, updates_leave_the_key};
 use assertcheck::{check_delete, check_insert, check_select, check_update};
 use delta::View;
 use modes::settable_names;
-use std::alloc::Global;
+use std::alloc::{AllocError, Global};
 use syntax::Statement;
 use value::Refusal;
 
 /// A statement with its names found among the tables and assertions of a view; one that has a fault of names,
 /// shape, types or width, or that sets a mode that may not be set, is that refusal, and so is one that its read-only
-/// transaction may not run, of which no name is looked up. NoMemory is the only error.
+/// transaction may not run, of which no name is looked up.
 pub fn resolve(
     alloc: Global,
     view: &View,
     read_only: bool,
     statement: &Statement,
-) -> Result<Resolved, Refusal>
-    ensures only_memory { IsOkUnless result NoMemory }
+) -> Result<Resolved, AllocError>
     ensures resolved { IfOk result (λ made. made ≡ resolved view.now.declared read_only statement.now) }
     ensures runnable { IfOk result (λ made. IsRunnable view.now.declared made) }
 {
@@ -70,12 +69,11 @@ pub fn resolve(
 }
 
 /// A refused statement is just its refusal; memory running out is no refusal of it.
-fn resolve_refused(refusal: Refusal) -> Result<Resolved, Refusal>
-    ensures only_memory { IsOkUnless result NoMemory }
-    ensures refused { IfOk result (λ made. (made ≡ forms.Refused refusal) × (refusal ≢ NoMemory)) }
+fn resolve_refused(refusal: Refusal) -> Result<Resolved, AllocError>
+    ensures { IfOk result (λ made. (made ≡ forms.Refused refusal) × (refusal ≢ NoMemory)) }
 {
     match refusal {
-        Refusal::NoMemory => Err(Refusal::NoMemory),
+        Refusal::NoMemory => Err(AllocError),
         refusal => Ok(Resolved::Refused(refusal)),
     }
 }

@@ -1,6 +1,6 @@
 //! A statement of a transaction alone.
 
-ghost use Rattle.std.specs.Prelude.{◌≡◌, ◌≢◌, ◌<◌, ◌++◌, [], ◌∷◌, length, map, true, IfOk, IsOkUnless, OnErr, OnOk, Ok, Err, None, Some};
+ghost use Rattle.std.specs.Prelude.{◌≡◌, ◌≢◌, ◌<◌, ◌++◌, [], ◌∷◌, length, map, true, IfOk, OnErr, OnOk, Ok, Err, None, Some};
 ghost use Rattle.value.specs.Ordered.{HoldsOf};
 ghost use Rattle.value.specs.declared.refusals.Refusal.TheVariants.{NoMemory};
 ghost use Rattle.assertion.specs.Declarations.{layouts_in};
@@ -33,7 +33,7 @@ use delta::View;
 use modes::Modes;
 use siread::{LockKey, Place};
 use sqlite_items::Items;
-use std::alloc::Global;
+use std::alloc::{AllocError, Global};
 use syntax::Mode;
 use table::{Change, Cond};
 use value::{Refusal, Text, Value};
@@ -52,8 +52,7 @@ pub struct Done {
 }
 
 /// Runs a statement alone, on a transaction's own view and modes; the view on which it began can differ at the
-/// touched places alone. NoMemory is the only error; a statement that is refused is done, and its reply is the
-/// refusal.
+/// touched places alone. Only memory can fail; a statement that is refused is done, and its reply is the refusal.
 pub fn step(
     alloc: Global,
     start: &View,
@@ -61,12 +60,11 @@ pub fn step(
     modes: &Modes,
     touched: &Touched,
     statement: &Resolved,
-) -> Result<Done, Refusal>
+) -> Result<Done, AllocError>
     requires runnable { IsRunnable own.now.declared statement.now }
     requires modes { length modes.now ≡ length own.now.declared.assertions }
     requires declared { own.now.declared ≡ start.now.declared }
     requires differ { DifferAt (layouts_in start.now.declared) start.now.state own.now.state touched.now }
-    ensures only_memory { IsOkUnless result NoMemory }
     ensures done { IfOk result
         (IsDone (standing own.now modes.now)
         (stepped own.now.declared start.now.state (standing own.now modes.now) statement.now)) }
@@ -120,23 +118,21 @@ fn refuse_with(refusal: Refusal, reads: Vec<LockKey>) -> Done
 }
 
 /// The same, of a refusal that may be that no memory was left, which is an error.
-fn refuse_unless_memory(refusal: Refusal, reads: Vec<LockKey>) -> Result<Done, Refusal>
-    ensures only_memory { IsOkUnless result NoMemory }
+fn refuse_unless_memory(refusal: Refusal, reads: Vec<LockKey>) -> Result<Done, AllocError>
     ensures known { IfOk result IsKnown }
     ensures reply { IfOk result (λ done. done.reply ≡ Err refusal) }
     ensures same { IfOk result (λ done. (done.view ≡ None) × (done.modes ≡ None) × (done.changes.items ≡ [])) }
     ensures reads { IfOk result (λ done. done.reads.items ≡ reads.items) }
 {
     match refusal {
-        Refusal::NoMemory => Err(Refusal::NoMemory),
+        Refusal::NoMemory => Err(AllocError),
         refusal => Ok(refuse_with(refusal, reads)),
     }
 }
 
 /// One key.
-fn list_one(alloc: Global, key: LockKey) -> Result<Vec<LockKey>, Refusal>
-    ensures only_memory { IsOkUnless result NoMemory }
-    ensures only { IfOk result (λ keys. keys.items ≡ key ∷ []) }
+fn list_one(alloc: Global, key: LockKey) -> Result<Vec<LockKey>, AllocError>
+    ensures { IfOk result (λ keys. keys.items ≡ key ∷ []) }
 {
     let mut keys = Vec::with_capacity(alloc, 1)?;
     keys.push(key)?;
@@ -144,10 +140,9 @@ fn list_one(alloc: Global, key: LockKey) -> Result<Vec<LockKey>, Refusal>
 }
 
 /// INSERT, which reads the row of its key.
-fn run_insert(alloc: Global, own: &View, modes: &Modes, new: &NewRow) -> Result<Done, Refusal>
+fn run_insert(alloc: Global, own: &View, modes: &Modes, new: &NewRow) -> Result<Done, AllocError>
     requires table_in { new.now.table < length own.now.declared.tables }
     requires modes { length modes.now ≡ length own.now.declared.assertions }
-    ensures only_memory { IsOkUnless result NoMemory }
     ensures done { IfOk result (IsDone (standing own.now modes.now) (insert_step own.now modes.now new.now)) }
     ensures of { IfOk result (IsOf own.now.declared) }
     ensures known { IfOk result IsKnown }
@@ -163,10 +158,9 @@ fn run_insert(alloc: Global, own: &View, modes: &Modes, new: &NewRow) -> Result<
 }
 
 /// UPDATE, which reads what its condition names.
-fn run_update(alloc: Global, own: &View, modes: &Modes, update: &Update) -> Result<Done, Refusal>
+fn run_update(alloc: Global, own: &View, modes: &Modes, update: &Update) -> Result<Done, AllocError>
     requires runnable { IsRunnableUpdate own.now.declared update.now }
     requires modes { length modes.now ≡ length own.now.declared.assertions }
-    ensures only_memory { IsOkUnless result NoMemory }
     ensures done { IfOk result (IsDone (standing own.now modes.now) (update_step own.now modes.now update.now)) }
     ensures of { IfOk result (IsOf own.now.declared) }
     ensures known { IfOk result IsKnown }
@@ -182,10 +176,9 @@ fn run_update(alloc: Global, own: &View, modes: &Modes, update: &Update) -> Resu
 }
 
 /// DELETE, which reads what its condition names.
-fn run_delete(alloc: Global, own: &View, modes: &Modes, delete: &Delete) -> Result<Done, Refusal>
+fn run_delete(alloc: Global, own: &View, modes: &Modes, delete: &Delete) -> Result<Done, AllocError>
     requires runnable { IsRunnableDelete own.now.declared delete.now }
     requires modes { length modes.now ≡ length own.now.declared.assertions }
-    ensures only_memory { IsOkUnless result NoMemory }
     ensures done { IfOk result (IsDone (standing own.now modes.now) (delete_step own.now modes.now delete.now)) }
     ensures of { IfOk result (IsOf own.now.declared) }
     ensures known { IfOk result IsKnown }
@@ -198,10 +191,9 @@ fn run_delete(alloc: Global, own: &View, modes: &Modes, delete: &Delete) -> Resu
 }
 
 /// The key under which a condition on a table reads.
-fn read_key(own: &View, table: usize, filter: &Cond) -> Result<LockKey, Refusal>
+fn read_key(own: &View, table: usize, filter: &Cond) -> Result<LockKey, AllocError>
     requires table_in { table < length own.now.declared.tables }
-    ensures only_memory { IsOkUnless result NoMemory }
-    ensures key { IfOk result (λ key. key ≡ where_key table (key_of table (layouts_in own.now.declared)) filter.now) }
+    ensures { IfOk result (λ key. key ≡ where_key table (key_of table (layouts_in own.now.declared)) filter.now) }
 {
     // (that there are rows for each table is a clause of the catalog)
     let _ = own.catalog();
@@ -209,10 +201,9 @@ fn read_key(own: &View, table: usize, filter: &Cond) -> Result<LockKey, Refusal>
 }
 
 /// The place at which a new row is to stand.
-fn place_in(own: &View, new: &NewRow) -> Result<Place, Refusal>
+fn place_in(own: &View, new: &NewRow) -> Result<Place, AllocError>
     requires table_in { new.now.table < length own.now.declared.tables }
-    ensures only_memory { IsOkUnless result NoMemory }
-    ensures place { IfOk result (λ place. place ≡ place_in (layouts_in own.now.declared) new.now) }
+    ensures { IfOk result (λ place. place ≡ place_in (layouts_in own.now.declared) new.now) }
 {
     // (as above)
     let _ = own.catalog();
@@ -227,10 +218,14 @@ fn place_in(own: &View, new: &NewRow) -> Result<Place, Refusal>
 }
 
 /// Puts an effect in, and checks the immediate assertions on what it leaves. `reads` is what it was found under.
-fn put_in(own: &View, modes: &Modes, reads: Vec<LockKey>, effect: Effect) -> Result<Done, Refusal>
+fn put_in(
+    own: &View,
+    modes: &Modes,
+    reads: Vec<LockKey>,
+    effect: Effect,
+) -> Result<Done, AllocError>
     requires modes { length modes.now ≡ length own.now.declared.assertions }
     requires changes { ArePutIn (layouts_in own.now.declared) effect.changes.items own.now.state }
-    ensures only_memory { IsOkUnless result NoMemory }
     ensures done { IfOk result (λ done. (read : AnyKey) → reads.items ≡ read ∷ []
         → IsDone (standing own.now modes.now)
         (effected own.now.declared (standing own.now modes.now) read (Ok (shown_effect effect))) done) }
@@ -299,9 +294,8 @@ fn leave_modes_unless(violated: Option<Refusal>, modes: Modes, reads: Vec<LockKe
 }
 
 /// SELECT: the listed values of the rows that its condition keeps, in key order.
-fn run_select(alloc: Global, own: &View, select: &Select) -> Result<Done, Refusal>
+fn run_select(alloc: Global, own: &View, select: &Select) -> Result<Done, AllocError>
     requires runnable { IsRunnableSelect own.now.declared select.now }
-    ensures only_memory { IsOkUnless result NoMemory }
     ensures reply { IfOk result (λ done.
         done.reply
         ≡ Ok (replies.Rows
@@ -333,11 +327,10 @@ fn run_set_constraints(
     touched: &Touched,
     names: &[Text],
     mode: Mode,
-) -> Result<Done, Refusal>
+) -> Result<Done, AllocError>
     requires modes { length modes.now ≡ length own.now.declared.assertions }
     requires declared { own.now.declared ≡ start.now.declared }
     requires differ { DifferAt (layouts_in start.now.declared) start.now.state own.now.state touched.now }
-    ensures only_memory { IsOkUnless result NoMemory }
     ensures done { IfOk result
         (IsDone (standing own.now modes.now)
         (modes_step own.now.declared start.now.state names.now (is_immediate mode) (standing own.now modes.now))) }
@@ -358,9 +351,8 @@ fn run_set_constraints(
 }
 
 /// The modes after those of some assertions are set, by their names.
-fn set_modes(own: &View, modes: &Modes, names: &[Text], mode: Mode) -> Result<Modes, Refusal>
+fn set_modes(own: &View, modes: &Modes, names: &[Text], mode: Mode) -> Result<Modes, AllocError>
     requires modes { length modes.now ≡ length own.now.declared.assertions }
-    ensures only_memory { IsOkUnless result NoMemory }
     ensures set { IfOk result (λ after.
         after ≡ modes_with names.now (is_immediate mode) own.now.declared.assertions modes.now) }
     ensures long { IfOk result (λ after. length after ≡ length own.now.declared.assertions) }
@@ -376,9 +368,8 @@ fn set_immediate(
     modes: &Modes,
     names: &[Text],
     net: &[Change],
-) -> Result<Done, Refusal>
+) -> Result<Done, AllocError>
     requires modes { length modes.now ≡ length own.now.declared.assertions }
-    ensures only_memory { IsOkUnless result NoMemory }
     ensures done { IfOk result (λ done. (start : State)
         → net.now ≡ net_change (layouts_in own.now.declared) start own.now.state
         → IsDone (standing own.now modes.now)
@@ -395,8 +386,7 @@ fn set_immediate(
 }
 
 /// VERDICT: the truth of the assertion of a name on the own view. It reads the tables that the assertion names.
-fn run_verdict(alloc: Global, own: &View, name: &Text) -> Result<Done, Refusal>
-    ensures only_memory { IsOkUnless result NoMemory }
+fn run_verdict(alloc: Global, own: &View, name: &Text) -> Result<Done, AllocError>
     ensures known { IfOk result IsKnown }
     ensures done { IfOk result (λ done. (modes : Immediates)
         → IsDone (standing own.now modes)
@@ -413,9 +403,8 @@ fn run_verdict(alloc: Global, own: &View, name: &Text) -> Result<Done, Refusal>
     }
 }
 
-/// These keys, and then those. NoMemory, the only error, leaves them as they were.
-pub fn append(keys: &mut Vec<LockKey>, more: Vec<LockKey>) -> Result<(), Refusal>
-    ensures only_memory { IsOkUnless result NoMemory }
+/// These keys, and then those. An error leaves them as they were.
+pub fn append(keys: &mut Vec<LockKey>, more: Vec<LockKey>) -> Result<(), AllocError>
     ensures both { OnOk result (keys.new.items ≡ keys.old.items ++ more.items) }
     ensures same { OnErr result (keys.new.items ≡ keys.old.items) }
 {

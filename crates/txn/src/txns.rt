@@ -1,6 +1,6 @@
 //! Open transactions.
 
-ghost use Rattle.std.specs.Prelude.{◌≡◌, ◌≢◌, ◌<◌, ◌++◌, true, [], map, unwrap_or, vec_capacity, vec_len, Contains, IfOk, IfErr, IsOkUnless, OnErr, OnOk, Ok, Err};
+ghost use Rattle.std.specs.Prelude.{◌≡◌, ◌≢◌, ◌<◌, ◌++◌, true, [], map, unwrap_or, vec_capacity, vec_len, Contains, IfOk, IfErr, OnErr, OnOk, Ok, Err};
 ghost use Rattle.value.specs.declared.refusals.Refusal.TheVariants.{NoMemory};
 ghost use Rattle.siread.specs.declared.keys.Place.{Place as AnyPlace};
 ghost use Rattle.siread.specs.Keys.{place_of};
@@ -20,7 +20,7 @@ use changes::{Touched, checks_read, net_change};
 use delta::View;
 use modes::Modes;
 use siread::LockKey;
-use std::alloc::Global;
+use std::alloc::{AllocError, Global};
 use std::marker::Model;
 use syntax::Statement;
 use table::Change;
@@ -67,16 +67,15 @@ impl Model for Txn {
 
 impl Txn {
     /// A transaction that begins on these tables, which so many commits left. The ticket is its name with the
-    /// caller; one that is read only runs no INSERT, UPDATE or DELETE. NoMemory is the only error.
+    /// caller; one that is read only runs no INSERT, UPDATE or DELETE.
     pub fn begin(
         alloc: Global,
         ticket: u64,
         snapshot: u64,
         read_only: bool,
         tables: &View,
-    ) -> Result<Txn, Refusal>
-        ensures only_memory { IsOkUnless result NoMemory }
-        ensures begun { IfOk result (λ txn. txn ≡ begun ticket snapshot read_only tables.now) }
+    ) -> Result<Txn, AllocError>
+        ensures { IfOk result (λ txn. txn ≡ begun ticket snapshot read_only tables.now) }
     {
         Ok(Txn {
             ticket,
@@ -193,7 +192,7 @@ impl Txn {
             &statement,
         ) {
             Ok(done) => done,
-            Err(refusal) => return drop_and_refuse(refusal, statement),
+            Err(_) => return drop_and_refuse(Refusal::NoMemory, statement),
         };
         let Done {
             reply,
@@ -202,14 +201,14 @@ impl Txn {
             changes,
             reads,
         } = done;
-        if let Err(refusal) = make_room(
+        if let Err(_) = make_room(
             &mut self.touched,
             &mut self.trace,
             &mut self.reads,
             changes.as_slice(),
             reads,
         ) {
-            return drop_and_refuse(refusal, (statement, reply, view, modes));
+            return drop_and_refuse(Refusal::NoMemory, (statement, reply, view, modes));
         }
         settle(&mut self.own, view);
         settle_modes(&mut self.modes, modes);
@@ -226,10 +225,9 @@ impl Txn {
     }
 
     /// The names of the assertions that are false on the own view, in the order of their creation. It enters no
-    /// trace. NoMemory is the only error.
-    pub fn pending(&self) -> Result<Vec<Text>, Refusal>
-        ensures only_memory { IsOkUnless result NoMemory }
-        ensures names { IfOk result (λ names. names.items ≡ false_names (own_view self.now)) }
+    /// trace.
+    pub fn pending(&self) -> Result<Vec<Text>, AllocError>
+        ensures { IfOk result (λ names. names.items ≡ false_names (own_view self.now)) }
     {
         let names = list_false(*self.trace.allocator(), &self.own)?;
         Ok(names)
@@ -245,7 +243,10 @@ impl Txn {
     {
         match self.prepare_close() {
             Ok(closing) => self.close_with(closing),
-            Err(refusal) => Err(Unclosed { refusal, txn: self }),
+            Err(_) => Err(Unclosed {
+                refusal: Refusal::NoMemory,
+                txn: self,
+            }),
         }
     }
 
@@ -288,8 +289,8 @@ impl Txn {
                 reads,
                 run,
             }),
-            Err(refusal) => Err(Unclosed {
-                refusal,
+            Err(_) => Err(Unclosed {
+                refusal: Refusal::NoMemory,
                 txn: Txn {
                     ticket,
                     snapshot,
@@ -306,9 +307,8 @@ impl Txn {
     }
 
     /// What COMMIT is answered by.
-    fn prepare_close(&self) -> Result<Closing, Refusal>
-        ensures only_memory { IsOkUnless result NoMemory }
-        ensures closed { IfOk result (λ closing.
+    fn prepare_close(&self) -> Result<Closing, AllocError>
+        ensures { IfOk result (λ closing.
             IsClosed self.now closing.changes.items closing.refused ((run_of self.now).reads
             ++ closing.checked.items)) }
     {
@@ -350,16 +350,15 @@ fn drop_and_refuse<T: Drop>(refusal: Refusal, _made: T) -> Result<Reply, Refusal
     Err(refusal)
 }
 
-/// Notes the places of changes and what was read, and makes room for one more statement. After NoMemory, the only
-/// error, some of the places may have been noted.
+/// Notes the places of changes and what was read, and makes room for one more statement. After an error some of the
+/// places may have been noted.
 fn make_room(
     touched: &mut Touched,
     trace: &mut Vec<Resolved>,
     reads: &mut Vec<LockKey>,
     changes: &[Change],
     more: Vec<LockKey>,
-) -> Result<(), Refusal>
-    ensures only_memory { IsOkUnless result NoMemory }
+) -> Result<(), AllocError>
     ensures kept { (place : AnyPlace) → Contains touched.old place → Contains touched.new place }
     ensures added { OnOk result ((place : AnyPlace) → Contains (map place_of changes.now) place
         → Contains touched.new place) }

@@ -27,7 +27,8 @@
 //! memory is one of them, so that `?` carries it everywhere.
 //!
 //! A `Text` is seen by contracts as the list of its bytes. So values, roots and refusals are plain data in
-//! clauses, and `≡` between two of them is equality.
+//! clauses, and `≡` between two of them is equality. Inside, its copies share the bytes, so that a copy of a value
+//! or a root takes no memory. `Copied` is what the layers above ask of whatever they keep in versions.
 //!
 //! What the layer above may rest on: `order` and `order_roots` are total orders that tell all values (roots)
 //! apart, `compare` is nothing exactly where a side is NULL and is else the order, each function of `Truth` is its
@@ -40,12 +41,14 @@
 #![tactic(auto)]
 
 mod comparisons;
+mod copied;
 mod refusals;
 mod texts;
 mod truths;
 mod values;
 
 pub use comparisons::{Comparison, compare};
+pub use copied::Copied;
 pub use refusals::{Excess, Party, Refusal};
 pub use texts::Text;
 pub use truths::Truth;

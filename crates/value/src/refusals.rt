@@ -1,6 +1,6 @@
 //! Every refusal of every crate.
 
-ghost use Rattle.std.specs.Prelude.{◌≡◌, IfOk, IsOkUnless};
+ghost use Rattle.std.specs.Prelude.{◌≡◌, IfOk};
 ghost use Rattle.value.specs.declared.refusals.Refusal.TheVariants.{NoMemory};
 
 use crate::texts::Text;
@@ -155,10 +155,9 @@ pub enum Refusal {
 }
 
 impl Refusal {
-    /// A refusal equal to this one. NoMemory is the only error.
-    pub fn copy(&self) -> Result<Refusal, Refusal>
-        ensures only_memory { IsOkUnless result NoMemory }
-        ensures equal { IfOk result (λ copy. copy ≡ self.now) }
+    /// A refusal equal to this one.
+    pub fn copy(&self) -> Result<Refusal, AllocError>
+        ensures { IfOk result (λ copy. copy ≡ self.now) }
     {
         let copy = match self {
             Refusal::NoMemory => Refusal::NoMemory,

@@ -14,36 +14,38 @@ use std::cmp::Ordering;
 use std::fmt;
 use std::hash::{Hash, Hasher};
 use std::marker::Model;
+use std::sync::Arc;
 
-/// A text, of any bytes. Two are equal where their bytes are, and a beginning stands before the longer text.
+/// A text, of any bytes. Two are equal where their bytes are, and a beginning stands before the longer text. A copy
+/// shares the bytes.
 #[derive(Debug, Drop)]
 pub struct Text {
-    bytes: Vec<u8>,
+    bytes: Arc<Vec<u8>>,
 }
 
 impl Model for Text {
     ghost use Rattle.std.specs.Prelude.{ℕ, List};
+    ghost use Rattle.std.specs.Arc.{arc_value};
 
     ghost Value = { List ℕ };
 
-    ghost view = { λ text. text.bytes.items };
+    ghost view = { λ text. (arc_value text.bytes).items };
 }
 
 impl Text {
     /// The text of these bytes.
-    pub fn new(bytes: Vec<u8>) -> Text
-        ensures { result ≡ bytes.items }
+    pub fn new(bytes: Vec<u8>) -> Result<Text, AllocError>
+        ensures { IfOk result (λ text. text ≡ bytes.items) }
     {
-        Text { bytes }
+        let bytes = Arc::new(*bytes.allocator(), bytes)?;
+        Ok(Text { bytes })
     }
 
     /// The text of a string's bytes.
     pub fn from_str(alloc: Global, string: &str) -> Result<Text, AllocError>
         ensures { IfOk result (λ text. text ≡ string.now) }
     {
-        Ok(Text {
-            bytes: Vec::from_slice(alloc, string.as_bytes())?,
-        })
+        Text::new(Vec::from_slice(alloc, string.as_bytes())?)
     }
 
     pub fn as_bytes(&self) -> &[u8]
@@ -66,13 +68,12 @@ impl Text {
         self.bytes.iter().all(|byte| 0x20 <= *byte && *byte <= 0x7E)
     }
 
-    /// A text equal to this one.
+    /// A text equal to this one. It shares the bytes, and takes no memory.
     pub fn copy(&self) -> Result<Text, AllocError>
         ensures { IfOk result (λ copy. copy ≡ self.now) }
     {
-        Ok(Text {
-            bytes: self.bytes.clone()?,
-        })
+        let bytes = Arc::try_clone(&self.bytes)?;
+        Ok(Text { bytes })
     }
 }
 

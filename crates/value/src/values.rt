@@ -1,12 +1,11 @@
 //! The values of tables, their types, and the roots of assertions.
 
-ghost use Rattle.std.specs.Prelude.{◌≡◌, ◌↔◌, IfOk, IsOkUnless};
+ghost use Rattle.std.specs.Prelude.{◌≡◌, ◌↔◌, IfOk};
 ghost use Rattle.std.specs.Cmp.{IsTotalOrder};
-ghost use Rattle.value.specs.declared.refusals.Refusal.TheVariants.{NoMemory};
 ghost use Rattle.value.specs.ValueOrder.{value_cmp, root_cmp};
 
-use crate::refusals::Refusal;
 use crate::texts::Text;
+use std::alloc::AllocError;
 use std::cmp::Ordering;
 use std::fmt;
 
@@ -19,10 +18,9 @@ pub enum Value {
 }
 
 impl Value {
-    /// A value equal to this one.
-    pub fn copy(&self) -> Result<Value, Refusal>
-        ensures only_memory { IsOkUnless result NoMemory }
-        ensures equal { IfOk result (λ copy. copy ≡ self.now) }
+    /// A value equal to this one. It shares a text's bytes, and takes no memory.
+    pub fn copy(&self) -> Result<Value, AllocError>
+        ensures { IfOk result (λ copy. copy ≡ self.now) }
     {
         match self {
             Value::Null => Ok(Value::Null),
@@ -67,10 +65,9 @@ pub enum Root {
 }
 
 impl Root {
-    /// A root equal to this one.
-    pub fn copy(&self) -> Result<Root, Refusal>
-        ensures only_memory { IsOkUnless result NoMemory }
-        ensures equal { IfOk result (λ copy. copy ≡ self.now) }
+    /// A root equal to this one. It shares a text's bytes, and takes no memory.
+    pub fn copy(&self) -> Result<Root, AllocError>
+        ensures { IfOk result (λ copy. copy ≡ self.now) }
     {
         match self {
             Root::All => Ok(Root::All),

@@ -2,8 +2,8 @@ use Rattle.std.proofs.Common.{sym, ◌∙◌}
 use Rattle.assertcheck.proofs.TypeLists.{missing, present}
 use Rattle.assertcheck.proofs.typed_forms.slot_types.Goals as goal
 
-pub returns-in_default-clause-types : goal.returns-in_default-clause-types
-returns-in_default-clause-types g c =
+pub returns-in_default : goal.returns-in_default
+returns-in_default g c =
     missing (g.T.SlotTypes.slot_type c.args.of.now) c.args.slots.now c.loop-slot.slot-index c.slot-item.result c.loop-slot.types.items c.loop-slot-test.true c.slot-item.is c.loop-slot.invariant
     (sym c.slot_type.ensures ∙ c.in_default.is)
 

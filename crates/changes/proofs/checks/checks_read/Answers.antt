@@ -7,4 +7,4 @@ pub loop-place-preserved : goal.loop-place-preserved
 loop-place-preserved c =
     rw add-one
     (one_more (layouts_in c.args.view.now.declared) c.args.view.now.state _ c.args.meant.now c.args.view.now.declared.assertions c.args.changes.now
-    c.loop-place.place c.loop-place.keys.items c.push_if_meant.new.keys.items _ c.loop-place-test.true c.requires c.in_ok-push_if_meant.ensures.pushed c.loop-place.invariant)
+    c.loop-place.place c.loop-place.keys.items c.push_if_meant.new.keys.items _ c.loop-place-test.true c.requires c.in_ok-push_if_meant.ensures c.loop-place.invariant)

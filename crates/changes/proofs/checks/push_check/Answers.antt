@@ -8,8 +8,8 @@ use Rattle.assertion.specs.Declarations.{layouts_in}
 use Rattle.alone.specs.Checks.{finding_keys, keys_for}
 use Rattle.changes.proofs.checks.push_check.Goals as goal
 
-pub returns-clause-pushed : goal.returns-clause-pushed
-returns-clause-pushed c =
+pub returns : goal.returns
+returns c =
     on_ok_weaker c.push_roots.result
     (λ p. λ a.
     let layouts = layouts_in c.args.view.now.declared in
@@ -21,10 +21,10 @@ returns-clause-pushed c =
     let asked = get_or c.args.view.now.declared.assertions c.args.assertion a in
     let is : found ≡ asked =
     ap (λ xs. get_or xs c.args.assertion result) c.assertions.ensures.value ∙ get_or_default c.args.view.now.declared.assertions c.args.assertion result a c.requires in
-    let roots : c.deref.result.now ≡ candidates_of layouts state changes asked.form = c.deref.ensures.value ∙ c.in_ok-roots.ensures.candidates a in
+    let roots : c.deref.result.now ≡ candidates_of layouts state changes asked.form = c.deref.ensures.value ∙ c.in_ok-roots.ensures a in
     p
-    ∙ ap (λ keys. keys ++ flat_map (keys_for layouts state found.form) c.deref.result.now) c.in_ok-push_finding.ensures.pushed
+    ∙ ap (λ keys. keys ++ flat_map (keys_for layouts state found.form) c.deref.result.now) c.in_ok-push_finding.ensures
     ∙ append_assoc old (flat_map (finding_keys layouts found.form) changes) (flat_map (keys_for layouts state found.form) c.deref.result.now)
     ∙ ap (λ rs. old ++ (flat_map (finding_keys layouts found.form) changes ++ flat_map (keys_for layouts state found.form) rs)) roots
     ∙ ap (λ (x : Assertion). old ++ (flat_map (finding_keys layouts x.form) changes ++ flat_map (keys_for layouts state x.form) (candidates_of layouts state changes asked.form))) is)
-    c.push_roots.ensures.pushed
+    c.push_roots.ensures

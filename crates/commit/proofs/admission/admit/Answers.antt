@@ -5,4 +5,4 @@ use Rattle.commit.proofs.admission.admit.Goals as goal
 
 pub returns-clause-written : goal.returns-clause-written
 returns-clause-written c =
-    subst (λ (s : Shown). AreWritten c.args.definitions.now s.declared) (sym (c.in_ok-view.ensures.same ∙ c.in_ok-loaded.ensures.loaded)) c.in_ok-taken.ensures.written
+    subst (λ (s : Shown). AreWritten c.args.definitions.now s.declared) (sym (c.in_ok-view.ensures.same ∙ c.in_ok-loaded.ensures)) c.in_ok-taken.ensures.written

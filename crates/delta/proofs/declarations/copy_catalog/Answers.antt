@@ -16,7 +16,7 @@ returns-in_err-add-clause-only_memory c =
 
 pub loop-table-preserved : goal.loop-table-preserved
 loop-table-preserved c = elim c.match-name.branch [
-  | in-Some+in-Some-at+in_ok-copy+in_ok-copy-2+in_ok-add w ↦ rw (w.copy-is, w.in_ok-add.ensures.ok, c.loop-table.invariant, w.in_ok-copy.ensures, w.in_ok-copy-2.ensures.equal)
+  | in-Some+in-Some-at+in_ok-copy+in_ok-copy-2+in_ok-add w ↦ rw (w.copy-is, w.in_ok-add.ensures.ok, c.loop-table.invariant, w.in_ok-copy.ensures, w.in_ok-copy-2.ensures)
       (sym (take-get c.args.catalog.now c.loop-table.table (w.in-Some.name.now, w.in-Some-at.schema.now) (table_at c.args.catalog.now c.loop-table.table w.in-Some.name.now w.in-Some-at.schema.now w.in-Some.ensures w.in-Some-at.ensures)))
   | in-Some+in_default-at w ↦ absurd (get-there (layouts_of c.args.catalog.now) c.loop-table.table (omega (arith, c.loop-table-test.true, c.len-table-end.ensures.value, length-map c.args.catalog.now (λ table. table.1))) w.in_default-at.ensures)
   | in_default w ↦ absurd (get-there (names_of c.args.catalog.now) c.loop-table.table (omega (arith, c.loop-table-test.true, c.len-table-end.ensures.value, length-map c.args.catalog.now (λ table. table.0))) w.in_default.ensures)

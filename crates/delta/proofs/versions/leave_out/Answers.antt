@@ -19,8 +19,8 @@ loop-index-preserved c =
           subst (λ (a : Assertion). IsWatched c.args._schemas.now c.args._tables.now a.form (arc_value watch)) (sym c.index-assertions-index.is)
           (watched_here c.args._schemas.now c.args._tables.now c.args.assertions.now (length c.args.assertions.now) c.args.watches.now c.loop-index.index w.index-watches-index.result (arc_value watch) c.requires.watched (omega arith) w.index-watches-index.is w.in_ok-try_clone.ensures item) in
           record {
-            stay = rw (w.left-is, w.in_ok-push.ensures.items, c.loop-index.invariant.stay, w.in_ok-copy.ensures.equal) (sym (stays keep c.args.assertions.now c.loop-index.index item (omega arith) c.index-assertions-index.is (sym c.ne.ensures ∙ w.if-ne.true)));
-            watched = rw (w.left-is, w.shared-is, w.in_ok-push.ensures.items, w.in_ok-copy.ensures.equal)
+            stay = rw (w.left-is, w.in_ok-push.ensures.items, c.loop-index.invariant.stay, w.in_ok-copy.ensures) (sym (stays keep c.args.assertions.now c.loop-index.index item (omega arith) c.index-assertions-index.is (sym c.ne.ensures ∙ w.if-ne.true)));
+            watched = rw (w.left-is, w.shared-is, w.in_ok-push.ensures.items, w.in_ok-copy.ensures)
                 (watched_more c.args._schemas.now c.args._tables.now c.loop-index.left.items item (map arc_value c.loop-index.shared.items) (map arc_value w.push-then-ne.new.self.items) (arc_value watch)
                 (shared_more c.loop-index.shared.items w.push-then-ne.new.self.items watch w.in_ok-push-2.ensures.items) right c.loop-index.invariant.watched);
           }

@@ -12,5 +12,5 @@ loop-index-preserved c =
     let made = c.in_ok-watch_after.field-0 in
     AreWatched-more c.args.schemas.now c.args.after.now c.args.assertions.now c.loop-index.index (map arc_value c.loop-index.made.items) (map arc_value c.push.new.self.items) (arc_value made)
     (shared_more c.loop-index.made.items c.push.new.self.items made c.in_ok-push.ensures.items)
-    (watched_past c.args.schemas.now c.args.after.now c.args.assertions.now c.loop-index.index c.index-assertions-index.result (arc_value made) (omega arith) c.in_ok-watch_after.ensures.watched)
+    (watched_past c.args.schemas.now c.args.after.now c.args.assertions.now c.loop-index.index c.index-assertions-index.result (arc_value made) (omega arith) c.in_ok-watch_after.ensures)
     c.loop-index.invariant

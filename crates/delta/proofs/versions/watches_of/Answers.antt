@@ -9,5 +9,5 @@ loop-index-preserved c =
     AreWatched-more c.args.schemas.now c.args.tables.now c.args.assertions.now c.loop-index.index (map arc_value c.loop-index.made.items) (map arc_value c.push.new.self.items) (arc_value made)
     (shared_more c.loop-index.made.items c.push.new.self.items made c.in_ok-push.ensures.items)
     (watched_past c.args.schemas.now c.args.tables.now c.args.assertions.now c.loop-index.index c.index-assertions-index.result (arc_value made) (omega arith)
-    (rw c.in_ok-new.ensures.ok c.in_ok-watch.ensures.watched))
+    (rw c.in_ok-new.ensures.ok c.in_ok-watch.ensures))
     c.loop-index.invariant

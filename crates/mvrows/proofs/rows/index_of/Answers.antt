@@ -6,4 +6,4 @@ loop-entry-preserved c =
     let steps = c.in-Some.ensures.steps in
     next_index c.args.key_column c.args.column c.args.pages.now c.loop-entry.entry-iterator c.next.new.self c.in-Some.entry.now c.loop-entry.index c.in_ok-index.index
     steps
-    c.requires.keyed c.requires.order (c.in_ok-index.ensures.index c.args.key_column) c.loop-entry.invariant
+    c.requires.keyed c.requires.order (c.in_ok-index.ensures c.args.key_column) c.loop-entry.invariant

@@ -14,11 +14,11 @@ loop-at-preserved c =
     let row = c.row_from-row.result.now in
     let rows = rows_of c.args.pages.now in
     let within : c.loop-at.at < length rows = omega (arith, c.loop-at-test.true, c.len-at-end.ensures.count, length-rows_of c.args.pages.now) in
-    let made : c.in_ok-made.made ≡ put value_cmp key_of k (entry_of k (Some row)) c.loop-at.made =
-    c.in_ok-made.ensures.changed ∙ ap (λ (r : RowValues). put value_cmp key_of k (entry_of k (Some r)) c.loop-at.made) c.in_ok-copy.ensures.equal in
+    let made : c.put.new.self ≡ put value_cmp key_of k (entry_of k (Some row)) c.loop-at.made =
+    c.in_ok-put.ensures.changed ∙ ap (λ (r : RowValues). put value_cmp key_of k (entry_of k (Some r)) c.loop-at.made) c.in_ok-row.ensures in
     record {
-      rows = ap rows_of made ∙ rows_more c.args.key_column k c.loop-at.made row c.loop-at.at rows c.in_ok-key.ensures.key c.loop-at.invariant.keyed c.loop-at.invariant.rows within c.row_from-row.ensures c.requires;
-      keyed = subst (AreKeyed c.args.key_column) (sym made) (keyed_more c.args.key_column k row c.loop-at.made c.in_ok-key.ensures.key c.loop-at.invariant.keyed);
+      rows = ap rows_of made ∙ rows_more c.args.key_column k c.loop-at.made row c.loop-at.at rows c.in_ok-key.ensures c.loop-at.invariant.keyed c.loop-at.invariant.rows within c.row_from-row.ensures c.requires;
+      keyed = subst (AreKeyed c.args.key_column) (sym made) (keyed_more c.args.key_column k row c.loop-at.made c.in_ok-key.ensures c.loop-at.invariant.keyed);
     }
 
 pub returns-clause-rows : goal.returns-clause-rows

@@ -11,7 +11,7 @@ returns-then-rest-count-clause-there g c =
     let there = shared_there c.args.nodes.now c.loop-place.place c.index-nodes-place.result c.deref.result.now c.loop-place-test.true c.index-nodes-place.is c.deref.ensures in
     let same : entries_at ts c.loop-place.place ≡ c.deref.result.now.1 =
     entries_at-is ts c.loop-place.place c.deref.result.now there.within ∙ ap (λ (t : Tree g.row.V.Denot). t.1) (sym there.is) in
-    omega (arith, c.if-rest-count.true, c.count-count.ensures, ap length same)
+    omega (arith, c.if-rest-count.true, c.count-count.ensures.count, ap length same)
 
 pub returns-then-rest-count-clause-entries : goal.returns-then-rest-count-clause-entries
 returns-then-rest-count-clause-entries g c =
@@ -20,7 +20,7 @@ returns-then-rest-count-clause-entries g c =
     let there = shared_there c.args.nodes.now i c.index-nodes-place.result c.deref.result.now c.loop-place-test.true c.index-nodes-place.is c.deref.ensures in
     let same : entries_at ts i ≡ c.deref.result.now.1 =
     entries_at-is ts i c.deref.result.now there.within ∙ ap (λ (t : Tree g.row.V.Denot). t.1) (sym there.is) in
-    c.loop-place.invariant.entries ∙ here ts i c.deref.result.now c.loop-place.rest there.within there.is (omega (arith, c.if-rest-count.true, c.count-count.ensures))
+    c.loop-place.invariant.entries ∙ here ts i c.deref.result.now c.loop-place.rest there.within there.is (omega (arith, c.if-rest-count.true, c.count-count.ensures.count))
     ∙ ap (λ es. drop c.loop-place.rest es ++ entries_of (drop (i + 1) ts)) (sym same)
 
 pub loop-place-preserved : goal.loop-place-preserved
@@ -30,7 +30,7 @@ loop-place-preserved g c =
     let there = shared_there c.args.nodes.now i c.index-nodes-place.result c.deref.result.now c.loop-place-test.true c.index-nodes-place.is c.deref.ensures in
     let left = count_left ts i c.deref.result.now there.within there.is in
     record {
-      within = omega (arith, c.loop-place.invariant.within, c.if-rest-count.false, left, c.count-count.ensures);
-      entries = c.loop-place.invariant.entries ∙ further ts i c.deref.result.now c.loop-place.rest there.within there.is (omega (arith, c.if-rest-count.false, c.count-count.ensures))
-          ∙ ap (λ (n : ℕ). drop (c.loop-place.rest - n) (entries_of (drop (i + 1) ts))) (sym c.count-count.ensures);
+      within = omega (arith, c.loop-place.invariant.within, c.if-rest-count.false, left, c.count-count.ensures.count);
+      entries = c.loop-place.invariant.entries ∙ further ts i c.deref.result.now c.loop-place.rest there.within there.is (omega (arith, c.if-rest-count.false, c.count-count.ensures.count))
+          ∙ ap (λ (n : ℕ). drop (c.loop-place.rest - n) (entries_of (drop (i + 1) ts))) (sym c.count-count.ensures.count);
     }

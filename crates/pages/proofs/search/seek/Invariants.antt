@@ -1,5 +1,4 @@
-use Rattle.std.proofs.Common.{◌≡◌, ◌-◌, ◌≤◌, false, take, drop, length, map}
-use Rattle.std.specs.Arc.{arc_value}
+use Rattle.std.proofs.Common.{◌≡◌, ◌-◌, ◌≤◌, false, take, drop, length}
 use Rattle.value.specs.Ordered.{AreAbove}
 use Rattle.value.specs.ValueOrder.{value_cmp}
 use Rattle.pages.specs.Reach.{key_of, reaches}
@@ -10,8 +9,8 @@ abbrev pub invariant-loop-low : goal.invariant-loop-low
 invariant-loop-low g l = record {
   order : l.low ≤ l.high;
   within : l.high ≤ length l.page;
-  before : reaches l.key (take l.low (map arc_value l.page)) ≡ false;
-  behind : AreAbove value_cmp key_of l.key (drop l.high (map arc_value l.page));
+  before : reaches l.key (take l.low l.page) ≡ false;
+  behind : AreAbove value_cmp key_of l.key (drop l.high l.page);
 }
 
 abbrev pub decreases-loop-low : goal.decreases-loop-low

@@ -22,15 +22,15 @@ gave_refused a b r (Err y) given is = subst (λ z. Gave b (Err z)) (sym is) (gav
 
 pub returns-in_err-event-clause-only : goal.returns-in_err-event-clause-only
 returns-in_err-event-clause-only c = λ event reads fits in_place.
-    let same = c.deref-3.ensures.value ∙ c.in_ok-mask.ensures.made in
+    let same = c.deref-3.ensures.value ∙ c.in_ok-mask.ensures in
     let given = c.in_err-event.ensures.only event (subst (λ z. IsEvent (lexemes z) event) (sym same) reads) (subst (λ z. Fits most_open (lexemes z)) (sym same) fits) in
     gave_refused event (spec.prepared_of c.args.text.now event) c.in_err-event.field-0.0 _ given c.from_residual-in_err-event.ensures.1
 
 pub returns-in-None-clause-only : goal.returns-in-None-clause-only
 unfolding numbers_of
 returns-in-None-clause-only c = λ event reads fits in_place.
-    let same = c.deref-3.ensures.value ∙ c.in_ok-mask.ensures.made in
+    let same = c.deref-3.ensures.value ∙ c.in_ok-mask.ensures in
     let given = c.in_ok-event.ensures.only event (subst (λ z. IsEvent (lexemes z) event) (sym same) reads) (subst (λ z. Fits most_open (lexemes z)) (sym same) fits) in
-    let tokens = c.deref-2.ensures.value ∙ c.in_ok-tokens.ensures.all ∙ ap tokens_of (c.deref.ensures.value ∙ c.in_ok-mask.ensures.made) in
-    let numbers = c.from_vec.ensures ∙ c.in_ok-numbers.ensures.found ∙ ap (numbers_from c.args.text.now 0) tokens in
+    let tokens = c.deref-2.ensures.value ∙ c.in_ok-tokens.ensures.all ∙ ap tokens_of (c.deref.ensures.value ∙ c.in_ok-mask.ensures) in
+    let numbers = c.from_vec.ensures ∙ c.in_ok-numbers.ensures ∙ ap (numbers_from c.args.text.now 0) tokens in
     λ i. record { event = given i; numbers = numbers i }

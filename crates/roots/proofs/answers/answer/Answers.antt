@@ -37,6 +37,6 @@ returns-in_ok-total-in-Some-clause-within c =
     let f = c.args.summary.filter.now in
     let rows = rows_of table c.args.tables.now in
     IfOk-weaker c.answer.result _ _
-    (λ (v : SlotValue) h. h (map (value_for a) (rows_beside link f rows row)) c.in_ok-total-in-Some.ensures.total
+    (λ (v : SlotValue) h. h (map (value_for a) (rows_beside link f rows row)) c.in_ok-total-in-Some.ensures
     (filtered_within (λ linked. links link row linked && keeps linked row f) a rows (c.requires.small.short table) (c.requires.small.small table)))
     c.answer.ensures.within

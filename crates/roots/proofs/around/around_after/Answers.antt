@@ -20,8 +20,8 @@ linked_after-requires-clause-in_order c =
     (outer_in_order layouts c.args.change.now c.args.before.now c.args.after.now c.requires.step around q (key_is layouts q around c.requires.around c.requires.keyed) c.args.after.now
     (ordered_after layouts c.args.change.now c.args.before.now c.args.after.now c.requires.step))
 
-pub returns-in-Some-clause-totals : goal.returns-in-Some-clause-totals
-returns-in-Some-clause-totals c =
+pub returns-in-Some : goal.returns-in-Some
+returns-in-Some c =
     let q = shown c.args.summary in
     let around = c.args.around in
     let layouts = c.args.schemas.now in
@@ -38,5 +38,5 @@ returns-in-Some-clause-totals c =
     (h (key_of q.table layouts) rows (table_stands layouts change before after c.requires.step q.table c.if-summary-change.false)
     (around_within around q before c.requires.step.small c.in-Some.outer.now)
     (subst (λ (xs : List RowValues). AreWithin (around_members around q c.in-Some.outer.now xs)) changed (around_within around q after c.requires.step.small_after c.in-Some.outer.now))
-    (subst (λ (xs : List RowValues). AreTotalsOf q.aggregate (around_members around q xs rows) c.in_ok-made.made) (sym outer) c.in_ok-made.ensures.totals)))))
-    c.linked_after.ensures.totals
+    (subst (λ (xs : List RowValues). AreTotalsOf q.aggregate (around_members around q xs rows) c.in_ok-made.made) (sym outer) c.in_ok-made.ensures)))))
+    c.linked_after.ensures

@@ -18,12 +18,12 @@ member_beside-requires-2-clause-bounded c =
     let f = c.args.summary.filter.now in
     subst IsTrue (sym (ap (λ kinds. is_bounded kinds f) c.in_ok-slots.ensures.kinds ∙ bounded_beside c.args.row.now f)) c.requires.bounded
 
-pub returns-clause-totals : goal.returns-clause-totals
-returns-clause-totals c =
+pub returns : goal.returns
+returns c =
     IfOk-weaker c.with.result _ _
     (λ (made : Entries) h. λ key rows before after stands was is elsewhere within old.
     h before after
-    (rw (c.in_ok-add.ensures.member, c.in_ok-remove.ensures.member)
+    (rw (c.in_ok-add.ensures, c.in_ok-remove.ensures)
     (turned c.args.around (shown c.args.summary) c.args.row.now key c.args.change.now.key c.args.change.now.old c.args.change.now.new rows stands before after was is elsewhere))
     old within)
-    c.with.ensures.totals
+    c.with.ensures

@@ -17,16 +17,15 @@ loop-row-init c = λ key rows before after stands turn old.
     let outer = c.args.outer.now in
     let changed = put_row key c.args.change.now.key c.args.change.now.new rows in
     let at_first = midway_first around (shown c.args.summary) outer c.args.value.now rows changed before after turn c.requires.in_order in
-    let lent = ap (map (λ row. row.now)) c.deref-row-items.ensures.value ∙ c.in_ok-rows.ensures.equal in
+    let lent = ap (map (λ row. row.now)) c.deref-row-items.ensures.value ∙ c.in_ok-rows.ensures in
     let left = midway around (shown c.args.summary) outer c.args.value.now rows changed before after turn (map (λ row. row.now) c.deref-row-items.result.now) in
-    subst (AreTotalsOf c.args.summary.aggregate left) (sym c.in_ok-made.ensures.equal)
-    (AreTotalsOf-along c.args.summary.aggregate before left c.args.totals.now
-    (λ v. subst (λ xs. midway around (shown c.args.summary) outer c.args.value.now rows changed before after turn xs v ≡ before v) (sym lent) (at_first v)) old)
+    AreTotalsOf-along c.args.summary.aggregate before left c.args.totals
+    (λ v. subst (λ xs. midway around (shown c.args.summary) outer c.args.value.now rows changed before after turn xs v ≡ before v) (sym lent) (at_first v)) old
 
 pub beside_one-requires-clause-row_small : goal.beside_one-requires-clause-row_small
 beside_one-requires-clause-row_small c =
     let test = λ (row : RowValues). is_equal c.args.value.now (value_in c.args.around.link.outer row) in
-    let lent = ap (map (λ row. row.now)) c.deref-row-items.ensures.value ∙ c.in_ok-rows.ensures.equal in
+    let lent = ap (map (λ row. row.now)) c.deref-row-items.ensures.value ∙ c.in_ok-rows.ensures in
     row_has (λ row. row.now) c.deref-row-items.result.now c.loop-row.row-index c.row-item.result (omega (arith, c.loop-row-test.true)) c.row-item.is IsSmallRow
     (subst (All IsSmallRow) (sym lent) (All-filter test IsSmallRow c.args.outer.now c.requires.outer_small))
 
@@ -42,17 +41,17 @@ loop-row-preserved c = λ key rows before after stands turn old.
     let all = map (λ row. row.now) c.deref-row-items.result.now in
     let left = drop (i + 1) all in
     let test = λ (row : RowValues). is_equal v (value_in around.link.outer row) in
-    let lent = ap (map (λ row. row.now)) c.deref-row-items.ensures.value ∙ c.in_ok-rows.ensures.equal in
+    let lent = ap (map (λ row. row.now)) c.deref-row-items.ensures.value ∙ c.in_ok-rows.ensures in
     let split = first_left (λ row. row.now) c.deref-row-items.result.now i c.row-item.result (omega (arith, c.loop-row-test.true)) c.row-item.is in
     let stand = subst (StandAll around.key test outer) split (stand_left around.key test i outer all (subst (StandAll around.key test outer) (sym lent) (stand_kept around.key test outer c.requires.in_order))) in
-    c.in_ok-made-2.ensures.totals key rows
+    c.in_ok-made.ensures key rows
     (midway around q outer v rows changed before after turn (row ∷ left)) (midway around q outer v rows changed before after turn left) stands
     (midway_old around q outer v rows changed before after turn row left stand) (midway_new around q outer v rows changed before after turn row left stand)
     (midway_other around q outer v rows changed before after turn row left stand) (midway_within around q outer v rows changed before after turn left)
     (subst (λ xs. AreTotalsOf c.args.summary.aggregate (midway around q outer v rows changed before after turn xs) c.loop-row.made) split (c.loop-row.invariant key rows before after stands turn old))
 
-pub returns-clause-totals : goal.returns-clause-totals
-returns-clause-totals c = λ key rows before after stands turn old.
+pub returns : goal.returns
+returns c = λ key rows before after stands turn old.
     let changed = put_row key c.args.change.now.key c.args.change.now.new rows in
     subst (λ xs. AreTotalsOf c.args.summary.aggregate (midway c.args.around (shown c.args.summary) c.args.outer.now c.args.value.now rows changed before after turn xs) c.loop-row.made)
     (none_left c.loop-row.row-index (map (λ row. row.now) c.deref-row-items.result.now) (omega (arith, length-map c.deref-row-items.result.now (λ row. row.now)))) (c.loop-row.invariant key rows before after stands turn old)

@@ -11,6 +11,6 @@ abbrev pub invariant-loop-row : goal.invariant-loop-row
 invariant-loop-row l =
     (key : ℕ) (rows : List RowValues) (before after : Members) → row_at key l.change.key rows ≡ l.change.old
     → (turn : IsTurn l.around (shown l.summary) l.outer l.value rows (put_row key l.change.key l.change.new rows) before after)
-    → AreTotalsOf l.summary.aggregate before l.totals
+    → AreTotalsOf l.summary.aggregate before l.fn.totals
     → AreTotalsOf l.summary.aggregate
     (midway l.around (shown l.summary) l.outer l.value rows (put_row key l.change.key l.change.new rows) before after turn (drop l.row-index (map (λ row. row.now) l.row-items))) l.made

@@ -21,16 +21,16 @@ total_of_kept-requires-clause-bounded c =
 pub total_of_kept-requires-clause-small : goal.total_of_kept-requires-clause-small
 total_of_kept-requires-clause-small c =
     let table = c.args.summary.table in
-    subst (All IsSmallRow) (sym (ap (map (λ row. row.now)) c.deref.ensures.value ∙ c.in_ok-linked.ensures.linked))
+    subst (All IsSmallRow) (sym (ap (map (λ row. row.now)) c.deref.ensures.value ∙ c.in_ok-linked.ensures))
     (All-filter (λ linked. links c.args.link c.args.row.now linked) IsSmallRow (rows_of table c.args.tables.now) (c.requires.small.small table))
 
-pub returns-clause-total : goal.returns-clause-total
-returns-clause-total c =
+pub returns : goal.returns
+returns c =
     let a = c.args.summary.aggregate in
     let f = c.args.summary.filter.now in
     let row = c.args.row.now in
     let rows = rows_of c.args.summary.table c.args.tables.now in
     let found = map (λ row. row.now) c.deref.result.now in
-    let lent = ap (map (λ row. row.now)) c.deref.ensures.value ∙ c.in_ok-linked.ensures.linked in
+    let lent = ap (map (λ row. row.now)) c.deref.ensures.value ∙ c.in_ok-linked.ensures in
     let beside = ap (λ vs. filter (λ r. keeps r vs f) found) c.in_ok-slots.ensures.values ∙ ap (filter (λ r. keeps r row f)) lent ∙ kept_are c.args.link f rows row in
-    IfOk-weaker c.total_of_kept.result _ _ (λ (t : Figures) h. subst (λ (xs : List RowValues). IsTotalOf a (map (value_for a) xs) t) beside h) c.total_of_kept.ensures.total
+    IfOk-weaker c.total_of_kept.result _ _ (λ (t : Figures) h. subst (λ (xs : List RowValues). IsTotalOf a (map (value_for a) xs) t) beside h) c.total_of_kept.ensures

@@ -20,5 +20,5 @@ loop-row-preserved c =
     let kept = λ (xs : List RowValues). map (value_for a) (filter (λ row. keeps row (values_of c.args.slots.now) c.args.summary.filter.now) xs) in
     let more = next_taken (λ row. row.now) c.args.rows.now i c.row-item.result (omega (arith, c.loop-row-test.true)) c.row-item.is in
     subst (λ xs. IsTotalOf a (kept xs) c.in_ok-total.total) (sym more)
-    (c.in_ok-total.ensures.total (take i rows) c.loop-row.invariant
+    (c.in_ok-total.ensures (take i rows) c.loop-row.invariant
     (subst (λ xs. IsWithin (kept xs)) more (taken_within (λ row. keeps row (values_of c.args.slots.now) c.args.summary.filter.now) a _ rows c.requires.short c.requires.small)))

@@ -8,10 +8,10 @@ use Rattle.roots.specs.Shown.{shown}
 use Rattle.roots.proofs.MaintainedLemmas.{totals-as}
 use Rattle.roots.proofs.around.totals_around.Goals as goal
 
-pub returns-in-Some-clause-totals : goal.returns-in-Some-clause-totals
-returns-in-Some-clause-totals c =
+pub returns-in-Some : goal.returns-in-Some
+returns-in-Some c =
     let q = shown c.args.summary in
     IfOk-weaker c.totals_for_rows.result _ _
     (λ (made : Entries) h. totals-as q (Some c.args.around) c.requires.around c.args.tables.now made
     (subst (λ (rows : List RowValues). AreTotalsOf q.aggregate (around_members c.args.around q rows (rows_of q.table c.args.tables.now)) made) (c.in-Some.ensures.lookup.3.1 []) h))
-    c.totals_for_rows.ensures.totals
+    c.totals_for_rows.ensures

@@ -8,8 +8,8 @@ use Rattle.roots.specs.Summaries.{row_members}
 use Rattle.roots.proofs.MaintainedLemmas.{totals-as, totals-from}
 use Rattle.roots.proofs.maintained.total_after.Goals as goal
 
-pub returns-in-None-clause-totals : goal.returns-in-None-clause-totals
-returns-in-None-clause-totals c =
+pub returns-in-None : goal.returns-in-None
+returns-in-None c =
     let q = shown c.args.summary in
     let none = sym c.rows_around.ensures ∙ c.in-None.is in
     let step = c.requires.step in
@@ -17,4 +17,4 @@ returns-in-None-clause-totals c =
     (λ (made : Entries) h. totals-as q None none c.args.after.now made
     (subst (λ (state : State). AreTotalsOf q.aggregate (row_members q (rows_of q.table state)) made) (sym step.changed)
     (h c.args.schemas.now c.args.before.now step.is (subst IsSmallState step.changed step.small_after) (totals-from q None none c.args.before.now c.args.totals.now c.requires.totals))))
-    c.total_with_change.ensures.totals
+    c.total_with_change.ensures

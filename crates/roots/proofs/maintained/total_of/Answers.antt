@@ -5,8 +5,8 @@ use Rattle.roots.specs.Shown.{shown}
 use Rattle.roots.proofs.MaintainedLemmas.{totals-as}
 use Rattle.roots.proofs.maintained.total_of.Goals as goal
 
-pub returns-in-None-clause-totals : goal.returns-in-None-clause-totals
-returns-in-None-clause-totals c =
+pub returns-in-None : goal.returns-in-None
+returns-in-None c =
     IfOk-weaker c.total_of_table.result _ _
     (λ (made : Entries) h. totals-as (shown c.args.summary) None (sym c.rows_around.ensures ∙ c.in-None.is) c.args.tables.now made h)
-    c.total_of_table.ensures.totals
+    c.total_of_table.ensures

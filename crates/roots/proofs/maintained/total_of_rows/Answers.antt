@@ -11,4 +11,4 @@ loop-row-preserved c =
     let row = c.in-Some.row.now in
     let so_far = c.loop-row.invariant in
     done-more s rows left rest row c.loop-row.made c.in_ok-made.made c.in-Some.ensures.steps so_far
-    (c.in_ok-made.ensures.totals so_far.done (next-within s rows left rest row c.loop-row.made c.in-Some.ensures.steps c.requires.short c.requires.small so_far) so_far.totals)
+    (c.in_ok-made.ensures so_far.done (next-within s rows left rest row c.loop-row.made c.in-Some.ensures.steps c.requires.short c.requires.small so_far) so_far.totals)

@@ -7,11 +7,11 @@ use Rattle.roots.specs.Shown.{shown}
 use Rattle.roots.specs.Summaries.{place, row_members}
 use Rattle.roots.proofs.maintained.total_with.Goals as goal
 
-pub returns-clause-totals : goal.returns-clause-totals
-returns-clause-totals c =
+pub returns : goal.returns
+returns c =
     let s = shown c.args.summary in
     let row = c.args.row.now in
     IfOk-weaker c.with.result _ _
     (λ (made : Entries) h. λ rows within totals.
-    h (row_members s rows) (row_members s (rows ++ row ∷ [])) (rw c.in_ok-add.ensures.member (members_added (place s) (value_for s.aggregate) row rows)) totals within)
-    c.with.ensures.totals
+    h (row_members s rows) (row_members s (rows ++ row ∷ [])) (rw c.in_ok-add.ensures (members_added (place s) (value_for s.aggregate) row rows)) totals within)
+    c.with.ensures

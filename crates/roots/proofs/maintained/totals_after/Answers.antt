@@ -23,10 +23,10 @@ loop-index-preserved c =
     let summaries = summaries_of c.args.schemas.now c.args.form.now in
     AreSoFar-more c.args.after.now summaries c.loop-index.index c.loop-index.made.items c.push.new.self.items c.in_ok-total_after.field-0 c.in_ok-push.ensures.items
     (item_has (λ (s : Query Grouping). AreTotalsFor c.args.after.now s c.in_ok-total_after.field-0) summaries c.loop-index.index (shown c.summary_of-summary.result) (omega (arith, c.loop-index-test.true, c.summary_count-index-end.ensures c.args.schemas.now)) c.summary_of-summary.ensures.summary
-    c.in_ok-total_after.ensures.totals)
+    c.in_ok-total_after.ensures)
     c.loop-index.invariant
 
-pub returns-clause-totals : goal.returns-clause-totals
-returns-clause-totals c =
+pub returns : goal.returns
+returns c =
     subst (λ n. AreSoFar c.args.after.now (summaries_of c.args.schemas.now c.args.form.now) n c.loop-index.made.items)
     (omega (arith, c.loop-index-test.false, c.loop-index.auto.index-end, c.summary_count-index-end.ensures c.args.schemas.now)) c.loop-index.invariant

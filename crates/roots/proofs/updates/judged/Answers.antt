@@ -4,8 +4,8 @@ use Rattle.value.specs.declared.values.Root.{Root}
 use Rattle.roots.specs.Bad.{put_root}
 use Rattle.roots.proofs.updates.judged.Goals as goal
 
-pub returns-clause-judged : goal.returns-clause-judged
-returns-clause-judged c =
+pub returns : goal.returns
+returns c =
     IfOk-weaker c.with.result _ _
-    (λ (next : List Root) h. h ∙ ap (λ b. put_root c.args.root.now b c.args.made) (c.in_ok-is_in.ensures.bad c.row_of-row.ensures.row))
-    c.with.ensures.changed
+    (λ (next : List Root) h. h ∙ ap (λ b. put_root c.args.root.now b c.args.made) (c.in_ok-is_in.ensures c.row_of-row.ensures.row))
+    c.with.ensures

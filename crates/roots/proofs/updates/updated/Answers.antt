@@ -12,4 +12,4 @@ pub loop-index-preserved : goal.loop-index-preserved
 loop-index-preserved c = λ asc.
     let q = c.index-touched-index.result in
     AreUpdated-more c.args.schemas.now c.args.form.now c.args.tables.now c.args.bad.now c.args.touched.now c.loop-index.index q (is_bad_root c.args.schemas.now c.args.form.now c.args.tables.now q) c.loop-index.made c.in_ok-made-2.made
-    c.loop-index-test.true c.index-touched-index.is refl c.in_ok-made-2.ensures.judged (c.loop-index.invariant asc)
+    c.loop-index-test.true c.index-touched-index.is refl c.in_ok-made-2.ensures (c.loop-index.invariant asc)

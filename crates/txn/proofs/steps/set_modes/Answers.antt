@@ -2,4 +2,4 @@ use Rattle.txn.proofs.Modes.{set_long}
 use Rattle.txn.proofs.steps.set_modes.Goals as goal
 
 pub returns-clause-long : goal.returns-clause-long
-returns-clause-long c = rw (c.in_ok-after.ensures.set, c.assertions.ensures.value) (set_long c.args.names.now _ c.args.own.now.declared.assertions c.args.modes.now c.requires.modes)
+returns-clause-long c = rw (c.in_ok-after.ensures, c.assertions.ensures.value) (set_long c.args.names.now _ c.args.own.now.declared.assertions c.args.modes.now c.requires.modes)

@@ -15,5 +15,5 @@ returns-clause-kept c = λ place m.
 pub returns-clause-added : goal.returns-clause-added
 returns-clause-added c =
     let place : AnyPlace = record { table = c.args.change.now.table; key = c.in_ok-copy.field-0 } in
-    subst (λ (key : Value). Contains c.insert.new.self.keys (record { table = c.args.change.now.table; key = key })) c.in_ok-copy.ensures.equal
+    subst (λ (key : Value). Contains c.insert.new.self.keys (record { table = c.args.change.now.table; key = key })) c.in_ok-copy.ensures
     (subst (λ xs. Contains xs place) (sym c.in_ok-insert.ensures.keys) (adds cmp-value.it derived-exact place c.self.inside.places.keys))

@@ -41,7 +41,7 @@ returns-clause-live c =
     let began : c.begin-2.new.self ≡ with_begin (length c.self.inside.records.items) c.args.read_only c.self.inside.live
     = c.in_default.ensures.begun ∙ ap (λ n. with_begin n c.args.read_only c.self.inside.live) count in
     let txn_is : c.in_ok-txn.txn ≡ begun c.self.inside.live.begun (length c.self.inside.records.items) c.args.read_only c.self.inside.newest
-    = c.in_ok-txn.ensures.begun ∙ (λ i. begun (c.next_ticket.ensures i) (count i) c.args.read_only c.self.inside.newest) in
+    = c.in_ok-txn.ensures ∙ (λ i. begun (c.next_ticket.ensures i) (count i) c.args.read_only c.self.inside.newest) in
     subst (λ (s : CoreState). IsLive s c.in_ok-txn.txn)
     (λ i. record (idle_core c.self.inside.limit c.self.inside.loaded c.self.inside.records.items c.self.inside.refused.items (sym began i)) { prepared = pending_of (sym idle i) })
     (subst (IsLive (with_begun c.args.read_only now)) (sym txn_is) (begun_live now c.self.inside.newest c.self.inside.places.items c.self.inside.reaches.items c.self.inside.order.items c.self.invariant.0 c.args.read_only))

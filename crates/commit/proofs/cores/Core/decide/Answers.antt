@@ -11,7 +11,7 @@ use Rattle.commit.proofs.cores.Core.decide.Goals as goal
 
 pub returns-in-Some-clause-decided : goal.returns-in-Some-clause-decided
 returns-in-Some-clause-decided c = λ session.
-    let first : Some c.in_ok-refusal.refusal ≡ (outcome_of c.args.closed.now).refused = ap Some c.in_ok-refusal.ensures.equal ∙ c.in-Some.ensures in (
+    let first : Some c.in_ok-refusal.refusal ≡ (outcome_of c.args.closed.now).refused = ap Some c.in_ok-refusal.ensures ∙ c.in-Some.ensures in (
       by_assertion c.args.self.now (record_of c.args.self.now session c.args.closed.now) (outcome_of c.args.closed.now).refused _ c.in_ok-refusal.refusal first,
       λ none. violation_named (layouts_in c.args.closed.now.declared) c.args.closed.now.declared.assertions (own_view c.args.closed.now).state (sym first ∙ ap Some none),
     )

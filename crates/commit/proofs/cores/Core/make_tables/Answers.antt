@@ -26,7 +26,7 @@ returns-in_ok-view-clause-tables c = λ session.
     let now = idle_core c.self.inside.limit c.self.inside.loaded c.self.inside.records.items c.self.inside.refused.items c.self.inside.live in
     let is : now ≡ c.args.self.now = idle_view now c.args.self.now c.self.inside.prepared c.self.view_is c.requires.idle in
     let live = subst (λ (s : CoreState). IsLive s c.args.closed.now) (sym is) c.requires.live in
-    c.in_ok-view.ensures.equal ∙ c.own-own.ensures
+    c.in_ok-view.ensures ∙ c.own-own.ensures
     ∙ subst (λ (s : CoreState). own_view c.args.closed.now ≡ newest_tables (with_commit s (record_of s session c.args.closed.now))) is
     (own_is now c.self.inside.newest c.self.inside.places.items c.self.inside.reaches.items c.self.inside.order.items c.self.invariant.0 session c.args.closed.now live
     (sym c.snapshot.ensures ∙ c.if-snapshot-len.true ∙ c.len.ensures ∙ c.self.inside.records.ok.0)

@@ -10,7 +10,7 @@ invariant_of-result c =
     let empty = idle_core c.args.limit c.args.loaded [] [] none_live in
     let made : empty ≡ idle_core c.args.limit c.args.loaded c.new.result.items c.new-5.result.items c.new-6.result
     = λ i. idle_core c.args.limit c.args.loaded (sym c.new.ensures.items i) (sym c.new-5.ensures.items i) (sym c.new-6.ensures i) in (
-      same_core empty _ c.args.loaded _ [] _ [] _ [] _ made (sym c.in_ok-copy.ensures.equal) (sym c.new-2.ensures.items) (sym c.new-3.ensures.items) (sym c.new-4.ensures.items)
+      same_core empty _ c.args.loaded _ [] _ [] _ [] _ made (sym c.in_ok-copy.ensures) (sym c.new-2.ensures.items) (sym c.new-3.ensures.items) (sym c.new-4.ensures.items)
           (empty_kept c.args.limit c.args.loaded c.requires.sound c.requires.within),
       tt,
       c.new-7.ensures.empty ∙ (λ i. reads_kept (made i)),

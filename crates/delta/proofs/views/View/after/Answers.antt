@@ -12,6 +12,6 @@ with-requires-clause-fits c = next_fits c.args.self.now.declared c.args.changes.
 
 pub loop-change-preserved : goal.loop-change-preserved
 loop-change-preserved c = record {
-  left = left_after c.args.self.now.declared c.args.changes.now c.loop-change.change-index c.change-item.result c.loop-change.view (omega arith) c.change-item.is c.loop-change.invariant.left c.in_ok-view-2.view c.in_ok-view-2.ensures.changed;
-  leads = leads_after c.args.self.now.declared c.args.changes.now c.loop-change.change-index c.change-item.result c.loop-change.view (omega arith) c.change-item.is c.loop-change.invariant.left c.in_ok-view-2.view c.in_ok-view-2.ensures.changed (state_after_all (layouts_in c.args.self.now.declared) c.args.changes.now c.args.self.now.state) c.loop-change.invariant.leads;
+  left = left_after c.args.self.now.declared c.args.changes.now c.loop-change.change-index c.change-item.result c.loop-change.view (omega arith) c.change-item.is c.loop-change.invariant.left c.in_ok-view-2.view c.in_ok-view-2.ensures;
+  leads = leads_after c.args.self.now.declared c.args.changes.now c.loop-change.change-index c.change-item.result c.loop-change.view (omega arith) c.change-item.is c.loop-change.invariant.left c.in_ok-view-2.view c.in_ok-view-2.ensures (state_after_all (layouts_in c.args.self.now.declared) c.args.changes.now c.args.self.now.state) c.loop-change.invariant.leads;
 }

@@ -18,19 +18,19 @@ pub bad_after-requires-clause-new_small : goal.bad_after-requires-clause-new_sma
 bad_after-requires-clause-new_small c = new_small c.args.schemas.now c.args.change.now c.requires.step.fits
 
 pub bad_after-requires-clause-totals : goal.bad_after-requires-clause-totals
-bad_after-requires-clause-totals c = rw c.deref-2.ensures.value c.in_ok-totals.ensures.totals
+bad_after-requires-clause-totals c = rw c.deref-2.ensures.value c.in_ok-totals.ensures
 
 pub truth_of-requires-clause-small : goal.truth_of-requires-clause-small
 truth_of-requires-clause-small c = good_small c.args.schemas.now c.args.after.now c.requires.step.good_after
 
 pub truth_of-requires-clause-totals : goal.truth_of-requires-clause-totals
-truth_of-requires-clause-totals c = rw c.deref-3.ensures.value c.in_ok-totals.ensures.totals
+truth_of-requires-clause-totals c = rw c.deref-3.ensures.value c.in_ok-totals.ensures
 
-pub returns-clause-watched : goal.returns-clause-watched
-returns-clause-watched c =
-    let bad = c.in_ok-bad.ensures.bad c.args.before.now (good_order c.args.schemas.now c.args.before.now c.requires.step.good) c.requires.step.is c.requires.step.changed c.requires.watched.bad in
+pub returns : goal.returns
+returns c =
+    let bad = c.in_ok-bad.ensures c.args.before.now (good_order c.args.schemas.now c.args.before.now c.requires.step.good) c.requires.step.is c.requires.step.changed c.requires.watched.bad in
     record {
-      totals = c.in_ok-totals.ensures.totals;
+      totals = c.in_ok-totals.ensures;
       bad = bad;
-      truth = c.in_ok-truth.ensures.truth (good_order c.args.schemas.now c.args.after.now c.requires.step.good_after) bad;
+      truth = c.in_ok-truth.ensures (good_order c.args.schemas.now c.args.after.now c.requires.step.good_after) bad;
     }

@@ -11,17 +11,17 @@ pub bad_of-requires-clause-small : goal.bad_of-requires-clause-small
 bad_of-requires-clause-small c = good_small c.args.schemas.now c.args.tables.now c.requires.good
 
 pub bad_of-requires-clause-totals : goal.bad_of-requires-clause-totals
-bad_of-requires-clause-totals c = rw c.deref.ensures.value c.in_ok-totals.ensures.totals
+bad_of-requires-clause-totals c = rw c.deref.ensures.value c.in_ok-totals.ensures
 
 pub truth_of-requires-clause-small : goal.truth_of-requires-clause-small
 truth_of-requires-clause-small c = good_small c.args.schemas.now c.args.tables.now c.requires.good
 
 pub truth_of-requires-clause-totals : goal.truth_of-requires-clause-totals
-truth_of-requires-clause-totals c = rw c.deref-2.ensures.value c.in_ok-totals.ensures.totals
+truth_of-requires-clause-totals c = rw c.deref-2.ensures.value c.in_ok-totals.ensures
 
-pub returns-clause-watched : goal.returns-clause-watched
-returns-clause-watched c = record {
-  totals = c.in_ok-totals.ensures.totals;
-  bad = c.in_ok-bad.ensures.bad;
-  truth = c.in_ok-truth.ensures.truth (good_order c.args.schemas.now c.args.tables.now c.requires.good) c.in_ok-bad.ensures.bad;
+pub returns : goal.returns
+returns c = record {
+  totals = c.in_ok-totals.ensures;
+  bad = c.in_ok-bad.ensures;
+  truth = c.in_ok-truth.ensures (good_order c.args.schemas.now c.args.tables.now c.requires.good) c.in_ok-bad.ensures;
 }

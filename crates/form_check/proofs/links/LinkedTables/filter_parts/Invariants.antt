@@ -1,4 +1,4 @@
-use Rattle.std.proofs.Common.{◌≡◌, Bool, cond, drop}
+use Rattle.std.proofs.Common.{◌≡◌, cond, drop}
 use Rattle.form_check.specs.ShownScopes.{shown}
 use Rattle.form_check.specs.Queries.{joint_condition}
 use Rattle.form_check.specs.Links.{is_link, beside, filter_parts}

@@ -6,8 +6,8 @@ use Rattle.groups.specs.Counts.{count_from}
 use Rattle.groups.proofs.CountLemmas.{put_count-entry}
 use Rattle.groups.proofs.counts.Counts.with.Goals as goal
 
-pub returns-clause-changed : goal.returns-clause-changed
-returns-clause-changed c =
+pub returns : goal.returns
+returns c =
     let v = c.args.value.now in
     let pages = c.self.inside.pages in
     rw (← c.self.view_is)

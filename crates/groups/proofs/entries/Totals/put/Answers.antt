@@ -12,8 +12,8 @@ returns-clause-put c =
     let g = c.args.group.now in
     let pages = c.self.inside.pages in
     rw (← c.self.view_is)
-    (ap (map entry_from) (c.in_ok-with.ensures.changed ∙ ap (λ (o : Option Figures). put value_cmp key_of g (entry_of g o) pages) c.unless_empty.ensures) ∙ put_entry-entry g c.args.total pages)
+    (ap (map entry_from) (c.in_ok-put.ensures.changed ∙ ap (λ (o : Option Figures). put value_cmp key_of g (entry_of g o) pages) c.unless_empty.ensures) ∙ put_entry-entry g c.args.total pages)
 
 pub returns-clause-totals : goal.returns-clause-totals
 returns-clause-totals c = λ asked before after here elsewhere are.
-    subst (AreTotalsOf asked after) (sym (returns-clause-put c)) (AreTotalsOf-put asked c.args.group.now c.args.total before after c.args.self.now here elsewhere are)
+    subst (AreTotalsOf asked after) (sym (returns-clause-put c)) (AreTotalsOf-put asked c.args.group.now c.args.total before after c.args.self here elsewhere are)

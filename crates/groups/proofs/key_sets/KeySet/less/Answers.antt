@@ -4,7 +4,7 @@ use Rattle.pages.specs.Reach.{key_of}
 use Rattle.groups.proofs.Carried.{put-made}
 use Rattle.groups.proofs.key_sets.KeySet.less.Goals as goal
 
-pub returns-clause-less : goal.returns-clause-less
-returns-clause-less c =
+pub returns : goal.returns
+returns c =
     rw (← c.self.view_is)
     (ap (map key_of) c.in_ok-with.ensures.changed ∙ put-made key_of (λ (j : Value). j) (λ e. refl) c.args.key.now None c.self.inside.pages)

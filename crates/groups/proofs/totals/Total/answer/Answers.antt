@@ -9,10 +9,10 @@ pub returns-clause-answer : goal.returns-clause-answer
 returns-clause-answer c =
     IfOk-weaker c.figure.result _ _
     (λ (s : SlotValue) h. λ rows k. ap value_of h ∙ answer-right c.args.aggregate rows c.args.self.now k)
-    c.figure.ensures.answer
+    c.figure.ensures
 
 pub returns-clause-within : goal.returns-clause-within
 returns-clause-within c =
     IfOk-weaker c.figure.result _ _
     (λ (s : SlotValue) h. λ vs k w. subst IsWithinKind (sym h) (answer-within c.args.aggregate vs c.args.self.now k w))
-    c.figure.ensures.answer
+    c.figure.ensures

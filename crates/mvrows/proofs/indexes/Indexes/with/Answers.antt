@@ -13,6 +13,7 @@ loop-it-preserved c = λ key rows is are.
     let all : c.deref-it-items.result.now ≡ c.args.self.now = c.deref-it-items.ensures.value ∙ c.self.view_is in
     let here : IsIndexOf key it.column rows it.index =
     subst (λ (x : ColumnIndex). IsIndexOf key x.column rows x.index) (sym (c.it-item.is ∙ ap (λ (xs : List ColumnIndex). get_or xs c.loop-it.it-index it) all)) (are c.loop-it.it-index it (omega (arith, ap length all))) in
+    let taken : IsIndexOf key it.column rows c.in_ok-copy.field-0 = rw c.in_ok-copy.ensures here in
     let made : ColumnIndex = record { column = it.column; index = c.in_ok-index.index } in
-    let after : P made = c.in_ok-index.ensures.index key rows is.ordered is.stands is.keyed here in
+    let after : P made = c.in_ok-index.ensures key rows is.ordered is.stands is.keyed taken in
     rw c.in_ok-push.ensures.items (All-push P c.loop-it.list.items made (c.loop-it.invariant key rows is are) after)

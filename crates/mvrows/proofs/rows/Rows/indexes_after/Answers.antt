@@ -8,8 +8,8 @@ use Rattle.mvrows.specs.Indexed.{AreIndexesOf, IsReplacement}
 use Rattle.mvrows.specs.declared.indexes.ColumnIndex.{ColumnIndex}
 use Rattle.mvrows.proofs.rows.Rows.indexes_after.Goals as goal
 
-pub returns-clause-indexes : goal.returns-clause-indexes
-returns-clause-indexes c =
+pub returns : goal.returns
+returns c =
     let column = c.args.key_column in
     let k = c.args.change.now.key in
     let rows = c.args.self.now in
@@ -23,4 +23,4 @@ returns-clause-indexes c =
     } in
     IfOk-weaker c.with.result _ _
     (λ (made : List ColumnIndex) after. subst (λ (o : Option RowValues). AreIndexesOf column (put_row column k o rows) made) new (after column rows is are))
-    c.with.ensures.indexes
+    c.with.ensures

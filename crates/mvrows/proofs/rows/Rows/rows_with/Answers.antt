@@ -10,8 +10,8 @@ use Rattle.mvrows.proofs.FoundRows.{found_by_key, found_by_keys}
 use Rattle.mvrows.proofs.IndexedRows.{ascending-rows, version_keyed}
 use Rattle.mvrows.proofs.rows.Rows.rows_with.Goals as goal
 
-pub returns-then-column-key_column-clause-rows : goal.returns-then-column-key_column-clause-rows
-returns-then-column-key_column-clause-rows c =
+pub returns-then-column-key_column : goal.returns-then-column-key_column
+returns-then-column-key_column c =
     let key = c.args.key_column in
     let version = version_keyed c.self.inside.column key c.self.inside.pages c.self.inside.indexes (c.is_keyed-is_keyed.ensures.keyed c.if-is_keyed.true) c.self.invariant in
     let ascending : IsAscending value_cmp (value_in key) c.args.self.now =
@@ -19,10 +19,10 @@ returns-then-column-key_column-clause-rows c =
     IfOk-weaker c.row_alone.result _ _
     (λ rows h. h ∙ sym (found_by_key key c.args.value.now c.args.self.now ascending)
     ∙ ap (λ (n : ℕ). filter (λ row. eq_by_cmp value_cmp c.args.value.now (value_in n row)) c.args.self.now) (sym c.if-column-key_column.true))
-    c.row_alone.ensures.row
+    c.row_alone.ensures
 
-pub returns-in-Some-clause-rows : goal.returns-in-Some-clause-rows
-returns-in-Some-clause-rows c =
+pub returns-in-Some : goal.returns-in-Some
+returns-in-Some c =
     let key = c.args.key_column in
     let version = version_keyed c.self.inside.column key c.self.inside.pages c.self.inside.indexes (c.is_keyed-is_keyed.ensures.keyed c.if-is_keyed.true) c.self.invariant in
     let ascending : IsAscending value_cmp (value_in key) c.args.self.now =
@@ -30,4 +30,4 @@ returns-in-Some-clause-rows c =
     IfOk-weaker c.rows_under.result _ _
     (λ rows h. h ∙ ap (λ (keys : List Value). filter_map (λ k. row_at key k c.args.self.now) keys) (c.keys.ensures.value ∙ c.in-Some.ensures)
     ∙ found_by_keys key (λ row. eq_by_cmp value_cmp c.args.value.now (value_in c.args.column row)) c.args.self.now ascending)
-    c.rows_under.ensures.rows
+    c.rows_under.ensures

@@ -16,14 +16,14 @@ invariant_of-result c =
     let k = c.args.change.now.key in
     let column = c.args.key_column in
     let new = c.args.change.now.new in
-    let keyed : List (Value × RowValues) = c.in_ok-keyed.keyed in
-    let made : c.in_ok-pages.pages ≡ put value_cmp key_of k (entry_of k new) keyed =
-    c.in_ok-pages.ensures.changed ∙ ap (λ (r : Option RowValues). put value_cmp key_of k (entry_of k r) keyed) c.in_ok-new.ensures.equal in
-    let rows : rows_of c.in_ok-pages.pages ≡ put_row column k new c.args.self.now =
-    ap rows_of made ∙ put-rows column k new keyed c.in_ok-keyed.ensures.keyed ∙ ap (put_row column k new) (c.in_ok-keyed.ensures.rows ∙ c.self.view_is) in
+    let keyed : List (Value × RowValues) = c.in_ok-pages.pages in
+    let made : c.put.new.self ≡ put value_cmp key_of k (entry_of k new) keyed =
+    c.in_ok-put.ensures.changed ∙ ap (λ (r : Option RowValues). put value_cmp key_of k (entry_of k r) keyed) c.in_ok-new.ensures in
+    let rows : rows_of c.put.new.self ≡ put_row column k new c.args.self =
+    ap rows_of made ∙ put-rows column k new keyed c.in_ok-pages.ensures.keyed ∙ ap (put_row column k new) (c.in_ok-pages.ensures.rows ∙ c.self.view_is) in
     record {
-      keyed = subst (AreKeyed column) (sym made) (keyed-put column k new keyed c.requires.keyed c.in_ok-keyed.ensures.keyed);
-      indexed = subst (λ (rs : List RowValues). AreIndexesOf column rs c.in_ok-indexes.indexes) (sym rows) c.in_ok-indexes.ensures.indexes;
+      keyed = subst (AreKeyed column) (sym made) (keyed-put column k new keyed c.requires.keyed c.in_ok-pages.ensures.keyed);
+      indexed = subst (λ (rs : List RowValues). AreIndexesOf column rs c.in_ok-indexes.indexes) (sym rows) c.in_ok-indexes.ensures;
     }
 
 pub returns : goal.returns
@@ -31,15 +31,14 @@ returns c =
     let k = c.args.change.now.key in
     let column = c.args.key_column in
     let new = c.args.change.now.new in
-    let keyed : List (Value × RowValues) = c.in_ok-keyed.keyed in
-    let made : c.in_ok-pages.pages ≡ put value_cmp key_of k (entry_of k new) keyed =
-    c.in_ok-pages.ensures.changed ∙ ap (λ (r : Option RowValues). put value_cmp key_of k (entry_of k r) keyed) c.in_ok-new.ensures.equal in
-    let changed : rows_of c.in_ok-pages.pages ≡ put_row column k new c.args.self.now =
-    ap rows_of made ∙ put-rows column k new keyed c.in_ok-keyed.ensures.keyed ∙ ap (put_row column k new) (c.in_ok-keyed.ensures.rows ∙ c.self.view_is) in
+    let keyed : List (Value × RowValues) = c.in_ok-pages.pages in
+    let made : c.put.new.self ≡ put value_cmp key_of k (entry_of k new) keyed =
+    c.in_ok-put.ensures.changed ∙ ap (λ (r : Option RowValues). put value_cmp key_of k (entry_of k r) keyed) c.in_ok-new.ensures in
+    let changed : rows_of c.put.new.self ≡ put_row column k new c.args.self =
+    ap rows_of made ∙ put-rows column k new keyed c.in_ok-pages.ensures.keyed ∙ ap (put_row column k new) (c.in_ok-pages.ensures.rows ∙ c.self.view_is) in
     record {
-      only_memory = search rules;
       changed = changed;
-      ordered = subst (IsAscending value_cmp (value_in column)) (sym changed) (IsAscending-put value_cmp_total (value_in column) k new c.args.self.now c.requires.keyed c.requires.ordered);
-      others = λ other. ap (row_at column other) changed ∙ at-put value_cmp_total (value_in column) k new c.args.self.now c.requires.keyed c.requires.ordered other;
-      short = omega (arith, c.in_ok-pages.ensures.short, length-rows_of c.in_ok-pages.pages);
+      ordered = subst (IsAscending value_cmp (value_in column)) (sym changed) (IsAscending-put value_cmp_total (value_in column) k new c.args.self c.requires.keyed c.requires.ordered);
+      others = λ other. ap (row_at column other) changed ∙ at-put value_cmp_total (value_in column) k new c.args.self c.requires.keyed c.requires.ordered other;
+      short = omega (arith, c.put.ensures.short, length-rows_of c.put.new.self);
     }

@@ -1,13 +1,12 @@
 use Rattle.std.proofs.Common.{rules, ◌≡◌, ◌<◌, ◌+◌, ◌∙◌, ap, sym, List, take, drop, map, length, arith, subst, slice_index_or, Global}
-use Rattle.std.proofs.lemmas.List.{length-map}
 use Rattle.std.specs.Arc.{arc_value}
 use Rattle.std.specs.declared.sync.Arc.{Arc}
 use Rattle.value.specs.declared.values.Value.{Value}
 use Rattle.pages.specs.Levels.{Tree, entries_of, entries_at, highest}
 use Rattle.pages.specs.Shapes.{seen}
-use Rattle.pages.proofs.Orders.{front_of_more, shared_there}
-use Rattle.pages.proofs.Trees.{is_lower}
-use Rattle.pages.proofs.Descents.{child_entries, rest_of_page}
+use Rattle.pages.proofs.Orders.{front_of_more}
+use Rattle.pages.proofs.Descents.{child_entries, child_lower}
+use Rattle.std.proofs.Common.{refl}
 use Rattle.pages.proofs.nodes.Node.+page_from.Goals as goal
 
 pub page_from-requires : goal.page_from-requires
@@ -17,21 +16,15 @@ page_from-requires g t c κs within =
     let r = c.node_at-place.result.0 in
     let node : c.index.result.now ≡ slice_index_or nodes r c.index.result.now =
     c.index.ensures ∙ ap (λ (cs : List (Arc (Tree g.row.V.Denot) Global)). slice_index_or cs r c.index.result.now) (sym same) in
-    let there = shared_there nodes r c.index.result.now c.deref-in-Inner-2.result.now c.node_at-place.ensures.within node c.deref-in-Inner-2.ensures in
-    let lower : c.deref-in-Inner-2.result.now.0 < c.args.self.now.0 =
+    let lower : c.deref-in-Inner-2.result.now.0.0 < c.args.self.now.0.0 =
     omega (
       arith,
-      ap (λ (t : Tree g.row.V.Denot). t.0) there.is,
-      is_lower (map arc_value nodes) r c.deref-in-Inner-2.result.now there.within,
+      child_lower nodes r c.index.result.now c.deref-in-Inner-2.result.now c.node_at-place.ensures.within node c.deref-in-Inner-2.ensures,
       ap (λ (cs : List (Arc (Tree g.row.V.Denot) Global)). highest (map arc_value cs)) same,
-      ap (λ (s : Tree g.row.V.Denot). s.0) (ap seen (sym c.in-Inner.is) ∙ c.self.view_is),
+      ap (λ (s : Tree g.row.V.Denot). s.0.0) (ap seen (sym c.in-Inner.is) ∙ c.self.view_is),
     ) in
     let entries = child_entries nodes r c.index.result.now c.deref-in-Inner-2.result.now c.node_at-place.ensures.within node c.deref-in-Inner-2.ensures in
     (omega (arith, lower, c.decreases), (search rules, subst (λ (es : List (Value × g.row.V.Denot)). c.node_at-place.result.1 < length es) (sym entries) c.node_at-place.ensures.there))
-
-pub returns-in-Leaf-clause-entries : goal.returns-in-Leaf-clause-entries
-returns-in-Leaf-clause-entries g t c =
-    rest_of_page c.args.at c.deref.result.now c.args.self.now.1 (ap (map arc_value) c.deref.ensures.value ∙ ap (λ (s : Tree g.row.V.Denot). s.1) (ap seen (sym c.in-Leaf.is) ∙ c.self.view_is))
 
 pub returns-in-Inner-clause-entries : goal.returns-in-Inner-clause-entries
 returns-in-Inner-clause-entries g t c =
@@ -43,5 +36,5 @@ returns-in-Inner-clause-entries g t c =
     let node : c.index.result.now ≡ slice_index_or nodes r c.index.result.now =
     c.index.ensures ∙ ap (λ (cs : List (Arc (Tree g.row.V.Denot) Global)). slice_index_or cs r c.index.result.now) (sym same) in
     let entries = child_entries nodes r c.index.result.now c.deref-in-Inner-2.result.now c.node_at-place.ensures.within node c.deref-in-Inner-2.ensures in
-    front_of_more (length found) (map arc_value found) (drop rest (entries_at (map arc_value nodes) r)) (entries_of (drop (r + 1) (map arc_value nodes))) (sym (length-map found arc_value)) (c.page_from.ensures.entries ∙ ap (λ es. take (length found) (drop rest es)) entries)
+    front_of_more (length found) found (drop rest (entries_at (map arc_value nodes) r)) (entries_of (drop (r + 1) (map arc_value nodes))) refl (c.page_from.ensures.entries ∙ ap (λ es. take (length found) (drop rest es)) entries)
     ∙ ap (take (length found)) (sym c.node_at-place.ensures.entries ∙ ap (λ (cs : List (Arc (Tree g.row.V.Denot) Global)). drop c.args.at (entries_of (map arc_value cs))) same ∙ ap (λ (s : Tree g.row.V.Denot). drop c.args.at s.1) (ap seen (sym c.in-Inner.is) ∙ c.self.view_is))

@@ -31,8 +31,8 @@ returns-in_ok-insert-in-None-clause-put c =
     let copied = c.in_ok-copy-in-None.field-0 in
     let readers = c.in_ok-readers-in-None.readers in
     let none = readers_are old c.args.value.now None c.in-None.ensures.value in
-    let there = none ∙ ap (λ m. readers_of m.entries c.args.value.now) (sym c.get_mut.follows.holds-at-none) ∙ ap (readers_of was.entries) (sym c.in_ok-copy-in-None.ensures.equal) in
-    after was c.insert.new.self copied (Some readers) (with_last c.args.number) c.in_ok-insert-in-None.ensures.updates.0 (c.in_ok-readers-in-None.ensures.one ∙ ap (with_last c.args.number) there)
-    ∙ ap (λ k. changed_value k (with_last c.args.number) (readers_of was.entries)) c.in_ok-copy-in-None.ensures.equal
+    let there = none ∙ ap (λ m. readers_of m.entries c.args.value.now) (sym c.get_mut.follows.holds-at-none) ∙ ap (readers_of was.entries) (sym c.in_ok-copy-in-None.ensures) in
+    after was c.insert.new.self copied (Some readers) (with_last c.args.number) c.in_ok-insert-in-None.ensures.updates.0 (c.in_ok-readers-in-None.ensures ∙ ap (with_last c.args.number) there)
+    ∙ ap (λ k. changed_value k (with_last c.args.number) (readers_of was.entries)) c.in_ok-copy-in-None.ensures
     ∙ ap (λ m. changed_value c.args.value.now (with_last c.args.number) (readers_of m.entries)) c.get_mut.follows.holds-at-none
     ∙ ap (λ es. changed_value c.args.value.now (with_last c.args.number) (readers_of es)) c.self.view_is
