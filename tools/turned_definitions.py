@@ -101,7 +101,7 @@ TURNS = [
     ("IS TRUE, FALSE or UNKNOWN is lost", "specs/Leaves", [
         ("then_made (λ c. cond_of.Is c truth) (part.1 leaves)", "part.1 leaves")]),
     ("a correlation name is forgotten", "specs/Queries", [
-        ("sourced (unwrap_or correlation_name table)", "sourced table")]),
+        ("source_named (unwrap_or correlation_name table)", "source_named table")]),
     ("WHERE of a query of its own is forgotten", "specs/Forms", [
         ("and_then (row_filter source.scope keeps) (λ filter.", "and_then (row_filter source.scope None) (λ filter.")]),
     ("the two parts of an AND are exchanged", "specs/Leaves", [
@@ -140,7 +140,7 @@ TURNS = [
     ("the row under a value is read as rows of a column", "specs/Checks", [
         ("then OneRow (record { table = q.table; key = v })", "then InColumn q.table q.grouping.inner v")]),
     ("a changed child finds its roots unseen", "specs/Checks", [
-        ("then map (InColumn table q.grouping.outer) (linked_values q.grouping (touched change)) else []",
+        ("then map (InColumn table q.grouping.outer) (linked_values q.grouping (rows_of_change change)) else []",
          "then [] else []")]),
     ("a check by groups reads the whole table", "specs/Checks", [
         ("(Of v) = InColumn table group v ∷ []", "(Of v) = WholeTable table ∷ []")]),

@@ -28,7 +28,7 @@ use Rattle.siread.specs.Keys.{AlikeUnder}
 use Rattle.alone.specs.States.{row_in, IsState, IsPut, net_change}
 use Rattle.alone.specs.Checks.{keys_for, finding_keys, check_keys, refusal_at, violation, checks_read}
 use Rattle.std.specs.List.{zip}
-use Rattle.modes.specs.Modes.{Immediates, immediate_ones, is_named, modes_with}
+use Rattle.alone.specs.Modes.{Immediates, immediate_ones, is_named, modes_with}
 use Rattle.alone.proofs.Lists.{Each, each_at}
 use Rattle.alone.proofs.Members.{in_left, in_right, in_flat}
 use Rattle.alone.proofs.Nets.{Alike, net_same, net_exact, net_puts, put_net}

@@ -22,8 +22,8 @@ use Rattle.value.specs.Results.{unless}
 use Rattle.siread.specs.declared.keys.Place.{Place}
 use Rattle.siread.specs.Keys.{place_of}
 use Rattle.alone.specs.States.{row_in, IsState, IsPut}
-use Rattle.answer.specs.declared.answers.Reply.TheVariants.{Inserted, Updated}
-use Rattle.alone.specs.Statements.{Effect, inserted_at, removal, delete_effect, given_value, updated, renewal, sets_key, found_rows}
+use Rattle.alone.specs.declared.answers.Reply.TheVariants.{Inserted, Updated}
+use Rattle.alone.specs.Statements.{Effect, inserted_at, removal, delete_effect, given_value, row_after_settings, renewal, sets_key, found_rows}
 use Rattle.alone.proofs.Lists.{Each, each_weaker, each_filter}
 use Rattle.alone.proofs.Nets.{IsExact}
 use Rattle.alone.proofs.Stores.{empty}
@@ -48,7 +48,7 @@ each_map P Q f h [] each = tt
 each_map P Q f h (x ∷ xs) each = (h x each.0, each_map P Q f h xs each.1)
 
 -- the key stays where it is given no value
-updated_key : (key : ℕ) (sets : List Setting) (old row : RowValues) → sets_key key sets ≡ false → value_in key (updated sets old row) ≡ value_in key row
+updated_key : (key : ℕ) (sets : List Setting) (old row : RowValues) → sets_key key sets ≡ false → value_in key (row_after_settings sets old row) ≡ value_in key row
 updated_key key [] old row h = refl
 updated_key key (s ∷ rest) old row h =
     let off = or_parts (s.column == key) (sets_key key rest) h in

@@ -14,14 +14,14 @@ use Rattle.table.specs.Rows.{RowValues, Layout, value_in, row_at}
 use Rattle.table.specs.Aggregates.{is_there, aggregate, rows_of_group}
 use Rattle.table.specs.declared.conds.Cond.{Cond}
 use Rattle.table.specs.Eval.{truth, keeps}
-use Rattle.table.specs.Values.{compared}
+use Rattle.table.specs.Values.{comparison_truth}
 use Rattle.assertion.specs.declared.queries.Query.{Query}
 use Rattle.assertion.specs.declared.queries.Link.{Link}
 use Rattle.assertion.specs.declared.queries.Whole.{Whole}
 use Rattle.assertion.specs.declared.forms.Form.{Form}
 use Rattle.assertion.specs.declared.forms.Form.TheVariants.{ByRow, ByGroup, Single}
 use Rattle.assertion.specs.Meaning.{State, rows_of, key_of, links, linked_answer, plain_answer, filtered_rows, truth_of_roots, verdict_of, group_roots}
-use Rattle.assertion.specs.Candidates.{touched, linked_values, linked_roots, query_candidates, candidates, candidates_of}
+use Rattle.assertion.specs.Candidates.{rows_of_change, linked_values, linked_roots, query_candidates, candidates, candidates_of}
 use Rattle.assertion.specs.Roots.{is_bad_row, is_bad_root, IsOrdered}
 use Rattle.assertion.proofs.ListLemmas.{filter-filter}
 use Rattle.assertion.proofs.KeptTruth.{links-there, equal_of}
@@ -58,7 +58,7 @@ module _ (layouts : List Layout) (one other : State) (f : IsOrdered layouts one)
   none_linked : (q : Query Link) (row : RowValues) → is_there (value_in q.grouping.outer row) ≡ false → linked_answer one row q ≡ linked_answer other row q
   none_linked q row e = ap (aggregate q.aggregate) (go (value_in q.grouping.outer row) e (rows_of q.table one) ∙ sym (go (value_in q.grouping.outer row) e (rows_of q.table other)))
     where
-      go : (v : Value) → is_there v ≡ false → (rows : List RowValues) → filter (λ linked. is_of (compared Equal v (value_in q.grouping.inner linked)) True && keeps linked row q.filter) rows ≡ []
+      go : (v : Value) → is_there v ≡ false → (rows : List RowValues) → filter (λ linked. is_of (comparison_truth Equal v (value_in q.grouping.inner linked)) True && keeps linked row q.filter) rows ≡ []
       go Null e rows = none_filtered rows
       go (Int n) e rows = cc
       go (Text t) e rows = cc
@@ -194,7 +194,7 @@ module _ (layouts : List Layout) (one other : State) (f : IsOrdered layouts one)
 
   query_roots : (table key : ℕ) (change : Change) (q : Query Link) → AlikeUnder (row_in layouts) (outer_keys table key change q) one other → query_candidates key (rows_of table one) change q ≡ query_candidates key (rows_of table other) change q
   query_roots table key change q h =
-      let values : List Value = linked_values q.grouping (touched change) in
+      let values : List Value = linked_values q.grouping (rows_of_change change) in
       let these : List Root = flat_map (linked_roots key q.grouping (rows_of table one)) values in
       let those : List Root = flat_map (linked_roots key q.grouping (rows_of table other)) values in
       let reads : List LockKey = map (InColumn table q.grouping.outer) values in

@@ -19,16 +19,16 @@ use Rattle.siread.specs.declared.keys.LockKey.{LockKey}
 use Rattle.siread.specs.declared.keys.LockKey.TheVariants.{Row as OneRow, Table as WholeTable}
 use Rattle.siread.specs.Keys.{SameUnder, place_of}
 use Rattle.alone.specs.States.{row_in, IsState, net_change}
-use Rattle.alone.specs.Reads.{where_key}
+use Rattle.alone.specs.Reads.{filter_key}
 use Rattle.alone.specs.Checks.{tables_in, violation, checks_read}
-use Rattle.alone.specs.declared.statements.Resolved.{Resolved}
-use Rattle.alone.specs.declared.statements.Resolved.TheVariants.{Refused as Refuse, Insert, Update, Delete, Select, SetModes, Verdict}
-use Rattle.answer.specs.declared.answers.Reply.{Reply}
-use Rattle.answer.specs.declared.answers.Reply.TheVariants.{Rows, ModesSet, Verdict as Truthful, Updated}
+use Rattle.alone.specs.declared.statements.ResolvedStatement.{ResolvedStatement}
+use Rattle.alone.specs.declared.statements.ResolvedStatement.TheVariants.{Refused as Refuse, Insert, Update, Delete, Select, SetModes, Verdict}
+use Rattle.alone.specs.declared.answers.Reply.{Reply}
+use Rattle.alone.specs.declared.answers.Reply.TheVariants.{Rows, ModesSet, Verdict as Truthful, Updated}
 use Rattle.alone.specs.Statements.{Effect, columns_of, place_in, found_rows, inserted_at, insert_effect, update_fault, renewal, update_effect, delete_effect, sets_key, selected_rows}
 use Rattle.assertion.specs.Declarations.{Declared, layouts_in}
-use Rattle.modes.specs.Modes.{Immediates, is_immediate, is_named, modes_with, assertion_of, initial_modes, immediate_ones, named_ones}
-use Rattle.alone.specs.Alone.{Standing, Step, refused_step, unless_violated, effected, verdict_step, modes_step, unless_key, key_name, stepped, Run, ran, run_on, transaction, transaction_keys, IsSound}
+use Rattle.alone.specs.Modes.{Immediates, is_immediate, is_named, modes_with, assertion_of, initial_modes, immediate_ones, named_ones}
+use Rattle.alone.specs.Alone.{Standing, Step, refused_step, unless_violated, step_of_effect, verdict_step, modes_step, unless_key, key_name, step_alone, Run, ran, run_on, transaction, transaction_keys, IsSound}
 use Rattle.siread.proofs.Members.{in_head, in_tail}
 use Rattle.alone.proofs.Lists.{each_filter}
 use Rattle.alone.proofs.Members.{in_map}
@@ -95,7 +95,7 @@ module _ (declared : Declared) (s o : State) (sound : IsSound declared s) (sound
 
     does_same : (read : LockKey) (effect : Effect) → Moves u v effect.changes
         → Under lays (read ∷ checks_read lays (state_after_all lays effect.changes u) (immediate_ones m all) (net_change lays u (state_after_all lays effect.changes u))) s o
-        → AreSame (effected declared at_u read (Ok effect)) (effected declared at_v read (Ok effect))
+        → AreSame (step_of_effect declared at_u read (Ok effect)) (step_of_effect declared at_v read (Ok effect))
     does_same read effect moves under =
         let u' : State = state_after_all lays effect.changes u in
         let v' : State = state_after_all lays effect.changes v in
@@ -121,14 +121,14 @@ module _ (declared : Declared) (s o : State) (sound : IsSound declared s) (sound
           },
         ))
 
-    effect_same : (read : LockKey) (effect : Result Effect Refusal) → ((e : Effect) → effect ≡ Ok e → Moves u v e.changes) → Under lays (effected declared at_u read effect).reads s o
-        → AreSame (effected declared at_u read effect) (effected declared at_v read effect)
+    effect_same : (read : LockKey) (effect : Result Effect Refusal) → ((e : Effect) → effect ≡ Ok e → Moves u v e.changes) → Under lays (step_of_effect declared at_u read effect).reads s o
+        → AreSame (step_of_effect declared at_u read effect) (step_of_effect declared at_v read effect)
     effect_same read (Err refusal) moves under = same_refusal refusal (read ∷ [])
     effect_same read (Ok effect) moves under =
         does_same read effect (moves effect refl)
         (subst (λ keys. Under lays keys s o) (reads_are (violation lays (immediate_ones m all) (state_after_all lays effect.changes u)) effect.reply at_u (record { view = state_after_all lays effect.changes u; modes = m }) (read ∷ checks_read lays (state_after_all lays effect.changes u) (immediate_ones m all) (net_change lays u (state_after_all lays effect.changes u)))) under)
 
-    has_read : (read : LockKey) (effect : Result Effect Refusal) → Contains (effected declared at_u read effect).reads read
+    has_read : (read : LockKey) (effect : Result Effect Refusal) → Contains (step_of_effect declared at_u read effect).reads read
     has_read read (Err refusal) = in_head read []
     has_read read (Ok effect) =
         let checks : List LockKey = checks_read lays (state_after_all lays effect.changes u) (immediate_ones m all) (net_change lays u (state_after_all lays effect.changes u)) in
@@ -138,11 +138,11 @@ module _ (declared : Declared) (s o : State) (sound : IsSound declared s) (sound
     -- the effects on the two states, which are the same where the read key has the same rows
     effects_same : (read : LockKey) (effect effect' : Result Effect Refusal) → (SameUnder (row_in lays) read u v → effect ≡ effect')
         → ((e : Effect) → effect ≡ Ok e → effect' ≡ Ok e → Moves u v e.changes)
-        → Under lays (effected declared at_u read effect).reads s o
-        → AreSame (effected declared at_u read effect) (effected declared at_v read effect')
+        → Under lays (step_of_effect declared at_u read effect).reads s o
+        → AreSame (step_of_effect declared at_u read effect) (step_of_effect declared at_v read effect')
     effects_same read effect effect' same moves under =
         let e : effect ≡ effect' = same (alike_under lays s o u v t.alike read (under read (has_read read effect))) in
-        subst (λ x. AreSame (effected declared at_u read effect) (effected declared at_v read x)) e
+        subst (λ x. AreSame (step_of_effect declared at_u read effect) (step_of_effect declared at_v read x)) e
         (effect_same read effect (λ f h. moves f h (sym e ∙ h)) under)
 
     doable_moves : (e : Effect) → IsDoable lays e u → IsDoable lays e v → Moves u v e.changes
@@ -159,7 +159,7 @@ module _ (declared : Declared) (s o : State) (sound : IsSound declared s) (sound
       alike = λ one other a. subst (λ x. Alike lays one other x (state_after_all lays changes v)) (sym e) (subst (λ y. Alike lays one other u y) (sym e') a);
     }
 
-    insert_same : (new : NewRow) → Under lays (stepped declared s at_u (Insert new)).reads s o → AreSame (stepped declared s at_u (Insert new)) (stepped declared o at_v (Insert new))
+    insert_same : (new : NewRow) → Under lays (step_alone declared s at_u (Insert new)).reads s o → AreSame (step_alone declared s at_u (Insert new)) (step_alone declared o at_v (Insert new))
     insert_same new under =
         let place : Place = place_in lays new in
         let fault : Option Refusal = row_refusal (columns_of new.table lays) new.row in
@@ -178,12 +178,12 @@ module _ (declared : Declared) (s o : State) (sound : IsSound declared s) (sound
     is_ok (Some fault) e f h = cc
 
     update_same : (table : ℕ) (sets : List Setting) (restriction : Cond) → sets_key (key_of table lays) sets ≡ false
-        → Under lays (effected declared at_u (where_key table (key_of table lays) restriction) (update_effect (columns_of table lays) table (key_of table lays) sets (found_rows u table restriction))).reads s o
-        → AreSame (effected declared at_u (where_key table (key_of table lays) restriction) (update_effect (columns_of table lays) table (key_of table lays) sets (found_rows u table restriction)))
-        (effected declared at_v (where_key table (key_of table lays) restriction) (update_effect (columns_of table lays) table (key_of table lays) sets (found_rows v table restriction)))
+        → Under lays (step_of_effect declared at_u (filter_key table (key_of table lays) restriction) (update_effect (columns_of table lays) table (key_of table lays) sets (found_rows u table restriction))).reads s o
+        → AreSame (step_of_effect declared at_u (filter_key table (key_of table lays) restriction) (update_effect (columns_of table lays) table (key_of table lays) sets (found_rows u table restriction)))
+        (step_of_effect declared at_v (filter_key table (key_of table lays) restriction) (update_effect (columns_of table lays) table (key_of table lays) sets (found_rows v table restriction)))
     update_same table sets restriction leaves under =
         let does : State → Effect = λ w. record { reply = Updated (length (found_rows w table restriction)); changes = map (renewal table (key_of table lays) sets) (found_rows w table restriction) } in
-        effects_same (where_key table (key_of table lays) restriction)
+        effects_same (filter_key table (key_of table lays) restriction)
         (update_effect (columns_of table lays) table (key_of table lays) sets (found_rows u table restriction)) (update_effect (columns_of table lays) table (key_of table lays) sets (found_rows v table restriction))
         (λ h. ap (update_effect (columns_of table lays) table (key_of table lays) sets) (found_same lays u v t.fit.ordered t.fit'.ordered table restriction h))
         (λ e h h'. doable_moves e
@@ -192,12 +192,12 @@ module _ (declared : Declared) (s o : State) (sound : IsSound declared s) (sound
         under
 
     delete_same : (table : ℕ) (restriction : Cond)
-        → Under lays (effected declared at_u (where_key table (key_of table lays) restriction) (Ok (delete_effect table (key_of table lays) (found_rows u table restriction)))).reads s o
-        → AreSame (effected declared at_u (where_key table (key_of table lays) restriction) (Ok (delete_effect table (key_of table lays) (found_rows u table restriction))))
-        (effected declared at_v (where_key table (key_of table lays) restriction) (Ok (delete_effect table (key_of table lays) (found_rows v table restriction))))
+        → Under lays (step_of_effect declared at_u (filter_key table (key_of table lays) restriction) (Ok (delete_effect table (key_of table lays) (found_rows u table restriction)))).reads s o
+        → AreSame (step_of_effect declared at_u (filter_key table (key_of table lays) restriction) (Ok (delete_effect table (key_of table lays) (found_rows u table restriction))))
+        (step_of_effect declared at_v (filter_key table (key_of table lays) restriction) (Ok (delete_effect table (key_of table lays) (found_rows v table restriction))))
     delete_same table restriction under =
         let does : State → Effect = λ w. delete_effect table (key_of table lays) (found_rows w table restriction) in
-        effects_same (where_key table (key_of table lays) restriction) (Ok (does u)) (Ok (does v))
+        effects_same (filter_key table (key_of table lays) restriction) (Ok (does u)) (Ok (does v))
         (λ h. ap (λ rows. Ok (delete_effect table (key_of table lays) rows)) (found_same lays u v t.fit.ordered t.fit'.ordered table restriction h))
         (λ e h h'. doable_moves e
         (subst (λ e. IsDoable lays e u) (is_ok None (does u) e h) (delete_doable lays u t.fit table restriction))
@@ -249,13 +249,13 @@ module _ (declared : Declared) (s o : State) (sound : IsSound declared s) (sound
         ))
 
     -- one statement
-    statement_same : (statement : Resolved) → Under lays (stepped declared s at_u statement).reads s o → AreSame (stepped declared s at_u statement) (stepped declared o at_v statement)
+    statement_same : (statement : ResolvedStatement) → Under lays (step_alone declared s at_u statement).reads s o → AreSame (step_alone declared s at_u statement) (step_alone declared o at_v statement)
     statement_same (Refuse refusal) under = same_refusal refusal []
     statement_same (Insert new) under = insert_same new under
     statement_same (Update x) under = go (sets_key (key_of x.table lays) x.sets) refl under
       where
         step : Standing → Step
-        step now = effected declared now (where_key x.table (key_of x.table lays) x.filter) (update_effect (columns_of x.table lays) x.table (key_of x.table lays) x.sets (found_rows now.view x.table x.filter))
+        step now = step_of_effect declared now (filter_key x.table (key_of x.table lays) x.filter) (update_effect (columns_of x.table lays) x.table (key_of x.table lays) x.sets (found_rows now.view x.table x.filter))
 
         fault : Refusal
         fault = KeyUpdate (key_name lays x.table)
@@ -265,7 +265,7 @@ module _ (declared : Declared) (s o : State) (sound : IsSound declared s) (sound
         go false leaves under = update_same x.table x.sets x.filter leaves under
     statement_same (Delete x) under = delete_same x.table x.filter under
     statement_same (Select x) under =
-        let read : LockKey = where_key x.table (key_of x.table lays) x.filter in
+        let read : LockKey = filter_key x.table (key_of x.table lays) x.filter in
         record {
           reply = ap (λ rows. Ok (Rows (selected_rows x.columns rows))) (found_same lays u v t.fit.ordered t.fit'.ordered x.table x.filter (alike_under lays s o u v t.alike read (under read (in_head read []))));
           reads = refl;
@@ -274,9 +274,9 @@ module _ (declared : Declared) (s o : State) (sound : IsSound declared s) (sound
     statement_same (SetModes names mode) under = modes_same names (is_immediate mode) under
     statement_same (Verdict name) under = asked_same name (assertion_of name all) under
 
-  step_same : (one other : Standing) → AreTogether one other → (statement : Resolved) → Under lays (stepped declared s one statement).reads s o → AreSame (stepped declared s one statement) (stepped declared o other statement)
+  step_same : (one other : Standing) → AreTogether one other → (statement : ResolvedStatement) → Under lays (step_alone declared s one statement).reads s o → AreSame (step_alone declared s one statement) (step_alone declared o other statement)
   step_same one other t statement under =
-      subst (λ modes. AreSame (stepped declared s one statement) (stepped declared o (record { view = other.view; modes = modes }) statement)) t.0
+      subst (λ modes. AreSame (step_alone declared s one statement) (step_alone declared o (record { view = other.view; modes = modes }) statement)) t.0
       (statement_same one.modes one.view other.view t.1 statement under)
 
   -- two runs answer and read the same, and end alike
@@ -285,11 +285,11 @@ module _ (declared : Declared) (s o : State) (sound : IsSound declared s) (sound
     pub reads : p.reads ≡ q.reads
     pub final : AreTogether p.final q.final
 
-  pub ran_same : (trace : List Resolved) → (one other : Standing) → AreTogether one other → Under lays (ran declared s one trace).reads s o → RunAlike (ran declared s one trace) (ran declared o other trace)
+  pub ran_same : (trace : List ResolvedStatement) → (one other : Standing) → AreTogether one other → Under lays (ran declared s one trace).reads s o → RunAlike (ran declared s one trace) (ran declared o other trace)
   ran_same [] one other t under = record { replies = refl; reads = refl; final = t }
   ran_same (statement ∷ rest) one other t under =
-      let p : Step = stepped declared s one statement in
-      let q : Step = stepped declared o other statement in
+      let p : Step = step_alone declared s one statement in
+      let q : Step = step_alone declared o other statement in
       let step : AreSame p q = step_same one other t statement (under_left lays p.reads (ran declared s p.after rest).reads s o under) in
       let more : RunAlike (ran declared s p.after rest) (ran declared o q.after rest) = ran_same rest p.after q.after step.after (under_right lays p.reads (ran declared s p.after rest).reads s o under) in
       record {
@@ -310,7 +310,7 @@ module _ (declared : Declared) (s o : State) (sound : IsSound declared s) (sound
     },
   )
 
-  module _ (trace : List Resolved) (under : Under lays (transaction_keys declared trace s) s o) where
+  module _ (trace : List ResolvedStatement) (under : Under lays (transaction_keys declared trace s) s o) where
     abbrev end : State → State
     end w = (run_on declared trace w).final.view
 
@@ -345,12 +345,12 @@ module _ (declared : Declared) (s o : State) (sound : IsSound declared s) (sound
     final_fit = run_alike.final.1.fit
 
 -- an accepted transaction leaves a sound state
-pub leaves_sound : (declared : Declared) (trace : List Resolved) (s : State) → IsSound declared s → (transaction declared trace s).refused ≡ None
+pub leaves_sound : (declared : Declared) (trace : List ResolvedStatement) (s : State) → IsSound declared s → (transaction declared trace s).refused ≡ None
     → IsSound declared (state_after_all (layouts_in declared) (transaction declared trace s).changes s)
 leaves_sound declared trace s sound accepted =
     let fit : IsState (layouts_in declared) (run_on declared trace s).final.view = final_fit declared s s sound sound trace (λ key c place. refl) in
     subst (IsSound declared) (sym (put_net (layouts_in declared) s (run_on declared trace s).final.view sound.fit fit)) (record { fit = fit; good = accepted })
 
 -- a change has the old row that stands in the snapshot's state
-pub change_exact : (declared : Declared) (trace : List Resolved) (s : State) (change : Change) → Contains (transaction declared trace s).changes change → row_in (layouts_in declared) s (place_of change) ≡ change.old
+pub change_exact : (declared : Declared) (trace : List ResolvedStatement) (s : State) (change : Change) → Contains (transaction declared trace s).changes change → row_in (layouts_in declared) s (place_of change) ≡ change.old
 change_exact declared trace s change m = sym (ap (λ c. c.old) (net_exact (layouts_in declared) s (run_on declared trace s).final.view change m).0)

@@ -12,7 +12,7 @@ use Rattle.syntax.specs.declared.statements.Assignment.{Assignment}
 use Rattle.table.specs.Bounds.{is_bounded}
 use Rattle.assertion.specs.Meaning.{key_of}
 use Rattle.form_check.specs.Scopes.{Scope}
-use Rattle.form_check.specs.Queries.{Source, sourced, source_of, row_filter}
+use Rattle.form_check.specs.Queries.{Source, source_named, source_of, row_filter}
 use Rattle.assertcheck.specs.Types.{is_typed_condition}
 use Rattle.assertcheck.specs.declared.updates.Setting.{Setting}
 use Rattle.assertcheck.specs.declared.updates.Update.{Update}
@@ -70,7 +70,7 @@ place_is : (b : Bool) (n t : ℕ) → cond b (Some n) None ≡ Some t → n ≡ 
 place_is true n t h = cc
 place_is false n t h = let no : ⊥ = cc in absurd no
 
-some_source : (label : List ℕ) (p : Option ℕ) (l : Option Layout) (target : Source) → sourced label p l ≡ Some target → (p ≡ Some target.table) × (l ≡ Some target.scope.layout)
+some_source : (label : List ℕ) (p : Option ℕ) (l : Option Layout) (target : Source) → source_named label p l ≡ Some target → (p ≡ Some target.table) × (l ≡ Some target.scope.layout)
 some_source label None l target h = let no : ⊥ = cc in absurd no
 some_source label (Some t) None target h = let no : ⊥ = cc in absurd no
 some_source label (Some t) (Some l) target h =

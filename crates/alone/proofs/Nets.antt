@@ -16,7 +16,7 @@ use Rattle.assertion.specs.Meaning.{State, rows_of, key_of}
 use Rattle.assertion.specs.Roots.{state_after_all}
 use Rattle.siread.specs.declared.keys.Place.{Place}
 use Rattle.siread.specs.declared.keys.LockKey.{LockKey}
-use Rattle.siread.specs.Keys.{seen, SameUnder, same_value, place_of}
+use Rattle.siread.specs.Keys.{row_under_key, SameUnder, same_value, place_of}
 use Rattle.alone.specs.States.{row_in, IsState, IsPut, same_there, is_real, change_between, in_order, keys_of_both, table_changes, net_change}
 use Rattle.siread.proofs.Members.{in_head, in_tail}
 use Rattle.alone.proofs.Lists.{Each, each_at, each_from, each_left, each_right}
@@ -197,8 +197,8 @@ module _ (layouts : List Layout) where
 
   pub alike_under : (s o u v : State) → Alike s o u v → (key : LockKey) → SameUnder (row_in layouts) key s o → SameUnder (row_in layouts) key u v
   alike_under s o u v a key h p = elim (a p) [
-    | inl moved ↦ ap (seen key p) moved.0
-    | inr still ↦ ap (seen key p) still.0 ∙ h p ∙ sym (ap (seen key p) still.1)
+    | inl moved ↦ ap (row_under_key key p) moved.0
+    | inr still ↦ ap (row_under_key key p) still.0 ∙ h p ∙ sym (ap (row_under_key key p) still.1)
   ]
 
   table_alike : (s o u v : State) → Alike s o u v → (table : ℕ) → table_changes layouts s u table ≡ table_changes layouts o v table

@@ -11,19 +11,19 @@ use Rattle.table.specs.Rows.{Layout}
 use Rattle.assertion.specs.declared.assertions.Assertion.{Assertion}
 use Rattle.assertion.specs.Declarations.{Declared, layouts_in}
 use Rattle.assertion.specs.Meaning.{State}
-use Rattle.modes.specs.Modes.{is_immediate, named_ones, modes_with, assertion_of, set_names}
+use Rattle.alone.specs.Modes.{is_immediate, named_ones, modes_with, assertion_of, set_names}
 use Rattle.siread.specs.declared.keys.LockKey.{LockKey}
-use Rattle.answer.specs.declared.answers.Reply.{Reply}
-use Rattle.answer.specs.declared.answers.Reply.TheVariants.{ModesSet}
+use Rattle.alone.specs.declared.answers.Reply.{Reply}
+use Rattle.alone.specs.declared.answers.Reply.TheVariants.{ModesSet}
 use Rattle.syntax.specs.declared.statements.Statement.{Statement as Written}
 use Rattle.syntax.specs.declared.statements.Statement.TheVariants as written
 use Rattle.assertcheck.specs.Statements.{select_of}
 use Rattle.alone.specs.States.{is_real, change_between, keys_of_both, table_changes, net_change, row_in}
 use Rattle.alone.specs.Checks.{violation, checks_read}
-use Rattle.alone.specs.Alone.{Standing, unless_violated, modes_step, verdict_step, stepped, ran, transaction}
-use Rattle.alone.specs.Resolve.{made, resolved, is_read_only}
-use Rattle.alone.specs.declared.statements.Resolved.{Resolved}
-use Rattle.alone.specs.declared.statements.Resolved.TheVariants.{Refused as Refuse, Insert, Update, Delete, Select, SetModes, Verdict}
+use Rattle.alone.specs.Alone.{Standing, unless_violated, modes_step, verdict_step, step_alone, ran, transaction}
+use Rattle.alone.specs.Resolve.{statement_or_refusal, resolution_of, is_read_only}
+use Rattle.alone.specs.declared.statements.ResolvedStatement.{ResolvedStatement}
+use Rattle.alone.specs.declared.statements.ResolvedStatement.TheVariants.{Refused as Refuse, Insert, Update, Delete, Select, SetModes, Verdict}
 use Rattle.alone.proofs.Stores.{same_there-refl}
 
 check_leaves : (fault : Option Refusal) (reply : Reply) (before after : Standing) (reads : List LockKey) → after.view ≡ before.view
@@ -42,7 +42,7 @@ verdict_leaves : (declared : Declared) (found : Option Assertion) (name : List �
 verdict_leaves declared None name now = refl
 verdict_leaves declared (Some a) name now = refl
 
-step_leaves : (declared : Declared) (start : State) (now : Standing) (s : Resolved) → is_read_only s ≡ true → (stepped declared start now s).after.view ≡ now.view
+step_leaves : (declared : Declared) (start : State) (now : Standing) (s : ResolvedStatement) → is_read_only s ≡ true → (step_alone declared start now s).after.view ≡ now.view
 step_leaves declared start now (Refuse refusal) h = refl
 step_leaves declared start now (Insert new) h = cc
 step_leaves declared start now (Update u) h = cc
@@ -51,11 +51,11 @@ step_leaves declared start now (Select s) h = refl
 step_leaves declared start now (SetModes names mode) h = modes_leave declared start names (is_immediate mode) now
 step_leaves declared start now (Verdict name) h = verdict_leaves declared (assertion_of name declared.assertions) name now
 
-run_leaves : (declared : Declared) (start : State) (trace : List Resolved) (now : Standing) → list_all is_read_only trace ≡ true → (ran declared start now trace).final.view ≡ now.view
+run_leaves : (declared : Declared) (start : State) (trace : List ResolvedStatement) (now : Standing) → list_all is_read_only trace ≡ true → (ran declared start now trace).final.view ≡ now.view
 run_leaves declared start [] now h = refl
 run_leaves declared start (s ∷ rest) now h =
     let p = and_parts (is_read_only s) (list_all is_read_only rest) h in
-    run_leaves declared start rest (stepped declared start now s).after p.1 ∙ step_leaves declared start now s p.0
+    run_leaves declared start rest (step_alone declared start now s).after p.1 ∙ step_leaves declared start now s p.0
 
 -- what stands under the same key on both sides is no change
 none_real : (layouts : List Layout) (state : State) (table : ℕ) (keys : List Value) → filter is_real (map (λ k. change_between layouts state state (record { table = table; key = k })) keys) ≡ []
@@ -75,17 +75,17 @@ pub no_net_change : (layouts : List Layout) (state : State) → net_change layou
 unfolding net_change
 no_net_change layouts state = none_in layouts state (range_with_len 0 (length layouts))
 
-pub changes_nothing : (declared : Declared) (trace : List Resolved) (state : State) → list_all is_read_only trace ≡ true → (transaction declared trace state).changes ≡ []
+pub changes_nothing : (declared : Declared) (trace : List ResolvedStatement) (state : State) → list_all is_read_only trace ≡ true → (transaction declared trace state).changes ≡ []
 changes_nothing declared trace state h =
     ap (net_change (layouts_in declared) state) (run_leaves declared state trace _ h) ∙ no_net_change (layouts_in declared) state
 
 -- what was made of a statement reads only where each form of it does, and a refusal does
-made_reads : {A : Type 0} (form : A → Resolved) (found : Result A Refusal) → ((x : A) → is_read_only (form x) ≡ true) → is_read_only (made form found) ≡ true
+made_reads : {A : Type 0} (form : A → ResolvedStatement) (found : Result A Refusal) → ((x : A) → is_read_only (form x) ≡ true) → is_read_only (statement_or_refusal form found) ≡ true
 made_reads form (Ok x) h = h x
 made_reads form (Err refusal) h = refl
 
 -- whatever is written, a read-only transaction changes no rows by it
-pub resolved_reads : (declared : Declared) (statement : Written) → is_read_only (resolved declared true statement) ≡ true
+pub resolved_reads : (declared : Declared) (statement : Written) → is_read_only (resolution_of declared true statement) ≡ true
 resolved_reads declared (written.Insert insert) = refl
 resolved_reads declared (written.Update table sets condition) = refl
 resolved_reads declared (written.Delete table condition) = refl
@@ -94,6 +94,6 @@ resolved_reads declared (written.SetConstraints assertions mode) = made_reads (�
 resolved_reads declared (written.Verdict name) = refl
 
 -- such a statement behind others
-pub one_more : (trace : List Resolved) (s : Resolved) → list_all is_read_only trace ≡ true → is_read_only s ≡ true
+pub one_more : (trace : List ResolvedStatement) (s : ResolvedStatement) → list_all is_read_only trace ≡ true → is_read_only s ≡ true
     → list_all is_read_only (trace ++ s ∷ []) ≡ true
 one_more trace s before now = list_all-append is_read_only trace (s ∷ []) ∙ and_from _ _ before (and_from _ _ now refl)

@@ -10,8 +10,8 @@ use Rattle.siread.specs.declared.keys.LockKey.TheVariants.{Row as OneRow}
 use Rattle.alone.specs.States.{net_change}
 use Rattle.assertion.specs.Declarations.{Declared}
 use Rattle.syntax.specs.declared.statements.Mode.TheVariants.{Deferred}
-use Rattle.alone.specs.declared.statements.Resolved.TheVariants.{Refused as Refuse, Insert, SetModes}
-use Rattle.answer.specs.declared.answers.Reply.TheVariants.{Inserted}
+use Rattle.alone.specs.declared.statements.ResolvedStatement.TheVariants.{Refused as Refuse, Insert, SetModes}
+use Rattle.alone.specs.declared.answers.Reply.TheVariants.{Inserted}
 use Rattle.alone.specs.Alone.{transaction, transaction_keys}
 
 -- accounts: an id, an owner and a balance

@@ -18,7 +18,7 @@ use Rattle.assertion.proofs.KeptTruth.{rows-changed, rows-same, IsOrdered-after}
 use Rattle.siread.specs.declared.keys.Place.{Place}
 use Rattle.siread.specs.declared.keys.LockKey.{LockKey}
 use Rattle.siread.specs.declared.keys.LockKey.TheVariants.{Row as OneRow, Table as WholeTable}
-use Rattle.siread.specs.Keys.{is_under, seen, SameUnder, same_value, same_place, place_of}
+use Rattle.siread.specs.Keys.{is_under, row_under_key, SameUnder, same_value, same_place, place_of}
 use Rattle.alone.specs.States.{row_in, IsState, same_row, same_there, IsPut}
 use Rattle.siread.proofs.KeyOrder.{same_value-true, same_value-refl, same_place-true, same_place-refl}
 use Rattle.siread.proofs.Members.{in_head, in_tail, in_cases, not_in_nil}
@@ -120,11 +120,11 @@ same_lists (x ∷ xs) (y ∷ ys) l h =
     let es : xs ≡ ys = same_lists xs ys (omega (arith, l)) (λ i. h (suc i)) in
     λ i. e i ∷ es i
 
-pub row_seen : (place : Place) (row : Option RowValues) → seen (OneRow place) place row ≡ row
+pub row_seen : (place : Place) (row : Option RowValues) → row_under_key (OneRow place) place row ≡ row
 row_seen place None = refl
 row_seen place (Some row) = ap (λ b. cond b (Some row) None) (same_place-refl place)
 
-pub all_seen : (table : ℕ) (key : Value) (row : Option RowValues) → seen (WholeTable table) (record { table = table; key = key }) row ≡ row
+pub all_seen : (table : ℕ) (key : Value) (row : Option RowValues) → row_under_key (WholeTable table) (record { table = table; key = key }) row ≡ row
 all_seen table key None = refl
 all_seen table key (Some row) = ap (λ b. cond b (Some row) None) (eq-eqb table table refl)
 
@@ -199,7 +199,7 @@ module _ (layouts : List Layout) where
         ∙ ap (only p) (h (record { table = table; key = k }))
         ∙ sym (only_seen k (row_at (key_of table layouts) k (rows_of table other)) (λ row e. at_own table k (rows_of table other) row e)))
       where
-        only_seen : (k : Value) (o : Option RowValues) → ((row : RowValues) → o ≡ Some row → value_in (key_of table layouts) row ≡ k) → only p o ≡ only p (seen key (record { table = table; key = k }) o)
+        only_seen : (k : Value) (o : Option RowValues) → ((row : RowValues) → o ≡ Some row → value_in (key_of table layouts) row ≡ k) → only p o ≡ only p (row_under_key key (record { table = table; key = k }) o)
         only_seen k None mine = refl
         only_seen k (Some row) mine = elim (cases_Bool (p row)) [
           | inl on ↦

@@ -12,7 +12,7 @@ use Rattle.value.proofs.OrderedLists.{equal_from}
 use Rattle.value.proofs.ValueOrders.{value_exact}
 use Rattle.value.specs.declared.truths.Truth.{Truth}
 use Rattle.value.specs.declared.truths.Truth.TheVariants.{True, False, Unknown}
-use Rattle.value.specs.Truths.{and_of, is_of, known}
+use Rattle.value.specs.Truths.{and_of, is_of, truth_of_bool}
 use Rattle.table.specs.Rows.{RowValues, Layout, value_in}
 use Rattle.table.specs.declared.exprs.Expr.{Expr}
 use Rattle.table.specs.declared.exprs.Expr.TheOpen.{Expr-F}
@@ -23,12 +23,12 @@ use Rattle.table.specs.declared.conds.Cond.TheOpen.{Cond-F}
 use Rattle.table.specs.declared.conds.Cond.TheFolds.{fold-roll-Cond}
 use Rattle.table.specs.declared.conds.Cond.TheViews.{out-Cond, roll-Cond, roll-out-Cond}
 use Rattle.table.specs.Eval.{truth, keeps, answer, expr_step, cond_step}
-use Rattle.table.specs.Values.{all_of, compared}
+use Rattle.table.specs.Values.{all_of, comparison_truth}
 use Rattle.assertion.specs.Meaning.{State, key_of}
 use Rattle.assertion.specs.Roots.{IsOrdered}
 use Rattle.siread.specs.Keys.{is_under, SameUnder, same_value}
 use Rattle.alone.specs.States.{row_in}
-use Rattle.alone.specs.Reads.{parts_in, top_parts, Equality, sides, equal_sides, equality_in, is_on, first_equality, first_on, key_from, where_key}
+use Rattle.alone.specs.Reads.{parts_in, top_parts, Equality, sides, equal_sides, equality_in, is_on, first_equality, first_on, key_from, filter_key}
 use Rattle.alone.specs.Statements.{found_rows}
 use Rattle.alone.proofs.Lists.{Each}
 use Rattle.siread.proofs.KeyOrder.{same_value-refl}
@@ -39,12 +39,12 @@ is_of-True True h = refl
 is_of-True False h = cc
 is_of-True Unknown h = cc
 
-known-True : (b : Bool) → known b ≡ True → b ≡ true
+known-True : (b : Bool) → truth_of_bool b ≡ True → b ≡ true
 known-True true h = refl
 known-True false h = cc
 
 -- a comparison for equality is true of equal values alone
-equal_answers : (v w : Value) → compared comparison.Equal v w ≡ True → v ≡ w
+equal_answers : (v w : Value) → comparison_truth comparison.Equal v w ≡ True → v ≡ w
 equal_answers value.Null w h = cc
 equal_answers (value.Int m) value.Null h = cc
 equal_answers (value.Int m) (value.Int n) h = value_exact (value.Int m) (value.Int n) (equal_from (int_cmp m n) (known-True (is_eq (int_cmp m n)) h))
@@ -71,13 +71,13 @@ module _ (row : RowValues) where
   abbrev pub Meets : Equality → Type 0
   Meets equality = value_in equality.column row ≡ equality.value
 
-  sides_meet : (x y : Expr-F Expr) (equality : Equality) → sides x y ≡ Some equality → compared comparison.Equal (answer row [] (roll-Expr x)) (answer row [] (roll-Expr y)) ≡ True → Meets equality
+  sides_meet : (x y : Expr-F Expr) (equality : Equality) → sides x y ≡ Some equality → comparison_truth comparison.Equal (answer row [] (roll-Expr x)) (answer row [] (roll-Expr y)) ≡ True → Meets equality
   sides_meet (Expr-F.Column i) (Expr-F.Literal v) equality h t =
       let is : record { column = i; value = v } ≡ equality = cc in
-      subst Meets is (equal_answers (value_in i row) v (sym (λ k. compared comparison.Equal (answer-Column i k) (answer-Literal v k)) ∙ t))
+      subst Meets is (equal_answers (value_in i row) v (sym (λ k. comparison_truth comparison.Equal (answer-Column i k) (answer-Literal v k)) ∙ t))
   sides_meet (Expr-F.Literal v) (Expr-F.Column i) equality h t =
       let is : record { column = i; value = v } ≡ equality = cc in
-      subst Meets is (sym (equal_answers v (value_in i row) (sym (λ k. compared comparison.Equal (answer-Literal v k) (answer-Column i k)) ∙ t)))
+      subst Meets is (sym (equal_answers v (value_in i row) (sym (λ k. comparison_truth comparison.Equal (answer-Literal v k) (answer-Column i k)) ∙ t)))
   sides_meet (Expr-F.Column i) (Expr-F.Column j) equality h t = cc
   sides_meet (Expr-F.Column i) (Expr-F.Slot j) equality h t = cc
   sides_meet (Expr-F.Column i) (Expr-F.Negation p) equality h t = cc
@@ -93,8 +93,8 @@ module _ (row : RowValues) where
   sides_meet (Expr-F.Sum p) y equality h t = cc
   sides_meet (Expr-F.Product p) y equality h t = cc
 
-  compare_meets : (c : Comparison) (a b : Expr) (equality : Equality) → equal_sides c a b ≡ Some equality → compared c (answer row [] a) (answer row [] b) ≡ True → Meets equality
-  compare_meets comparison.Equal a b equality h t = sides_meet (out-Expr a) (out-Expr b) equality h ((λ k. compared comparison.Equal (answer row [] (roll-out-Expr a k)) (answer row [] (roll-out-Expr b k))) ∙ t)
+  compare_meets : (c : Comparison) (a b : Expr) (equality : Equality) → equal_sides c a b ≡ Some equality → comparison_truth c (answer row [] a) (answer row [] b) ≡ True → Meets equality
+  compare_meets comparison.Equal a b equality h t = sides_meet (out-Expr a) (out-Expr b) equality h ((λ k. comparison_truth comparison.Equal (answer row [] (roll-out-Expr a k)) (answer row [] (roll-out-Expr b k))) ∙ t)
   compare_meets comparison.NotEqual a b equality h t = cc
   compare_meets comparison.Less a b equality h t = cc
   compare_meets comparison.AtMost a b equality h t = cc
@@ -162,7 +162,7 @@ module _ (row : RowValues) where
       go (Some equality) e more = inr (equality, (ap (λ o. option_or o (first_equality rest)) e, part_meets part equality e h.0))
 
 -- a row that the condition keeps is under the condition's key, at its place
-pub where_under : (table key : ℕ) (condition : Cond) (row : RowValues) → keeps row [] condition ≡ true → is_under (where_key table key condition) (record { table = table; key = value_in key row }) row ≡ true
+pub where_under : (table key : ℕ) (condition : Cond) (row : RowValues) → keeps row [] condition ≡ true → is_under (filter_key table key condition) (record { table = table; key = value_in key row }) row ≡ true
 where_under table key condition row keep = go (first_on_cases row key (top_parts condition) parts) (first_equality_cases row (top_parts condition) parts)
   where
     parts : Each (λ part. truth row [] part ≡ True) (top_parts condition)
@@ -187,6 +187,6 @@ where_under table key condition row keep = go (first_on_cases row key (top_parts
 
 -- states with the same rows under a condition's key have the same rows that it keeps, in the same order
 pub found_same : (layouts : List Layout) (one other : State) → IsOrdered layouts one → IsOrdered layouts other → (table : ℕ) (condition : Cond)
-    → SameUnder (row_in layouts) (where_key table (key_of table layouts) condition) one other → found_rows one table condition ≡ found_rows other table condition
+    → SameUnder (row_in layouts) (filter_key table (key_of table layouts) condition) one other → found_rows one table condition ≡ found_rows other table condition
 found_same layouts one other f g table condition h =
-    filtered_same layouts one other f g table (where_key table (key_of table layouts) condition) (λ row. keeps row [] condition) (λ row on. where_under table (key_of table layouts) condition row on) h
+    filtered_same layouts one other f g table (filter_key table (key_of table layouts) condition) (λ row. keeps row [] condition) (λ row on. where_under table (key_of table layouts) condition row on) h

@@ -9,15 +9,15 @@ use Rattle.assertion.specs.Meaning.{State, key_of, verdict_of}
 use Rattle.assertion.specs.Roots.{state_after_all}
 use Rattle.siread.specs.declared.keys.LockKey.{LockKey}
 use Rattle.siread.specs.declared.keys.LockKey.TheVariants.{Row as OneRow, Table as WholeTable}
-use Rattle.modes.specs.Modes.{Immediates, initial_modes, is_immediate, modes_with, immediate_ones, named_ones, assertion_of}
+use Rattle.alone.specs.Modes.{Immediates, initial_modes, is_immediate, modes_with, immediate_ones, named_ones, assertion_of}
 use Rattle.alone.specs.States.{IsState, net_change}
-use Rattle.alone.specs.Reads.{where_key}
+use Rattle.alone.specs.Reads.{filter_key}
 use Rattle.alone.specs.Checks.{tables_in, violation, checks_read}
 use Rattle.assertion.specs.Declarations.{Declared, layouts_in}
-use Rattle.alone.specs.declared.statements.Resolved.{Resolved}
-use Rattle.alone.specs.declared.statements.Resolved.TheVariants.{Refused as Refuse, Insert, Update, Delete, Select, SetModes, Verdict}
-use Rattle.answer.specs.declared.answers.Reply.{Reply}
-use Rattle.answer.specs.declared.answers.Reply.TheVariants.{Rows, ModesSet, Verdict as Truthful}
+use Rattle.alone.specs.declared.statements.ResolvedStatement.{ResolvedStatement}
+use Rattle.alone.specs.declared.statements.ResolvedStatement.TheVariants.{Refused as Refuse, Insert, Update, Delete, Select, SetModes, Verdict}
+use Rattle.alone.specs.declared.answers.Reply.{Reply}
+use Rattle.alone.specs.declared.answers.Reply.TheVariants.{Rows, ModesSet, Verdict as Truthful}
 use Rattle.alone.specs.Statements.{Effect, columns_of, no_column, place_in, found_rows, insert_effect, update_effect, delete_effect, sets_key, selected_rows}
 
 -- a transaction between two statements
@@ -41,9 +41,9 @@ unless_violated None reply before after reads = record { reply = Ok reply; after
 unless_violated (Some refusal) reply before after reads = refused_step before refusal reads
 
 -- an effect on the rows, put in, and then the check of the immediate assertions over the rows that changed
-abbrev pub effected : Declared → Standing → LockKey → Result Effect Refusal → Step
-effected declared now read (Err refusal) = refused_step now refusal (read ∷ [])
-effected declared now read (Ok effect) =
+abbrev pub step_of_effect : Declared → Standing → LockKey → Result Effect Refusal → Step
+step_of_effect declared now read (Err refusal) = refused_step now refusal (read ∷ [])
+step_of_effect declared now read (Ok effect) =
     unless_violated (violation (layouts_in declared) (immediate_ones now.modes declared.assertions)
     (state_after_all (layouts_in declared) effect.changes now.view)) effect.reply
     now (record { view = state_after_all (layouts_in declared) effect.changes now.view; modes = now.modes })
@@ -83,26 +83,27 @@ abbrev pub key_name : List Layout → ℕ → List ℕ
 key_name layouts table = (slice_index_or (columns_of table layouts) (key_of table layouts) no_column).name
 
 -- a statement alone: from the snapshot's state, and the own view and the modes
-abbrev pub stepped : Declared → State → Standing → Resolved → Step
-stepped declared start now (Refuse refusal) = refused_step now refusal []
-stepped declared start now (Insert new) =
-    effected declared now (OneRow (place_in (layouts_in declared) new)) (insert_effect declared.tables new now.view)
-stepped declared start now (Update u) =
+abbrev pub step_alone : Declared → State → Standing → ResolvedStatement → Step
+step_alone declared start now (Refuse refusal) = refused_step now refusal []
+step_alone declared start now (Insert new) =
+    step_of_effect declared now (OneRow (place_in (layouts_in declared) new))
+    (insert_effect declared.tables new now.view)
+step_alone declared start now (Update u) =
     unless_key (sets_key (key_of u.table (layouts_in declared)) u.sets)
     (KeyUpdate (key_name (layouts_in declared) u.table)) now
-    (effected declared now (where_key u.table (key_of u.table (layouts_in declared)) u.filter)
+    (step_of_effect declared now (filter_key u.table (key_of u.table (layouts_in declared)) u.filter)
     (update_effect (columns_of u.table (layouts_in declared)) u.table (key_of u.table (layouts_in declared)) u.sets
     (found_rows now.view u.table u.filter)))
-stepped declared start now (Delete d) =
-    effected declared now (where_key d.table (key_of d.table (layouts_in declared)) d.filter)
+step_alone declared start now (Delete d) =
+    step_of_effect declared now (filter_key d.table (key_of d.table (layouts_in declared)) d.filter)
     (Ok (delete_effect d.table (key_of d.table (layouts_in declared)) (found_rows now.view d.table d.filter)))
-stepped declared start now (Select s) = record {
+step_alone declared start now (Select s) = record {
   reply = Ok (Rows (selected_rows s.columns (found_rows now.view s.table s.filter)));
   after = now;
-  reads = where_key s.table (key_of s.table (layouts_in declared)) s.filter ∷ [];
+  reads = filter_key s.table (key_of s.table (layouts_in declared)) s.filter ∷ [];
 }
-stepped declared start now (SetModes names mode) = modes_step declared start names (is_immediate mode) now
-stepped declared start now (Verdict name) = verdict_step declared (assertion_of name declared.assertions) name now
+step_alone declared start now (SetModes names mode) = modes_step declared start names (is_immediate mode) now
+step_alone declared start now (Verdict name) = verdict_step declared (assertion_of name declared.assertions) name now
 
 -- what some statements answer one after the other, leave and read
 pub record Run : Type 0 where
@@ -116,19 +117,19 @@ then_ran step more =
     record { replies = step.reply ∷ more.replies; final = more.final; reads = step.reads ++ more.reads }
 
 -- some statements, each from what the one before it left
-abbrev pub ran : Declared → State → Standing → List Resolved → Run
+abbrev pub ran : Declared → State → Standing → List ResolvedStatement → Run
 ran declared start now [] = record { replies = []; final = now; reads = [] }
 ran declared start now (statement ∷ rest) =
-    then_ran (stepped declared start now statement)
-    (ran declared start (stepped declared start now statement).after rest)
+    then_ran (step_alone declared start now statement)
+    (ran declared start (step_alone declared start now statement).after rest)
 
 -- one run and then another, from where it ended
-abbrev pub followed : Run → Run → Run
-followed run more =
+abbrev pub joined_runs : Run → Run → Run
+joined_runs run more =
     record { replies = run.replies ++ more.replies; final = more.final; reads = run.reads ++ more.reads }
 
 -- a transaction's statements, run alone on a state
-abbrev pub run_on : Declared → List Resolved → State → Run
+abbrev pub run_on : Declared → List ResolvedStatement → State → Run
 run_on declared trace start =
     ran declared start (record { view = start; modes = initial_modes declared.assertions }) trace
 
@@ -139,7 +140,7 @@ pub record Outcome : Type 0 where
   pub refused : Option Refusal
 
 -- a transaction alone, from its first statement to its COMMIT, on a state
-abbrev pub transaction : Declared → List Resolved → State → Outcome
+abbrev pub transaction : Declared → List ResolvedStatement → State → Outcome
 transaction declared trace start = record {
   replies = (run_on declared trace start).replies;
   changes = net_change (layouts_in declared) start (run_on declared trace start).final.view;
@@ -147,7 +148,7 @@ transaction declared trace start = record {
 }
 
 -- what it reads, the check of COMMIT included
-abbrev pub transaction_keys : Declared → List Resolved → State → List LockKey
+abbrev pub transaction_keys : Declared → List ResolvedStatement → State → List LockKey
 transaction_keys declared trace start =
     (run_on declared trace start).reads
     ++ checks_read (layouts_in declared) (run_on declared trace start).final.view declared.assertions

@@ -14,7 +14,7 @@ use Rattle.assertion.specs.declared.queries.Link.{Link}
 use Rattle.assertion.specs.declared.forms.Form.{Form}
 use Rattle.assertion.specs.declared.forms.Form.TheVariants.{ByRow, ByGroup, Single}
 use Rattle.assertion.specs.Meaning.{State, key_of, least_bad_of}
-use Rattle.assertion.specs.Candidates.{touched, linked_values, candidates_of}
+use Rattle.assertion.specs.Candidates.{rows_of_change, linked_values, candidates_of}
 use Rattle.siread.specs.declared.keys.LockKey.{LockKey}
 use Rattle.siread.specs.declared.keys.LockKey.TheVariants.{Row as OneRow, Column as InColumn, Table as WholeTable}
 use Rattle.alone.specs.States.{row_in}
@@ -61,7 +61,7 @@ abbrev pub outer_keys : ℕ → ℕ → Change → Query Link → List LockKey
 outer_keys table key change q =
     if q.grouping.outer == key then []
     else if q.table == change.table
-    then map (InColumn table q.grouping.outer) (linked_values q.grouping (touched change)) else []
+    then map (InColumn table q.grouping.outer) (linked_values q.grouping (rows_of_change change)) else []
 
 -- what the candidates of a change are found by
 abbrev pub finding_keys : List Layout → Form → Change → List LockKey

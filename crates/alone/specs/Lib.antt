@@ -4,7 +4,14 @@ pub mod Checks
 pub mod Statements
 pub mod Resolve
 pub mod Alone
+pub mod Modes
+pub mod Commits
+pub mod Order
+pub mod Numbers
+pub mod Replay
+pub mod Epoch
+pub mod Answer
+pub mod Safe
 pub use Rattle.assertion.specs.Declarations
 pub use Rattle.assertion.specs.Meaning
 pub use Rattle.assertion.specs.Roots
-pub use Rattle.modes.specs.Modes

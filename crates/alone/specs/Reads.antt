@@ -66,6 +66,6 @@ key_from table None (Some equality) = InColumn table equality.column equality.va
 key_from table None None = WholeTable table
 
 -- the row of `key = literal`, else the rows of `column = literal`, else the table
-abbrev pub where_key : (table key : ℕ) → Cond → LockKey
-where_key table key condition =
+abbrev pub filter_key : (table key : ℕ) → Cond → LockKey
+filter_key table key condition =
     key_from table (first_on key (top_parts condition)) (first_equality (top_parts condition))

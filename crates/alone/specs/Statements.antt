@@ -17,8 +17,8 @@ use Rattle.table.specs.Eval.{answer}
 use Rattle.assertion.specs.Meaning.{State, rows_of, key_of, filtered_rows}
 use Rattle.assertcheck.specs.declared.inserts.NewRow.{NewRow}
 use Rattle.assertcheck.specs.declared.updates.Setting.{Setting}
-use Rattle.answer.specs.declared.answers.Reply.{Reply}
-use Rattle.answer.specs.declared.answers.Reply.TheVariants.{Inserted, Updated, Deleted}
+use Rattle.alone.specs.declared.answers.Reply.{Reply}
+use Rattle.alone.specs.declared.answers.Reply.TheVariants.{Inserted, Updated, Deleted}
 use Rattle.value.specs.Results.{unless}
 use Rattle.siread.specs.declared.keys.Place.{Place}
 use Rattle.alone.specs.States.{row_in}
@@ -87,14 +87,15 @@ update_fault columns sets [] = None
 update_fault columns sets (row ∷ rest) = option_or (settings_fault columns sets row) (update_fault columns sets rest)
 
 -- the row with what it is given, each value evaluated on the row as it was
-abbrev pub updated : List Setting → RowValues → RowValues → RowValues
-updated [] old row = row
-updated (setting ∷ rest) old row = updated rest old (slice_set row setting.column (given_value old setting.value))
+abbrev pub row_after_settings : List Setting → RowValues → RowValues → RowValues
+row_after_settings [] old row = row
+row_after_settings (setting ∷ rest) old row =
+    row_after_settings rest old (slice_set row setting.column (given_value old setting.value))
 
 -- the change that gives a row of a table its new values
 abbrev pub renewal : (table key : ℕ) → List Setting → RowValues → Change
 renewal table key sets row =
-    record { table = table; key = value_in key row; old = Some row; new = Some (updated sets row row) }
+    record { table = table; key = value_in key row; old = Some row; new = Some (row_after_settings sets row row) }
 
 -- UPDATE of the rows that its condition keeps
 abbrev pub update_effect : List Column → (table key : ℕ) → List Setting → List RowValues → Result Effect Refusal

@@ -21,11 +21,11 @@ ghost use Rattle.siread.specs.Keys.{AlikeUnder, place_of};
 ghost use Rattle.alone.specs.States.{row_in, IsState, is_real, AreDue, AreDifferences, change_between, net_change};
 ghost use Rattle.alone.specs.Checks.{keys_for};
 ghost use Rattle.assertion.specs.Declarations.{Declared};
-ghost use Rattle.alone.specs.declared.statements.Resolved.{Resolved};
-ghost use Rattle.alone.specs.Resolve.{is_read_only, resolved};
+ghost use Rattle.alone.specs.declared.statements.ResolvedStatement.{ResolvedStatement};
+ghost use Rattle.alone.specs.Resolve.{is_read_only, resolution_of};
 ghost use Rattle.alone.specs.Statements.{found_rows, delete_effect, renewal, sets_key};
 ghost use Rattle.assertion.specs.Declarations.{layouts_in};
-ghost use Rattle.alone.specs.Alone.{Standing, ran, followed, transaction, transaction_keys, IsSound};
+ghost use Rattle.alone.specs.Alone.{Standing, ran, joined_runs, transaction, transaction_keys, IsSound};
 
 /// The net change between two states has each row in which they differ, with what stands there before and after, and
 /// put into the one it gives the other. A list in order that has these rows is the net change, and of changes that
@@ -81,23 +81,24 @@ pub fn roots_depend_on_their_keys()
 
 /// Statements one after the other may be run in two parts.
 pub fn runs_are_joined()
-    ensures { (declared : Declared) (start : State) (now : Standing) (first rest : List Resolved)
+    ensures { (declared : Declared) (start : State) (now : Standing) (first rest : List ResolvedStatement)
         → ran declared start now (first ++ rest)
-        ≡ followed (ran declared start now first) (ran declared start (ran declared start now first).final rest) }
+        ≡ joined_runs (ran declared start now first) (ran declared start (ran declared start now first).final rest) }
 {}
 
 /// A transaction without INSERT, UPDATE and DELETE has no net change, on any tables; and whatever is written, a
 /// read-only transaction runs none of them.
 pub fn read_only_statements_change_nothing()
-    ensures none { (declared : Declared) (trace : List Resolved) (state : State) → list_all is_read_only trace ≡ true
+    ensures none { (declared : Declared) (trace : List ResolvedStatement) (state : State)
+        → list_all is_read_only trace ≡ true
         → (transaction declared trace state).changes ≡ [] }
     ensures each { (declared : Declared) (statement : AnyStatement)
-        → is_read_only (resolved declared true statement) ≡ true }
+        → is_read_only (resolution_of declared true statement) ≡ true }
 {}
 
 /// A transaction whose COMMIT is accepted leaves a state on which no assertion is false.
 pub fn commits_are_sound()
-    ensures { (declared : Declared) (trace : List Resolved) (state : State) → IsSound declared state
+    ensures { (declared : Declared) (trace : List ResolvedStatement) (state : State) → IsSound declared state
         → (transaction declared trace state).refused ≡ None
         → IsSound declared (state_after_all (layouts_in declared) (transaction declared trace state).changes state) }
 {}
@@ -107,11 +108,11 @@ pub fn commits_are_sound()
 /// same keys.
 pub fn transactions_agree()
     ensures same { (declared : Declared) (one other : State) → IsSound declared one → IsSound declared other
-        → (trace : List Resolved)
+        → (trace : List ResolvedStatement)
         → AlikeUnder (row_in (layouts_in declared)) (transaction_keys declared trace one) one other
         → transaction declared trace other ≡ transaction declared trace one }
     ensures keys { (declared : Declared) (one other : State) → IsSound declared one → IsSound declared other
-        → (trace : List Resolved)
+        → (trace : List ResolvedStatement)
         → AlikeUnder (row_in (layouts_in declared)) (transaction_keys declared trace one) one other
         → transaction_keys declared trace other ≡ transaction_keys declared trace one }
 {}

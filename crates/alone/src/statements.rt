@@ -9,7 +9,7 @@ use value::{Refusal, Text};
 /// was refused for its names, shape, types or width, for a mode that it may not set, or since its transaction is read
 /// only, is just that refusal.
 #[derive(Debug, Drop)]
-pub enum Resolved {
+pub enum ResolvedStatement {
     Refused(Refusal),
     Insert(NewRow),
     Update(Update),

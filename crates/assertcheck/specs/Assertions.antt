@@ -47,8 +47,8 @@ of_form tables name attributes form =
     Ok (record { name = name; attributes = attributes; form = form })))
 
 -- attributes first, then names, the shape, types and widths
-abbrev pub checked : Tables → List ℕ → Condition → Attributes → Result Assertion Refusal
-checked tables name condition written =
+abbrev pub checked_assertion : Tables → List ℕ → Condition → Attributes → Result Assertion Refusal
+checked_assertion tables name condition written =
     provided (not (are_at_odds written)) (AttributeClash name) (
     unless (condition_fault tables condition []) (
     and_then (form_of tables condition) (of_form tables name (attributes_of written))))

@@ -12,31 +12,32 @@ use Rattle.syntax.specs.declared.trees.Condition.{Condition}
 use Rattle.syntax.specs.declared.statements.Insert.{Insert}
 use Rattle.syntax.specs.declared.statements.Which.{Which}
 use Rattle.syntax.specs.declared.statements.Which.TheVariants.{All, Names}
-use Rattle.value.specs.Results.{and_then, each, found, provided}
+use Rattle.value.specs.Results.{and_then, each, result_of_name, provided}
 use Rattle.form_check.specs.Queries.{Source}
 use Rattle.assertcheck.specs.declared.deletes.Delete.{Delete}
 use Rattle.assertcheck.specs.declared.inserts.NewRow.{NewRow}
 use Rattle.assertcheck.specs.declared.selects.Select.{Select}
-use Rattle.assertcheck.specs.Conditions.{target_of, where_of}
+use Rattle.assertcheck.specs.Conditions.{target_of, filter_of}
 
 -- DELETE
 abbrev pub delete_of : Tables → List ℕ → Option Condition → Result Delete Refusal
 delete_of tables name condition =
     and_then (target_of tables name) (λ target.
-    and_then (where_of tables target.scope condition) (λ restriction.
+    and_then (filter_of tables target.scope condition) (λ restriction.
     Ok (record { table = target.table; filter = restriction })))
 
 -- the column of a name
 abbrev pub named_column : List Column → List ℕ → Result ℕ Refusal
-named_column columns name = found name (column_of name columns)
+named_column columns name = result_of_name name (column_of name columns)
 
 -- the column of a name, if it isn't among those before it
-abbrev pub unlisted : List ℕ → List ℕ → ℕ → Result ℕ Refusal
-unlisted before name column = if list_any (λ place. place == column) before then Err (NameTaken name) else Ok column
+abbrev pub unlisted_column : List ℕ → List ℕ → ℕ → Result ℕ Refusal
+unlisted_column before name column = if list_any (λ place. place == column) before then Err (NameTaken name)
+    else Ok column
 
 -- the column of a name, if there is one and it isn't listed before
 abbrev pub new_place : List Column → List ℕ → List ℕ → Result ℕ Refusal
-new_place columns before name = and_then (named_column columns name) (unlisted before name)
+new_place columns before name = and_then (named_column columns name) (unlisted_column before name)
 
 -- the columns of these names from the left, none of them twice
 abbrev pub places_of : List Column → List ℕ → List (List ℕ) → Result (List ℕ) Refusal
@@ -88,14 +89,14 @@ insert_of tables insert =
     typed_row target places insert.values))
 
 -- the columns that a SELECT lists, from the left, each as often as it is listed; * is all of them in the table's order
-abbrev pub selected : List Column → Which → Result (List ℕ) Refusal
-selected columns All = Ok (places_from 0 columns)
-selected columns (Names names) = each (named_column columns) names
+abbrev pub selected_places : List Column → Which → Result (List ℕ) Refusal
+selected_places columns All = Ok (places_from 0 columns)
+selected_places columns (Names names) = each (named_column columns) names
 
 -- SELECT: the table, the listed columns, and then WHERE as a whole
 abbrev pub select_of : Tables → Which → List ℕ → Option Condition → Result Select Refusal
 select_of tables columns name condition =
     and_then (target_of tables name) (λ target.
-    and_then (selected target.scope.layout.columns columns) (λ places.
-    and_then (where_of tables target.scope condition) (λ restriction.
+    and_then (selected_places target.scope.layout.columns columns) (λ places.
+    and_then (filter_of tables target.scope condition) (λ restriction.
     Ok (record { table = target.table; columns = places; filter = restriction }))))

@@ -7,8 +7,8 @@ use Rattle.value.specs.declared.refusals.Refusal.TheVariants.{KeyUpdate, TypeMis
 use Rattle.table.specs.declared.schemas.Column.{Column}
 use Rattle.table.specs.Rows.{Layout, Tables}
 use Rattle.syntax.specs.declared.trees.Condition.{Condition}
-use Rattle.syntax.specs.declared.statements.Assigned.{Assigned}
-use Rattle.syntax.specs.declared.statements.Assigned.TheVariants.{Null, To}
+use Rattle.syntax.specs.declared.statements.UpdateSource.{UpdateSource}
+use Rattle.syntax.specs.declared.statements.UpdateSource.TheVariants.{Null, To}
 use Rattle.syntax.specs.declared.statements.Assignment.{Assignment}
 use Rattle.table.specs.declared.exprs.Expr.{Expr}
 use Rattle.table.specs.Bounds.{bound_of, is_bounded}
@@ -20,7 +20,7 @@ use Rattle.assertcheck.specs.declared.data_types.DataType.{DataType}
 use Rattle.assertcheck.specs.Types.{are_comparable, column_type, expression_type, is_typed_condition}
 use Rattle.assertcheck.specs.declared.updates.Setting.{Setting}
 use Rattle.assertcheck.specs.declared.updates.Update.{Update}
-use Rattle.assertcheck.specs.Conditions.{target_of, where_fault}
+use Rattle.assertcheck.specs.Conditions.{target_of, filter_fault}
 use Rattle.assertcheck.specs.Statements.{new_place}
 
 -- a column, if it is not the key
@@ -38,7 +38,7 @@ assigned_places layout before (assignment ∷ rest) =
     and_then (assignable layout before assignment.column) (λ new. assigned_places layout (before ++ new ∷ []) rest)
 
 -- what is wrong with the names in what is assigned
-abbrev pub value_fault : Tables → Scope → Assigned → Option Refusal
+abbrev pub value_fault : Tables → Scope → UpdateSource → Option Refusal
 value_fault tables scope Null = None
 value_fault tables scope (To expression) = expression_fault tables expression (scope ∷ [])
 
@@ -51,10 +51,10 @@ values_fault tables scope (assignment ∷ rest) =
 -- what is wrong with the names in the assigned expressions from the left, and then in the condition
 abbrev pub names_fault : Tables → Scope → List Assignment → Option Condition → Option Refusal
 names_fault tables scope sets condition =
-    option_or (values_fault tables scope sets) (where_fault tables scope condition)
+    option_or (values_fault tables scope sets) (filter_fault tables scope condition)
 
 -- an expression over the rows of the table, or NULL
-abbrev pub value_of : Scope → Assigned → Result (Option Expr) Refusal
+abbrev pub value_of : Scope → UpdateSource → Result (Option Expr) Refusal
 value_of scope Null = Ok None
 value_of scope (To expression) = and_then (row_expression scope expression) (λ made. Ok (Some made))
 

@@ -3,7 +3,7 @@
 ghost use Rattle.std.specs.Prelude.{◌≡◌, ◌≢◌, IfOk, IfErr, Ok, Err};
 ghost use Rattle.value.specs.declared.refusals.Refusal.TheVariants.{NoMemory};
 ghost use Rattle.assertion.specs.Bounded.{IsBounded};
-ghost use Rattle.assertcheck.specs.Assertions.{are_at_odds, attributes_of, checked, of_form};
+ghost use Rattle.assertcheck.specs.Assertions.{are_at_odds, attributes_of, checked_assertion, of_form};
 
 use crate::bounded_forms::form_is_bounded;
 use crate::typed_forms::form_is_typed;
@@ -29,9 +29,10 @@ pub fn check(
     condition: &Condition,
     attributes: Attributes,
 ) -> Result<Assertion, Refusal>
-    ensures made { IfOk result (λ assertion. checked catalog.now name.now condition.now attributes ≡ Ok assertion) }
+    ensures made { IfOk result (λ assertion.
+        checked_assertion catalog.now name.now condition.now attributes ≡ Ok assertion) }
     ensures refused { IfErr result (λ refusal.
-        refusal ≢ NoMemory → checked catalog.now name.now condition.now attributes ≡ Err refusal) }
+        refusal ≢ NoMemory → checked_assertion catalog.now name.now condition.now attributes ≡ Err refusal) }
     ensures bounded { IfOk result (λ assertion. IsBounded assertion.form) }
 {
     if are_at_odds(attributes) {

@@ -3,7 +3,7 @@
 ghost use Rattle.std.specs.Prelude.{◌≡◌, ◌≢◌, [], All, length, IsTrue, IfOk, IfErr, Ok, Err, Some, None};
 ghost use Rattle.std.specs.List.{list_all};
 ghost use Rattle.value.specs.declared.refusals.Refusal.TheVariants.{NoMemory};
-ghost use Rattle.form_check.specs.ShownScopes.{shown};
+ghost use Rattle.form_check.specs.ShownScopes.{lent_scope};
 ghost use Rattle.assertcheck.specs.Updates.{IsBoundedSetting, assignable, assigned_places, fits, is_bounded_setting, names_fault, settings_of, value_fault, value_of, values_fault};
 
 use crate::columns::new_place;
@@ -14,7 +14,7 @@ use crate::updates::Setting;
 use form_check::{Scope, look_up_expression, row_expression};
 use sqlite_items::Boxed;
 use std::alloc::Global;
-use syntax::{Assigned, Assignment, Condition};
+use syntax::{Assignment, Condition, UpdateSource};
 use table::{Catalog, Column, Expr, Schema, bound};
 use value::{Refusal, Text};
 
@@ -60,9 +60,9 @@ pub fn known_names(
     sets: &[Assignment],
     condition: &Option<Boxed<Condition>>,
 ) -> Result<(), Refusal>
-    ensures known { IfOk result (λ _. names_fault catalog.now (shown scope.entry) sets.now condition.now ≡ None) }
+    ensures known { IfOk result (λ _. names_fault catalog.now (lent_scope scope.entry) sets.now condition.now ≡ None) }
     ensures refused { IfErr result (λ refusal.
-        refusal ≢ NoMemory → names_fault catalog.now (shown scope.entry) sets.now condition.now ≡ Some refusal) }
+        refusal ≢ NoMemory → names_fault catalog.now (lent_scope scope.entry) sets.now condition.now ≡ Some refusal) }
 {
     known_values(alloc, catalog, scope, sets)?;
     look_up_where(alloc, catalog, scope, condition)
@@ -74,9 +74,9 @@ fn known_values(
     scope: Scope,
     sets: &[Assignment],
 ) -> Result<(), Refusal>
-    ensures known { IfOk result (λ _. values_fault catalog.now (shown scope.entry) sets.now ≡ None) }
+    ensures known { IfOk result (λ _. values_fault catalog.now (lent_scope scope.entry) sets.now ≡ None) }
     ensures refused { IfErr result (λ refusal.
-        refusal ≢ NoMemory → values_fault catalog.now (shown scope.entry) sets.now ≡ Some refusal) }
+        refusal ≢ NoMemory → values_fault catalog.now (lent_scope scope.entry) sets.now ≡ Some refusal) }
 {
     for assignment in sets {
         known_value(alloc, catalog, scope, &assignment.value)?;
@@ -88,15 +88,15 @@ fn known_value(
     alloc: Global,
     catalog: &Catalog,
     scope: Scope,
-    value: &Assigned,
+    value: &UpdateSource,
 ) -> Result<(), Refusal>
-    ensures known { IfOk result (λ _. value_fault catalog.now (shown scope.entry) value.now ≡ None) }
+    ensures known { IfOk result (λ _. value_fault catalog.now (lent_scope scope.entry) value.now ≡ None) }
     ensures refused { IfErr result (λ refusal.
-        refusal ≢ NoMemory → value_fault catalog.now (shown scope.entry) value.now ≡ Some refusal) }
+        refusal ≢ NoMemory → value_fault catalog.now (lent_scope scope.entry) value.now ≡ Some refusal) }
 {
     match value {
-        Assigned::Null => Ok(()),
-        Assigned::To(expression) => look_up_expression(alloc, catalog, &[scope], expression),
+        UpdateSource::Null => Ok(()),
+        UpdateSource::To(expression) => look_up_expression(alloc, catalog, &[scope], expression),
     }
 }
 
@@ -109,28 +109,32 @@ pub fn settings(
     sets: &[Assignment],
 ) -> Result<Vec<Setting>, Refusal>
     requires { length places.now ≡ length sets.now }
-    ensures made { IfOk result (λ made. settings_of (shown scope.entry) places.now sets.now ≡ Ok made.items) }
+    ensures made { IfOk result (λ made. settings_of (lent_scope scope.entry) places.now sets.now ≡ Ok made.items) }
     ensures refused { IfErr result (λ refusal.
-        refusal ≢ NoMemory → settings_of (shown scope.entry) places.now sets.now ≡ Err refusal) }
+        refusal ≢ NoMemory → settings_of (lent_scope scope.entry) places.now sets.now ≡ Err refusal) }
 {
     let mut made = Vec::new(alloc);
     for i in 0..sets.len() {
         let column = places[i];
-        let value = given(alloc, scope, &sets[i].value)?;
+        let value = given_expression(alloc, scope, &sets[i].value)?;
         made.push(Setting { column, value })?;
     }
     Ok(made)
 }
 
 /// What is given to one column; none is NULL.
-fn given(alloc: Global, scope: Scope, value: &Assigned) -> Result<Option<Expr>, Refusal>
-    ensures made { IfOk result (λ made. value_of (shown scope.entry) value.now ≡ Ok made) }
+fn given_expression(
+    alloc: Global,
+    scope: Scope,
+    value: &UpdateSource,
+) -> Result<Option<Expr>, Refusal>
+    ensures made { IfOk result (λ made. value_of (lent_scope scope.entry) value.now ≡ Ok made) }
     ensures refused { IfErr result (λ refusal.
-        refusal ≢ NoMemory → value_of (shown scope.entry) value.now ≡ Err refusal) }
+        refusal ≢ NoMemory → value_of (lent_scope scope.entry) value.now ≡ Err refusal) }
 {
     match value {
-        Assigned::Null => Ok(None),
-        Assigned::To(expression) => Ok(Some(row_expression(alloc, scope, expression)?)),
+        UpdateSource::Null => Ok(None),
+        UpdateSource::To(expression) => Ok(Some(row_expression(alloc, scope, expression)?)),
     }
 }
 

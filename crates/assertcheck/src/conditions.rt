@@ -3,10 +3,10 @@
 ghost use Rattle.std.specs.Prelude.{◌≡◌, ◌≢◌, ◌<◌, [], length, IsTrue, IfOk, IfErr, Ok, Err, Some, None};
 ghost use Rattle.table.specs.Bounds.{is_bounded};
 ghost use Rattle.value.specs.declared.refusals.Refusal.TheVariants.{NoMemory};
-ghost use Rattle.form_check.specs.ShownScopes.{shown};
+ghost use Rattle.form_check.specs.ShownScopes.{lent_scope};
 ghost use Rattle.form_check.specs.Queries.{row_filter};
 ghost use Rattle.form_check.specs.ShownSources.{shown_source};
-ghost use Rattle.assertcheck.specs.Conditions.{sound_condition, target_of, where_fault, where_of};
+ghost use Rattle.assertcheck.specs.Conditions.{sound_condition, target_of, filter_fault, filter_of};
 
 use crate::typed_trees::is_well_typed;
 use form_check::{Scope, Source, look_up_condition, row_condition};
@@ -34,15 +34,15 @@ pub fn target<'a>(catalog: &'a Catalog, name: &'a Text) -> Result<Source<'a>, Re
 ///
 /// The first fault: [`Refusal::UnknownName`], [`Refusal::OutsideClass`] for a set function or a query,
 /// [`Refusal::TypeMismatch`] and [`Refusal::TooWide`]. Or [`Refusal::NoMemory`].
-pub fn where_condition(
+pub fn filter_condition(
     alloc: Global,
     catalog: &Catalog,
     scope: Scope,
     condition: &Option<Boxed<Condition>>,
 ) -> Result<Cond, Refusal>
-    ensures made { IfOk result (λ made. where_of catalog.now (shown scope.entry) condition.now ≡ Ok made) }
+    ensures made { IfOk result (λ made. filter_of catalog.now (lent_scope scope.entry) condition.now ≡ Ok made) }
     ensures refused { IfErr result (λ refusal.
-        refusal ≢ NoMemory → where_of catalog.now (shown scope.entry) condition.now ≡ Err refusal) }
+        refusal ≢ NoMemory → filter_of catalog.now (lent_scope scope.entry) condition.now ≡ Err refusal) }
     ensures bounded { IfOk result (λ made. IsTrue (is_bounded [] made)) }
 {
     look_up_where(alloc, catalog, scope, condition)?;
@@ -57,9 +57,9 @@ pub fn look_up_where(
     scope: Scope,
     condition: &Option<Boxed<Condition>>,
 ) -> Result<(), Refusal>
-    ensures known { IfOk result (λ _. where_fault catalog.now (shown scope.entry) condition.now ≡ None) }
+    ensures known { IfOk result (λ _. filter_fault catalog.now (lent_scope scope.entry) condition.now ≡ None) }
     ensures refused { IfErr result (λ refusal.
-        refusal ≢ NoMemory → where_fault catalog.now (shown scope.entry) condition.now ≡ Some refusal) }
+        refusal ≢ NoMemory → filter_fault catalog.now (lent_scope scope.entry) condition.now ≡ Some refusal) }
 {
     match condition {
         Some(condition) => look_up_condition(alloc, catalog, &[scope], condition.get()),
@@ -74,9 +74,9 @@ pub fn row_filter(
     scope: Scope,
     condition: &Option<Boxed<Condition>>,
 ) -> Result<Cond, Refusal>
-    ensures made { IfOk result (λ made. row_filter (shown scope.entry) condition.now ≡ Ok made) }
+    ensures made { IfOk result (λ made. row_filter (lent_scope scope.entry) condition.now ≡ Ok made) }
     ensures refused { IfErr result (λ refusal.
-        refusal ≢ NoMemory → row_filter (shown scope.entry) condition.now ≡ Err refusal) }
+        refusal ≢ NoMemory → row_filter (lent_scope scope.entry) condition.now ≡ Err refusal) }
 {
     match condition {
         Some(condition) => row_condition(alloc, scope, condition.get()),
@@ -86,7 +86,7 @@ pub fn row_filter(
 
 /// The condition, if it is typed and its expressions are bounded.
 fn require_sound(scope: Scope, made: Cond) -> Result<Cond, Refusal>
-    ensures sound { result ≡ sound_condition (shown scope.entry) made }
+    ensures sound { result ≡ sound_condition (lent_scope scope.entry) made }
     ensures bounded { IfOk result (λ made. IsTrue (is_bounded [] made)) }
 {
     if !is_well_typed(&made, scope.schema.columns(), &[]) {

@@ -5,7 +5,7 @@ ghost use Rattle.table.specs.Bounds.{is_bounded};
 ghost use Rattle.value.specs.declared.refusals.Refusal.TheVariants.{NoMemory};
 ghost use Rattle.assertcheck.specs.Statements.{delete_of};
 
-use crate::conditions::{target, where_condition};
+use crate::conditions::{filter_condition, target};
 use sqlite_items::Boxed;
 use std::alloc::Global;
 use syntax::Condition;
@@ -40,7 +40,7 @@ pub fn check_delete(
     ensures bounded { IfOk result (λ delete. IsTrue (is_bounded [] delete.filter)) }
 {
     let target = target(catalog, table)?;
-    let filter = where_condition(alloc, catalog, target.scope, condition)?;
+    let filter = filter_condition(alloc, catalog, target.scope, condition)?;
     Ok(Delete {
         table: target.table,
         filter,

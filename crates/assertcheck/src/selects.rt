@@ -3,10 +3,10 @@
 ghost use Rattle.std.specs.Prelude.{◌≡◌, ◌≢◌, ◌<◌, [], length, IsTrue, IfOk, IfErr, Ok, Err};
 ghost use Rattle.table.specs.Bounds.{is_bounded};
 ghost use Rattle.value.specs.declared.refusals.Refusal.TheVariants.{NoMemory};
-ghost use Rattle.assertcheck.specs.Statements.{select_of, selected};
+ghost use Rattle.assertcheck.specs.Statements.{select_of, selected_places};
 
 use crate::columns::{all_places, named_columns};
-use crate::conditions::{target, where_condition};
+use crate::conditions::{filter_condition, target};
 use sqlite_items::{Boxed, Items};
 use std::alloc::Global;
 use syntax::{Condition, Which};
@@ -44,8 +44,8 @@ pub fn check_select(
     ensures bounded { IfOk result (λ select. IsTrue (is_bounded [] select.filter)) }
 {
     let target = target(catalog, table)?;
-    let places = selected(alloc, target.scope.schema, columns)?;
-    let filter = where_condition(alloc, catalog, target.scope, condition)?;
+    let places = selected_places(alloc, target.scope.schema, columns)?;
+    let filter = filter_condition(alloc, catalog, target.scope, condition)?;
     Ok(Select {
         table: target.table,
         columns: Items::from_vec(places),
@@ -54,10 +54,10 @@ pub fn check_select(
 }
 
 /// The places of the columns that are listed.
-fn selected(alloc: Global, schema: &Schema, columns: &Which) -> Result<Vec<usize>, Refusal>
-    ensures made { IfOk result (λ places. selected schema.now.columns columns.now ≡ Ok places.items) }
+fn selected_places(alloc: Global, schema: &Schema, columns: &Which) -> Result<Vec<usize>, Refusal>
+    ensures made { IfOk result (λ places. selected_places schema.now.columns columns.now ≡ Ok places.items) }
     ensures refused { IfErr result (λ refusal.
-        refusal ≢ NoMemory → selected schema.now.columns columns.now ≡ Err refusal) }
+        refusal ≢ NoMemory → selected_places schema.now.columns columns.now ≡ Err refusal) }
 {
     match columns {
         Which::All => Ok(all_places(alloc, schema.columns())?),

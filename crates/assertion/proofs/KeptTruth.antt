@@ -17,20 +17,20 @@ use Rattle.value.specs.Ordered as ordered
 use Rattle.value.proofs.OrderedLists.{has, at-put, equal_from, IsAscending-put}
 use Rattle.value.proofs.ValueOrders.{value_cmp_total, value_exact}
 use Rattle.value.specs.declared.truths.Truth.TheVariants.{True, False}
-use Rattle.value.specs.Truths.{is_of, known}
+use Rattle.value.specs.Truths.{is_of, truth_of_bool}
 use Rattle.table.specs.declared.rows.Change.{Change}
 use Rattle.table.specs.Rows.{RowValues, Layout, value_in, row_at, put_row}
 use Rattle.table.specs.Aggregates.{is_there, aggregate, rows_of_group}
 use Rattle.table.specs.declared.conds.Cond.{Cond}
 use Rattle.table.specs.Eval.{truth, keeps}
-use Rattle.table.specs.Values.{compared}
+use Rattle.table.specs.Values.{comparison_truth}
 use Rattle.assertion.specs.declared.queries.Query.{Query}
 use Rattle.assertion.specs.declared.queries.Link.{Link}
 use Rattle.assertion.specs.declared.queries.Whole.{Whole}
 use Rattle.assertion.specs.declared.forms.Form.{Form}
 use Rattle.assertion.specs.declared.forms.Form.TheVariants.{ByRow, ByGroup, Single}
 use Rattle.assertion.specs.Meaning.{State, rows_of, key_of, links, linked_answer, plain_answer, filtered_rows}
-use Rattle.assertion.specs.Candidates.{touched, linked_values, linked_roots, group_candidates, query_candidates, is_named, candidates, candidates_of}
+use Rattle.assertion.specs.Candidates.{rows_of_change, linked_values, linked_roots, group_candidates, query_candidates, is_named, candidates, candidates_of}
 use Rattle.assertion.specs.Roots.{is_bad_row, is_bad_root, IsOrdered, IsChangeOf, AreChangesOf, state_after, state_after_all}
 use Rattle.assertion.proofs.BadRoots.{passes, has-row}
 use Rattle.assertion.proofs.ListLemmas.{has-append, has-neither, filter-filter, Drops, DropsAll, DropsAll-two, filter-put, at-key}
@@ -41,11 +41,11 @@ equal_of a b h = grind (arith, nat_tests)
 pub unequal_of : (a b : ℕ) → (a == b) ≡ false → a ≢ b
 unequal_of a b h = grind (arith, nat_tests)
 
-is_of-known : (b : Bool) → is_of (known b) True ≡ b
+is_of-known : (b : Bool) → is_of (truth_of_bool b) True ≡ b
 is_of-known true = refl
 is_of-known false = refl
 
-pub equals-there : (key w : Value) → is_of (compared Equal key w) True ≡ is_there w && eq_by_cmp value_cmp key w
+pub equals-there : (key w : Value) → is_of (comparison_truth Equal key w) True ≡ is_there w && eq_by_cmp value_cmp key w
 equals-there Null Null = refl
 equals-there Null (Int n) = refl
 equals-there Null (Text t) = refl
@@ -155,7 +155,7 @@ module _ (layouts : List Layout) (change : Change) (state : State) where
       in case (t == change.table) refl
 
   -- what a filter keeps of a table is unchanged, where it is another table or drops the old and the new row
-  pub filtered-same : IsChangeOf layouts change state → (t : ℕ) (p : RowValues → Bool) → ((t == change.table) ≡ true → DropsAll p (touched change)) → filter p (rows_of t (state_after layouts change state)) ≡ filter p (rows_of t state)
+  pub filtered-same : IsChangeOf layouts change state → (t : ℕ) (p : RowValues → Bool) → ((t == change.table) ≡ true → DropsAll p (rows_of_change change)) → filter p (rows_of t (state_after layouts change state)) ≡ filter p (rows_of t state)
   filtered-same is t p h =
       let case : (b : Bool) → (t == change.table) ≡ b → filter p (rows_of t (state_after layouts change state)) ≡ filter p (rows_of t state) = λ b. elim b as (λ b. (t == change.table) ≡ b → filter p (rows_of t (state_after layouts change state)) ≡ filter p (rows_of t state)) [
         | true ↦ λ e.
@@ -173,8 +173,8 @@ module _ (layouts : List Layout) (change : Change) (state : State) where
     linked-same : IsChangeOf layouts change state → (q : Query Link) → has root_cmp (Of v) (query_candidates (key_of table layouts) stored change q) ≡ false → linked_answer (state_after layouts change state) row q ≡ linked_answer state row q
     linked-same is q h =
         ap (aggregate q.aggregate) (filtered-same is q.table (λ linked. links q.grouping row linked && keeps linked row q.filter)
-        (λ e. not_linked (key_of table layouts) q.grouping v stored (asc table) row stands q.filter (touched change)
-        (under (Of v) (q.table == change.table) (flat_map (linked_roots (key_of table layouts) q.grouping stored) (linked_values q.grouping (touched change))) h e)))
+        (λ e. not_linked (key_of table layouts) q.grouping v stored (asc table) row stands q.filter (rows_of_change change)
+        (under (Of v) (q.table == change.table) (flat_map (linked_roots (key_of table layouts) q.grouping stored) (linked_values q.grouping (rows_of_change change))) h e)))
 
     answers-same : IsChangeOf layouts change state → (qs : List (Query Link)) → has root_cmp (Of v) (flat_map (query_candidates (key_of table layouts) stored change) qs) ≡ false
         → map (linked_answer (state_after layouts change state) row) qs ≡ map (linked_answer state row) qs
@@ -202,12 +202,12 @@ module _ (layouts : List Layout) (change : Change) (state : State) where
       in case (t == change.table) refl
 
   -- the rows of a group that neither row of the change is of
-  pub group-same : IsChangeOf layouts change state → (t group : ℕ) (restriction : Cond) (v : Value) → has root_cmp (Of v) (if t == change.table then group_candidates group (touched change) else []) ≡ false
+  pub group-same : IsChangeOf layouts change state → (t group : ℕ) (restriction : Cond) (v : Value) → has root_cmp (Of v) (if t == change.table then group_candidates group (rows_of_change change) else []) ≡ false
       → rows_of_group group v (filtered_rows restriction (rows_of t (state_after layouts change state))) ≡ rows_of_group group v (filtered_rows restriction (rows_of t state))
   group-same is t group restriction v h =
       filter-filter (λ row. eq_by_cmp value_cmp v (value_in group row)) (λ row. keeps row [] restriction) (rows_of t (state_after layouts change state))
       ∙ filtered-same is t (λ row. keeps row [] restriction && eq_by_cmp value_cmp v (value_in group row))
-      (λ e. not_of_group group v restriction (touched change) (under (Of v) (t == change.table) (group_candidates group (touched change)) h e))
+      (λ e. not_of_group group v restriction (rows_of_change change) (under (Of v) (t == change.table) (group_candidates group (rows_of_change change)) h e))
       ∙ sym (filter-filter (λ row. eq_by_cmp value_cmp v (value_in group row)) (λ row. keeps row [] restriction) (rows_of t state))
 
   -- subqueries none of whose tables is changed
@@ -280,7 +280,7 @@ module _ (layouts : List Layout) where
 
     query-alike : (change : Change) (q : Query Link) → has root_cmp (Of v) (query_candidates (key_of table layouts) (rows_of table one) change q) ≡ has root_cmp (Of v) (query_candidates (key_of table layouts) (rows_of table other) change q)
     query-alike change q =
-        let values : List Value = linked_values q.grouping (touched change) in
+        let values : List Value = linked_values q.grouping (rows_of_change change) in
         let these : List Root = flat_map (linked_roots (key_of table layouts) q.grouping (rows_of table one)) values in
         let those : List Root = flat_map (linked_roots (key_of table layouts) q.grouping (rows_of table other)) values in
         elim (q.table == change.table) as (λ b. has root_cmp (Of v) (if b then these else []) ≡ has root_cmp (Of v) (if b then those else [])) [

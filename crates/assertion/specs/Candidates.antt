@@ -15,8 +15,8 @@ use Rattle.assertion.specs.declared.forms.Form.TheVariants.{ByRow, ByGroup, Sing
 use Rattle.assertion.specs.Meaning.{State, key_of, rows_of}
 
 -- the rows of a change: the old one and the new one, where there is one
-abbrev pub touched : Change → List RowValues
-touched change = option_to_list change.old ++ option_to_list change.new
+abbrev pub rows_of_change : Change → List RowValues
+rows_of_change change = option_to_list change.old ++ option_to_list change.new
 
 -- the values of a column of these rows, as roots
 abbrev pub group_candidates : ℕ → List RowValues → List Root
@@ -37,7 +37,7 @@ linked_roots key link rows v =
 abbrev pub query_candidates : ℕ → List RowValues → Change → Query Link → List Root
 query_candidates key rows change q =
     if q.table == change.table
-    then flat_map (linked_roots key q.grouping rows) (linked_values q.grouping (touched change)) else []
+    then flat_map (linked_roots key q.grouping rows) (linked_values q.grouping (rows_of_change change)) else []
 
 -- whether one of the subqueries is over the table
 abbrev pub is_named : {G : Type 0} → ℕ → List (Query G) → Bool
@@ -51,7 +51,7 @@ candidates layouts after change (ByRow table condition queries) =
     (if table == change.table then Of change.key ∷ [] else [])
     ++ flat_map (query_candidates (key_of table layouts) (rows_of table after) change) queries
 candidates layouts after change (ByGroup table restriction group having aggregates) =
-    if table == change.table then group_candidates group (touched change) else []
+    if table == change.table then group_candidates group (rows_of_change change) else []
 candidates layouts after change (Single condition queries) = if is_named change.table queries then All ∷ [] else []
 
 -- the candidates of changes that led to a state, in their order

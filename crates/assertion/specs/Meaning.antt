@@ -14,7 +14,7 @@ use Rattle.table.specs.Rows.{RowValues, Layout, value_in}
 use Rattle.table.specs.Aggregates.{aggregate, rows_of_group}
 use Rattle.table.specs.declared.conds.Cond.{Cond}
 use Rattle.table.specs.Eval.{truth, keeps}
-use Rattle.table.specs.Values.{compared}
+use Rattle.table.specs.Values.{comparison_truth}
 use Rattle.assertion.specs.declared.queries.Query.{Query}
 use Rattle.assertion.specs.declared.queries.Link.{Link}
 use Rattle.assertion.specs.declared.queries.Whole.{Whole}
@@ -35,7 +35,7 @@ key_of table layouts = (slice_index_or layouts table (record { columns = []; key
 
 -- the link of a subquery, outer = inner: whether it is true of a row and one of the subquery's table
 abbrev pub links : Link → RowValues → RowValues → Bool
-links link row linked = is_of (compared Equal (value_in link.outer row) (value_in link.inner linked)) True
+links link row linked = is_of (comparison_truth Equal (value_in link.outer row) (value_in link.inner linked)) True
 
 -- what a subquery gives for a row: SELECT aggregate FROM d WHERE outer = inner AND filter; what the row around has in
 -- its columns stands in the slots of the filter

@@ -5,7 +5,7 @@ use Rattle.syntax.specs.declared.statements.Event.{Event}
 use Rattle.syntax.specs.StatementGrammar.{IsEvent}
 use Rattle.replay.specs.Texts.{IsRead}
 use Rattle.prepared.specs.declared.prepared.Prepared.{Prepared}
-use Rattle.prepared.specs.Prepared.{filled}
+use Rattle.prepared.specs.Prepared.{event_with_values}
 use Rattle.messages.specs.declared.responses.Response.{Response}
 use Rattle.messages.specs.Requests.{RunFields}
 use Rattle.calls.specs.declared.databases.Database.{Database}
@@ -33,11 +33,11 @@ pub executes_read : (text : List ℕ) (session : ℕ) (event : Event) (old new :
 executes_read text session event old new r read told = inr (such (λ e. IsRead IsEvent text e) event old new r read (session_name session old.sessions) told)
 
 kept : (found : Option Prepared) (fields : RunFields) (statement : Prepared) (event : Event) (old new : Database) (r : Response) → found ≡ Some statement
-    → filled statement fields.values ≡ Ok event → AnswersEvent (λ e. e ≡ event) fields.session old new r → RunsKept found fields old new r
+    → event_with_values statement fields.values ≡ Ok event → AnswersEvent (λ e. e ≡ event) fields.session old new r → RunsKept found fields old new r
 kept found fields statement event old new r is made told =
     subst (λ f. RunsKept f fields old new r) (sym is)
-    (inr (such (λ e. filled statement fields.values ≡ Ok e) event old new r made (session_name fields.session old.sessions) told))
+    (inr (such (λ e. event_with_values statement fields.values ≡ Ok e) event old new r made (session_name fields.session old.sessions) told))
 
 pub runs_kept : (fields : RunFields) (statement : Prepared) (event : Event) (old new : Database) (r : Response) → Some statement ≡ statement_at fields.statement old.statements
-    → filled statement fields.values ≡ Ok event → AnswersEvent (λ e. e ≡ event) fields.session old new r → RunsStatement fields old new r
+    → event_with_values statement fields.values ≡ Ok event → AnswersEvent (λ e. e ≡ event) fields.session old new r → RunsStatement fields old new r
 runs_kept fields statement event old new r is made told = kept (statement_at fields.statement old.statements) fields statement event old new r (sym is) made told

@@ -14,25 +14,25 @@ use Rattle.syntax.specs.declared.statements.Statement.TheVariants as statement
 use Rattle.syntax.specs.declared.definitions.Definition.{Definition}
 use Rattle.syntax.specs.StatementGrammar.{IsEvent}
 use Rattle.syntax.specs.SchemaGrammar.{IsSchema}
-use Rattle.answer.specs.declared.answers.Answer.{Answer}
+use Rattle.alone.specs.declared.answers.Answer.{Answer}
 use Rattle.definitions.specs.declared.redeclaration.NewAssertion.{NewAssertion}
 use Rattle.definitions.specs.Redeclaration.{definition_of}
 use Rattle.commit.specs.Epochs.{IsNextEpoch, is_any_open}
-use Rattle.commit.specs.Admission.{admitted}
+use Rattle.commit.specs.Admission.{admission_of}
 use Rattle.commit.specs.Events.{EngineState, IsAnswered, after}
-use Rattle.commit.specs.Runs.{beginning, seated}
-use Rattle.commit.specs.Views.{Shown}
+use Rattle.commit.specs.Runs.{beginning, seats_with}
+use Rattle.commit.specs.Views.{ViewState}
 use Rattle.commit.specs.Written.{AreWritten}
-use Rattle.replay.specs.Reports.{closing}
+use Rattle.replay.specs.Reports.{closing_part_of}
 use Rattle.replay.specs.Texts.{IsRead, IsUnread}
 use Rattle.prepared.specs.declared.faults.FillFault.{FillFault}
 use Rattle.prepared.specs.declared.faults.FillFault.TheVariants as fill
 use Rattle.prepared.specs.Numbers.{parameter_count}
 use Rattle.prepared.specs.declared.prepared.Prepared.{Prepared}
-use Rattle.prepared.specs.Prepared.{IsPrepared, RefusedText, filled, numbers_of}
-use Rattle.layout.specs.Reading.{number_at}
-use Rattle.layout.specs.declared.faults.FieldFault.{FieldFault}
-use Rattle.layout.specs.declared.faults.FieldFault.TheVariants as field
+use Rattle.prepared.specs.Prepared.{IsPrepared, RefusedText, event_with_values, numbers_of}
+use Rattle.messages.specs.Reading.{number_at}
+use Rattle.messages.specs.declared.faults.FieldFault.{FieldFault}
+use Rattle.messages.specs.declared.faults.FieldFault.TheVariants as field
 use Rattle.messages.specs.declared.operations.Operation.{Operation}
 use Rattle.messages.specs.declared.operations.Operation.TheVariants as op
 use Rattle.messages.specs.declared.responses.Misuse.TheVariants as misuse
@@ -54,8 +54,8 @@ pub record IsTold (old new : Database) (is told : Response) : Type 0 where
   pub same : new ≡ old
 
 -- the response to a call that was refused: what was refused, and why
-abbrev pub refused : Source → Refusal → Response
-refused source why = response.Refused source why
+abbrev pub refusal_response : Source → Refusal → Response
+refusal_response source why = response.Refused source why
 
 -- the response to a request whose fields could not be read
 abbrev pub unread : FieldFault → Response
@@ -63,12 +63,12 @@ unread field.NoMemory = response.Refused source.Statement refusal.NoMemory
 unread field.Malformed = response.Misused misuse.BadRequest
 
 -- the response to a run whose values could not be filled in
-abbrev pub unfilled : FillFault → Response
-unfilled fill.NoMemory = response.Refused source.Statement refusal.NoMemory
-unfilled (fill.WrongCount wanted given) = response.Misused (misuse.WrongCount wanted)
-unfilled (fill.NullNotAllowed parameter) = response.Misused (misuse.BadValue parameter)
-unfilled (fill.NumberOutOfRange parameter) = response.Misused (misuse.BadValue parameter)
-unfilled (fill.TextNotPlain parameter) = response.Misused (misuse.BadValue parameter)
+abbrev pub fill_fault_response : FillFault → Response
+fill_fault_response fill.NoMemory = response.Refused source.Statement refusal.NoMemory
+fill_fault_response (fill.WrongCount wanted given) = response.Misused (misuse.WrongCount wanted)
+fill_fault_response (fill.NullNotAllowed parameter) = response.Misused (misuse.BadValue parameter)
+fill_fault_response (fill.NumberOutOfRange parameter) = response.Misused (misuse.BadValue parameter)
+fill_fault_response (fill.TextNotPlain parameter) = response.Misused (misuse.BadValue parameter)
 
 -- memory ran out
 abbrev pub IsWithoutMemory : Source → Database → Database → Response → Type 0
@@ -87,7 +87,7 @@ pub record IsOpenedAs (name : List ℕ) (old new : Database) (number : ℕ) : Ty
   pub number_is : number ≡ old.sessions.next
   pub free : is_named name old.sessions ≡ false
   pub leaves : new ≡ record {
-    engine = record old.engine { seats = seated old.engine.seats name };
+    engine = record old.engine { seats = seats_with old.engine.seats name };
     sessions = with_session name old.sessions;
     statements = old.statements;
   }
@@ -202,15 +202,15 @@ Forgets number old new r = ForgetsKept (statement_at number old.statements) numb
 pub record IsUnfilled (statement : Prepared) (values : List Value) (old new : Database)
     (r : Response) : Type 0 where
   pub fault : FillFault
-  pub due : ¬ (fault ≡ fill.NoMemory) → filled statement values ≡ Err fault
-  pub told : IsTold old new r (unfilled fault)
+  pub due : ¬ (fault ≡ fill.NoMemory) → event_with_values statement values ≡ Err fault
+  pub told : IsTold old new r (fill_fault_response fault)
 
 -- this statement is run with values, if they fit it; without one no statement has the number
 abbrev pub RunsKept : Option Prepared → RunFields → Database → Database → Response → Type 0
 RunsKept None fields old new r = IsTold old new r (response.Misused misuse.NoStatement)
 RunsKept (Some statement) fields old new r =
     IsUnfilled statement fields.values old new r
-    ⊎ AnswersEvent (λ e. filled statement fields.values ≡ Ok e) fields.session old new r
+    ⊎ AnswersEvent (λ e. event_with_values statement fields.values ≡ Ok e) fields.session old new r
 
 -- what a call makes that runs a prepared statement with values
 abbrev pub RunsStatement : RunFields → Database → Database → Response → Type 0
@@ -230,7 +230,7 @@ Runs request old new r = IsWithoutMemory source.Statement old new r ⊎ RunsRead
 -- what a call for the report is told: the closing part of the commits so far
 abbrev pub Reports : Database → Database → Response → Type 0
 Reports old new r =
-    IsWithoutMemory source.Rules old new r ⊎ IsTold old new r (response.Closing (closing old.engine.core))
+    IsWithoutMemory source.Rules old new r ⊎ IsTold old new r (response.Closing (closing_part_of old.engine.core))
 
 -- whether a response says that a database may have changed
 abbrev pub is_change : Response → Bool
@@ -299,7 +299,7 @@ pub record IsChanged (dropped : List (List ℕ)) (created : List NewAssertion) (
   pub seats : new.engine.seats ≡ old.engine.seats
   pub sessions : new.sessions ≡ old.sessions
   pub statements : new.statements ≡ old.statements
-  pub told : r ≡ response.Changed (closing old.engine.core)
+  pub told : r ≡ response.Changed (closing_part_of old.engine.core)
 
 -- what a checkpoint makes that drops rules of these names and creates these: nothing, or another epoch
 abbrev pub ChangesRules : List (List ℕ) → List NewAssertion → Database → Database → Response → Type 0
@@ -343,8 +343,8 @@ all_columns other now = []
 pub record IsBeginning (text : List ℕ) (limit : ℕ) (engine : EngineState) : Type 0 where
   pub definitions : List Definition
   pub read : IsRead IsSchema text definitions
-  pub shown : Shown
-  pub admits : admitted definitions ≡ Ok shown
+  pub shown : ViewState
+  pub admits : admission_of definitions ≡ Ok shown
   pub written : AreWritten definitions shown.declared
   pub is : engine ≡ beginning limit shown []
 
@@ -352,7 +352,7 @@ pub record IsBeginning (text : List ℕ) (limit : ℕ) (engine : EngineState) : 
 pub record AreRefused (text : List ℕ) (why : Refusal) : Type 0 where
   pub definitions : List Definition
   pub read : IsRead IsSchema text definitions
-  pub refused : ¬ (why ≡ refusal.NoMemory) → admitted definitions ≡ Err why
+  pub refused : ¬ (why ≡ refusal.NoMemory) → admission_of definitions ≡ Err why
 
 -- the text is none of definitions, or they are refused
 abbrev pub IsUnbegun : (text : List ℕ) → Refusal → Type 0

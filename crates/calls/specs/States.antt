@@ -2,7 +2,7 @@
 use Rattle.std.specs.Prelude.{◌≡◌, ◌⊎◌, ◌<◌, ◌≤◌, ℕ, ℤ, pos, List, [], ◌++◌, length, take, drop, Option, Some, None}
 use Rattle.value.specs.declared.refusals.Refusal.{Refusal}
 use Rattle.table.specs.declared.schemas.Column.{Column}
-use Rattle.layout.specs.Reading.{number_at}
+use Rattle.messages.specs.Reading.{number_at}
 use Rattle.messages.specs.declared.operations.Operation.{Operation}
 use Rattle.messages.specs.declared.operations.Operation.TheVariants as op
 use Rattle.messages.specs.declared.responses.Misuse.TheVariants as misuse

@@ -1,20 +1,18 @@
 //! A database with its sessions and its prepared statements.
 
-ghost use Rattle.std.specs.Prelude.{◌≡◌, ◌≤◌, false, IfOk, IfErr, IsOkUnless};
-ghost use Rattle.value.specs.declared.refusals.Refusal.TheVariants.{NoMemory};
+ghost use Rattle.std.specs.Prelude.{◌≡◌, ◌≤◌, false, IfOk, IfErr};
 ghost use Rattle.std.specs.Option.{option_map};
 ghost use Rattle.messages.specs.Requests.{only_number};
-ghost use Rattle.replay.specs.Reports.{closing};
+ghost use Rattle.replay.specs.Reports.{closing_part_of};
 ghost use Rattle.calls.specs.Calls as spec;
 
 use crate::sessions::{Session, Sessions};
 use crate::statements::Statements;
 use commit::{Core, Engine, admit};
 use definitions::{NewAssertion, new_assertions};
-use layout::{FieldFault, read_number};
 use messages::{
-    Misuse, Operation, Response, Source, is_name, read_checkpoint, read_name, read_only_number,
-    read_run,
+    FieldFault, Misuse, Operation, Response, Source, is_name, read_checkpoint, read_name,
+    read_number, read_only_number, read_run,
 };
 use parse::{parse_schema, parse_statement};
 use prepared::{FillFault, prepare};
@@ -36,8 +34,8 @@ pub struct Database {
 /// Lets a value go. Its type is a parameter here, so that the caller's proof does not go over its fields.
 pub fn let_go<T: Drop>(_value: T) {}
 
-fn refused(source: Source, refusal: Refusal) -> Response
-    ensures { result ≡ spec.refused source refusal }
+fn refusal_response(source: Source, refusal: Refusal) -> Response
+    ensures { result ≡ spec.refusal_response source refusal }
 {
     Response::Refused { source, refusal }
 }
@@ -47,17 +45,17 @@ fn unread(fault: FieldFault) -> Response
     ensures { result ≡ spec.unread fault }
 {
     match fault {
-        FieldFault::NoMemory => refused(Source::Statement, Refusal::NoMemory),
+        FieldFault::NoMemory => refusal_response(Source::Statement, Refusal::NoMemory),
         FieldFault::Malformed => Response::Misused(Misuse::BadRequest),
     }
 }
 
 /// What is answered where values do not fit a statement.
-fn unfilled(fault: FillFault) -> Response
-    ensures { result ≡ spec.unfilled fault }
+fn fill_fault_response(fault: FillFault) -> Response
+    ensures { result ≡ spec.fill_fault_response fault }
 {
     match fault {
-        FillFault::NoMemory => refused(Source::Statement, Refusal::NoMemory),
+        FillFault::NoMemory => refusal_response(Source::Statement, Refusal::NoMemory),
         FillFault::WrongCount { wanted, .. } => Response::Misused(Misuse::WrongCount { wanted }),
         FillFault::NullNotAllowed { parameter } => Response::Misused(Misuse::BadValue {
             parameter,
@@ -77,9 +75,8 @@ struct RuleChanges {
 }
 
 /// Adds the name that a value has, if it is a text and a name of the language.
-fn add_name(alloc: Global, value: &Value, names: &mut Vec<Text>) -> Result<bool, Refusal>
-    ensures only_memory { IsOkUnless result NoMemory }
-    ensures added { IfOk result (λ added. spec.IsNameAdded added value.now names.old.items names.new.items) }
+fn add_name(alloc: Global, value: &Value, names: &mut Vec<Text>) -> Result<bool, AllocError>
+    ensures { IfOk result (λ added. spec.IsNameAdded added value.now names.old.items names.new.items) }
 {
     match value {
         Value::Text(text) => {
@@ -94,9 +91,8 @@ fn add_name(alloc: Global, value: &Value, names: &mut Vec<Text>) -> Result<bool,
 }
 
 /// The names that values have; nothing where one has none.
-fn read_names(alloc: Global, values: &[Value]) -> Result<Option<Vec<Text>>, Refusal>
-    ensures only_memory { IsOkUnless result NoMemory }
-    ensures names { IfOk result (λ names. option_map (λ v. v.items) names ≡ spec.names_of values.now) }
+fn read_names(alloc: Global, values: &[Value]) -> Result<Option<Vec<Text>>, AllocError>
+    ensures { IfOk result (λ names. option_map (λ v. v.items) names ≡ spec.names_of values.now) }
 {
     let mut names = Vec::new(alloc);
     for value in values {
@@ -129,17 +125,17 @@ fn read_changes(alloc: Global, request: &[u8]) -> Result<RuleChanges, Response>
     let dropped = match read_names(alloc, &values) {
         Ok(Some(dropped)) => dropped,
         Ok(None) => return Err(Response::Misused(Misuse::BadName)),
-        Err(refusal) => return Err(refused(Source::Rules, refusal)),
+        Err(_) => return Err(refusal_response(Source::Rules, Refusal::NoMemory)),
     };
     match read_rules(alloc, text) {
         Ok(created) => Ok(RuleChanges { dropped, created }),
-        Err(refusal) => Err(refused(Source::Rules, refusal)),
+        Err(refusal) => Err(refusal_response(Source::Rules, refusal)),
     }
 }
 
 /// The closing part of a report on commits.
 fn closing_part(alloc: Global, core: &Core) -> Result<Text, AllocError>
-    ensures { IfOk result (λ text. text ≡ closing core.now) }
+    ensures { IfOk result (λ text. text ≡ closing_part_of core.now) }
 {
     let mut lines = Report::new(alloc);
     add_closing_part(alloc, core, &mut lines)?;
@@ -207,7 +203,7 @@ impl Database {
             return Response::Misused(Misuse::BadName);
         }
         match read_name(alloc, bytes) {
-            Err(error) => refused(Source::Session, error.into()),
+            Err(error) => refusal_response(Source::Session, error.into()),
             Ok(name) => self.open_named(name),
         }
     }
@@ -220,11 +216,11 @@ impl Database {
             return Response::Misused(Misuse::NameTaken);
         }
         if !self.sessions.has_room(&self.engine, &name) {
-            return refused(Source::Session, Refusal::TooManySessions);
+            return refusal_response(Source::Session, Refusal::TooManySessions);
         }
         match self.sessions.add(&mut self.engine, name) {
             Ok(number) => Response::Session(number),
-            Err(refusal) => refused(Source::Session, refusal),
+            Err(_) => refusal_response(Source::Session, Refusal::NoMemory),
         }
     }
 
@@ -250,12 +246,12 @@ impl Database {
     {
         let prepared = match prepare(alloc, text) {
             Ok(prepared) => prepared,
-            Err(refusal) => return refused(Source::Statement, refusal),
+            Err(refusal) => return refusal_response(Source::Statement, refusal),
         };
         let parameters = prepared.parameter_count();
         match self.statements.add(prepared) {
             Ok(number) => Response::Prepared { number, parameters },
-            Err(refusal) => refused(Source::Statement, refusal),
+            Err(_) => refusal_response(Source::Statement, Refusal::NoMemory),
         }
     }
 
@@ -302,7 +298,7 @@ impl Database {
         };
         match prepared.fill(alloc, values) {
             Ok(event) => self.answer(session, event),
-            Err(fault) => unfilled(fault),
+            Err(fault) => fill_fault_response(fault),
         }
     }
 
@@ -312,7 +308,7 @@ impl Database {
     {
         match parse_statement(alloc, text) {
             Ok(event) => self.answer(session, event),
-            Err(refusal) => refused(Source::Statement, refusal),
+            Err(refusal) => refusal_response(Source::Statement, refusal),
         }
     }
 
@@ -346,7 +342,7 @@ impl Database {
             }
             Err(_) => {
                 let_go(event);
-                refused(Source::Statement, Refusal::NoMemory)
+                refusal_response(Source::Statement, Refusal::NoMemory)
             }
         }
     }
@@ -357,7 +353,7 @@ impl Database {
     {
         match closing_part(alloc, self.engine.core()) {
             Ok(text) => Response::Closing(text),
-            Err(_) => refused(Source::Rules, Refusal::NoMemory),
+            Err(_) => refusal_response(Source::Rules, Refusal::NoMemory),
         }
     }
 
@@ -376,7 +372,7 @@ impl Database {
         ensures { spec.ChangesRules changes.now.dropped.items changes.now.created.items self.old self.new result }
     {
         let Ok(text) = closing_part(alloc, self.engine.core()) else {
-            return refused(Source::Rules, Refusal::NoMemory);
+            return refusal_response(Source::Rules, Refusal::NoMemory);
         };
         match self.engine.checkpoint(&changes.dropped, &changes.created) {
             Ok(before) => {
@@ -385,7 +381,7 @@ impl Database {
             }
             Err(refusal) => {
                 let_go(text);
-                refused(Source::Rules, refusal)
+                refusal_response(Source::Rules, refusal)
             }
         }
     }

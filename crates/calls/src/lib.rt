@@ -2,8 +2,8 @@
 //!
 //! A [`Library`] is what stands behind the handle of a C program: a database with its sessions and prepared statements,
 //! unless its definitions were refused, and the response to the last call. [`open`] makes it of the bytes of a
-//! request, and [`serve`] makes one call and writes its reply. What stands in the bytes is in the crates `messages` and
-//! `layout`.
+//! request, and [`serve`] makes one call and writes its reply. What stands in the bytes is in the crate
+//! `messages`.
 //!
 //! What a call does (`specs/Calls`):
 //!

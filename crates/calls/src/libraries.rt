@@ -6,10 +6,9 @@ ghost use Rattle.calls.specs.States as spec;
 ghost use Rattle.calls.specs.States.{IsCalled, IsOpened, IsReplied, overwritten};
 
 use crate::databases::{Database, let_go};
-use layout::{Bytes, read_number};
 use messages::{
-    Misuse, Operation, Response, Source, line_bytes, operation_of, response_bytes, status_number,
-    status_of, status_without_reply,
+    Bytes, Misuse, Operation, Response, Source, line_bytes, operation_of, read_number,
+    response_bytes, status_number, status_of, status_without_reply,
 };
 use std::alloc::{AllocError, Global};
 use std::marker::Model;
@@ -49,7 +48,7 @@ impl Model for Library {
 
 const MOST_COMMITS: u64 = 4_294_967_295;
 
-fn unopened(response: Response) -> Library
+fn library_not_open(response: Response) -> Library
     ensures { spec.IsWithout response result }
 {
     Library {
@@ -64,17 +63,17 @@ pub fn open(alloc: Global, request: &[u8]) -> Library
     ensures { IsOpened request.now result }
 {
     let Some((limit, definitions)) = read_number(request) else {
-        return unopened(Response::Misused(Misuse::BadRequest));
+        return library_not_open(Response::Misused(Misuse::BadRequest));
     };
     if limit > MOST_COMMITS {
-        return unopened(Response::Misused(Misuse::BadRequest));
+        return library_not_open(Response::Misused(Misuse::BadRequest));
     }
     match Database::new(alloc, definitions, limit) {
         Ok(database) => Library {
             database: Some(database),
             response: Response::Opened,
         },
-        Err(refusal) => unopened(Response::Refused {
+        Err(refusal) => library_not_open(Response::Refused {
             source: Source::Definitions,
             refusal,
         }),

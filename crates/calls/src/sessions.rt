@@ -1,15 +1,14 @@
 //! The sessions that are open.
 
-ghost use Rattle.std.specs.Prelude.{◌≡◌, ◌<◌, length, IfOk, IfSome, IsOkUnless, OnErr, OnOk, option_copied};
-ghost use Rattle.value.specs.declared.refusals.Refusal.TheVariants.{NoMemory};
-ghost use Rattle.commit.specs.Runs.{seated};
+ghost use Rattle.std.specs.Prelude.{◌≡◌, ◌<◌, length, IfOk, IfSome, OnErr, OnOk, option_copied};
+ghost use Rattle.commit.specs.Runs.{seats_with};
 ghost use Rattle.calls.specs.Sessions as spec;
 
 use commit::{Engine, Seat};
 use replay::MOST_SESSIONS;
-use std::alloc::Global;
+use std::alloc::{AllocError, Global};
 use std::marker::Model;
-use value::{Refusal, Text};
+use value::Text;
 
 /// A session that is open, and its name, by which it has its seat.
 #[derive(Drop)]
@@ -80,17 +79,12 @@ impl Sessions {
         self.next < u64::MAX && is_seat_free(engine.seats(), name)
     }
 
-    /// Opens a session, and gives its number. Its name then has a seat.
-    ///
-    /// # Errors
-    ///
-    /// [`Refusal::NoMemory`] alone. Nothing has changed then.
-    pub fn add(&mut self, engine: &mut Engine, name: Text) -> Result<u64, Refusal>
+    /// Opens a session, and gives its number. Its name then has a seat. Where memory runs out, nothing has changed.
+    pub fn add(&mut self, engine: &mut Engine, name: Text) -> Result<u64, AllocError>
         requires room { self.old.next < 18446744073709551615 }
-        ensures only_memory { IsOkUnless result NoMemory }
         ensures number { IfOk result (λ number. number ≡ self.old.next) }
         ensures added { OnOk result (self.new ≡ spec.with_session name self.old) }
-        ensures seated { OnOk result (engine.new ≡ record engine.old { seats = seated engine.old.seats name }) }
+        ensures seated { OnOk result (engine.new ≡ record engine.old { seats = seats_with engine.old.seats name }) }
         ensures same { OnErr result ((self.new ≡ self.old) × (engine.new ≡ engine.old)) }
     {
         let number = self.next;

@@ -1,14 +1,12 @@
 //! The statements that are prepared.
 
-ghost use Rattle.std.specs.Prelude.{◌≡◌, IfNone, IfOk, IsOkUnless, OnErr, OnOk, option_copied};
-ghost use Rattle.value.specs.declared.refusals.Refusal.TheVariants.{NoMemory};
+ghost use Rattle.std.specs.Prelude.{◌≡◌, IfNone, IfOk, OnErr, OnOk, option_copied};
 ghost use Rattle.calls.specs.Statements as spec;
 
 use indexmap::IndexMap;
 use prepared::Prepared;
-use std::alloc::Global;
+use std::alloc::{AllocError, Global};
 use std::marker::Model;
-use value::Refusal;
 
 /// The prepared statements by their numbers. No number is given twice.
 #[derive(Drop)]
@@ -50,13 +48,9 @@ impl Statements {
         }
     }
 
-    /// Keeps a statement, and gives its number.
-    ///
-    /// # Errors
-    ///
-    /// [`Refusal::NoMemory`] alone, also where all numbers were given. Nothing has changed then.
-    pub fn add(&mut self, prepared: Prepared) -> Result<u64, Refusal>
-        ensures only_memory { IsOkUnless result NoMemory }
+    /// Keeps a statement, and gives its number. An error is that memory ran out, or that all numbers were given.
+    /// Nothing has changed then.
+    pub fn add(&mut self, prepared: Prepared) -> Result<u64, AllocError>
         ensures number { IfOk result (λ number. number ≡ self.old.next) }
         ensures added { OnOk result (self.new ≡ spec.with_statement prepared self.old) }
         ensures same { OnErr result (self.new ≡ self.old) }
@@ -88,8 +82,6 @@ impl Statements {
 }
 
 /// Want of memory, once a value is let go.
-fn refuse_and_drop<T: Drop>(_value: T) -> Refusal
-    ensures { result ≡ NoMemory }
-{
-    Refusal::NoMemory
+fn refuse_and_drop<T: Drop>(_value: T) -> AllocError {
+    AllocError
 }

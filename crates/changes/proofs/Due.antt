@@ -9,7 +9,7 @@ use Rattle.table.specs.declared.conds.Cond.{Cond}
 use Rattle.alone.specs.Meaning.{State, rows_of, key_of, filtered_rows}
 use Rattle.assertcheck.specs.declared.updates.Setting.{Setting}
 use Rattle.alone.specs.States.{IsState, AreDue}
-use Rattle.alone.specs.Statements.{removal, renewal, updated, sets_key, delete_effect}
+use Rattle.alone.specs.Statements.{removal, renewal, row_after_settings, sets_key, delete_effect}
 use Rattle.alone.proofs.Effects.{delete_doable, update_doable}
 use Rattle.alone.proofs.Orders.{found_in_order, due_from}
 use Rattle.delta.specs.Views.{IsFitting, layout_at}
@@ -46,5 +46,5 @@ renewals_fit table layout sets rows made m fit layouts l =
     go [] h = All-nil (IsFitting layouts)
     go (row ∷ rows) h =
         All-cons (IsFitting layouts) (renewal table layout.key sets row) (map (renewal table layout.key sets) rows)
-        (subst (λ (x : Layout). FitsColumns x.columns (updated sets row row)) (sym l) (All-head (λ (change : Change). HoldsOf (FitsColumns layout.columns) change.new) (renewal table layout.key sets row) (map (renewal table layout.key sets) rows) h))
+        (subst (λ (x : Layout). FitsColumns x.columns (row_after_settings sets row row)) (sym l) (All-head (λ (change : Change). HoldsOf (FitsColumns layout.columns) change.new) (renewal table layout.key sets row) (map (renewal table layout.key sets) rows) h))
         (go rows (All-tail (λ (change : Change). HoldsOf (FitsColumns layout.columns) change.new) (renewal table layout.key sets row) (map (renewal table layout.key sets) rows) h))

@@ -10,7 +10,7 @@ use Rattle.alone.specs.Declarations.{layouts_in}
 use Rattle.alone.specs.Roots.{state_after_all}
 use Rattle.assertcheck.specs.Statements.{insert_of}
 use Rattle.alone.specs.Statements.{Effect, inserted_at, insert_effect}
-use Rattle.delta.specs.Views.{Shown}
+use Rattle.delta.specs.Views.{ViewState}
 
 -- where a new row of a table is to stand
 abbrev pub place_for : ℕ → Layout → RowValues → Place
@@ -23,8 +23,8 @@ insertion_of name table layout rows row =
     (inserted_at name (place_for table layout row) row (row_at layout.key (value_in layout.key row) rows))
 
 -- INSERT, before any assertion is looked at: its names and types, and then its row
-abbrev pub inserted : Shown → Insert → Result Shown Refusal
-inserted now insert =
+abbrev pub tables_after_insert : ViewState → Insert → Result ViewState Refusal
+tables_after_insert now insert =
     and_then (insert_of now.declared.tables insert) (λ new.
     and_then (insert_effect now.declared.tables new now.state) (λ effect.
     Ok (record now { state = state_after_all (layouts_in now.declared) effect.changes now.state })))

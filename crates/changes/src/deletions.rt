@@ -6,7 +6,7 @@ ghost use Rattle.value.specs.ValueOrder.{value_cmp};
 ghost use Rattle.table.specs.Rows.{Layout, value_in};
 ghost use Rattle.table.specs.Bounds.{IsSmallRow, is_bounded};
 ghost use Rattle.alone.specs.Meaning.{State, key_of, filtered_rows, rows_of};
-ghost use Rattle.answer.specs.declared.answers.Reply.TheVariants.{Deleted};
+ghost use Rattle.alone.specs.declared.answers.Reply.TheVariants.{Deleted};
 ghost use Rattle.alone.specs.States.{AreDue, IsState};
 ghost use Rattle.alone.specs.Statements.{delete_effect, removal};
 ghost use Rattle.delta.specs.Views.{IsFitting};

@@ -8,7 +8,7 @@ ghost use Rattle.table.specs.Rows.{value_in};
 ghost use Rattle.table.specs.Bounds.{IsSmallRow, is_bounded};
 ghost use Rattle.alone.specs.Meaning.{filtered_rows};
 
-use crate::lookups::{Looked, look_through};
+use crate::lookups::{RowsToTest, look_through};
 use mvrows::Rows;
 use std::alloc::Global;
 use std::marker::Model;
@@ -19,7 +19,7 @@ use table::{Cond, Row, passes};
 pub struct FilteredRows<'a> {
     alloc: Global,
     filter: &'a Cond,
-    looked: Looked<'a>,
+    looked: RowsToTest<'a>,
 }
 
 impl<'a> Model for FilteredRows<'a> {
@@ -68,7 +68,7 @@ impl<'a> Iterator for FilteredRows<'a> {
 }
 
 /// The next of these rows that the condition keeps.
-fn next_filtered<'a>(alloc: Global, filter: &Cond, looked: &mut Looked<'a>) -> Option<&'a Row>
+fn next_filtered<'a>(alloc: Global, filter: &Cond, looked: &mut RowsToTest<'a>) -> Option<&'a Row>
     requires bounded { IsTrue (is_bounded [] filter.now) }
     requires small { All IsSmallRow looked.old }
     ensures next { YieldsFirstRef (λ left. filtered_rows filter.now left) looked.old result looked.new }

@@ -5,7 +5,7 @@ ghost use Rattle.value.specs.Ordered.{HasKey, HoldsOf};
 ghost use Rattle.value.specs.ValueOrder.{value_cmp};
 ghost use Rattle.value.specs.declared.refusals.Refusal.TheVariants.{NoMemory};
 ghost use Rattle.table.specs.Rows.{FitsColumns, row_at, value_in};
-ghost use Rattle.answer.specs.declared.answers.Reply.TheVariants.{Inserted};
+ghost use Rattle.alone.specs.declared.answers.Reply.TheVariants.{Inserted};
 ghost use Rattle.changes.specs.Insertions.{insertion_of};
 
 use mvrows::Rows;

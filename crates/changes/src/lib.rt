@@ -34,7 +34,7 @@
 //! Cahill, Röhm and Fekete 2008). What a predicate reads is noted under the smallest key that covers it, as the
 //! "index-range and relation locks" of Ports and Grittner (2012) do:
 //!
-//! - [`where_key`]: a WHERE reads one row, whether it is there or not, where a part that AND joins at the top sets the
+//! - [`filter_key`]: a WHERE reads one row, whether it is there or not, where a part that AND joins at the top sets the
 //!   key column equal to a literal; else the rows with a value in a column, where a part sets that column equal to a
 //!   literal; else the table.
 //! - [`equality_on`] is the part that sets a column equal to a literal, for who looks the row of a key up.
@@ -54,7 +54,8 @@
 //! A transaction changes rows, some of them twice, and some back to what they held. What counts at its COMMIT is its
 //! *net change*: the rows in which its own view and the tables of its begin differ, by table and key, each with what
 //! stood there and what is to stand there. To compare two whole states would cost the tables; so a transaction notes
-//! the places that it has touched ([`Touched`]), and [`net_change`] looks at each once, by its key, in both views.
+//! the places that it has touched ([`TouchedPlaces`]), and [`net_change`] looks at each once, by its key, in both
+//! views.
 //!
 //! What the layer above may rest on: where two views can differ at the noted places alone (`specs/Nets`), what is
 //! answered is the net change of the definition (`net_change` in `alone/specs/States`), which compares the states
@@ -82,6 +83,6 @@ pub use net::{is_same_there, net_change, row_in};
 pub use real::real_changes;
 pub use schemas::{name_at, schema_at};
 pub use selections::selected_rows;
-pub use touched::Touched;
+pub use touched::TouchedPlaces;
 pub use updates::renewals;
-pub use wheres::{Equality, equality_on, where_key};
+pub use wheres::{Equality, equality_on, filter_key};

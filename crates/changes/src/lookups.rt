@@ -17,12 +17,12 @@ use table::{Cond, Row};
 /// The rows that a condition has still to be tested on, in key order: one, where it wants a key, or all. It takes no
 /// memory.
 #[derive(Drop)]
-pub struct Looked<'a> {
+pub struct RowsToTest<'a> {
     one: Option<&'a Row>,
     rows: Option<RowIter<'a>>,
 }
 
-impl<'a> Model for Looked<'a> {
+impl<'a> Model for RowsToTest<'a> {
     ghost use Rattle.std.specs.Prelude.{List};
     ghost use Rattle.std.specs.Option.{option_copied};
     ghost use Rattle.table.specs.Rows.{RowValues};
@@ -35,25 +35,25 @@ impl<'a> Model for Looked<'a> {
 
 /// Of the rows of a table those that a condition has to be tested on: it is true of no other. The keys are in the
 /// column at `key`. It takes no memory.
-pub fn look_through<'a>(rows: &'a Rows, key: usize, filter: &Cond) -> Looked<'a>
+pub fn look_through<'a>(rows: &'a Rows, key: usize, filter: &Cond) -> RowsToTest<'a>
     requires { IsAscending value_cmp (value_in key) rows.now }
     ensures filtered { filtered_rows filter.now result ≡ filtered_rows filter.now rows.now }
     ensures small { All IsSmallRow rows.now → All IsSmallRow result }
     ensures fit { (columns : List Column) → All (FitsColumns columns) rows.now → All (FitsColumns columns) result }
 {
     match equality_on(filter, key) {
-        Some(equality) => Looked {
+        Some(equality) => RowsToTest {
             one: rows.get(key, equality.value),
             rows: None,
         },
-        None => Looked {
+        None => RowsToTest {
             one: None,
             rows: Some(rows.iter()),
         },
     }
 }
 
-impl<'a> Iterator for Looked<'a> {
+impl<'a> Iterator for RowsToTest<'a> {
     type Item = &'a Row;
 
     ghost next_gives = { YieldsFirstRef (λ left. left) };

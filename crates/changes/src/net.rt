@@ -6,7 +6,7 @@ ghost use Rattle.alone.specs.Declarations.{layouts_in};
 ghost use Rattle.alone.specs.States.{net_change, row_in, same_row, same_there};
 ghost use Rattle.changes.specs.Nets.{DifferAt, difference_at, differences_at};
 
-use crate::touched::Touched;
+use crate::touched::TouchedPlaces;
 use delta::View;
 use siread::{Place, is_same};
 use std::alloc::{AllocError, Global};
@@ -19,7 +19,7 @@ pub fn net_change(
     alloc: Global,
     before: &View,
     after: &View,
-    touched: &Touched,
+    touched: &TouchedPlaces,
 ) -> Result<Vec<Change>, AllocError>
     requires declared { after.now.declared ≡ before.now.declared }
     requires differ { DifferAt (layouts_in before.now.declared) before.now.state after.now.state touched.now }
@@ -39,7 +39,7 @@ fn differences(
     alloc: Global,
     before: &View,
     after: &View,
-    touched: &Touched,
+    touched: &TouchedPlaces,
 ) -> Result<Vec<Change>, AllocError>
     requires declared { after.now.declared ≡ before.now.declared }
     ensures { IfOk result (λ made. made.items

@@ -41,6 +41,5 @@ fn selected_values(alloc: Global, columns: &[usize], row: &Row) -> Result<Row, A
     for column in columns {
         values.push(value_at(row, *column)?)?;
     }
-    let selected = Row::new(values)?;
-    Ok(selected)
+    Row::new(values)
 }

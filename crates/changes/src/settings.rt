@@ -4,13 +4,13 @@ ghost use Rattle.std.specs.Prelude.{◌≡◌, ◌≢◌, IfOk, IfErr, OnOk, Som
 ghost use Rattle.value.specs.declared.refusals.Refusal.TheVariants.{NoMemory};
 ghost use Rattle.value.specs.declared.values.Value.TheVariants as values;
 ghost use Rattle.table.specs.Bounds.{IsSmallRow};
-ghost use Rattle.table.specs.Shown.{shown};
+ghost use Rattle.table.specs.Shown.{lent_value};
 ghost use Rattle.assertcheck.specs.Updates.{IsBoundedSetting};
 ghost use Rattle.alone.specs.Statements.{given_fault, given_value};
 
 use assertcheck::Setting;
 use std::alloc::Global;
-use table::{Column, Given, LARGEST, Row, Slots, evaluate};
+use table::{Column, LARGEST, LentValue, Row, Slots, evaluate};
 use value::{ColType, Excess, Refusal, Value};
 
 /// What an assignment gives to its column, evaluated on the row as it was, or what is wrong with it there.
@@ -28,26 +28,26 @@ pub fn given_value(
         → given_fault (Some column.now) (given_value old.now setting.now.value) ≡ Some refusal) }
 {
     match &setting.value {
-        None => tested(column, Value::Null),
+        None => fitting_value(column, Value::Null),
         Some(expr) => {
             let slots = Slots::new(alloc);
-            admitted(column, evaluate(expr, old, &slots))
+            column_value(column, evaluate(expr, old, &slots))
         }
     }
 }
 
 /// What an expression gives as a value of a column, or what is wrong with it there. A number may be larger than any
 /// that a value holds.
-fn admitted(column: &Column, given: Given) -> Result<Value, Refusal>
-    ensures made { IfOk result (λ value. value ≡ shown given.entry) }
-    ensures faultless { OnOk result (given_fault (Some column.now) (shown given.entry) ≡ None) }
+fn column_value(column: &Column, given: LentValue) -> Result<Value, Refusal>
+    ensures made { IfOk result (λ value. value ≡ lent_value given.entry) }
+    ensures faultless { OnOk result (given_fault (Some column.now) (lent_value given.entry) ≡ None) }
     ensures refused { IfErr result (λ refusal. refusal ≢ NoMemory
-        → given_fault (Some column.now) (shown given.entry) ≡ Some refusal) }
+        → given_fault (Some column.now) (lent_value given.entry) ≡ Some refusal) }
 {
     match given {
-        Given::Null => tested(column, Value::Null),
-        Given::Text(text) => tested(column, Value::Text(text.copy()?)),
-        Given::Number(number) => admitted_number(column, number),
+        LentValue::Null => fitting_value(column, Value::Null),
+        LentValue::Text(text) => fitting_value(column, Value::Text(text.copy()?)),
+        LentValue::Number(number) => admitted_number(column, number),
     }
 }
 
@@ -71,7 +71,7 @@ fn admitted_number(column: &Column, number: i128) -> Result<Value, Refusal>
 }
 
 /// The value, if it may stand in the column.
-fn tested(column: &Column, value: Value) -> Result<Value, Refusal>
+fn fitting_value(column: &Column, value: Value) -> Result<Value, Refusal>
     ensures same { IfOk result (λ made. made ≡ value) }
     ensures faultless { OnOk result (given_fault (Some column.now) value ≡ None) }
     ensures refused { IfErr result (λ refusal. refusal ≢ NoMemory

@@ -15,11 +15,11 @@ use table::Change;
 
 /// The places of the rows that a transaction has changed, in their order, each once.
 #[derive(Drop)]
-pub struct Touched {
+pub struct TouchedPlaces {
     places: BTreeSet<Place>,
 }
 
-impl Model for Touched {
+impl Model for TouchedPlaces {
     ghost use Rattle.std.specs.Prelude.{List};
     ghost use Rattle.siread.specs.declared.keys.Place.{Place as AnyPlace};
 
@@ -28,12 +28,12 @@ impl Model for Touched {
     ghost view = { λ touched. touched.places.keys };
 }
 
-impl Touched {
+impl TouchedPlaces {
     /// No place.
-    pub fn new(alloc: Global) -> Touched
+    pub fn new(alloc: Global) -> TouchedPlaces
         ensures { result ≡ [] }
     {
-        Touched {
+        TouchedPlaces {
             places: BTreeSet::new(alloc),
         }
     }

@@ -7,9 +7,9 @@ ghost use Rattle.table.specs.Rows.{FitsColumns, IsTable, Layout};
 ghost use Rattle.table.specs.Bounds.{IsSmallRow, is_bounded};
 ghost use Rattle.alone.specs.Meaning.{State, key_of, filtered_rows, rows_of};
 ghost use Rattle.assertcheck.specs.Updates.{IsBoundedSetting};
-ghost use Rattle.answer.specs.declared.answers.Reply.TheVariants.{Updated};
+ghost use Rattle.alone.specs.declared.answers.Reply.TheVariants.{Updated};
 ghost use Rattle.alone.specs.States.{AreDue, IsState};
-ghost use Rattle.alone.specs.Statements.{given_fault, given_value, renewal, sets_key, settings_fault, update_effect, updated};
+ghost use Rattle.alone.specs.Statements.{given_fault, given_value, renewal, sets_key, settings_fault, update_effect, row_after_settings};
 ghost use Rattle.delta.specs.Views.{IsFitting, layout_at};
 
 use crate::filtered::filtered_rows;
@@ -75,9 +75,9 @@ fn renewal(
     ensures faultless { OnOk result (settings_fault schema.now.columns sets.now row.now ≡ None) }
     ensures refused { IfErr result (λ refusal. refusal ≢ NoMemory
         → settings_fault schema.now.columns sets.now row.now ≡ Some refusal) }
-    ensures fits { OnOk result (FitsColumns schema.now.columns (updated sets.now row.now row.now)) }
+    ensures fits { OnOk result (FitsColumns schema.now.columns (row_after_settings sets.now row.now row.now)) }
 {
-    let new = updated(alloc, schema.columns(), sets, row)?;
+    let new = row_after_settings(alloc, schema.columns(), sets, row)?;
     Ok(Change {
         table,
         key: value_at(row, schema.key())?,
@@ -87,10 +87,15 @@ fn renewal(
 }
 
 /// The row with what is assigned, or the first fault of that.
-fn updated(alloc: Global, columns: &[Column], sets: &[Setting], row: &Row) -> Result<Row, Refusal>
+fn row_after_settings(
+    alloc: Global,
+    columns: &[Column],
+    sets: &[Setting],
+    row: &Row,
+) -> Result<Row, Refusal>
     requires bounded { All IsBoundedSetting sets.now }
     requires fits { FitsColumns columns.now row.now }
-    ensures made { IfOk result (λ new. new ≡ updated sets.now row.now row.now) }
+    ensures made { IfOk result (λ new. new ≡ row_after_settings sets.now row.now row.now) }
     ensures faultless { OnOk result (settings_fault columns.now sets.now row.now ≡ None) }
     ensures refused { IfErr result (λ refusal. refusal ≢ NoMemory
         → settings_fault columns.now sets.now row.now ≡ Some refusal) }
@@ -100,8 +105,7 @@ fn updated(alloc: Global, columns: &[Column], sets: &[Setting], row: &Row) -> Re
     for setting in sets {
         values = with_setting(alloc, columns, setting, row, values)?;
     }
-    let new = Row::new(values)?;
-    Ok(new)
+    Ok(Row::new(values)?)
 }
 
 /// The values with what one assignment gives to its column, or the fault of that.

@@ -3,8 +3,8 @@
 ghost use Rattle.std.specs.Prelude.{◌≡◌, IfOk};
 ghost use Rattle.table.specs.declared.conds.Cond.TheViews.{out-Cond};
 ghost use Rattle.table.specs.declared.exprs.Expr.TheViews.{out-Expr};
-ghost use Rattle.alone.specs.Reads.{where_key as where_key_of, top_parts as top_parts_of, sides as sides_of, equality_in as equality_of, first_equality as first_of_all, first_on as first_of_column, key_from};
-ghost use Rattle.changes.specs.Shown.{shown};
+ghost use Rattle.alone.specs.Reads.{filter_key as where_key_of, top_parts as top_parts_of, sides as sides_of, equality_in as equality_of, first_equality as first_of_all, first_on as first_of_column, key_from};
+ghost use Rattle.changes.specs.Shown.{lent_equality};
 
 use siread::{LockKey, Place};
 use std::alloc::AllocError;
@@ -23,7 +23,7 @@ pub struct Equality<'a> {
 /// AND joins at the top, whether it is there or not, else the rows of the first `column = literal`, else the table
 /// (SIREAD locks: Cahill, Röhm and Fekete 2008; keys of a predicate: Ports and Grittner 2012, "index-range and
 /// relation locks").
-pub fn where_key(table: usize, key: usize, filter: &Cond) -> Result<LockKey, AllocError>
+pub fn filter_key(table: usize, key: usize, filter: &Cond) -> Result<LockKey, AllocError>
     ensures { IfOk result (λ read. read ≡ where_key_of table key filter.now) }
 {
     key_of(
@@ -36,7 +36,7 @@ pub fn where_key(table: usize, key: usize, filter: &Cond) -> Result<LockKey, All
 /// The first `column = literal` of this column among the parts that AND joins at the top of a WHERE. A row that the
 /// WHERE keeps has that literal's value there. It takes no memory.
 pub fn equality_on(filter: &Cond, column: usize) -> Option<Equality<'_>>
-    ensures { shown result ≡ first_of_column column (top_parts_of filter.now) }
+    ensures { lent_equality result ≡ first_of_column column (top_parts_of filter.now) }
 {
     first_on(column, top_parts(filter))
 }
@@ -47,7 +47,7 @@ fn key_of(
     row: Option<Equality<'_>>,
     rows: Option<Equality<'_>>,
 ) -> Result<LockKey, AllocError>
-    ensures { IfOk result (λ read. read ≡ key_from table (shown row.entry) (shown rows.entry)) }
+    ensures { IfOk result (λ read. read ≡ key_from table (lent_equality row.entry) (lent_equality rows.entry)) }
 {
     if let Some(equality) = row {
         return Ok(LockKey::Row(Place {
@@ -77,7 +77,7 @@ fn top_parts(condition: &Cond) -> &[Cond]
 
 /// The first equality of the parts on a column.
 fn first_on(column: usize, parts: &[Cond]) -> Option<Equality<'_>>
-    ensures { shown result ≡ first_of_column column parts.now }
+    ensures { lent_equality result ≡ first_of_column column parts.now }
 {
     for part in parts {
         if let Some(equality) = equality_in(part) {
@@ -91,7 +91,7 @@ fn first_on(column: usize, parts: &[Cond]) -> Option<Equality<'_>>
 
 /// The first equality of the parts.
 fn first_equality(parts: &[Cond]) -> Option<Equality<'_>>
-    ensures { shown result ≡ first_of_all parts.now }
+    ensures { lent_equality result ≡ first_of_all parts.now }
 {
     for part in parts {
         if let Some(equality) = equality_in(part) {
@@ -103,7 +103,7 @@ fn first_equality(parts: &[Cond]) -> Option<Equality<'_>>
 
 /// The column that a condition sets equal to a literal, if it is such an equality.
 fn equality_in(condition: &Cond) -> Option<Equality<'_>>
-    ensures { shown result ≡ equality_of (out-Cond condition.now) }
+    ensures { lent_equality result ≡ equality_of (out-Cond condition.now) }
 {
     match condition {
         Cond::Compare(Comparison::Equal, left, right) => equality_of(left, right),
@@ -113,7 +113,7 @@ fn equality_in(condition: &Cond) -> Option<Equality<'_>>
 
 /// The column and the literal of which they are, in either order.
 fn equality_of<'a>(left: &'a Expr, right: &'a Expr) -> Option<Equality<'a>>
-    ensures { shown result ≡ sides_of (out-Expr left.now) (out-Expr right.now) }
+    ensures { lent_equality result ≡ sides_of (out-Expr left.now) (out-Expr right.now) }
 {
     match (left, right) {
         (Expr::Column(column), Expr::Literal(value))

@@ -2,7 +2,7 @@
 
 use crate::examinations::examine;
 use crate::objects::object;
-use crate::texts::{Named, show};
+use crate::texts::{NamedText, show};
 use diagnosis::diagnose_definitions;
 use faults::{Colour, Which, diagnose_grammar, picture};
 use parse::parse_schema;
@@ -50,8 +50,8 @@ impl From<AllocError> for CheckFault {
 /// [`CheckFault::NoMemory`], and then nothing was written; [`CheckFault::Output`] at the first fault of the writer.
 pub fn check_into<W: Write>(
     alloc: Global,
-    defs: Named,
-    script: Option<Named>,
+    defs: NamedText,
+    script: Option<NamedText>,
     style: Style,
     out: &mut W,
 ) -> Result<Health, CheckFault> {
@@ -81,7 +81,7 @@ fn write_all<W: Write>(text: &str, out: &mut W) -> Result<(), CheckFault> {
 pub fn picture_of_refusal(
     alloc: Global,
     which: Which,
-    text: Named,
+    text: NamedText,
     refusal: &Refusal,
     colour: Colour,
 ) -> Result<String, AllocError> {
@@ -102,7 +102,7 @@ pub fn picture_of_refusal(
 /// The picture of definitions that are of the language and were refused.
 fn picture_of_definitions(
     alloc: Global,
-    text: Named,
+    text: NamedText,
     refusal: &Refusal,
     colour: Colour,
 ) -> Result<String, AllocError> {

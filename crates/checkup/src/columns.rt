@@ -6,7 +6,7 @@ use table::{Cond, Expr};
 /// Which columns of a condition are asked for: those of its own row, or those of the row around it, which stand in its
 /// slots.
 #[derive(Clone, Copy)]
-pub enum Looked {
+pub enum WhichRow {
     Own,
     Around,
 }
@@ -32,7 +32,7 @@ pub fn add_column(columns: &mut Vec<usize>, column: usize) -> Result<(), AllocEr
 pub fn add_condition(
     columns: &mut Vec<usize>,
     condition: &Cond,
-    looked: Looked,
+    looked: WhichRow,
 ) -> Result<(), AllocError> {
     match condition {
         Cond::Compare(_, left, right) => {
@@ -55,10 +55,10 @@ pub fn add_condition(
 fn add_expression(
     columns: &mut Vec<usize>,
     expression: &Expr,
-    looked: Looked,
+    looked: WhichRow,
 ) -> Result<(), AllocError> {
     match (expression, looked) {
-        (Expr::Column(column), Looked::Own) | (Expr::Slot(column), Looked::Around) => {
+        (Expr::Column(column), WhichRow::Own) | (Expr::Slot(column), WhichRow::Around) => {
             add_column(columns, *column)
         }
         (Expr::Literal(_) | Expr::Column(_) | Expr::Slot(_), _) => Ok(()),

@@ -93,7 +93,7 @@ fn take(
         }
     };
     let view = taken.load(alloc)?;
-    if let Some(fault) = first_false(alloc, bytes, definitions.as_slice(), &view)? {
+    if let Some(fault) = find_first_false(alloc, bytes, definitions.as_slice(), &view)? {
         found.faults.push(fault)?;
     }
     found.view = Some(view);
@@ -101,7 +101,7 @@ fn take(
 }
 
 /// What is wrong with the first assertion that is false: its least bad root, and by rows the row that is bad.
-fn first_false(
+fn find_first_false(
     alloc: Global,
     bytes: &[u8],
     definitions: &[Definition],

@@ -5,7 +5,7 @@
 //! each query or set function in its condition (`roots`), and one of COUNT(*) where a HAVING has none. A query whose
 //! WHERE looks at the row around it has one for each such row, or none where it is linked by its own key.
 
-use crate::columns::{Looked, add_column, add_condition};
+use crate::columns::{WhichRow, add_column, add_condition};
 use crate::pairs::count_pairs;
 use assertion::{Form, Link, Query, Whole};
 use changes::selected_rows;
@@ -64,7 +64,7 @@ pub enum Upkeep {
 
 /// A set function, and what is maintained of the rows that a WHERE keeps.
 #[derive(Drop)]
-pub struct Kept {
+pub struct MaintainedFunction {
     pub function: Aggregate,
     pub table: usize,
     pub grouping: Grouping,
@@ -92,7 +92,7 @@ pub struct Reading {
 pub struct Figures {
     /// Of the rows that its outer query goes over; of a single condition, of the rows of its queries.
     pub counts: Counts,
-    pub kept: Vec<Kept>,
+    pub kept: Vec<MaintainedFunction>,
     pub readings: Vec<Reading>,
 }
 
@@ -135,10 +135,10 @@ fn by_row(
     let key = view.key_column(table);
     let mut columns = Vec::new(alloc);
     add_column(&mut columns, key)?;
-    add_condition(&mut columns, condition, Looked::Own)?;
+    add_condition(&mut columns, condition, WhichRow::Own)?;
     for query in queries {
         add_column(&mut columns, query.grouping.outer)?;
-        add_condition(&mut columns, &query.filter, Looked::Around)?;
+        add_condition(&mut columns, &query.filter, WhichRow::Around)?;
     }
     put_reading(&mut figures.readings, table, Some(key), columns)?;
     for query in queries {
@@ -154,7 +154,7 @@ fn linked_of(
     view: &View,
     around: usize,
     query: &Query<Link>,
-) -> Result<Kept, AllocError> {
+) -> Result<MaintainedFunction, AllocError> {
     let rows = Selection {
         table: query.table,
         filter: &query.filter,
@@ -164,7 +164,7 @@ fn linked_of(
         return kept_of(alloc, view, rows, query.aggregate);
     }
     let mut kept = no_total(alloc, rows, query.aggregate)?;
-    add_condition(&mut kept.beside, &query.filter, Looked::Around)?;
+    add_condition(&mut kept.beside, &query.filter, WhichRow::Around)?;
     if query.grouping.inner != view.key_column(query.table) {
         kept.upkeep = Upkeep::RowsAround;
     }
@@ -216,7 +216,11 @@ fn no_figures(alloc: Global) -> Figures {
 }
 
 /// Puts a total behind the others, and what is read for it.
-fn put_kept(alloc: Global, figures: &mut Figures, kept: Kept) -> Result<(), AllocError> {
+fn put_kept(
+    alloc: Global,
+    figures: &mut Figures,
+    kept: MaintainedFunction,
+) -> Result<(), AllocError> {
     let mut columns = Vec::new(alloc);
     if let Some(column) = kept.grouping.column() {
         add_column(&mut columns, column)?;
@@ -273,7 +277,7 @@ fn kept_of(
     view: &View,
     rows: Selection,
     function: Aggregate,
-) -> Result<Kept, AllocError> {
+) -> Result<MaintainedFunction, AllocError> {
     let mut kept = no_total(alloc, rows, function)?;
     kept.upkeep = Upkeep::Groups;
     kept.counts = count(alloc, view, rows)?;
@@ -281,10 +285,14 @@ fn kept_of(
 }
 
 /// A set function of rows of which nothing is maintained.
-fn no_total(alloc: Global, rows: Selection, function: Aggregate) -> Result<Kept, AllocError> {
+fn no_total(
+    alloc: Global,
+    rows: Selection,
+    function: Aggregate,
+) -> Result<MaintainedFunction, AllocError> {
     let mut filter = Vec::new(alloc);
-    add_condition(&mut filter, rows.filter, Looked::Own)?;
-    Ok(Kept {
+    add_condition(&mut filter, rows.filter, WhichRow::Own)?;
+    Ok(MaintainedFunction {
         function,
         table: rows.table,
         grouping: rows.grouping,

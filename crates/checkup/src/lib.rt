@@ -22,4 +22,4 @@ mod texts;
 
 pub use calls::{CheckFault, Health, Style, check_into, picture_of_refusal};
 pub use faults::{Colour, Which};
-pub use texts::Named;
+pub use texts::NamedText;

@@ -1,9 +1,9 @@
 //! What was found, as JSON for editors.
 
 use crate::examinations::Examination;
-use crate::figures::{Figures, Kept, Reading, Upkeep, figures_of, row_count};
+use crate::figures::{Figures, MaintainedFunction, Reading, Upkeep, figures_of, row_count};
 use crate::naming::{column_name, column_names, function_name, name_text, table_name};
-use crate::texts::Named;
+use crate::texts::NamedText;
 use assertion::{Assertion, Form};
 use delta::View;
 use faults::{At, Diagnosis, Span, Which, place_of};
@@ -14,8 +14,8 @@ use value::Root;
 /// What was found in two texts, on one line.
 pub fn object(
     alloc: Global,
-    defs: Named,
-    script: Option<Named>,
+    defs: NamedText,
+    script: Option<NamedText>,
     found: &Examination,
 ) -> Result<String, AllocError> {
     let ok = found.faults.is_empty();
@@ -47,8 +47,8 @@ pub fn object(
 
 fn diagnoses<'a>(
     alloc: Global,
-    defs: Named<'a>,
-    script: Option<Named<'a>>,
+    defs: NamedText<'a>,
+    script: Option<NamedText<'a>>,
     found: &[Diagnosis],
 ) -> Result<Vec<Value>, AllocError> {
     let mut made = Vec::new(alloc);
@@ -57,14 +57,18 @@ fn diagnoses<'a>(
             (Which::Script, Some(script)) => script,
             _ => defs,
         };
-        made.push(diagnosed(alloc, named, diagnosis)?)?;
+        made.push(diagnosis_object(alloc, named, diagnosis)?)?;
     }
     Ok(made)
 }
 
 /// A fault: its text, its number, what is wrong, what to do, and where it is. Lines and columns are from 1, and a
 /// column is a byte; `end` is the first byte behind it.
-fn diagnosed(alloc: Global, named: Named, diagnosis: &Diagnosis) -> Result<Value, AllocError> {
+fn diagnosis_object(
+    alloc: Global,
+    named: NamedText,
+    diagnosis: &Diagnosis,
+) -> Result<Value, AllocError> {
     let (exact, span) = match diagnosis.at {
         At::Bytes(span) => (true, span),
         At::Definition(span) => (false, span),
@@ -116,14 +120,14 @@ fn assertions(alloc: Global, view: &View) -> Result<Vec<Value>, AllocError> {
     let mut made = Vec::new(alloc);
     for place in 0..view.assertions().len() {
         if let Some(assertion) = view.assertions().get(place) {
-            made.push(asserted(alloc, view, place, assertion)?)?;
+            made.push(assertion_object(alloc, view, place, assertion)?)?;
         }
     }
     Ok(made)
 }
 
 /// An assertion: its form, its figures, when it is checked and its truth, with the least bad root where it is false.
-fn asserted(
+fn assertion_object(
     alloc: Global,
     view: &View,
     place: usize,
@@ -196,7 +200,12 @@ fn upkeep_name(upkeep: Upkeep) -> &'static str {
     }
 }
 
-fn one_kept(alloc: Global, view: &View, form: &Form, kept: &Kept) -> Result<Value, AllocError> {
+fn one_kept(
+    alloc: Global,
+    view: &View,
+    form: &Form,
+    kept: &MaintainedFunction,
+) -> Result<Value, AllocError> {
     let catalog = view.catalog();
     let function = function_name(alloc, catalog, kept.table, kept.function)?;
     let table = table_name(alloc, catalog, kept.table)?;

@@ -1,7 +1,9 @@
 //! What was found, as a person reads it.
 
 use crate::examinations::{Examination, MOST_NOTES};
-use crate::figures::{Figures, Grouping, Kept, Reading, Upkeep, figures_of, row_count};
+use crate::figures::{
+    Figures, Grouping, MaintainedFunction, Reading, Upkeep, figures_of, row_count,
+};
 use crate::naming::{column_name, column_names, function_name, table_name};
 use assertion::{Assertion, Form};
 use delta::View;
@@ -12,7 +14,7 @@ use value::Truth;
 
 /// A text with the name that it is shown by.
 #[derive(Clone, Copy)]
-pub struct Named<'a> {
+pub struct NamedText<'a> {
     pub name: &'a str,
     pub bytes: &'a [u8],
 }
@@ -20,8 +22,8 @@ pub struct Named<'a> {
 /// What was found in two texts: tables, assertions, notes and faults, and last whether all is well.
 pub fn show(
     alloc: Global,
-    defs: Named,
-    script: Option<Named>,
+    defs: NamedText,
+    script: Option<NamedText>,
     found: &Examination,
     colour: Colour,
 ) -> Result<String, AllocError> {
@@ -54,8 +56,8 @@ pub fn show(
 /// A fault or a note in the text that it is of.
 fn show_diagnosis<'a>(
     alloc: Global,
-    defs: Named<'a>,
-    script: Option<Named<'a>>,
+    defs: NamedText<'a>,
+    script: Option<NamedText<'a>>,
     diagnosis: &Diagnosis,
     shown: &mut String,
     colour: Colour,
@@ -119,7 +121,7 @@ fn show_assertion(
     let figures = figures_of(alloc, view, &assertion.form)?;
     show_verdict(view, place, assertion, shown, colour)?;
     show_form(alloc, view.catalog(), &assertion.form, &figures, shown)?;
-    let checked = checked(assertion);
+    let checked = time_of_check(assertion);
     writeln!(shown, "  checked  {checked}")?;
     for kept in &figures.kept {
         show_kept(alloc, view, kept, &assertion.form, shown)?;
@@ -159,7 +161,7 @@ fn show_verdict(
 }
 
 /// When an assertion is checked.
-pub fn checked(assertion: &Assertion) -> &'static str {
+pub fn time_of_check(assertion: &Assertion) -> &'static str {
     match (
         assertion.attributes.deferrable,
         assertion.attributes.initially_deferred,
@@ -211,7 +213,7 @@ fn upkeep_word(upkeep: Upkeep) -> &'static str {
 fn show_kept(
     alloc: Global,
     view: &View,
-    kept: &Kept,
+    kept: &MaintainedFunction,
     form: &Form,
     shown: &mut String,
 ) -> Result<(), AllocError> {

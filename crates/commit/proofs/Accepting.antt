@@ -16,25 +16,25 @@ use Rattle.alone.proofs.Induction.{change_exact}
 use Rattle.alone.proofs.Lists.{Each, each_at, each_from}
 use Rattle.alone.proofs.Nets.{net_exact, net_puts, put_net}
 use Rattle.alone.proofs.Orders.{due_changes, net_in_order}
-use Rattle.delta.specs.Views.{Shown}
-use Rattle.serial.specs.declared.records.Record.{Record}
-use Rattle.serial.specs.Answer.{IsAnswer, Number}
-use Rattle.serial.specs.Commits.{HasNoWriteConflict, reach}
-use Rattle.serial.specs.Epoch.{IsEpoch, newest, state_of}
-use Rattle.serial.specs.Order.{least_out, put_by, rank, serial_order}
-use Rattle.serial.proofs.Changes.{share_row-at}
-use Rattle.serial.proofs.Kept.{places_more}
-use Rattle.serial.proofs.Newest.{newest_fits, unwritten}
-use Rattle.serial.proofs.Ranks.{log_falls, order_step}
-use Rattle.serial.proofs.Semantics.{history_nets}
+use Rattle.delta.specs.Views.{ViewState}
+use Rattle.alone.specs.declared.records.Record.{Record}
+use Rattle.alone.specs.Answer.{IsAnswer, Number}
+use Rattle.alone.specs.Commits.{HasNoWriteConflict, reach}
+use Rattle.alone.specs.Epoch.{IsEpoch, newest, state_of}
+use Rattle.alone.specs.Order.{least_out, put_by, rank, serial_order}
+use Rattle.alone.proofs.Changes.{share_row-at}
+use Rattle.alone.proofs.Kept.{places_more}
+use Rattle.alone.proofs.Newest.{newest_fits, unwritten}
+use Rattle.alone.proofs.Ranks.{log_falls, order_step}
+use Rattle.alone.proofs.Semantics.{history_nets}
 use Rattle.conflict.specs.Ordered.{numbers_of}
-use Rattle.txn.specs.Transactions.{OpenTransaction, begun, outcome_of, own_view}
-use Rattle.commit.specs.Cores.{CoreState, IsLive, committed, log_of, newest_tables, record_of, with_begun, with_commit}
+use Rattle.txn.specs.Transactions.{OpenTransaction, transaction_at_begin, outcome_of, own_view}
+use Rattle.commit.specs.Cores.{CoreState, IsLive, core_after_commit, log_of, newest_tables, record_of, with_begun, with_commit}
 use Rattle.commit.proofs.Tickets.{fewer}
 use Rattle.commit.proofs.Recording.{begin_live, changes_are, epoch_next, log_with, newest_at}
 use Rattle.commit.specs.Kept.{IsCore}
 
-module _ (now : CoreState) (tables : Shown) (places reaches order : List ℕ) (core : IsCore now tables places reaches order) where
+module _ (now : CoreState) (tables : ViewState) (places reaches order : List ℕ) (core : IsCore now tables places reaches order) where
   abbrev records : List Record
   records = now.records
 
@@ -42,9 +42,9 @@ module _ (now : CoreState) (tables : Shown) (places reaches order : List ℕ) (c
   log = log_of now
 
   -- a transaction that begins
-  pub begun_live : (read_only : Bool) → IsLive (with_begun read_only now) (begun now.live.begun (length records) read_only tables)
+  pub begun_live : (read_only : Bool) → IsLive (with_begun read_only now) (transaction_at_begin now.live.begun (length records) read_only tables)
   begun_live read_only =
-      subst (λ (s : Shown). IsLive (with_begun read_only now) (begun now.live.begun (length records) read_only s)) (sym core.newest_is) (begin_live now core.epoch.accepted read_only)
+      subst (λ (s : ViewState). IsLive (with_begun read_only now) (transaction_at_begin now.live.begun (length records) read_only s)) (sym core.newest_is) (begin_live now core.epoch.accepted read_only)
 
   module _ (session : List ℕ) (t : OpenTransaction) (live : IsLive now t) where
     abbrev commit : Record
@@ -74,7 +74,7 @@ module _ (now : CoreState) (tables : Shown) (places reaches order : List ℕ) (c
           record {
             in_order = subst AreInOrder (sym changes_is) (net_in_order (layouts_in now.declared) at_start final);
             exact = λ change m.
-                ap (λ (s : Shown). row_in (layouts_in now.declared) s.state (place_of change)) core.newest_is
+                ap (λ (s : ViewState). row_in (layouts_in now.declared) s.state (place_of change)) core.newest_is
                 ∙ unwritten now.declared now.start core.epoch.admitted.fit log (history_nets now.declared now.start log core.epoch.history) (log_falls log core.epoch.accepted) t.snapshot (place_of change)
                 (λ other d listed later md same. free other listed (record { after_snapshot = later; common = share_row-at commit.changes other.changes (place_of change) change d m refl md same }))
                 ∙ change_exact now.declared t.trace at_start change (subst (λ cs. Contains cs change) changes_is m);
@@ -83,9 +83,9 @@ module _ (now : CoreState) (tables : Shown) (places reaches order : List ℕ) (c
           }
 
       pub puts : AreChangesOf (layouts_in tables.declared) commit.changes tables.state
-      puts = subst (λ (d : Declared). AreChangesOf (layouts_in d) commit.changes tables.state) (sym (ap (λ (s : Shown). s.declared) core.newest_is))
+      puts = subst (λ (d : Declared). AreChangesOf (layouts_in d) commit.changes tables.state) (sym (ap (λ (s : ViewState). s.declared) core.newest_is))
           (due_changes (layouts_in now.declared) tables.state
-          (subst (λ (s : Shown). IsState (layouts_in now.declared) s.state) (sym core.newest_is) (newest_fits now.declared now.start core.epoch.admitted.fit log (history_nets now.declared now.start log core.epoch.history)))
+          (subst (λ (s : ViewState). IsState (layouts_in now.declared) s.state) (sym core.newest_is) (newest_fits now.declared now.start core.epoch.admitted.fit log (history_nets now.declared now.start log core.epoch.history)))
           commit.changes due)
 
     -- put in, it gives the newest tables
@@ -103,7 +103,7 @@ module _ (now : CoreState) (tables : Shown) (places reaches order : List ℕ) (c
         let same : own_view t ≡ record { declared = now.declared; state = (run_on now.declared t.trace at_start).final.view }
         = λ i. record { declared = live.declared_is i; state = (run_on (live.declared_is i) t.trace (live.start_is i)).final.view } in
         let fits : IsState (layouts_in now.declared) (run_on now.declared t.trace at_start).final.view
-        = subst (λ (s : Shown). IsState (layouts_in s.declared) s.state) same fit in
+        = subst (λ (s : ViewState). IsState (layouts_in s.declared) s.state) same fit in
         same
         ∙ ap (λ state. record { declared = now.declared; state = state })
         (sym (put_net (layouts_in now.declared) at_start _ start_fits fits)
@@ -112,10 +112,10 @@ module _ (now : CoreState) (tables : Shown) (places reaches order : List ℕ) (c
         ∙ ap (λ log. record { declared = now.declared; state = newest now.declared now.start log }) (sym (log_with records commit))
 
     -- after it
-    pub core_next : (view : Shown) (place : ℕ) (after : List ℕ) → (outcome_of t).refused ≡ None → (length records == now.limit) ≡ false
+    pub core_next : (view : ViewState) (place : ℕ) (after : List ℕ) → (outcome_of t).refused ≡ None → (length records == now.limit) ≡ false
         → IsAnswer log commit (Number (length records + 1)) → view ≡ newest_tables (with_commit now commit)
         → (t.read_only ≡ true → (outcome_of t).changes ≡ []) → place ≡ least_out log commit → after ≡ numbers_of (put_by (rank log) commit (serial_order log))
-        → IsCore (committed now session t) view (places ++ place ∷ []) (reaches ++ reach commit ∷ []) after
+        → IsCore (core_after_commit now session t) view (places ++ place ∷ []) (reaches ++ reach commit ∷ []) after
     core_next view place after none room answer is changes_nothing there put =
         let next = epoch_next now session t live core.epoch answer none changes_nothing in record {
           epoch = subst (IsEpoch now.declared now.start) (sym (log_with records commit)) next;

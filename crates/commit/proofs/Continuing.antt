@@ -7,10 +7,10 @@ use Rattle.std.proofs.lemmas.Option.{slice_get_read}
 use Rattle.value.specs.declared.refusals.Refusal.{Refusal}
 use Rattle.value.specs.declared.refusals.Refusal.TheVariants.{NoMemory}
 use Rattle.meaning.specs.Laws.{Pairs}
-use Rattle.delta.specs.Views.{Shown}
+use Rattle.delta.specs.Views.{ViewState}
 use Rattle.definitions.specs.declared.redeclaration.NewAssertion.{NewAssertion}
-use Rattle.live.specs.declared.snapshots.LiveSnapshot.{LiveSnapshot}
-use Rattle.live.specs.Live.{none_live}
+use Rattle.conflict.specs.declared.open_snapshots.LiveSnapshot.{LiveSnapshot}
+use Rattle.conflict.specs.Live.{none_live}
 use Rattle.txn.specs.Transactions.{OpenTransaction}
 use Rattle.commit.specs.declared.engine.Outcome.{Outcome}
 use Rattle.commit.specs.declared.epochs.Epoch.{Epoch}
@@ -34,12 +34,12 @@ none_open (seat ∷ rest) closed (suc place) t e = none_open rest (go (is_some s
     go false closed = closed
 
 -- the tables that an epoch more left
-pub left_by : (before : Shown) (outcomes : List Outcome) (outcome : Outcome) → tables_left before (outcomes ++ outcome ∷ []) ≡ newest_tables outcome.engine.core
+pub left_by : (before : ViewState) (outcomes : List Outcome) (outcome : Outcome) → tables_left before (outcomes ++ outcome ∷ []) ≡ newest_tables outcome.engine.core
 left_by before [] outcome = refl
 left_by before (o ∷ rest) outcome = left_by (newest_tables o.engine.core) rest outcome
 
 -- an epoch more
-outcome_more : (limit : ℕ) (before : Shown) (epochs : List Epoch) (outcomes : List Outcome) (epoch : Epoch) (outcome : Outcome) → slice_get epochs (length outcomes) ≡ Some epoch
+outcome_more : (limit : ℕ) (before : ViewState) (epochs : List Epoch) (outcomes : List Outcome) (epoch : Epoch) (outcome : Outcome) → slice_get epochs (length outcomes) ≡ Some epoch
     → AreOutcomes limit before epochs outcomes → IsOutcome limit (tables_left before outcomes) epoch outcome → AreOutcomes limit before epochs (outcomes ++ outcome ∷ [])
 outcome_more limit before [] [] epoch outcome at all one = cc
 outcome_more limit before (e ∷ es) [] epoch outcome at all one =
@@ -62,28 +62,28 @@ pairs_more P (z ∷ xs) [] x y h p = absurd h
 pairs_more P (z ∷ xs) (w ∷ ys) x y h p = (h.0, pairs_more P xs ys x y h.1 p)
 
 -- the first epochs have passed, each whole
-pub record HavePassed (limit : ℕ) (before : Shown) (epochs : List Epoch) (n : ℕ) (outcomes : List Outcome) : Type 0 where
+pub record HavePassed (limit : ℕ) (before : ViewState) (epochs : List Epoch) (n : ℕ) (outcomes : List Outcome) : Type 0 where
   pub outcomes_are : AreOutcomes limit before epochs outcomes
   pub whole : Pairs IsWhole (take n epochs) outcomes
 
 -- as many as there are outcomes
-passed_long : (limit : ℕ) (before : Shown) (epochs : List Epoch) (n : ℕ) (outcomes : List Outcome) → n < length epochs → HavePassed limit before epochs n outcomes → length outcomes ≡ n
+passed_long : (limit : ℕ) (before : ViewState) (epochs : List Epoch) (n : ℕ) (outcomes : List Outcome) → n < length epochs → HavePassed limit before epochs n outcomes → length outcomes ≡ n
 passed_long limit before epochs n outcomes less passed =
     sym (pairs_long IsWhole (take n epochs) outcomes passed.whole) ∙ length-take-le n epochs (omega arith)
 
 -- the next of them
-next_epoch : (limit : ℕ) (before : Shown) (epochs : List Epoch) (n : ℕ) (outcomes : List Outcome) (epoch : Epoch) → n < length epochs → epoch ≡ get_or epochs n epoch → HavePassed limit before epochs n outcomes → slice_get epochs (length outcomes) ≡ Some epoch
+next_epoch : (limit : ℕ) (before : ViewState) (epochs : List Epoch) (n : ℕ) (outcomes : List Outcome) (epoch : Epoch) → n < length epochs → epoch ≡ get_or epochs n epoch → HavePassed limit before epochs n outcomes → slice_get epochs (length outcomes) ≡ Some epoch
 next_epoch limit before epochs n outcomes epoch less is passed =
     ap (slice_get epochs) (passed_long limit before epochs n outcomes less passed) ∙ slice_get_read epochs (length epochs) n epoch refl less is
 
 -- the next has passed too, whole or not
-pub one_more : (limit : ℕ) (before : Shown) (epochs : List Epoch) (n : ℕ) (outcomes more : List Outcome) (epoch : Epoch) (whole : Bool) → n < length epochs → epoch ≡ get_or epochs n epoch → HavePassed limit before epochs n outcomes
+pub one_more : (limit : ℕ) (before : ViewState) (epochs : List Epoch) (n : ℕ) (outcomes more : List Outcome) (epoch : Epoch) (whole : Bool) → n < length epochs → epoch ≡ get_or epochs n epoch → HavePassed limit before epochs n outcomes
     → IsOneMore limit before epoch outcomes more whole → AreOutcomes limit before epochs more
 one_more limit before epochs n outcomes more epoch whole less is passed one =
     subst (AreOutcomes limit before epochs) (sym one.more_is)
     (outcome_more limit before epochs outcomes epoch one.outcome (next_epoch limit before epochs n outcomes epoch less is passed) passed.outcomes_are one.is)
 
-pub passed_more : (limit : ℕ) (before : Shown) (epochs : List Epoch) (n : ℕ) (outcomes more : List Outcome) (epoch : Epoch) → n < length epochs → epoch ≡ get_or epochs n epoch → HavePassed limit before epochs n outcomes
+pub passed_more : (limit : ℕ) (before : ViewState) (epochs : List Epoch) (n : ℕ) (outcomes more : List Outcome) (epoch : Epoch) → n < length epochs → epoch ≡ get_or epochs n epoch → HavePassed limit before epochs n outcomes
     → IsOneMore limit before epoch outcomes more true → HavePassed limit before epochs (n + 1) more
 passed_more limit before epochs n outcomes more epoch less is passed one =
     let longer : take (n + 1) epochs ≡ take n epochs ++ epoch ∷ [] = take_more epochs n epoch less ∙ ap (λ (e : Epoch). take n epochs ++ e ∷ []) (sym is) in
@@ -95,12 +95,12 @@ passed_more limit before epochs n outcomes more epoch less is passed one =
     }
 
 -- all have passed
-pub all_passed : (limit : ℕ) (before : Shown) (epochs : List Epoch) (n : ℕ) (outcomes : List Outcome) → length epochs ≤ n → HavePassed limit before epochs n outcomes → Pairs IsWhole epochs outcomes
+pub all_passed : (limit : ℕ) (before : ViewState) (epochs : List Epoch) (n : ℕ) (outcomes : List Outcome) → length epochs ≤ n → HavePassed limit before epochs n outcomes → Pairs IsWhole epochs outcomes
 all_passed limit before epochs n outcomes le passed =
     subst (λ (es : List Epoch). Pairs IsWhole es outcomes) (take_all n epochs le) passed.whole
 
 -- the next is refused
-pub refused_next : (limit : ℕ) (before : Shown) (epochs : List Epoch) (n : ℕ) (outcomes more : List Outcome) (epoch : Epoch) (refusal : Refusal) → n < length epochs → epoch ≡ get_or epochs n epoch → HavePassed limit before epochs n outcomes
+pub refused_next : (limit : ℕ) (before : ViewState) (epochs : List Epoch) (n : ℕ) (outcomes more : List Outcome) (epoch : Epoch) (refusal : Refusal) → n < length epochs → epoch ≡ get_or epochs n epoch → HavePassed limit before epochs n outcomes
     → more ≡ outcomes → (refusal ≢ NoMemory → next_start epoch.dropped.items epoch.created.items (tables_left before outcomes) ≡ Err refusal) → IsEnd before epochs more (Some refusal)
 refused_next limit before epochs n outcomes more epoch refusal less is passed same refused known = record {
   epoch = epoch;
@@ -109,7 +109,7 @@ refused_next limit before epochs n outcomes more epoch refusal less is passed sa
 }
 
 -- what the last left
-pub last_left : (before : Shown) (outcomes : List Outcome) (outcome : Outcome) → Some outcome ≡ slice_get outcomes (length outcomes - 1) → newest_tables outcome.engine.core ≡ tables_left before outcomes
+pub last_left : (before : ViewState) (outcomes : List Outcome) (outcome : Outcome) → Some outcome ≡ slice_get outcomes (length outcomes - 1) → newest_tables outcome.engine.core ≡ tables_left before outcomes
 last_left before [] outcome e = cc
 last_left before (o ∷ []) outcome e = let same : outcome ≡ o = cc in ap (λ (x : Outcome). newest_tables x.engine.core) same
 last_left before (o ∷ (p ∷ rest)) outcome e =

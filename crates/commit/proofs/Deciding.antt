@@ -8,8 +8,8 @@ use Rattle.table.specs.Rows.{Layout}
 use Rattle.assertion.specs.declared.assertions.Assertion.{Assertion}
 use Rattle.assertion.specs.Meaning.{State, least_bad_of}
 use Rattle.alone.specs.Checks.{refusal_at, violation}
-use Rattle.serial.specs.declared.records.Record.{Record}
-use Rattle.serial.specs.Answer.{IsAnswer, Number}
+use Rattle.alone.specs.declared.records.Record.{Record}
+use Rattle.alone.specs.Answer.{IsAnswer, Number}
 use Rattle.txn.specs.Transactions.{OpenTransaction, outcome_of}
 use Rattle.commit.specs.declared.decisions.Decision.{Decision}
 use Rattle.commit.specs.declared.decisions.Decision.TheVariants.{Accepted, Refused}

@@ -2,12 +2,12 @@
 use Rattle.std.proofs.Common.{◌≡◌, ◌∙◌, ◌<◌, ℕ, List, [], length, Option, Some, None, sym, ap, subst, refl, arith}
 use Rattle.std.specs.Prelude.{◌≤◌}
 use Rattle.std.proofs.lemmas.List.Elements.{All-nil}
-use Rattle.siread.specs.Locks.{Reads, reaching}
-use Rattle.answer.specs.declared.answers.RefusedCommit.{RefusedCommit}
+use Rattle.siread.specs.Locks.{Reads, reads_above}
+use Rattle.alone.specs.declared.answers.RefusedCommit.{RefusedCommit}
 use Rattle.alone.specs.Alone.{IsSound}
-use Rattle.delta.specs.Views.{Shown}
-use Rattle.live.specs.declared.snapshots.LiveSnapshot.{LiveSnapshot}
-use Rattle.live.specs.Live.{AreBelow, LiveState, least_writing, none_live, without}
+use Rattle.delta.specs.Views.{ViewState}
+use Rattle.conflict.specs.declared.open_snapshots.LiveSnapshot.{LiveSnapshot}
+use Rattle.conflict.specs.Live.{AreBelow, LiveState, least_writing, none_live, without}
 use Rattle.commit.specs.declared.prepared.Prepared.{Prepared}
 use Rattle.commit.specs.Cores.{CoreState, reads_kept}
 use Rattle.commit.specs.Kept.{IsCore, IsKept, idle_core, pending_of}
@@ -25,7 +25,7 @@ is_idle core now prepared view idle = none_pending prepared (ap (λ (s : CoreSta
 pub idle_view : (core now : CoreState) (prepared : Option Prepared) → record core { prepared = pending_of prepared } ≡ now → now.prepared ≡ None → record core { prepared = None } ≡ now
 idle_view core now prepared view idle = ap (λ (s : CoreState). record s { prepared = None }) view ∙ (λ i. record now { prepared = sym idle i })
 
-module _ (core : CoreState) (newest : Shown) (places reaches order : List ℕ) (locks : Reads) (Room : Type 0) where
+module _ (core : CoreState) (newest : ViewState) (places reaches order : List ℕ) (locks : Reads) (Room : Type 0) where
   -- where nothing is prepared, the readers are those of the commits
   pub kept_idle : (prepared : Option Prepared) → prepared ≡ None → IsCore core newest places reaches order → locks ≡ reads_kept core → IsKept core newest places reaches order locks prepared Room
   kept_idle None e h g = (h, tt, g, tt)
@@ -54,21 +54,21 @@ module _ (core : CoreState) (newest : Shown) (places reaches order : List ℕ) (
   }
 
 -- the same of what is equal
-pub same_core : (core core' : CoreState) (newest newest' : Shown) (places places' reaches reaches' order order' : List ℕ)
+pub same_core : (core core' : CoreState) (newest newest' : ViewState) (places places' reaches reaches' order order' : List ℕ)
     → core ≡ core' → newest ≡ newest' → places ≡ places' → reaches ≡ reaches' → order ≡ order'
     → IsCore core newest places reaches order → IsCore core' newest' places' reaches' order'
 same_core core core' newest newest' places places' reaches reaches' order order' a b c d e h =
     subst (λ (X : Type 0). X) (λ i. IsCore (a i) (b i) (c i) (d i) (e i)) h
 
 -- what is kept as a transaction has ended: of the readers, those that an open one may still ask for
-pub kept_left : (core : CoreState) (newest : Shown) (places reaches order : List ℕ) (locks : Reads) (Room Room' : Type 0) (prepared : Option Prepared)
+pub kept_left : (core : CoreState) (newest : ViewState) (places reaches order : List ℕ) (locks : Reads) (Room Room' : Type 0) (prepared : Option Prepared)
     (ticket : ℕ) (live : LiveState) (refused : List RefusedCommit) (count : ℕ) (after : Reads)
     → prepared ≡ None → live ≡ without ticket core.live → count ≡ length core.records
-    → after ≡ reaching (least_writing count live.snapshots) reaches locks → IsKept core newest places reaches order locks prepared Room
+    → after ≡ reads_above (least_writing count live.snapshots) reaches locks → IsKept core newest places reaches order locks prepared Room
     → IsKept (record core { live = live; refused = refused }) newest places reaches order after prepared Room'
 kept_left core newest places reaches order locks Room Room' prepared ticket live refused count after idle e same f kept =
     let left : after ≡ reads_kept (record core { live = live; refused = refused }) =
-    f ∙ (λ i. reaching (least_writing (same i) (e i).snapshots) (kept.0.reaches_are i) (locks_idle core newest places reaches order locks Room prepared idle kept i))
+    f ∙ (λ i. reads_above (least_writing (same i) (e i).snapshots) (kept.0.reaches_are i) (locks_idle core newest places reaches order locks Room prepared idle kept i))
     ∙ kept_ended core.live core.records ticket ∙ (λ i. reads_kept (record core { live = sym e i; refused = refused })) in
     kept_idle (record core { live = live; refused = refused }) newest places reaches order after Room' prepared idle
     (same_commits core newest places reaches order locks Room live refused
@@ -76,7 +76,7 @@ kept_left core newest places reaches order locks Room Room' prepared ticket live
     left
 
 -- before the first commit
-pub empty_kept : (limit : ℕ) (loaded : Shown) → IsSound loaded.declared loaded.state → limit ≤ 4294967295 → IsCore (idle_core limit loaded [] [] none_live) loaded [] [] []
+pub empty_kept : (limit : ℕ) (loaded : ViewState) → IsSound loaded.declared loaded.state → limit ≤ 4294967295 → IsCore (idle_core limit loaded [] [] none_live) loaded [] [] []
 empty_kept limit loaded sound within = record {
   epoch = record { admitted = sound; accepted = tt; history = tt };
   newest_is = refl;

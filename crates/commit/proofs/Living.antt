@@ -1,6 +1,6 @@
 -- Open transactions live on as others begin, are committed, and end.
 use Rattle.std.proofs.Common.{◌≡◌, ◌<◌, Bool, ℕ, zero, suc, true, false, cond, List, [], ◌∷◌, ◌++◌, Option, Some, None, Result, Ok, Err, length, reverse, inl, inr, refl, sym, ap, ◌∙◌, subst, arith}
-use Rattle.std.specs.Prelude.{◌⊎◌, slice_get, slice_set, OnOk, OnErr, IfOk, IsOkUnless}
+use Rattle.std.specs.Prelude.{◌⊎◌, slice_get, slice_set, OnOk, OnErr, IfOk}
 use Rattle.std.proofs.lemmas.Bool.{cases_eq}
 use Rattle.std.proofs.lemmas.List.{length-append}
 use Rattle.value.specs.Ordered.{HoldsOf}
@@ -9,16 +9,16 @@ use Rattle.value.specs.declared.refusals.Refusal.TheVariants.{NoMemory}
 use Rattle.syntax.specs.declared.statements.Step.{Step}
 use Rattle.syntax.specs.declared.statements.Event.{Event}
 use Rattle.syntax.specs.declared.statements.Event.TheVariants.{Begin, BeginReadOnly, Commit, Rollback, Run}
-use Rattle.answer.specs.declared.answers.Answer.{Answer}
-use Rattle.answer.specs.declared.answers.Answer.TheVariants.{Begun, Committed, Refused, Replied, RolledBack}
-use Rattle.live.specs.Live.{AreBelow}
-use Rattle.serial.specs.Epoch.{newest, state_of}
-use Rattle.serial.proofs.Replays.{held_same}
-use Rattle.serial.specs.declared.records.Record.{Record}
+use Rattle.alone.specs.declared.answers.Answer.{Answer}
+use Rattle.alone.specs.declared.answers.Answer.TheVariants.{Begun, Committed, Refused, Replied, RolledBack}
+use Rattle.conflict.specs.Live.{AreBelow}
+use Rattle.alone.specs.Epoch.{newest, state_of}
+use Rattle.alone.proofs.Replays.{held_same}
+use Rattle.alone.specs.declared.records.Record.{Record}
 use Rattle.txn.specs.Transactions.{OpenTransaction}
 use Rattle.commit.specs.declared.seats.Seat.{Seat}
-use Rattle.commit.specs.Cores.{CoreState, IsLive, committed, ended, log_of, record_of, refused_to, with_begun}
-use Rattle.commit.specs.Runs.{all_seated, free_seat, seated, unless_seated}
+use Rattle.commit.specs.Cores.{CoreState, IsLive, core_after_commit, core_after_end, log_of, record_of, refused_to, with_begun}
+use Rattle.commit.specs.Runs.{seats_with_all, free_seat, seats_with, unless_seated}
 use Rattle.commit.specs.Events.{AreLive, EngineState, IsAnswered, IsAnsweredAt, IsReply, after, after_at, core_after, decided_core, found_no_memory, seat_of, seats_set, as_answer, takes_memory, takes_memory_at, txn_after, txn_of}
 use Rattle.commit.proofs.Recording.{log_with}
 use Rattle.commit.proofs.Tickets.{fewer, held_more, held_other, one_more, ticket_below}
@@ -31,7 +31,7 @@ live_begun c read_only other l = record {
   start_is = l.start_is;
 }
 
-live_ended : (c : CoreState) (t other : OpenTransaction) → (other.ticket ≡ t.ticket → ⊥) → IsLive c other → IsLive (ended c t) other
+live_ended : (c : CoreState) (t other : OpenTransaction) → (other.ticket ≡ t.ticket → ⊥) → IsLive c other → IsLive (core_after_end c t) other
 live_ended c t other apart l = record {
   held = held_other c.live t.ticket (record { ticket = other.ticket; snapshot = other.snapshot; read_only = other.read_only }) apart l.held;
   declared_is = l.declared_is;
@@ -46,7 +46,7 @@ tables_stay c commit snapshot later =
     ap (newest c.declared c.start) (sym (held_same snapshot commit (log_of c) later))
     ∙ ap (λ log. state_of c.declared c.start log snapshot) (sym (log_with c.records commit))
 
-live_committed : (c : CoreState) (session : List ℕ) (t other : OpenTransaction) → (other.ticket ≡ t.ticket → ⊥) → IsLive c other → IsLive (committed c session t) other
+live_committed : (c : CoreState) (session : List ℕ) (t other : OpenTransaction) → (other.ticket ≡ t.ticket → ⊥) → IsLive c other → IsLive (core_after_commit c session t) other
 live_committed c session t other apart l = record {
   held = held_other c.live t.ticket (record { ticket = other.ticket; snapshot = other.snapshot; read_only = other.read_only }) apart l.held;
   declared_is = l.declared_is;
@@ -223,7 +223,7 @@ module _ (now : EngineState) (step : Step) (place : ℕ) (seat : Seat) (core : C
           idle = ap (λ (c : CoreState). c.prepared) e ∙ idle_after now.core step.session step.event seat.txn answer live.idle;
         }
 
-    pub all_live : (answered : Result Answer Refusal) → IfOk answered (λ answer. core ≡ core_after now.core step.session step.event seat.txn answer)
+    pub all_live : {E : Type 0} (answered : Result Answer E) → IfOk answered (λ answer. core ≡ core_after now.core step.session step.event seat.txn answer)
         → OnOk answered (left ≡ record seat { txn = txn_after now.core step.event seat.txn })
         → OnErr answered ((core ≡ now.core) × (left ≡ seat)) → slice_set now.seats place seat ≡ now.seats
         → HoldsOf (IsLive core) left.txn → AreLive core (slice_set now.seats place left)
@@ -232,29 +232,28 @@ module _ (now : EngineState) (step : Step) (place : ℕ) (seat : Seat) (core : C
         subst (λ c. AreLive c (slice_set now.seats place left)) (sym g.0) (subst (AreLive now.core) (sym (ap (slice_set now.seats place) g.1 ∙ unchanged)) live)
 
   module _ (seated : seat_of now.seats step.session ≡ Some place) (there : slice_get now.seats place ≡ Some seat) where
-    pub is_answered : (answered : Result Answer Refusal) → IsOkUnless answered NoMemory → OnErr answered (takes_memory step.event seat.txn ≡ true)
+    pub is_answered : {E : Type 0} (answered : Result Answer E) → OnErr answered (takes_memory step.event seat.txn ≡ true)
         → IfOk answered (IsReply now.core step.session step.event seat.txn) → IsAnswered now step (as_answer answered)
-    is_answered (Ok answer) only takes reply =
+    is_answered (Ok answer) takes reply =
         inr (subst (λ p. IsAnsweredAt now step.session step.event p answer) (sym seated) (subst (λ s. IsReply now.core step.session step.event (txn_of s) answer) (sym there) reply))
-    is_answered (Err refusal) only takes reply = inl (record {
+    is_answered (Err error) takes reply = inl (record {
       takes = ap (takes_memory_at now step.event) seated ∙ ap (λ s. takes_memory step.event (txn_of s)) there ∙ takes;
-      is = ap Refused only;
+      is = refl;
     })
 
-    pub is_after : (answered : Result Answer Refusal) → IsOkUnless answered NoMemory → IfOk answered (λ answer. found_no_memory answer ≡ false)
+    pub is_after : {E : Type 0} (answered : Result Answer E) → IfOk answered (λ answer. found_no_memory answer ≡ false)
         → IfOk answered (λ answer. core ≡ core_after now.core step.session step.event seat.txn answer)
         → OnOk answered (left ≡ record seat { txn = txn_after now.core step.event seat.txn })
         → OnErr answered ((core ≡ now.core) × (left ≡ seat))
         → slice_set now.seats place seat ≡ now.seats
         → record { core = core; seats = slice_set now.seats place left } ≡ after now step (as_answer answered)
-    is_after (Ok answer) only known commits seats same unchanged =
+    is_after (Ok answer) known commits seats same unchanged =
         (λ i. record { core = commits i; seats = slice_set now.seats place (seats i) })
         ∙ ap (λ s. record { core = core_after now.core step.session step.event (txn_of s) answer; seats = seats_set now.seats place (txn_after now.core step.event (txn_of s)) s }) (sym there)
         ∙ ap (λ p. after_at now step.session step.event p answer) (sym seated)
         ∙ ap (λ b. cond b now (after_at now step.session step.event (seat_of now.seats step.session) answer)) (sym known)
-    is_after (Err refusal) only known commits seats same unchanged =
-        (λ i. record { core = same.0 i; seats = (ap (slice_set now.seats place) same.1 ∙ unchanged) i })
-        ∙ ap (λ r. after now step (Refused r)) (sym only)
+    is_after (Err error) known commits seats same unchanged =
+        λ i. record { core = same.0 i; seats = (ap (slice_set now.seats place) same.1 ∙ unchanged) i }
 
 -- where no transaction is open, all are
 abbrev AreFree : List Seat → Type 0
@@ -270,11 +269,11 @@ seated_free : (seats : List Seat) (session : List ℕ) (place : Option ℕ) → 
 seated_free seats session None free = one_seated seats session free
 seated_free seats session (Some place) free = free
 
-pub all_free : (seats : List Seat) (steps : List Step) → AreFree seats → AreFree (all_seated seats steps)
+pub all_free : (seats : List Seat) (steps : List Step) → AreFree seats → AreFree (seats_with_all seats steps)
 all_free seats [] free = free
-all_free seats (step ∷ rest) free = all_free (seated seats step.session) rest (seated_free seats step.session (seat_of seats step.session) free)
+all_free seats (step ∷ rest) free = all_free (seats_with seats step.session) rest (seated_free seats step.session (seat_of seats step.session) free)
 
-pub all_seated_live : (core : CoreState) (steps : List Step) → AreBelow core.live.begun core.live.snapshots → core.prepared ≡ None → AreLive core (all_seated [] steps)
+pub all_seated_live : (core : CoreState) (steps : List Step) → AreBelow core.live.begun core.live.snapshots → core.prepared ≡ None → AreLive core (seats_with_all [] steps)
 all_seated_live core steps below idle =
     let free = all_free [] steps (λ place. refl) in record {
       each = λ place t h. let e = free place in let no : ⊥ = cc in absurd no;
@@ -301,11 +300,11 @@ unless_live core seats session None live = record {
 }
 
 -- nor does a seat for a session
-seated_live : (core : CoreState) (seats : List Seat) (session : List ℕ) → AreLive core seats → AreLive core (seated seats session)
+seated_live : (core : CoreState) (seats : List Seat) (session : List ℕ) → AreLive core seats → AreLive core (seats_with seats session)
 seated_live core seats session live = unless_live core seats session (seat_of seats session) live
 
 -- and where there was no memory for it, there are the seats of before
-pub live_with_seat : {A : Type 0} (core : CoreState) (old new : List Seat) (session : List ℕ) (result : Result A Refusal)
-    → OnOk result (new ≡ seated old session) → OnErr result (new ≡ old) → AreLive core old → AreLive core new
+pub live_with_seat : {A E : Type 0} (core : CoreState) (old new : List Seat) (session : List ℕ) (result : Result A E)
+    → OnOk result (new ≡ seats_with old session) → OnErr result (new ≡ old) → AreLive core old → AreLive core new
 live_with_seat core old new session (Ok made) more same live = subst (AreLive core) (sym more) (seated_live core old session live)
 live_with_seat core old new session (Err refusal) more same live = subst (AreLive core) (sym same) live

@@ -1,12 +1,12 @@
 -- Who read what, as transactions begin, are committed, and end.
 use Rattle.std.proofs.Common.{◌≡◌, Bool, false, ℕ, ◌+◌, ◌<◌, List, [], ◌∷◌, ◌++◌, length, map, reverse, ap, arith}
 use Rattle.std.proofs.lemmas.List.{length-append}
-use Rattle.siread.specs.Locks.{Reads, reaching, with_reader}
-use Rattle.live.specs.Live.{LiveState, is_other, least_writing, with_begin, without}
-use Rattle.live.proofs.Least.{least_begun, least_grows, least_up_to}
+use Rattle.siread.specs.Locks.{Reads, reads_above, with_reader}
+use Rattle.conflict.specs.Live.{LiveState, is_other, least_writing, with_begin, without}
+use Rattle.conflict.proofs.Least.{least_begun, least_grows, least_up_to}
 use Rattle.alone.proofs.Lists.{Each}
-use Rattle.serial.specs.declared.records.Record.{Record}
-use Rattle.serial.specs.Commits.{reach}
+use Rattle.alone.specs.declared.records.Record.{Record}
+use Rattle.alone.specs.Commits.{reach}
 use Rattle.conflict.specs.Readers.{HasReaders, reads_of}
 use Rattle.conflict.proofs.Readers.{reaching_more, reaching_twice}
 use Rattle.txn.specs.Transactions.{OpenTransaction}
@@ -26,21 +26,21 @@ module _ (live : LiveState) (commits : List Record) where
   far = map reach commits
 
   -- as a transaction begins, none may go
-  pub kept_begun : (read_only : Bool) → reaching (least_writing (length commits) (with_begin (length commits) read_only live).snapshots) far (reads_of commits)
-      ≡ reaching (least_writing (length commits) live.snapshots) far (reads_of commits)
-  kept_begun read_only = ap (λ low. reaching low far (reads_of commits)) (least_begun (length commits) live.begun read_only live.snapshots)
+  pub kept_begun : (read_only : Bool) → reads_above (least_writing (length commits) (with_begin (length commits) read_only live).snapshots) far (reads_of commits)
+      ≡ reads_above (least_writing (length commits) live.snapshots) far (reads_of commits)
+  kept_begun read_only = ap (λ low. reads_above low far (reads_of commits)) (least_begun (length commits) live.begun read_only live.snapshots)
 
   -- as one ends, some may
   pub kept_ended : (ticket : ℕ)
-      → reaching (least_writing (length commits) (without ticket live).snapshots) far (reaching (least_writing (length commits) live.snapshots) far (reads_of commits))
-      ≡ reaching (least_writing (length commits) (without ticket live).snapshots) far (reads_of commits)
+      → reads_above (least_writing (length commits) (without ticket live).snapshots) far (reads_above (least_writing (length commits) live.snapshots) far (reads_of commits))
+      ≡ reads_above (least_writing (length commits) (without ticket live).snapshots) far (reads_of commits)
   kept_ended ticket = reaching_twice _ _ far (least_grows (length commits) (length commits) (is_other ticket) live.snapshots (omega arith)) (reads_of commits)
 
   -- and as one is committed
   pub kept_committed : (ticket : ℕ) (c : Record) → Each (λ (w : Record). w.number < length commits + 1) (reverse commits)
-      → reaching (least_writing (length (commits ++ c ∷ [])) (without ticket live).snapshots) (map reach (commits ++ c ∷ []))
-      (with_reader c.number c.reads (reaching (least_writing (length commits) live.snapshots) far (reads_of commits)))
-      ≡ reaching (least_writing (length (commits ++ c ∷ [])) (without ticket live).snapshots) (map reach (commits ++ c ∷ [])) (reads_of (commits ++ c ∷ []))
+      → reads_above (least_writing (length (commits ++ c ∷ [])) (without ticket live).snapshots) (map reach (commits ++ c ∷ []))
+      (with_reader c.number c.reads (reads_above (least_writing (length commits) live.snapshots) far (reads_of commits)))
+      ≡ reads_above (least_writing (length (commits ++ c ∷ [])) (without ticket live).snapshots) (map reach (commits ++ c ∷ [])) (reads_of (commits ++ c ∷ []))
   kept_committed ticket c below =
       reaching_more _ _ commits c
       (least_grows (length commits) (length (commits ++ c ∷ [])) (is_other ticket) live.snapshots (let long = length-append commits (c ∷ []) in omega arith)) below

@@ -8,14 +8,14 @@ use Rattle.alone.specs.Alone.{Outcome, run_on, transaction, transaction_keys}
 use Rattle.alone.specs.States.{net_change}
 use Rattle.alone.proofs.KeyLists.{among_from}
 use Rattle.alone.proofs.Lists.{Each, each_weaker}
-use Rattle.serial.specs.declared.records.Record.{Record}
-use Rattle.serial.specs.Answer.{IsAnswer, Number}
-use Rattle.serial.specs.Commits.{IsLog}
-use Rattle.serial.specs.Epoch.{IsEpoch, keys_of, newest, run_of, state_of}
-use Rattle.serial.specs.Replay.{IsRecorded}
-use Rattle.serial.proofs.Ranks.{numbers_below}
-use Rattle.serial.proofs.Replays.{held_all}
-use Rattle.txn.specs.Transactions.{OpenTransaction, begun, keys_of as all_read, outcome_of}
+use Rattle.alone.specs.declared.records.Record.{Record}
+use Rattle.alone.specs.Answer.{IsAnswer, Number}
+use Rattle.alone.specs.Commits.{IsLog}
+use Rattle.alone.specs.Epoch.{IsEpoch, keys_of, newest, run_of, state_of}
+use Rattle.alone.specs.Replay.{IsRecorded}
+use Rattle.alone.proofs.Ranks.{numbers_below}
+use Rattle.alone.proofs.Replays.{held_all}
+use Rattle.txn.specs.Transactions.{OpenTransaction, transaction_at_begin, keys_of as all_read, outcome_of}
 use Rattle.commit.specs.Cores.{CoreState, IsLive, log_of, newest_tables, record_of, with_begun}
 use Rattle.commit.proofs.Tickets.{held_last}
 
@@ -33,7 +33,7 @@ module _ (now : CoreState) (accepted : IsLog (log_of now)) where
   newest_at = ap (newest now.declared now.start) (held_all (length now.records) (log_of now) (each_weaker (λ w. w.number < length now.records + 1) (λ w. w.number ≤ length now.records) (λ w l. omega arith) (log_of now) below))
 
   -- a transaction that begins
-  pub begin_live : (read_only : Bool) → IsLive (with_begun read_only now) (begun now.live.begun (length now.records) read_only (newest_tables now))
+  pub begin_live : (read_only : Bool) → IsLive (with_begun read_only now) (transaction_at_begin now.live.begun (length now.records) read_only (newest_tables now))
   begin_live read_only = record {
     held = held_last now.live (length now.records) read_only;
     declared_is = λ i. now.declared;

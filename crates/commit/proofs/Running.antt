@@ -14,17 +14,17 @@ use Rattle.syntax.specs.declared.statements.Statement.{Statement}
 use Rattle.syntax.specs.declared.statements.Step.{Step}
 use Rattle.syntax.specs.declared.statements.Event.{Event}
 use Rattle.syntax.specs.declared.statements.Event.TheVariants.{Begin, BeginReadOnly, Commit, Rollback, Run}
-use Rattle.answer.specs.declared.answers.Answer.{Answer}
-use Rattle.answer.specs.declared.answers.Answer.TheVariants.{Begun, Committed, Refused, Replied, RolledBack}
+use Rattle.alone.specs.declared.answers.Answer.{Answer}
+use Rattle.alone.specs.declared.answers.Answer.TheVariants.{Begun, Committed, Refused, Replied, RolledBack}
 use Rattle.alone.specs.Alone.{IsSound}
-use Rattle.alone.specs.Resolve.{is_read_only, resolved}
+use Rattle.alone.specs.Resolve.{is_read_only, resolution_of}
 use Rattle.alone.proofs.ReadOnly.{changes_nothing, one_more, resolved_reads}
-use Rattle.delta.specs.Views.{Shown}
-use Rattle.live.specs.declared.snapshots.LiveSnapshot.{LiveSnapshot}
-use Rattle.serial.specs.Epoch.{IsEpoch}
+use Rattle.delta.specs.Views.{ViewState}
+use Rattle.conflict.specs.declared.open_snapshots.LiveSnapshot.{LiveSnapshot}
+use Rattle.alone.specs.Epoch.{IsEpoch}
 use Rattle.txn.specs.Transactions.{OpenTransaction, outcome_of, with_statement}
 use Rattle.commit.specs.declared.seats.Seat.{Seat}
-use Rattle.commit.specs.Cores.{CoreState, IsCommitAnswer, IsLive, committed, log_of, record_of}
+use Rattle.commit.specs.Cores.{CoreState, IsCommitAnswer, IsLive, core_after_commit, log_of, record_of}
 use Rattle.commit.specs.Events.{AreLive, EngineState, IsAnswered, IsAnsweredAt, IsReply, IsCommitted, after, after_at, commit_answer, core_after, decided_core, found_no_memory, seat_of, seats_set, txn_after, txn_of, txn_with}
 use Rattle.commit.specs.Runs.{beginning, empty_core, free_seat, led_to}
 use Rattle.commit.proofs.Deciding.{Passed, passed}
@@ -62,7 +62,7 @@ pub accepts : (core : CoreState) (session : List ℕ) (t : OpenTransaction) (num
     → Passed core (record_of core session t) (outcome_of t).refused (length core.records == core.limit) number
 accepts core session t number h = accepted_by core session t number h.result h.decided h.is
 
-epoch_committed : (core : CoreState) (session : List ℕ) (t : OpenTransaction) (number : ℕ) → AreEpoch core → IsLive core t → ReadsOnly t → IsCommitted core session t (Committed number) → AreEpoch (committed core session t)
+epoch_committed : (core : CoreState) (session : List ℕ) (t : OpenTransaction) (number : ℕ) → AreEpoch core → IsLive core t → ReadsOnly t → IsCommitted core session t (Committed number) → AreEpoch (core_after_commit core session t)
 epoch_committed core session t number h live reads answered =
     let p = accepts core session t number answered in
     let same : number ≡ length core.records + 1 = p.answer.0 in
@@ -109,10 +109,10 @@ own_live core session Rollback None answer h live = tt
 own_live core session Rollback (Some t) answer h live = tt
 
 -- nor does it run one
-reads_only_with : (t : OpenTransaction) (statement : Statement) → ReadsOnly t → ReadsOnly (with_statement t (resolved t.declared t.read_only statement))
+reads_only_with : (t : OpenTransaction) (statement : Statement) → ReadsOnly t → ReadsOnly (with_statement t (resolution_of t.declared t.read_only statement))
 reads_only_with t statement reads only =
-    one_more t.trace (resolved t.declared t.read_only statement) (reads only)
-    (subst (λ b. is_read_only (resolved t.declared b statement) ≡ true) (sym only) (resolved_reads t.declared statement))
+    one_more t.trace (resolution_of t.declared t.read_only statement) (reads only)
+    (subst (λ b. is_read_only (resolution_of t.declared b statement) ≡ true) (sym only) (resolved_reads t.declared statement))
 
 own_reads_only : (core : CoreState) (event : Event) (txn : Option OpenTransaction) → HoldsOf ReadsOnly txn → HoldsOf ReadsOnly (txn_after core event txn)
 own_reads_only core Begin None reads = λ no. refl
@@ -182,7 +182,7 @@ module _ (now : EngineState) (step : Step) (answer : Answer) where
       go false e (inr at) = running_at (seat_of now.seats step.session) refl h at
 
 -- before the first event
-pub running_first : (limit : ℕ) (loaded : Shown) (all : List Step) → IsSound loaded.declared loaded.state → IsRunning (beginning limit loaded all)
+pub running_first : (limit : ℕ) (loaded : ViewState) (all : List Step) → IsSound loaded.declared loaded.state → IsRunning (beginning limit loaded all)
 running_first limit loaded all sound = record {
   commits = record { epoch = record { admitted = sound; accepted = tt; history = tt }; within = omega arith };
   live = all_seated_live (empty_core limit loaded) all (All-nil (λ (one : LiveSnapshot). one.ticket < 0)) refl;
@@ -191,7 +191,7 @@ running_first limit loaded all sound = record {
 
 -- ---- what was loaded stays
 
-abbrev pub loaded_of : CoreState → Shown
+abbrev pub loaded_of : CoreState → ViewState
 loaded_of core = record { declared = core.declared; state = core.start }
 
 loaded_decided : (core : CoreState) (session : List ℕ) (t : OpenTransaction) (answer : Answer) → loaded_of (decided_core core session t answer) ≡ loaded_of core

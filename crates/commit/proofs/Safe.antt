@@ -14,16 +14,16 @@ use Rattle.assertion.specs.declared.assertions.Assertion.{Assertion}
 use Rattle.assertion.specs.Meaning.{State, least_bad_of}
 use Rattle.assertion.specs.Declarations.{layouts_in}
 use Rattle.alone.specs.Checks.{refusal_at, violation}
-use Rattle.live.specs.declared.snapshots.LiveSnapshot.{LiveSnapshot}
-use Rattle.live.specs.Live.{is_other, writers_hold}
-use Rattle.serial.specs.declared.records.Record.{Record}
-use Rattle.serial.specs.Commits.{IsLog}
-use Rattle.serial.specs.Answer.{IsAnswer, Dangerous as Triple}
-use Rattle.serial.specs.Safe.{IsSafe}
-use Rattle.serial.proofs.Safe.{in_no_triple, stays_safe}
+use Rattle.conflict.specs.declared.open_snapshots.LiveSnapshot.{LiveSnapshot}
+use Rattle.conflict.specs.Live.{is_other, writers_hold}
+use Rattle.alone.specs.declared.records.Record.{Record}
+use Rattle.alone.specs.Commits.{IsLog}
+use Rattle.alone.specs.Answer.{IsAnswer, Dangerous as Triple}
+use Rattle.alone.specs.Safe.{IsSafe}
+use Rattle.alone.proofs.Safe.{in_no_triple, stays_safe}
 use Rattle.siread.proofs.Members.{in_cases, in_head, in_tail, not_in_nil}
 use Rattle.txn.specs.Transactions.{OpenTransaction, outcome_of, standing_of}
-use Rattle.commit.specs.Cores.{CoreState, IsCommitAnswer, IsDangerNamed, IsDecided, IsJudged, IsLive, committed, ended, log_of, record_of, refused_to, with_begun}
+use Rattle.commit.specs.Cores.{CoreState, IsCommitAnswer, IsDangerNamed, IsDecided, IsJudged, IsLive, core_after_commit, core_after_end, log_of, record_of, refused_to, with_begun}
 use Rattle.commit.specs.Safe.{IsNotForOthers, IsSafeReader}
 use Rattle.commit.proofs.Recording.{log_with}
 
@@ -123,16 +123,16 @@ module _ (c : CoreState) (t : OpenTransaction) (live : IsLive c t) (safe : IsSaf
     snapshot = safe.snapshot;
   }
 
-  pub safe_ended : (u : OpenTransaction) → IsSafeReader (ended c u) t
+  pub safe_ended : (u : OpenTransaction) → IsSafeReader (core_after_end c u) t
   safe_ended u = record { reads = safe.reads; alone = hold_fewer t.snapshot u.ticket c.live.snapshots safe.alone; snapshot = safe.snapshot }
 
   pub safe_refused : (session : List ℕ) (u : OpenTransaction) (refusal : Refusal) → IsSafeReader (refused_to c session u refusal) t
   safe_refused session u refusal = record { reads = safe.reads; alone = hold_fewer t.snapshot u.ticket c.live.snapshots safe.alone; snapshot = safe.snapshot }
 
-  pub safe_committed : (session : List ℕ) (u : OpenTransaction) → IsLog (log_of (committed c session u)) → IsLive c u → IsSafeReader (committed c session u) t
+  pub safe_committed : (session : List ℕ) (u : OpenTransaction) → IsLog (log_of (core_after_commit c session u)) → IsLive c u → IsSafeReader (core_after_commit c session u) t
   safe_committed session u log other =
       let commit : Record = record_of c session u in
-      let whole : log_of (committed c session u) ≡ commit ∷ log_of c = log_with c.records commit in
+      let whole : log_of (core_after_commit c session u) ≡ commit ∷ log_of c = log_with c.records commit in
       let within = live.within in
       record {
         reads = safe.reads;

@@ -5,24 +5,24 @@ use Rattle.std.proofs.lemmas.List.{length-append}
 use Rattle.syntax.specs.declared.statements.Step.{Step}
 use Rattle.commit.specs.declared.seats.Seat.{Seat}
 use Rattle.commit.specs.Events.{seat_of}
-use Rattle.commit.specs.Runs.{all_seated, free_seat, seated, unless_seated}
+use Rattle.commit.specs.Runs.{seats_with_all, free_seat, seats_with, unless_seated}
 
 -- a session more takes no seat away
 unless_grows : (place : Option ℕ) (seats : List Seat) (session : List ℕ) → length seats ≤ length (unless_seated place seats session)
 unless_grows None seats session = let more = length-append seats (free_seat session ∷ []) in omega (arith, more)
 unless_grows (Some place) seats session = omega arith
 
-pub seats_grow : (seats : List Seat) (steps : List Step) → length seats ≤ length (all_seated seats steps)
+pub seats_grow : (seats : List Seat) (steps : List Step) → length seats ≤ length (seats_with_all seats steps)
 seats_grow seats [] = omega arith
 seats_grow seats (step ∷ rest) =
     let one = unless_grows (seat_of seats step.session) seats step.session in
-    let others = seats_grow (seated seats step.session) rest in
+    let others = seats_grow (seats_with seats step.session) rest in
     omega (arith, one, others)
 
 -- where there are too many seats already, there are too many in the end
-pub too_many : (seats : List Seat) (rest steps : List Step) (most : ℕ) → all_seated seats rest ≡ all_seated [] steps → most < length seats
-    → nat_le (length (all_seated [] steps)) most ≡ false
+pub too_many : (seats : List Seat) (rest steps : List Step) (most : ℕ) → seats_with_all seats rest ≡ seats_with_all [] steps → most < length seats
+    → nat_le (length (seats_with_all [] steps)) most ≡ false
 too_many seats rest steps most same many =
     let grown = seats_grow seats rest in
-    let long : length (all_seated seats rest) ≡ length (all_seated [] steps) = ap length same in
-    lt-leb (length (all_seated [] steps)) most (omega (arith, grown, many, long))
+    let long : length (seats_with_all seats rest) ≡ length (seats_with_all [] steps) = ap length same in
+    lt-leb (length (seats_with_all [] steps)) most (omega (arith, grown, many, long))

@@ -12,21 +12,21 @@ use Rattle.value.specs.declared.refusals.Refusal.{Refusal}
 use Rattle.syntax.specs.declared.statements.Step.{Step}
 use Rattle.syntax.specs.declared.statements.Event.{Event}
 use Rattle.syntax.specs.declared.statements.Event.TheVariants.{Begin, BeginReadOnly, Commit, Rollback, Run}
-use Rattle.answer.specs.declared.answers.Answer.{Answer}
-use Rattle.answer.specs.declared.answers.Answer.TheVariants.{Begun, Committed, Refused, Replied, RolledBack}
-use Rattle.answer.specs.declared.answers.Reply.{Reply}
+use Rattle.alone.specs.declared.answers.Answer.{Answer}
+use Rattle.alone.specs.declared.answers.Answer.TheVariants.{Begun, Committed, Refused, Replied, RolledBack}
+use Rattle.alone.specs.declared.answers.Reply.{Reply}
 use Rattle.siread.proofs.Members.{in_cases, not_in_nil}
-use Rattle.alone.specs.declared.statements.Resolved.{Resolved}
+use Rattle.alone.specs.declared.statements.ResolvedStatement.{ResolvedStatement}
 use Rattle.alone.specs.Alone.{Outcome, IsSound, transaction}
-use Rattle.alone.specs.Resolve.{resolved}
+use Rattle.alone.specs.Resolve.{resolution_of}
 use Rattle.alone.proofs.Lists.{each_at}
-use Rattle.delta.specs.Views.{Shown}
-use Rattle.serial.specs.declared.records.Record.{Record}
-use Rattle.serial.specs.Epoch.{answered}
-use Rattle.serial.proofs.Ranks.{clean}
+use Rattle.delta.specs.Views.{ViewState}
+use Rattle.alone.specs.declared.records.Record.{Record}
+use Rattle.alone.specs.Epoch.{outcome_on_snapshot}
+use Rattle.alone.proofs.Ranks.{clean}
 use Rattle.txn.specs.Transactions.{OpenTransaction, outcome_of, run_of, step_of, with_statement}
 use Rattle.commit.specs.declared.seats.Seat.{Seat}
-use Rattle.commit.specs.Cores.{CoreState, IsLive, committed, log_of, record_of}
+use Rattle.commit.specs.Cores.{CoreState, IsLive, core_after_commit, log_of, record_of}
 use Rattle.commit.specs.Events.{EngineState, IsAnswered, IsAnsweredAt, IsCommitted, IsReply, after, after_at, answer_of, core_after, decided_core, found_no_memory, seat_of, txn_after, txn_of}
 use Rattle.commit.specs.Runs.{AreAnswers, beginning, led_to}
 use Rattle.commit.specs.Told.{Replies, WasTold, WereToldAlone, replies_after, replies_at, replies_by, replies_to, replies_with, reply_in}
@@ -99,7 +99,7 @@ position_set p xs i x y e same = λ k. cond (nat_lt (first_set p xs i x y e same
 
 -- that runs are joined
 abbrev Joined : Type 0
-Joined = (t : OpenTransaction) (statement : Resolved) → (run_of (with_statement t statement)).replies ≡ (run_of t).replies ++ (step_of t statement).reply ∷ []
+Joined = (t : OpenTransaction) (statement : ResolvedStatement) → (run_of (with_statement t statement)).replies ≡ (run_of t).replies ++ (step_of t statement).reply ∷ []
 
 -- a reply is told as it is
 told_as : (reply : Result Reply Refusal) → found_no_memory (answer_of reply) ≡ false → reply_in (answer_of reply) ≡ reply ∷ []
@@ -120,7 +120,7 @@ module _ (joined : Joined) (core : CoreState) (session : List ℕ) (answer : Ans
       ap (λ a. replies_at a replies) reply ∙ before u refl ∙ ap (λ u. (run_of u).replies) (same_Some u t is_open)
   told_open (Run statement) None t before known reply is_open = let no : ⊥ = cc in absurd no
   told_open (Run statement) (Some u) t before known reply is_open =
-      let next : Resolved = resolved u.declared u.read_only statement in
+      let next : ResolvedStatement = resolution_of u.declared u.read_only statement in
       ap (λ a. replies ++ reply_in a) reply
       ∙ ap (λ r. replies ++ r) (told_as (step_of u next).reply (ap found_no_memory (sym reply) ∙ known))
       ∙ ap (λ r. r ++ (step_of u next).reply ∷ []) (before u refl)
@@ -175,14 +175,14 @@ module _ (joined : Joined) (now : EngineState) (steps : List Step) (answers : Li
     }
 
     alone_at : (other : Record) → other.snapshot < commit.number
-        → (answered now.core.declared now.core.start (log_of now.core) other).replies
-        ≡ (answered now.core.declared now.core.start (log_of (committed now.core step.session t)) other).replies
+        → (outcome_on_snapshot now.core.declared now.core.start (log_of now.core) other).replies
+        ≡ (outcome_on_snapshot now.core.declared now.core.start (log_of (core_after_commit now.core step.session t)) other).replies
     alone_at other earlier = ap (λ state. (transaction now.core.declared other.trace state).replies) (tables_stay now.core commit other.snapshot earlier)
 
-    alone_committed : WereToldAlone (committed now.core step.session t) (steps ++ step ∷ []) (answers ++ answer ∷ [])
+    alone_committed : WereToldAlone (core_after_commit now.core step.session t) (steps ++ step ∷ []) (answers ++ answer ∷ [])
     alone_committed = λ other m. elim (in_cases commit (log_of now.core) other (subst (λ log. Contains log other) (log_with now.core.records commit) m)) [
       | inl same ↦
-          subst (λ r. WasTold (steps ++ step ∷ []) (answers ++ answer ∷ []) r (answered now.core.declared now.core.start (log_of (committed now.core step.session t)) r).replies) same
+          subst (λ r. WasTold (steps ++ step ∷ []) (answers ++ answer ∷ []) r (outcome_on_snapshot now.core.declared now.core.start (log_of (core_after_commit now.core step.session t)) r).replies) same
           (subst (WasTold (steps ++ step ∷ []) (answers ++ answer ∷ []) commit)
           (ap (λ (o : Outcome). o.replies) (outcome_is now.core step.session t live) ∙ alone_at commit (let within = live.within in omega arith))
           own_told)
@@ -282,7 +282,7 @@ module _ (joined : Joined) (now : EngineState) (steps : List Step) (answers : Li
       })
 
   telling_after : IsAnswered now step answer → IsTelling (after now step answer) (steps ++ step ∷ []) (answers ++ answer ∷ [])
-  telling_after answered = go (found_no_memory answer) refl answered
+  telling_after outcome_on_snapshot = go (found_no_memory answer) refl outcome_on_snapshot
     where
       go : (b : Bool) → found_no_memory answer ≡ b → IsAnswered now step answer
           → IsTelling (cond b now (after_at now step.session step.event (seat_of now.seats step.session) answer)) (steps ++ step ∷ []) (answers ++ answer ∷ [])
@@ -305,7 +305,7 @@ goes_on joined now before (s ∷ rest) given (a ∷ more) running telling answer
     subst (λ (X : Type 0). X) (λ i. IsEnd (append_assoc before (s ∷ []) rest i) (append_assoc given (a ∷ []) more i) (led_to (after now s a) rest more))
     (goes_on joined (after now s a) (before ++ s ∷ []) rest (given ++ a ∷ []) more (running_after now s a running answers.0) (telling_after joined now before given s a running telling answers.0) answers.1)
 
-pub ends : Joined → (limit : ℕ) (loaded : Shown) (all steps : List Step) (answers : List Answer) → IsSound loaded.declared loaded.state → AreAnswers (beginning limit loaded all) steps answers
+pub ends : Joined → (limit : ℕ) (loaded : ViewState) (all steps : List Step) (answers : List Answer) → IsSound loaded.declared loaded.state → AreAnswers (beginning limit loaded all) steps answers
     → IsEnd steps answers (led_to (beginning limit loaded all) steps answers)
 ends joined limit loaded all steps answers sound answered =
     goes_on joined (beginning limit loaded all) [] steps [] answers (running_first limit loaded all sound) (record {

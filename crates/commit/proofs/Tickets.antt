@@ -4,8 +4,8 @@ use Rattle.std.specs.Prelude.{Contains}
 use Rattle.std.proofs.lemmas.Bool.{ne_eqb}
 use Rattle.std.proofs.lemmas.List.Elements.{All-contains, All-filter, All-push, All-weaker, Contains-append_left, Contains-append_right}
 use Rattle.siread.proofs.Members.{in_head}
-use Rattle.live.specs.declared.snapshots.LiveSnapshot.{LiveSnapshot}
-use Rattle.live.specs.Live.{AreBelow, LiveState, is_other, with_begin, without}
+use Rattle.conflict.specs.declared.open_snapshots.LiveSnapshot.{LiveSnapshot}
+use Rattle.conflict.specs.Live.{AreBelow, LiveState, is_other, with_begin, without}
 use Rattle.alone.proofs.Members.{in_filter}
 
 pub fewer : (live : LiveState) (ticket : ℕ) → AreBelow live.begun live.snapshots → AreBelow live.begun (without ticket live).snapshots

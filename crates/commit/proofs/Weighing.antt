@@ -6,18 +6,18 @@ use Rattle.value.specs.declared.values.Value.TheVariants.{Null}
 use Rattle.table.specs.declared.rows.Change.{Change}
 use Rattle.conflict.specs.declared.dangers.Danger.{Danger}
 use Rattle.conflict.specs.declared.dangers.Danger.TheVariants.{AsPivot, AsReader}
-use Rattle.conflict.specs.declared.verdicts.Verdict.TheVariants.{Fine, Dangerous}
-use Rattle.conflict.specs.Judged.{IsConflictAt, IsVerdict}
+use Rattle.conflict.specs.declared.verdicts.Judgment.TheVariants.{Fine, Dangerous}
+use Rattle.conflict.specs.Judged.{IsConflictAt, IsJudgmentOf}
 use Rattle.txn.specs.Transactions.{OpenTransaction}
 use Rattle.commit.specs.declared.decisions.Decision.TheVariants.{Accepted, Refused}
 use Rattle.commit.specs.Cores.{CoreState, log_of, record_of}
 use Rattle.commit.specs.Decisions.{IsConflictOf, IsJudgment, danger_refusal}
 
 module _ (s : CoreState) (session : List ℕ) (t : OpenTransaction) where
-  pub judged_fine : (place : ℕ) → IsVerdict (log_of s) (record_of s session t) (Fine place) → IsJudgment s (record_of s session t) (Accepted place)
+  pub judged_fine : (place : ℕ) → IsJudgmentOf (log_of s) (record_of s session t) (Fine place) → IsJudgment s (record_of s session t) (Accepted place)
   judged_fine place v = (v.0, v.1)
 
-  pub judged_danger : (danger : Danger) (refusal : Refusal) → refusal ≡ danger_refusal danger → IsVerdict (log_of s) (record_of s session t) (Dangerous danger)
+  pub judged_danger : (danger : Danger) (refusal : Refusal) → refusal ≡ danger_refusal danger → IsJudgmentOf (log_of s) (record_of s session t) (Dangerous danger)
       → IsJudgment s (record_of s session t) (Refused refusal)
   judged_danger (AsPivot reader writer) refusal e v =
       subst (λ r. IsJudgment s (record_of s session t) (Refused r)) (sym e) (v, λ none. cc)

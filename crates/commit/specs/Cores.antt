@@ -10,20 +10,20 @@ use Rattle.value.specs.declared.values.Value.{Value}
 use Rattle.table.specs.Rows.{names_of}
 use Rattle.assertion.specs.Declarations.{Declared}
 use Rattle.assertion.specs.Meaning.{State}
-use Rattle.answer.specs.declared.answers.RefusedCommit.{RefusedCommit}
-use Rattle.delta.specs.Views.{Shown}
-use Rattle.siread.specs.Locks.{Reads, reaching, with_reader}
-use Rattle.live.specs.Live.{LiveState, least_writing, with_begin, without}
-use Rattle.serial.specs.declared.records.Record.{Record}
-use Rattle.serial.specs.Commits.{reach}
-use Rattle.serial.specs.Answer.{IsAnswer, Number, WriteConflict as Overwrites, Dangerous as Triple}
-use Rattle.serial.specs.Epoch.{AnswersAgain, AreRecorded, AreSound, EndsNewest, newest, state_of}
-use Rattle.serial.specs.Order.{serial_order}
+use Rattle.alone.specs.declared.answers.RefusedCommit.{RefusedCommit}
+use Rattle.delta.specs.Views.{ViewState}
+use Rattle.siread.specs.Locks.{Reads, reads_above, with_reader}
+use Rattle.conflict.specs.Live.{LiveState, least_writing, with_begin, without}
+use Rattle.alone.specs.declared.records.Record.{Record}
+use Rattle.alone.specs.Commits.{reach}
+use Rattle.alone.specs.Answer.{IsAnswer, Number, WriteConflict as Overwrites, Dangerous as Triple}
+use Rattle.alone.specs.Epoch.{AnswersAgain, AreRecorded, AreSound, EndsNewest, newest, state_of}
+use Rattle.alone.specs.Order.{serial_order}
 use Rattle.conflict.specs.Readers.{reads_of}
 use Rattle.txn.specs.Transactions.{OpenTransaction, keys_of, outcome_of}
 
 -- a transaction whose commit is prepared, and its session
-pub record Pending : Type 0 where
+pub record PendingCommit : Type 0 where
   pub session : List ℕ
   pub txn : OpenTransaction
 
@@ -36,14 +36,14 @@ pub record CoreState : Type 0 where
   pub records : List Record
   pub refused : List RefusedCommit
   pub live : LiveState
-  pub prepared : Option Pending
+  pub prepared : Option PendingCommit
 
 -- the commits, the newest first
 abbrev pub log_of : CoreState → List Record
 log_of c = reverse c.records
 
 -- the tables after all commits
-abbrev pub newest_tables : CoreState → Shown
+abbrev pub newest_tables : CoreState → ViewState
 newest_tables c = record { declared = c.declared; state = newest c.declared c.start (log_of c) }
 
 -- the numbers of the commits in their serial order
@@ -109,8 +109,8 @@ abbrev pub with_begun : (read_only : Bool) → CoreState → CoreState
 with_begun read_only c = record c { live = with_begin (length c.records) read_only c.live }
 
 -- a transaction less among those that are live
-abbrev pub ended : CoreState → OpenTransaction → CoreState
-ended c t = record c { live = without t.ticket c.live }
+abbrev pub core_after_end : CoreState → OpenTransaction → CoreState
+core_after_end c t = record c { live = without t.ticket c.live }
 
 -- one commit more, or one refused commit more
 abbrev pub with_commit : CoreState → Record → CoreState
@@ -122,42 +122,42 @@ with_refusal c session refusal =
     record c { refused = c.refused ++ record { session = session; refusal = refusal } ∷ [] }
 
 -- a transaction is the next commit, or is refused; either ends it
-abbrev pub committed : CoreState → List ℕ → OpenTransaction → CoreState
-committed c session t = ended (with_commit c (record_of c session t)) t
+abbrev pub core_after_commit : CoreState → List ℕ → OpenTransaction → CoreState
+core_after_commit c session t = core_after_end (with_commit c (record_of c session t)) t
 
 -- the COMMIT of a transaction is refused, which ends it
 abbrev pub refused_to : CoreState → List ℕ → OpenTransaction → Refusal → CoreState
-refused_to c session t refusal = ended (with_refusal c session refusal) t
+refused_to c session t refusal = core_after_end (with_refusal c session refusal) t
 
 -- its commit is prepared, or none is
 abbrev pub with_prepared : CoreState → List ℕ → OpenTransaction → CoreState
 with_prepared c session t = record c { prepared = Some (record { session = session; txn = t }) }
 
 -- no commit is prepared
-abbrev pub unprepared : CoreState → CoreState
-unprepared c = record c { prepared = None }
+abbrev pub without_prepared : CoreState → CoreState
+without_prepared c = record c { prepared = None }
 
 -- what is prepared is made the next commit
-abbrev pub finished_by : Option Pending → CoreState → CoreState
+abbrev pub finished_by : Option PendingCommit → CoreState → CoreState
 finished_by None c = c
-finished_by (Some p) c = committed (unprepared c) p.session p.txn
+finished_by (Some p) c = core_after_commit (without_prepared c) p.session p.txn
 
 -- what is prepared, if a commit is, is made the next commit
-abbrev pub finished : CoreState → CoreState
-finished c = finished_by c.prepared c
+abbrev pub core_after_finish : CoreState → CoreState
+core_after_finish c = finished_by c.prepared c
 
 -- or is given up, and the transaction given back
-abbrev pub pending_txn : Option Pending → Option OpenTransaction
+abbrev pub pending_txn : Option PendingCommit → Option OpenTransaction
 pending_txn None = None
 pending_txn (Some p) = Some p.txn
 
 -- for each key the commits that read it, as far as they reach past the snapshot of an open transaction that may write
 abbrev pub reads_kept : CoreState → Reads
 reads_kept c =
-    reaching (least_writing (length c.records) c.live.snapshots) (map reach c.records) (reads_of c.records)
+    reads_above (least_writing (length c.records) c.live.snapshots) (map reach c.records) (reads_of c.records)
 
 -- and the one that is prepared
-abbrev pub reads_with : Option Pending → (number : ℕ) → Reads → Reads
+abbrev pub reads_with : Option PendingCommit → (number : ℕ) → Reads → Reads
 reads_with None number reads = reads
 reads_with (Some p) number reads = with_reader number (keys_of p.txn) reads
 

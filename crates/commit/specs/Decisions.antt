@@ -5,8 +5,8 @@ use Rattle.value.specs.declared.refusals.Refusal.{Refusal}
 use Rattle.value.specs.declared.refusals.Refusal.TheVariants.{NoMemory, Dangerous, WriteConflict}
 use Rattle.table.specs.declared.rows.Change.{Change}
 use Rattle.table.specs.Rows.{Tables, names_of}
-use Rattle.serial.specs.declared.records.Record.{Record}
-use Rattle.serial.specs.Order.{least_out}
+use Rattle.alone.specs.declared.records.Record.{Record}
+use Rattle.alone.specs.Order.{least_out}
 use Rattle.conflict.specs.declared.dangers.Danger.{Danger}
 use Rattle.conflict.specs.declared.dangers.Danger.TheVariants.{AsPivot, AsReader}
 use Rattle.txn.specs.Transactions.{OpenTransaction}

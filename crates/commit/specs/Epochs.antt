@@ -5,13 +5,13 @@ use Rattle.value.specs.declared.refusals.Refusal.{Refusal}
 use Rattle.value.specs.declared.refusals.Refusal.TheVariants.{NoMemory, TransactionOpen}
 use Rattle.value.specs.Results.{and_then, provided}
 use Rattle.meaning.specs.Laws.{Pairs}
-use Rattle.delta.specs.Views.{Shown}
+use Rattle.delta.specs.Views.{ViewState}
 use Rattle.definitions.specs.declared.redeclaration.NewAssertion.{NewAssertion}
 use Rattle.definitions.specs.Redeclaration.{redeclaration}
 use Rattle.commit.specs.declared.engine.Outcome.{Outcome}
 use Rattle.commit.specs.declared.epochs.Epoch.{Epoch}
 use Rattle.commit.specs.declared.seats.Seat.{Seat}
-use Rattle.commit.specs.Admission.{satisfied}
+use Rattle.commit.specs.Admission.{tables_if_satisfied}
 use Rattle.commit.specs.Cores.{CoreState, IsSerializable, newest_tables}
 use Rattle.commit.specs.Events.{EngineState}
 use Rattle.commit.specs.Fitting.{AllFit}
@@ -19,11 +19,11 @@ use Rattle.commit.specs.Runs.{AreAnswers, beginning, empty_core, led_to}
 use Rattle.commit.specs.Told.{WereToldAlone}
 
 -- the tables with which the next epoch begins, if every assertion is satisfied on them
-abbrev pub next_start : (dropped : List (List ℕ)) → (created : List NewAssertion) → Shown → Result Shown Refusal
-next_start dropped created now = and_then (redeclaration dropped created now) satisfied
+abbrev pub next_start : (dropped : List (List ℕ)) → (created : List NewAssertion) → ViewState → Result ViewState Refusal
+next_start dropped created now = and_then (redeclaration dropped created now) tables_if_satisfied
 
 -- the tables before the first commit
-abbrev pub start_of : CoreState → Shown
+abbrev pub start_of : CoreState → ViewState
 start_of c = record { declared = c.declared; state = c.start }
 
 -- a core without commits goes on from the newest tables of another, with the same limit
@@ -38,14 +38,14 @@ is_any_open seats = list_any (λ seat. is_some seat.txn) seats
 
 -- where none is, the sessions go on from the newest tables
 abbrev pub next_start_of : (dropped : List (List ℕ)) → (created : List NewAssertion) → EngineState
-    → Result Shown Refusal
+    → Result ViewState Refusal
 next_start_of dropped created now =
     provided (not (is_any_open now.seats)) TransactionOpen (next_start dropped created (newest_tables now.core))
 
 -- What an epoch that began after these tables led to: what its events were answered, up to the first for whose answer
 -- there was no room, and what they left; and of this all that holds of each run.
-pub record IsOutcome (limit : ℕ) (before : Shown) (epoch : Epoch) (outcome : Outcome) : Type 0 where
-  pub start : Shown
+pub record IsOutcome (limit : ℕ) (before : ViewState) (epoch : Epoch) (outcome : Outcome) : Type 0 where
+  pub start : ViewState
   pub starts : next_start epoch.dropped.items epoch.created.items before ≡ Ok start
   pub within : length outcome.answers.items ≤ length epoch.steps
   pub answers : AreAnswers (beginning limit start epoch.steps)
@@ -58,12 +58,12 @@ pub record IsOutcome (limit : ℕ) (before : Shown) (epoch : Epoch) (outcome : O
   pub fit : AllFit outcome.engine
 
 -- the tables that the last of some epochs left
-abbrev pub tables_left : Shown → List Outcome → Shown
+abbrev pub tables_left : ViewState → List Outcome → ViewState
 tables_left before [] = before
 tables_left before (outcome ∷ rest) = tables_left (newest_tables outcome.engine.core) rest
 
 -- each epoch begins after the tables that the one before left
-abbrev pub AreOutcomes : (limit : ℕ) → Shown → List Epoch → List Outcome → Type 0
+abbrev pub AreOutcomes : (limit : ℕ) → ViewState → List Epoch → List Outcome → Type 0
 AreOutcomes limit before epochs [] = ⊤
 AreOutcomes limit before [] (outcome ∷ rest) = ⊥
 AreOutcomes limit before (epoch ∷ epochs) (outcome ∷ rest) =
@@ -74,7 +74,7 @@ abbrev pub IsWhole : Epoch → Outcome → Type 0
 IsWhole epoch outcome = length outcome.answers.items ≡ length epoch.steps
 
 -- an epoch more has passed, each of whose events was answered or not
-pub record IsOneMore (limit : ℕ) (before : Shown) (epoch : Epoch) (outcomes more : List Outcome) (whole : Bool) :
+pub record IsOneMore (limit : ℕ) (before : ViewState) (epoch : Epoch) (outcomes more : List Outcome) (whole : Bool) :
     Type 0 where
   pub outcome : Outcome
   pub is : IsOutcome limit (tables_left before outcomes) epoch outcome
@@ -82,13 +82,13 @@ pub record IsOneMore (limit : ℕ) (before : Shown) (epoch : Epoch) (outcomes mo
   pub whole_is : whole ≡ true → IsWhole epoch outcome
 
 -- the next epoch does not begin, which is said
-pub record IsRefusedNext (before : Shown) (epochs : List Epoch) (outcomes : List Outcome) (refusal : Refusal) :
+pub record IsRefusedNext (before : ViewState) (epochs : List Epoch) (outcomes : List Outcome) (refusal : Refusal) :
     Type 0 where
   pub epoch : Epoch
   pub next : slice_get epochs (length outcomes) ≡ Some epoch
   pub refused : next_start epoch.dropped.items epoch.created.items (tables_left before outcomes) ≡ Err refusal
 
 -- why the epochs ended: all have, or the next was refused, or there was no memory
-abbrev pub IsEnd : Shown → List Epoch → List Outcome → Option Refusal → Type 0
+abbrev pub IsEnd : ViewState → List Epoch → List Outcome → Option Refusal → Type 0
 IsEnd before epochs outcomes None = Pairs IsWhole epochs outcomes
 IsEnd before epochs outcomes (Some refusal) = refusal ≢ NoMemory → IsRefusedNext before epochs outcomes refusal

@@ -8,14 +8,14 @@ use Rattle.syntax.specs.declared.statements.Statement.{Statement}
 use Rattle.syntax.specs.declared.statements.Step.{Step}
 use Rattle.syntax.specs.declared.statements.Event.{Event}
 use Rattle.syntax.specs.declared.statements.Event.TheVariants.{Begin, BeginReadOnly, Commit, Rollback, Run}
-use Rattle.answer.specs.declared.answers.Answer.{Answer}
-use Rattle.answer.specs.declared.answers.Answer.TheVariants.{Begun, Committed, Refused, Replied, RolledBack}
-use Rattle.answer.specs.declared.answers.Reply.{Reply}
-use Rattle.alone.specs.Resolve.{resolved}
-use Rattle.live.specs.Live.{AreBelow}
-use Rattle.txn.specs.Transactions.{OpenTransaction, begun, step_of, with_statement}
+use Rattle.alone.specs.declared.answers.Answer.{Answer}
+use Rattle.alone.specs.declared.answers.Answer.TheVariants.{Begun, Committed, Refused, Replied, RolledBack}
+use Rattle.alone.specs.declared.answers.Reply.{Reply}
+use Rattle.alone.specs.Resolve.{resolution_of}
+use Rattle.conflict.specs.Live.{AreBelow}
+use Rattle.txn.specs.Transactions.{OpenTransaction, transaction_at_begin, step_of, with_statement}
 use Rattle.commit.specs.declared.seats.Seat.{Seat}
-use Rattle.commit.specs.Cores.{CoreState, IsCommitAnswer, IsLive, committed, ended, newest_tables, refused_to, with_begun}
+use Rattle.commit.specs.Cores.{CoreState, IsCommitAnswer, IsLive, core_after_commit, core_after_end, newest_tables, refused_to, with_begun}
 
 -- the committed transactions, and the sessions with the open ones
 pub record EngineState : Type 0 where
@@ -64,12 +64,12 @@ begin_answer core (Some t) = Refused TransactionOpen
 -- a statement is answered as alone in the transaction, whose trace then holds it
 abbrev pub run_answer : Statement → Option OpenTransaction → Answer
 run_answer statement None = Refused NoTransaction
-run_answer statement (Some t) = answer_of (step_of t (resolved t.declared t.read_only statement)).reply
+run_answer statement (Some t) = answer_of (step_of t (resolution_of t.declared t.read_only statement)).reply
 
 -- the transaction, if one is open, with the statement in its trace
 abbrev pub txn_with : Statement → Option OpenTransaction → Option OpenTransaction
 txn_with statement None = None
-txn_with statement (Some t) = Some (with_statement t (resolved t.declared t.read_only statement))
+txn_with statement (Some t) = Some (with_statement t (resolution_of t.declared t.read_only statement))
 
 -- what ROLLBACK is answered
 abbrev pub rollback_answer : Option OpenTransaction → Answer
@@ -86,38 +86,39 @@ IsReply core session Commit (Some t) answer = IsCommitted core session t answer
 IsReply core session Rollback txn answer = answer ≡ rollback_answer txn
 
 -- the transaction that is open then, if one is
-abbrev pub txn_begun : CoreState → (read_only : Bool) → Option OpenTransaction → Option OpenTransaction
-txn_begun core read_only None = Some (begun core.live.begun (length core.records) read_only (newest_tables core))
-txn_begun core read_only (Some t) = Some t
+abbrev pub txn_after_begin : CoreState → (read_only : Bool) → Option OpenTransaction → Option OpenTransaction
+txn_after_begin core read_only None =
+    Some (transaction_at_begin core.live.begun (length core.records) read_only (newest_tables core))
+txn_after_begin core read_only (Some t) = Some t
 
 -- the transaction that is open after an event, if one is
 abbrev pub txn_after : CoreState → Event → Option OpenTransaction → Option OpenTransaction
-txn_after core Begin txn = txn_begun core false txn
-txn_after core BeginReadOnly txn = txn_begun core true txn
+txn_after core Begin txn = txn_after_begin core false txn
+txn_after core BeginReadOnly txn = txn_after_begin core true txn
 txn_after core (Run statement) txn = txn_with statement txn
 txn_after core Commit txn = None
 txn_after core Rollback txn = None
 
 -- the commits and the open transactions then
 abbrev pub decided_core : CoreState → List ℕ → OpenTransaction → Answer → CoreState
-decided_core core session t (Committed number) = committed core session t
+decided_core core session t (Committed number) = core_after_commit core session t
 decided_core core session t (Refused refusal) = refused_to core session t refusal
 decided_core core session t answer = core
 
 -- the commits after BEGIN: where no transaction was open, one more is live
-abbrev pub core_begun : CoreState → (read_only : Bool) → Option OpenTransaction → CoreState
-core_begun core read_only None = with_begun read_only core
-core_begun core read_only (Some t) = core
+abbrev pub core_after_begin : CoreState → (read_only : Bool) → Option OpenTransaction → CoreState
+core_after_begin core read_only None = with_begun read_only core
+core_after_begin core read_only (Some t) = core
 
 -- the commits after an event
 abbrev pub core_after : CoreState → List ℕ → Event → Option OpenTransaction → Answer → CoreState
-core_after core session Begin txn answer = core_begun core false txn
-core_after core session BeginReadOnly txn answer = core_begun core true txn
+core_after core session Begin txn answer = core_after_begin core false txn
+core_after core session BeginReadOnly txn answer = core_after_begin core true txn
 core_after core session (Run statement) txn answer = core
 core_after core session Commit None answer = core
 core_after core session Commit (Some t) answer = decided_core core session t answer
 core_after core session Rollback None answer = core
-core_after core session Rollback (Some t) answer = ended core t
+core_after core session Rollback (Some t) answer = core_after_end core t
 
 -- the seats with this transaction in one of them, or none there
 abbrev pub seats_set : List Seat → ℕ → Option OpenTransaction → Option Seat → List Seat
@@ -142,10 +143,10 @@ after_at now session event (Some place) answer = record {
   seats = seats_with now.seats place (txn_after now.core event (txn_of (slice_get now.seats place)));
 }
 
--- an answer, or the refusal for which there is none
-abbrev pub as_answer : Result Answer Refusal → Answer
+-- an answer, or that there was no memory for one
+abbrev pub as_answer : {E : Type 0} → Result Answer E → Answer
 as_answer (Ok answer) = answer
-as_answer (Err refusal) = Refused refusal
+as_answer (Err error) = Refused NoMemory
 
 -- whether no memory was found
 abbrev pub is_no_memory : Refusal → Bool

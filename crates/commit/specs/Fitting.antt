@@ -1,15 +1,15 @@
 -- Rows that fit their columns, on the committed tables and on each open transaction's own view.
 use Rattle.std.specs.Prelude.{◌≡◌, ℕ, slice_get, Some}
 use Rattle.assertion.specs.Declarations.{layouts_in}
-use Rattle.delta.specs.Views.{Shown}
-use Rattle.serial.specs.Epoch.{state_of}
+use Rattle.delta.specs.Views.{ViewState}
+use Rattle.alone.specs.Epoch.{state_of}
 use Rattle.txn.specs.Fitting.{RowsFit}
 use Rattle.txn.specs.Transactions.{OpenTransaction, own_view}
 use Rattle.commit.specs.Cores.{CoreState, log_of}
 use Rattle.commit.specs.Events.{EngineState, txn_of}
 
 -- on these tables
-abbrev pub ShownFit : Shown → Type 0
+abbrev pub ShownFit : ViewState → Type 0
 ShownFit shown = RowsFit (layouts_in shown.declared) shown.state
 
 -- on the tables after each number of commits

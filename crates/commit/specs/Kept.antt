@@ -1,20 +1,20 @@
 -- What the committed transactions keep at hand is what they determine.
 use Rattle.std.specs.Prelude.{◌≡◌, ◌≤◌, ◌+◌, ◌==◌, ℕ, true, false, List, [], length, map, Option, Some, None, IfSome, ⊤}
-use Rattle.answer.specs.declared.answers.RefusedCommit.{RefusedCommit}
-use Rattle.delta.specs.Views.{Shown}
+use Rattle.alone.specs.declared.answers.RefusedCommit.{RefusedCommit}
+use Rattle.delta.specs.Views.{ViewState}
 use Rattle.siread.specs.Locks.{Reads}
-use Rattle.live.specs.Live.{AreBelow, LiveState}
-use Rattle.serial.specs.declared.records.Record.{Record}
-use Rattle.serial.specs.Answer.{IsAnswer, Number}
-use Rattle.serial.specs.Commits.{reach}
-use Rattle.serial.specs.Epoch.{IsEpoch}
-use Rattle.serial.specs.Order.{least_out}
+use Rattle.conflict.specs.Live.{AreBelow, LiveState}
+use Rattle.alone.specs.declared.records.Record.{Record}
+use Rattle.alone.specs.Answer.{IsAnswer, Number}
+use Rattle.alone.specs.Commits.{reach}
+use Rattle.alone.specs.Epoch.{IsEpoch}
+use Rattle.alone.specs.Order.{least_out}
 use Rattle.txn.specs.Transactions.{outcome_of}
 use Rattle.commit.specs.declared.prepared.Prepared.{Prepared}
-use Rattle.commit.specs.Cores.{CoreState, IsLive, Pending, locks_of, log_of, newest_tables, order_of, record_of, with_commit}
+use Rattle.commit.specs.Cores.{CoreState, IsLive, PendingCommit, locks_of, log_of, newest_tables, order_of, record_of, with_commit}
 
 -- where no commit is prepared
-abbrev pub idle_core : (limit : ℕ) → Shown → List Record → List RefusedCommit → LiveState → CoreState
+abbrev pub idle_core : (limit : ℕ) → ViewState → List Record → List RefusedCommit → LiveState → CoreState
 idle_core limit loaded records refused live = record {
   limit = limit;
   declared = loaded.declared;
@@ -26,14 +26,14 @@ idle_core limit loaded records refused live = record {
 }
 
 -- the transaction whose commit is prepared
-abbrev pub pending_of : Option Prepared → Option Pending
+abbrev pub pending_of : Option Prepared → Option PendingCommit
 pending_of None = None
 pending_of (Some p) = Some (record { session = p.session; txn = p.closed })
 
 -- The tables after the last commit; for each commit the least one to which it conflicts, or its own number, and how far
 -- it reaches; and the numbers in serial order. Each commit was accepted over those before it, and recorded as it runs alone on its
 -- snapshot.
-pub record IsCore (c : CoreState) (newest : Shown) (places reaches order : List ℕ) : Type 0 where
+pub record IsCore (c : CoreState) (newest : ViewState) (places reaches order : List ℕ) : Type 0 where
   pub epoch : IsEpoch c.declared c.start (log_of c)
   pub newest_is : newest ≡ newest_tables c
   pub places_are : places ≡ map (least_out (log_of c)) c.records
@@ -61,7 +61,8 @@ IsReadyIf c None = ⊤
 IsReadyIf c (Some p) = IsReady c p
 
 -- All that is kept beside the records. Where a commit is prepared there is room for it.
-abbrev pub IsKept : CoreState → (newest : Shown) → (places reaches order : List ℕ) → (locks : Reads) → Option Prepared
+abbrev pub IsKept : CoreState → (newest : ViewState) → (places reaches order : List ℕ) → (locks : Reads)
+    → Option Prepared
     → (Room : Type 0) → Type 0
 IsKept c newest places reaches order locks prepared Room =
     IsCore c newest places reaches order × IsReadyIf c prepared

@@ -1,10 +1,10 @@
 -- Events one after the other.
 use Rattle.std.specs.Prelude.{◌≡◌, ℕ, List, [], ◌∷◌, ◌++◌, Option, Some, None, ⊤}
 use Rattle.syntax.specs.declared.statements.Step.{Step}
-use Rattle.answer.specs.declared.answers.Answer.{Answer}
+use Rattle.alone.specs.declared.answers.Answer.{Answer}
 use Rattle.alone.specs.Alone.{IsSound}
-use Rattle.delta.specs.Views.{Shown}
-use Rattle.live.specs.Live.{none_live}
+use Rattle.delta.specs.Views.{ViewState}
+use Rattle.conflict.specs.Live.{none_live}
 use Rattle.commit.specs.declared.seats.Seat.{Seat}
 use Rattle.commit.specs.Cores.{CoreState}
 use Rattle.commit.specs.Events.{EngineState, IsAnswered, after, seat_of}
@@ -19,16 +19,16 @@ unless_seated None seats session = seats ++ free_seat session ∷ []
 unless_seated (Some place) seats session = seats
 
 -- with a seat for a session, if it has none yet
-abbrev pub seated : List Seat → List ℕ → List Seat
-seated seats session = unless_seated (seat_of seats session) seats session
+abbrev pub seats_with : List Seat → List ℕ → List Seat
+seats_with seats session = unless_seated (seat_of seats session) seats session
 
 -- and for each session of some events, in the order of their first events
-abbrev pub all_seated : List Seat → List Step → List Seat
-all_seated seats [] = seats
-all_seated seats (step ∷ rest) = all_seated (seated seats step.session) rest
+abbrev pub seats_with_all : List Seat → List Step → List Seat
+seats_with_all seats [] = seats
+seats_with_all seats (step ∷ rest) = seats_with_all (seats_with seats step.session) rest
 
 -- before the first commit
-abbrev pub empty_core : (limit : ℕ) → Shown → CoreState
+abbrev pub empty_core : (limit : ℕ) → ViewState → CoreState
 empty_core limit loaded =
     record {
       limit = limit;
@@ -41,8 +41,8 @@ empty_core limit loaded =
     }
 
 -- before the first of these events
-abbrev pub beginning : (limit : ℕ) → Shown → List Step → EngineState
-beginning limit loaded steps = record { core = empty_core limit loaded; seats = all_seated [] steps }
+abbrev pub beginning : (limit : ℕ) → ViewState → List Step → EngineState
+beginning limit loaded steps = record { core = empty_core limit loaded; seats = seats_with_all [] steps }
 
 -- what the events are answered, each after those before it
 abbrev pub AreAnswers : EngineState → List Step → List Answer → Type 0
@@ -67,7 +67,7 @@ pub record IsNext (now : EngineState) (step : Step) (answers : List Answer) (lef
 
 -- what holds of each run from a beginning on tables on which no assertion is false: of these tables, of the events that
 -- were answered, of their answers, and of what they leave
-abbrev pub InEachRun : (Shown → List Step → List Answer → EngineState → Type 0) → Type 0
-InEachRun Holds = (limit : ℕ) (loaded : Shown) (all steps : List Step) (answers : List Answer)
+abbrev pub InEachRun : (ViewState → List Step → List Answer → EngineState → Type 0) → Type 0
+InEachRun Holds = (limit : ℕ) (loaded : ViewState) (all steps : List Step) (answers : List Answer)
     → IsSound loaded.declared loaded.state → AreAnswers (beginning limit loaded all) steps answers
     → Holds loaded steps answers (led_to (beginning limit loaded all) steps answers)

@@ -2,8 +2,8 @@
 use Rattle.std.specs.Prelude.{◌≡◌, ℕ, true, ⊤, Result, Err}
 use Rattle.value.specs.declared.refusals.Refusal.{Refusal}
 use Rattle.value.specs.declared.refusals.Refusal.TheVariants.{Dangerous, WriteConflict}
-use Rattle.live.specs.Live.{writers_hold}
-use Rattle.serial.specs.Safe.{IsSafe}
+use Rattle.conflict.specs.Live.{writers_hold}
+use Rattle.alone.specs.Safe.{IsSafe}
 use Rattle.txn.specs.Transactions.{OpenTransaction}
 use Rattle.commit.specs.Cores.{CoreState, log_of}
 

@@ -5,11 +5,11 @@ use Rattle.value.specs.declared.refusals.Refusal.{Refusal}
 use Rattle.syntax.specs.declared.statements.Step.{Step}
 use Rattle.syntax.specs.declared.statements.Event.{Event}
 use Rattle.syntax.specs.declared.statements.Event.TheVariants.{Begin, BeginReadOnly, Commit, Rollback, Run}
-use Rattle.answer.specs.declared.answers.Answer.{Answer}
-use Rattle.answer.specs.declared.answers.Answer.TheVariants.{Begun, Committed, Refused, Replied, RolledBack}
-use Rattle.answer.specs.declared.answers.Reply.{Reply}
-use Rattle.serial.specs.declared.records.Record.{Record}
-use Rattle.serial.specs.Epoch.{answered}
+use Rattle.alone.specs.declared.answers.Answer.{Answer}
+use Rattle.alone.specs.declared.answers.Answer.TheVariants.{Begun, Committed, Refused, Replied, RolledBack}
+use Rattle.alone.specs.declared.answers.Reply.{Reply}
+use Rattle.alone.specs.declared.records.Record.{Record}
+use Rattle.alone.specs.Epoch.{outcome_on_snapshot}
 use Rattle.commit.specs.Cores.{CoreState, log_of}
 use Rattle.commit.specs.Events.{is_no_memory}
 
@@ -66,7 +66,7 @@ pub record WasTold (steps : List Step) (answers : List Answer) (commit : Record)
   pub told : replies_to commit.session (take place steps) (take place answers) ≡ replies
 
 -- Each committed transaction was told what it answers alone on the tables of its snapshot. (It answers this in the
--- serial replay too: `AnswersAgain` of `serial` speaks of the same outcome.)
+-- serial replay too: `AnswersAgain` of `alone` speaks of the same outcome.)
 abbrev pub WereToldAlone : CoreState → List Step → List Answer → Type 0
 WereToldAlone c steps answers = (commit : Record) → Contains (log_of c) commit
-    → WasTold steps answers commit (answered c.declared c.start (log_of c) commit).replies
+    → WasTold steps answers commit (outcome_on_snapshot c.declared c.start (log_of c) commit).replies

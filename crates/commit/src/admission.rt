@@ -6,7 +6,7 @@ ghost use Rattle.assertion.specs.Declarations.{layouts_in};
 ghost use Rattle.alone.specs.Alone.{IsSound};
 ghost use Rattle.alone.specs.Checks.{violation};
 ghost use Rattle.definitions.specs.Written.{AreWritten};
-ghost use Rattle.commit.specs.Admission.{admitted, satisfied};
+ghost use Rattle.commit.specs.Admission.{admission_of, tables_if_satisfied};
 
 use definitions::Definitions;
 use delta::View;
@@ -22,10 +22,10 @@ use value::{Refusal, Root, Text};
 /// the first assertion that is false on the loaded rows, and the least root at which it is. Or
 /// [`Refusal::NoMemory`].
 pub fn admit(alloc: Global, definitions: &[Definition]) -> Result<View, Refusal>
-    ensures admitted { IfOk result (λ view. admitted definitions.now ≡ Ok view) }
+    ensures admitted { IfOk result (λ view. admission_of definitions.now ≡ Ok view) }
     ensures sound { IfOk result (λ view. IsSound view.declared view.state) }
     ensures written { IfOk result (λ view. AreWritten definitions.now view.declared) }
-    ensures refused { IfErr result (λ refusal. refusal ≢ NoMemory → admitted definitions.now ≡ Err refusal) }
+    ensures refused { IfErr result (λ refusal. refusal ≢ NoMemory → admission_of definitions.now ≡ Err refusal) }
 {
     let taken = Definitions::take(alloc, definitions)?;
     let loaded = taken.load(alloc)?;
@@ -40,14 +40,14 @@ pub fn admit(alloc: Global, definitions: &[Definition]) -> Result<View, Refusal>
 /// [`Refusal::FalseAtCreation`] with the first assertion that is false, and the least root at which it is. Or
 /// [`Refusal::NoMemory`].
 pub fn require_satisfied(view: View) -> Result<View, Refusal>
-    ensures satisfied { IfOk result (λ same. satisfied view ≡ Ok same) }
+    ensures satisfied { IfOk result (λ same. tables_if_satisfied view ≡ Ok same) }
     ensures same { IfOk result (λ same. same ≡ view) }
     ensures sound { IfOk result (λ same. IsSound same.declared same.state) }
-    ensures refused { IfErr result (λ refusal. refusal ≢ NoMemory → satisfied view ≡ Err refusal) }
+    ensures refused { IfErr result (λ refusal. refusal ≢ NoMemory → tables_if_satisfied view ≡ Err refusal) }
 {
     // (that a view's tables are as its declarations say is the invariant of its catalog)
     let _ = view.catalog();
-    match first_false(&view) {
+    match find_first_false(&view) {
         None => Ok(view),
         Some((assertion, group)) => Err(Refusal::FalseAtCreation {
             assertion: assertion.copy()?,
@@ -58,7 +58,7 @@ pub fn require_satisfied(view: View) -> Result<View, Refusal>
 
 /// The first assertion that is false on a view's tables, by its name, and the least root at which it is. What is
 /// unknown is not false. It takes no memory.
-pub fn first_false(view: &View) -> Option<(&Text, &Root)>
+pub fn find_first_false(view: &View) -> Option<(&Text, &Root)>
     ensures found { IfSome result (λ found.
         violation (layouts_in view.now.declared) view.now.declared.assertions view.now.state
         ≡ Some (Violated found.0.now found.1.now)) }

@@ -1,33 +1,31 @@
 //! The committed transactions.
 
-ghost use Rattle.std.specs.Prelude.{◌≡◌, ◌↔◌, ◌≢◌, ◌≤◌, ◌<◌, ◌+◌, ◌++◌, ◌∷◌, [], ℕ, List, length, true, false, vec_capacity, vec_len, Contains, IfOk, IfErr, IfSome, IfNone, IsOkUnless, OnErr, OnOk, Ok, Err, None, Some};
+ghost use Rattle.std.specs.Prelude.{◌≡◌, ◌↔◌, ◌≢◌, ◌≤◌, ◌<◌, ◌+◌, ◌++◌, ◌∷◌, [], ℕ, List, length, true, false, vec_capacity, vec_len, Contains, IfOk, IfErr, IfSome, IfNone, OnErr, OnOk, Ok, Err, None, Some};
 ghost use Rattle.value.specs.declared.refusals.Refusal.TheVariants.{NoMemory};
 ghost use Rattle.txn.specs.Modes.{assertion_of};
-ghost use Rattle.siread.specs.Locks.{IsCount, reaching, readers_at};
-ghost use Rattle.live.specs.Held.{is_held};
-ghost use Rattle.live.specs.Live.{least_writing, without};
+ghost use Rattle.siread.specs.Locks.{IsCount, reads_above, readers_at};
+ghost use Rattle.conflict.specs.Held.{is_held};
+ghost use Rattle.conflict.specs.Live.{least_writing, without};
 ghost use Rattle.alone.specs.Alone.{IsSound};
-ghost use Rattle.serial.specs.Commits.{HasNoWriteConflict, IsLog};
-ghost use Rattle.serial.specs.Order.{least_out};
-ghost use Rattle.txn.specs.Transactions.{begun, truth_of};
-ghost use Rattle.commit.specs.Cores.{IsCommitAnswer, IsLive, IsSerializable, IsUncommitted, committed, ended, finished, locks_of, log_of, newest_tables, order_of, pending_txn, record_of, unprepared, with_begun, with_commit, with_prepared};
+ghost use Rattle.alone.specs.Commits.{HasNoWriteConflict, IsLog};
+ghost use Rattle.alone.specs.Order.{least_out};
+ghost use Rattle.txn.specs.Transactions.{transaction_at_begin, truth_of};
+ghost use Rattle.commit.specs.Cores.{IsCommitAnswer, IsLive, IsSerializable, IsUncommitted, core_after_commit, core_after_end, core_after_finish, locks_of, log_of, newest_tables, order_of, pending_txn, record_of, without_prepared, with_begun, with_commit, with_prepared};
 ghost use Rattle.commit.specs.Decisions.{IsDecision, IsJudgment};
 ghost use Rattle.commit.specs.Runs.{empty_core};
 ghost use Rattle.commit.specs.Safe.{IsSafeReader};
 
 use crate::decisions::{Decision, refuse_for_triple, refuse_for_writer};
 use crate::prepared::{Prepared, give_up};
-use answer::RefusedCommit;
-use conflict::{Candidate, Verdict, is_safe, judge, put_in_order};
+use alone::{Record, RefusedCommit, commits_have_an_order, replay_answers_again};
+use conflict::{Candidate, Judgment, Live, is_safe, judge, put_in_order};
 use delta::View;
-use live::Live;
-use serial::{Record, commits_have_an_order, replay_answers_again};
 use siread::LockTable;
 use sqlite_items::Items;
-use std::alloc::Global;
+use std::alloc::{AllocError, Global};
 use std::marker::Model;
 use std::mem;
-use txn::{Closed, Parts, Txn, Unclosed, verdict_on};
+use txn::{CloseFailure, ClosedTransaction, Parts, Txn, verdict_on};
 use value::{Refusal, Text, Truth};
 
 /// The committed transactions: the tables before the first and after the last, a record of each, their serial
@@ -97,19 +95,18 @@ impl Drop for Core {
 }
 
 /// Why a transaction was not committed. After [`Refusal::NoMemory`] it is given back; any other refusal has ended it.
-pub struct Uncommitted {
+pub struct CommitFailure {
     pub refusal: Refusal,
     pub txn: Option<Txn>,
 }
 
 impl Core {
     /// No commit yet, over tables on which no assertion is false, and at most so many commits, from none to
-    /// 4,294,967,295. NoMemory is the only error.
-    pub fn new(alloc: Global, limit: u64, loaded: View) -> Result<Core, Refusal>
+    /// 4,294,967,295.
+    pub fn new(alloc: Global, limit: u64, loaded: View) -> Result<Core, AllocError>
         requires sound { IsSound loaded.declared loaded.state }
         requires within { limit ≤ 4294967295 }
-        ensures only_memory { IsOkUnless result NoMemory }
-        ensures empty { IfOk result (λ core. core ≡ empty_core limit loaded) }
+        ensures { IfOk result (λ core. core ≡ empty_core limit loaded) }
     {
         Ok(Core {
             limit,
@@ -126,12 +123,11 @@ impl Core {
         })
     }
 
-    /// A transaction begins on the newest tables. NoMemory is the only error, and then nothing has changed.
-    pub fn begin(&mut self) -> Result<Txn, Refusal>
+    /// A transaction begins on the newest tables. Where memory runs out, nothing has changed.
+    pub fn begin(&mut self) -> Result<Txn, AllocError>
         requires idle { self.old.prepared ≡ None }
-        ensures only_memory { IsOkUnless result NoMemory }
         ensures begun { IfOk result (λ txn.
-            txn ≡ begun self.old.live.begun (length self.old.records) false (newest_tables self.old)) }
+            txn ≡ transaction_at_begin self.old.live.begun (length self.old.records) false (newest_tables self.old)) }
         ensures live { IfOk result (λ txn. IsLive self.new txn) }
         ensures after { OnOk result (self.new ≡ with_begun false self.old) }
         ensures same { OnErr result (self.new ≡ self.old) }
@@ -140,13 +136,12 @@ impl Core {
     }
 
     /// A transaction that is read only begins on the newest tables: its INSERT, UPDATE and DELETE are refused, and it
-    /// may stand earlier in the serial order, so that fewer commits are refused for it. NoMemory is the only error, and
-    /// then nothing has changed.
-    pub fn begin_read_only(&mut self) -> Result<Txn, Refusal>
+    /// may stand earlier in the serial order, so that fewer commits are refused for it. Where memory runs out,
+    /// nothing has changed.
+    pub fn begin_read_only(&mut self) -> Result<Txn, AllocError>
         requires idle { self.old.prepared ≡ None }
-        ensures only_memory { IsOkUnless result NoMemory }
         ensures begun { IfOk result (λ txn.
-            txn ≡ begun self.old.live.begun (length self.old.records) true (newest_tables self.old)) }
+            txn ≡ transaction_at_begin self.old.live.begun (length self.old.records) true (newest_tables self.old)) }
         ensures live { IfOk result (λ txn. IsLive self.new txn) }
         ensures after { OnOk result (self.new ≡ with_begun true self.old) }
         ensures same { OnErr result (self.new ≡ self.old) }
@@ -165,19 +160,19 @@ impl Core {
     /// [`Refusal::EpochFull`]; [`Refusal::WriteConflict`]; [`Refusal::Dangerous`]. Each is noted in the list of
     /// refused commits, and has ended the transaction. Or [`Refusal::NoMemory`]: then nothing has changed, and the
     /// transaction is given back.
-    pub fn commit(&mut self, session: &Text, txn: Txn) -> Result<u64, Uncommitted>
+    pub fn commit(&mut self, session: &Text, txn: Txn) -> Result<u64, CommitFailure>
         requires live { IsLive self.old txn }
         requires idle { self.old.prepared ≡ None }
         ensures number { IfOk result (λ number. IsCommitAnswer self.old session.now txn (Ok number)) }
-        ensures after { IfOk result (λ _. self.new ≡ committed self.old session.now txn) }
+        ensures after { IfOk result (λ _. self.new ≡ core_after_commit self.old session.now txn) }
         ensures refused { IfErr result (λ fault.
             IsUncommitted self.old session.now txn fault.refusal fault.txn self.new) }
     {
         let closed = match txn.close_check() {
             Ok(closed) => closed,
-            Err(Unclosed { refusal, txn }) => {
-                return Err(Uncommitted {
-                    refusal,
+            Err(CloseFailure { txn }) => {
+                return Err(CommitFailure {
+                    refusal: Refusal::NoMemory,
                     txn: Some(txn),
                 });
             }
@@ -193,7 +188,11 @@ impl Core {
     /// # Errors
     ///
     /// Those of [`Core::commit`].
-    pub fn prepare(&mut self, session: &Text, closed: Closed) -> Result<u64, Uncommitted>
+    pub fn prepare(
+        &mut self,
+        session: &Text,
+        closed: ClosedTransaction,
+    ) -> Result<u64, CommitFailure>
         requires live { IsLive self.old closed }
         requires idle { self.old.prepared ≡ None }
         ensures number { IfOk result (λ number. IsCommitAnswer self.old session.now closed (Ok number)) }
@@ -204,13 +203,13 @@ impl Core {
         match self.decide(&closed) {
             Ok(Decision::Accepted(place)) => self.make_ready(session, closed, place),
             Ok(Decision::Refused(refusal)) => Err(self.refuse(session, closed, refusal)),
-            Err(refusal) => Err(give_back(refusal, closed)),
+            Err(_) => Err(give_back(closed)),
         }
     }
 
     /// Makes the prepared commit the next, if one is prepared. It takes no memory.
     pub fn finish(&mut self)
-        ensures { self.new ≡ finished self.old }
+        ensures { self.new ≡ core_after_finish self.old }
     {
         let Some(prepared) = self.prepared.take() else {
             return;
@@ -244,9 +243,9 @@ impl Core {
 
     /// Gives the prepared commit up, if one is prepared, and its transaction back. All is then as it was before it
     /// was prepared. It takes no memory.
-    pub fn cancel(&mut self) -> Option<Closed>
+    pub fn cancel(&mut self) -> Option<ClosedTransaction>
         ensures back { result ≡ pending_txn self.old.prepared }
-        ensures after { self.new ≡ unprepared self.old }
+        ensures after { self.new ≡ without_prepared self.old }
     {
         let Some(prepared) = self.prepared.take() else {
             return None;
@@ -262,7 +261,7 @@ impl Core {
     pub fn end(&mut self, txn: Txn)
         requires live { IsLive self.old txn }
         requires idle { self.old.prepared ≡ None }
-        ensures { self.new ≡ ended self.old txn }
+        ensures { self.new ≡ core_after_end self.old txn }
     {
         let newest = self.records.len() as u64;
         forget(
@@ -372,7 +371,7 @@ impl Core {
     }
 
     /// Each commit was accepted over those before it.
-    pub fn is_log(&self)
+    pub fn recall_log(&self)
         ensures { IsLog (log_of self.now) }
     {
         // (what holds of every core is known where a field of it is read)
@@ -380,14 +379,14 @@ impl Core {
     }
 
     /// There are at most as many commits as the limit says.
-    pub fn is_within_limit(&self)
+    pub fn recall_limit(&self)
         ensures { length self.now.records ≤ self.now.limit }
     {
         let _ = &self.loaded;
     }
 
     /// The committed transactions have a serial order, and no committed tables make an assertion false.
-    pub fn is_serializable(&self)
+    pub fn recall_serializability(&self)
         ensures { IsSerializable self.now }
     {
         commits_have_an_order();
@@ -398,11 +397,11 @@ impl Core {
 
 impl Core {
     /// A transaction, read only or not, begins on the newest tables.
-    pub(crate) fn begin_as(&mut self, read_only: bool) -> Result<Txn, Refusal>
+    pub(crate) fn begin_as(&mut self, read_only: bool) -> Result<Txn, AllocError>
         requires idle { self.old.prepared ≡ None }
-        ensures only_memory { IsOkUnless result NoMemory }
         ensures begun { IfOk result (λ txn.
-            txn ≡ begun self.old.live.begun (length self.old.records) read_only (newest_tables self.old)) }
+            txn ≡ transaction_at_begin self.old.live.begun (length self.old.records) read_only
+            (newest_tables self.old)) }
         ensures live { IfOk result (λ txn. IsLive self.new txn) }
         ensures after { OnOk result (self.new ≡ with_begun read_only self.old) }
         ensures same { OnErr result (self.new ≡ self.old) }
@@ -418,17 +417,16 @@ impl Core {
         )?;
         if let Err(_) = self.live.begin(snapshot, read_only) {
             let_go(txn.abandon());
-            return Err(Refusal::NoMemory);
+            return Err(AllocError);
         }
         Ok(txn)
     }
 
     /// What the COMMIT of a transaction is answered.
-    fn decide(&self, closed: &Closed) -> Result<Decision, Refusal>
+    fn decide(&self, closed: &ClosedTransaction) -> Result<Decision, AllocError>
         requires live { IsLive self.now closed.now }
         requires idle { self.now.prepared ≡ None }
-        ensures only_memory { IsOkUnless result NoMemory }
-        ensures decided { IfOk result (λ decision.
+        ensures { IfOk result (λ decision.
             (session : List ℕ) → IsDecision self.now session closed.now decision) }
     {
         if let Some(refusal) = closed.refused() {
@@ -443,11 +441,10 @@ impl Core {
     }
 
     /// What the commits before it make of a transaction.
-    fn judge(&self, closed: &Closed) -> Result<Decision, Refusal>
+    fn judge(&self, closed: &ClosedTransaction) -> Result<Decision, AllocError>
         requires live { IsLive self.now closed.now }
         requires idle { self.now.prepared ≡ None }
-        ensures only_memory { IsOkUnless result NoMemory }
-        ensures judged { IfOk result (λ decision.
+        ensures { IfOk result (λ decision.
             (session : List ℕ) → IsJudgment self.now (record_of self.now session closed.now) decision) }
     {
         let records = self.records.as_slice();
@@ -468,24 +465,23 @@ impl Core {
             &self.locks,
             &candidate,
         ) {
-            Verdict::Fine { place } => Ok(Decision::Accepted(place)),
-            Verdict::WriteConflict { row, by } => {
+            Judgment::Fine { place } => Ok(Decision::Accepted(place)),
+            Judgment::WriteConflict { row, by } => {
                 let refusal = refuse_for_writer(self.loaded.catalog(), changes, row, by)?;
                 Ok(Decision::Refused(refusal))
             }
-            Verdict::Dangerous(danger) => Ok(Decision::Refused(refuse_for_triple(danger))),
+            Judgment::Dangerous(danger) => Ok(Decision::Refused(refuse_for_triple(danger))),
         }
     }
 
     /// The tables after the commit of a transaction that is accepted. Where its snapshot is of the newest tables,
     /// that is its own view.
-    fn make_tables(&self, closed: &Closed) -> Result<View, Refusal>
+    fn make_tables(&self, closed: &ClosedTransaction) -> Result<View, AllocError>
         requires live { IsLive self.now closed.now }
         requires idle { self.now.prepared ≡ None }
         requires free { (session : List ℕ)
             → HasNoWriteConflict (log_of self.now) (record_of self.now session closed.now) }
-        ensures only_memory { IsOkUnless result NoMemory }
-        ensures tables { IfOk result (λ view. (session : List ℕ)
+        ensures { IfOk result (λ view. (session : List ℕ)
             → view ≡ newest_tables (with_commit self.now (record_of self.now session closed.now))) }
     {
         let own = closed.own();
@@ -501,11 +497,14 @@ impl Core {
     }
 
     /// The tables after the commit of a transaction that is accepted, and its session's name.
-    fn make_for(&self, session: &Text, closed: &Closed) -> Result<(View, Text), Refusal>
+    fn make_for(
+        &self,
+        session: &Text,
+        closed: &ClosedTransaction,
+    ) -> Result<(View, Text), AllocError>
         requires live { IsLive self.now closed.now }
         requires idle { self.now.prepared ≡ None }
         requires answered { IsCommitAnswer self.now session.now closed.now (Ok (length self.now.records + 1)) }
-        ensures only_memory { IsOkUnless result NoMemory }
         ensures tables { IfOk result (λ made.
             made.0 ≡ newest_tables (with_commit self.now (record_of self.now session.now closed.now))) }
         ensures session { IfOk result (λ made. made.1 ≡ session.now) }
@@ -516,7 +515,12 @@ impl Core {
     }
 
     /// Prepares the commit of a transaction that is accepted.
-    fn make_ready(&mut self, session: &Text, closed: Closed, place: u64) -> Result<u64, Uncommitted>
+    fn make_ready(
+        &mut self,
+        session: &Text,
+        closed: ClosedTransaction,
+        place: u64,
+    ) -> Result<u64, CommitFailure>
         requires live { IsLive self.old closed }
         requires idle { self.old.prepared ≡ None }
         requires answered { IsCommitAnswer self.old session.now closed (Ok (length self.old.records + 1)) }
@@ -530,20 +534,20 @@ impl Core {
         let number = self.records.len() as u64 + 1;
         let (tables, session) = match self.make_for(session, &closed) {
             Ok(made) => made,
-            Err(refusal) => return Err(give_back(refusal, closed)),
+            Err(_) => return Err(give_back(closed)),
         };
         // (that a read-only transaction has changed nothing is a clause of this call)
         closed.recall_read_only();
-        if let Err(refusal) = make_room(
+        if let Err(_) = make_room(
             &mut self.records,
             &mut self.places,
             &mut self.reaches,
             &mut self.order,
         ) {
-            return Err(give_back(refusal, closed));
+            return Err(give_back(closed));
         }
         if let Err(_) = self.locks.put(number, closed.reads()) {
-            return Err(give_back(Refusal::NoMemory, closed));
+            return Err(give_back(closed));
         }
         let prepared = Prepared {
             closed,
@@ -559,15 +563,20 @@ impl Core {
     }
 
     /// Notes a refused commit, which ends the transaction.
-    fn refuse(&mut self, session: &Text, closed: Closed, refusal: Refusal) -> Uncommitted
+    fn refuse(
+        &mut self,
+        session: &Text,
+        closed: ClosedTransaction,
+        refusal: Refusal,
+    ) -> CommitFailure
         requires live { IsLive self.old closed }
         requires idle { self.old.prepared ≡ None }
         requires known { refusal ≢ NoMemory }
         requires answered { IsCommitAnswer self.old session.now closed (Err refusal) }
         ensures { IsUncommitted self.old session.now closed result.refusal result.txn self.new }
     {
-        if let Err(fault) = note_refused(&mut self.refused, session, &refusal) {
-            return give_back(fault, closed);
+        if let Err(_) = note_refused(&mut self.refused, session, &refusal) {
+            return give_back(closed);
         }
         let newest = self.records.len() as u64;
         forget(
@@ -578,7 +587,7 @@ impl Core {
             newest,
         );
         let_go(closed.into_parts());
-        Uncommitted { refusal, txn: None }
+        CommitFailure { refusal, txn: None }
     }
 }
 
@@ -587,7 +596,7 @@ impl Core {
 fn forget(live: &mut Live, locks: &mut LockTable, reaches: &[u64], ticket: u64, newest: u64)
     ensures live { live.new ≡ without ticket live.old }
     ensures locks { readers_at locks.new
-        ≡ reaching (least_writing newest live.new.snapshots) reaches.now (readers_at locks.old) }
+        ≡ reads_above (least_writing newest live.new.snapshots) reaches.now (readers_at locks.old) }
 {
     live.end(ticket);
     locks.trim(live.least_writing(newest), reaches);
@@ -628,8 +637,7 @@ fn make_room(
     places: &mut Vec<u64>,
     reaches: &mut Vec<u64>,
     order: &mut Vec<u64>,
-) -> Result<(), Refusal>
-    ensures only_memory { IsOkUnless result NoMemory }
+) -> Result<(), AllocError>
     ensures records { records.new.items ≡ records.old.items }
     ensures places { places.new.items ≡ places.old.items }
     ensures reaches { reaches.new.items ≡ reaches.old.items }
@@ -650,8 +658,7 @@ fn note_refused(
     refused: &mut Vec<RefusedCommit>,
     session: &Text,
     refusal: &Refusal,
-) -> Result<(), Refusal>
-    ensures only_memory { IsOkUnless result NoMemory }
+) -> Result<(), AllocError>
     ensures noted { OnOk result (refused.new.items
         ≡ refused.old.items ++ record { session = session.now; refusal = refusal.now } ∷ []) }
     ensures same { OnErr result (refused.new.items ≡ refused.old.items) }
@@ -664,13 +671,13 @@ fn note_refused(
     Ok(())
 }
 
-/// The transaction is given back, as it was before its COMMIT.
-fn give_back(refusal: Refusal, closed: Closed) -> Uncommitted
-    ensures refusal { result.refusal ≡ refusal }
+/// The transaction is given back for want of memory, as it was before its COMMIT.
+fn give_back(closed: ClosedTransaction) -> CommitFailure
+    ensures refusal { result.refusal ≡ NoMemory }
     ensures txn { result.txn ≡ Some closed }
 {
-    Uncommitted {
-        refusal,
+    CommitFailure {
+        refusal: Refusal::NoMemory,
         txn: Some(closed.reopen()),
     }
 }

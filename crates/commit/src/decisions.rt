@@ -1,12 +1,12 @@
 //! What a COMMIT is answered.
 
-ghost use Rattle.std.specs.Prelude.{◌≡◌, ◌<◌, length, slice_index_or, All, IfOk, IsOkUnless};
-ghost use Rattle.value.specs.declared.refusals.Refusal.TheVariants.{NoMemory};
+ghost use Rattle.std.specs.Prelude.{◌≡◌, ◌<◌, length, slice_index_or, All, IfOk};
 ghost use Rattle.table.specs.declared.rows.Change.{Change as AnyChange};
 ghost use Rattle.table.specs.Rows.{names_of};
 ghost use Rattle.commit.specs.Decisions.{IsConflictOf, danger_refusal};
 
 use conflict::Danger;
+use std::alloc::AllocError;
 use table::{Catalog, Change};
 use value::{Party, Refusal};
 
@@ -24,11 +24,10 @@ pub fn refuse_for_writer(
     changes: &[Change],
     row: usize,
     by: u64,
-) -> Result<Refusal, Refusal>
+) -> Result<Refusal, AllocError>
     requires within { row < length changes.now }
     requires tables { All (λ change. change.table < length (names_of catalog.now)) changes.now }
-    ensures only_memory { IsOkUnless result NoMemory }
-    ensures named { IfOk result (λ refusal.
+    ensures { IfOk result (λ refusal.
         (change : AnyChange) → IsConflictOf catalog.now (slice_index_or changes.now row change) by refusal) }
 {
     let change = &changes[row];

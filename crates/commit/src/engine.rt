@@ -1,22 +1,22 @@
 //! Events of many sessions, one after the other.
 
-ghost use Rattle.std.specs.Prelude.{◌≡◌, ◌≤◌, ◌≢◌, [], true, false, length, take, IfOk, IfErr, IsOkUnless, OnErr, OnOk, Err};
+ghost use Rattle.std.specs.Prelude.{◌≡◌, ◌≤◌, ◌≢◌, [], true, false, length, take, IfOk, IfErr, OnErr, OnOk, Err};
 ghost use Rattle.value.specs.declared.refusals.Refusal.TheVariants.{NoMemory};
 ghost use Rattle.alone.specs.Alone.{IsSound};
 ghost use Rattle.commit.specs.Cores.{IsSerializable};
 ghost use Rattle.commit.specs.Epochs.{IsNextEpoch, is_any_open, next_start_of};
 ghost use Rattle.commit.specs.Events.{IsAnswered, after, as_answer};
 ghost use Rattle.commit.specs.Fitting.{AllFit};
-ghost use Rattle.commit.specs.Runs.{AreAnswers, IsNext, beginning, led_to, seated};
+ghost use Rattle.commit.specs.Runs.{AreAnswers, IsNext, beginning, led_to, seats_with};
 ghost use Rattle.commit.specs.Told.{WereToldAlone};
 
 use crate::cores::Core;
 use crate::laws::answers_lead_to_a_serial_order;
 use crate::seats::{Seat, answer_event, find_seat, make_seats, seat_session};
-use answer::Answer;
+use alone::Answer;
 use definitions::NewAssertion;
 use delta::View;
-use std::alloc::Global;
+use std::alloc::{AllocError, Global};
 use std::marker::Model;
 use syntax::Step;
 use value::{Refusal, Text};
@@ -52,26 +52,26 @@ pub struct Outcome {
 
 impl Engine {
     /// Before the first of these events, whose sessions get a seat each, over tables on which no assertion is
-    /// false, with at most so many commits, from none to 4,294,967,295. NoMemory is the only error.
-    pub fn new(alloc: Global, limit: u64, loaded: View, steps: &[Step]) -> Result<Engine, Refusal>
+    /// false, with at most so many commits, from none to 4,294,967,295.
+    pub fn new(
+        alloc: Global,
+        limit: u64,
+        loaded: View,
+        steps: &[Step],
+    ) -> Result<Engine, AllocError>
         requires sound { IsSound loaded.declared loaded.state }
         requires within { limit ≤ 4294967295 }
-        ensures only_memory { IsOkUnless result NoMemory }
-        ensures beginning { IfOk result (λ engine. engine ≡ beginning limit loaded steps.now) }
+        ensures { IfOk result (λ engine. engine ≡ beginning limit loaded steps.now) }
     {
         let seats = make_seats(alloc, steps)?;
         let core = Core::new(alloc, limit, loaded)?;
         Ok(Engine { core, seats })
     }
 
-    /// A seat for a session that comes later, if it has none. An event of a session without a seat is refused.
-    ///
-    /// # Errors
-    ///
-    /// [`Refusal::NoMemory`] alone. Nothing has changed then.
-    pub fn seat(&mut self, session: &Text) -> Result<(), Refusal>
-        ensures only_memory { IsOkUnless result NoMemory }
-        ensures seated { OnOk result (self.new ≡ record self.old { seats = seated self.old.seats session.now }) }
+    /// A seat for a session that comes later, if it has none. An event of a session without a seat is refused. Where
+    /// memory runs out, nothing has changed.
+    pub fn seat(&mut self, session: &Text) -> Result<(), AllocError>
+        ensures seated { OnOk result (self.new ≡ record self.old { seats = seats_with self.old.seats session.now }) }
         ensures same { OnErr result (self.new ≡ self.old) }
     {
         seat_session(&mut self.seats, session)
@@ -133,15 +133,10 @@ impl Engine {
 
 /// Answers events of any sessions, one after the other, from tables on which no assertion is false, with at most so
 /// many commits, from none to 4,294,967,295. Should the answers themselves find no memory, the run ends there, and what
-/// is answered is the beginning of the list.
-///
-/// # Errors
-///
-/// [`Refusal::NoMemory`] alone, where it was found before the first event.
-pub fn run(alloc: Global, limit: u64, loaded: View, steps: &[Step]) -> Result<Outcome, Refusal>
+/// is answered is the beginning of the list. An error is that memory ran out before the first event.
+pub fn run(alloc: Global, limit: u64, loaded: View, steps: &[Step]) -> Result<Outcome, AllocError>
     requires sound { IsSound loaded.declared loaded.state }
     requires within { limit ≤ 4294967295 }
-    ensures only_memory { IsOkUnless result NoMemory }
     ensures within { IfOk result (λ outcome. length outcome.answers.items ≤ length steps.now) }
     ensures answers { IfOk result (λ outcome.
         AreAnswers (beginning limit loaded steps.now) (take (length outcome.answers.items) steps.now)
@@ -199,11 +194,11 @@ fn is_any_open(seats: &[Seat]) -> bool
 }
 
 /// An answer, or that no memory was found.
-fn as_answer(answered: Result<Answer, Refusal>) -> Answer
+fn as_answer(answered: Result<Answer, AllocError>) -> Answer
     ensures { result ≡ as_answer answered }
 {
     match answered {
         Ok(answer) => answer,
-        Err(refusal) => Answer::Refused(refusal),
+        Err(_) => Answer::Refused(Refusal::NoMemory),
     }
 }

@@ -3,7 +3,7 @@
 ghost use Rattle.std.specs.Prelude.{◌≡◌, ◌≢◌, ◌≤◌, IfOk, IfErr, OnErr, Ok, Err, None};
 ghost use Rattle.value.specs.declared.refusals.Refusal.TheVariants.{NoMemory};
 ghost use Rattle.alone.specs.Alone.{IsSound};
-ghost use Rattle.delta.specs.Views.{Shown};
+ghost use Rattle.delta.specs.Views.{ViewState};
 ghost use Rattle.definitions.specs.Redeclaration.{AreCreated, without_names};
 ghost use Rattle.commit.specs.Cores.{newest_tables};
 ghost use Rattle.commit.specs.Epochs.{AreOutcomes, IsEnd, IsNextEpoch, IsOneMore, next_start, tables_left};
@@ -50,7 +50,7 @@ pub fn readmit(
 ) -> Result<View, Refusal>
     ensures readmitted { IfOk result (λ next. next_start dropped.now created.now view.now ≡ Ok next) }
     ensures sound { IfOk result (λ next. IsSound next.declared next.state) }
-    ensures written { IfOk result (λ next. (left : Shown) → without_names dropped.now view.now ≡ Ok left
+    ensures written { IfOk result (λ next. (left : ViewState) → without_names dropped.now view.now ≡ Ok left
         → AreCreated left created.now next) }
     ensures refused { IfErr result (λ refusal. refusal ≢ NoMemory
         → next_start dropped.now created.now view.now ≡ Err refusal) }
@@ -92,7 +92,7 @@ impl Core {
     {
         let alloc = self.allocator();
         let start = readmit(alloc, self.newest(), dropped, created)?;
-        Core::new(alloc, self.limit(), start)
+        Ok(Core::new(alloc, self.limit(), start)?)
     }
 }
 

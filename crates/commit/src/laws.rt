@@ -2,26 +2,25 @@
 
 ghost use Rattle.std.specs.Prelude.{◌≡◌, ◌++◌, ◌∷◌, [], ℕ, Bool, true, List, Result};
 ghost use Rattle.value.specs.declared.refusals.Refusal.{Refusal as AnyRefusal};
-ghost use Rattle.serial.specs.Commits.{IsLog};
-ghost use Rattle.alone.specs.declared.statements.Resolved.{Resolved};
-ghost use Rattle.delta.specs.Views.{Shown};
-ghost use Rattle.txn.specs.Transactions.{OpenTransaction, begun, outcome_of, run_of, step_of, with_statement};
-ghost use Rattle.commit.specs.Cores.{CoreState, IsCommitAnswer, IsLive, IsSerializable, committed, ended, log_of, refused_to, with_begun};
+ghost use Rattle.alone.specs.Commits.{IsLog};
+ghost use Rattle.alone.specs.declared.statements.ResolvedStatement.{ResolvedStatement};
+ghost use Rattle.delta.specs.Views.{ViewState};
+ghost use Rattle.txn.specs.Transactions.{OpenTransaction, transaction_at_begin, outcome_of, run_of, step_of, with_statement};
+ghost use Rattle.commit.specs.Cores.{CoreState, IsCommitAnswer, IsLive, IsSerializable, core_after_commit, core_after_end, log_of, refused_to, with_begun};
 ghost use Rattle.commit.specs.Fitting.{AllFit, ShownFit};
 ghost use Rattle.commit.specs.Runs.{InEachRun};
 ghost use Rattle.commit.specs.Safe.{IsNotForOthers, IsSafeReader};
 ghost use Rattle.commit.specs.Told.{WereToldAlone};
 
-use alone::runs_are_joined;
-use serial::{commits_have_an_order, replay_answers_again};
+use alone::{commits_have_an_order, replay_answers_again, runs_are_joined};
 
 /// The replies that a transaction's statements were given, one by one on its own view, are those of its trace run
 /// alone: none at its BEGIN, and one more with each statement. So what a record's trace answers on its snapshot is
 /// what its session was told.
 pub fn replies_are_those_alone()
-    ensures first { (ticket snapshot : ℕ) (read_only : Bool) (shown : Shown)
-        → (run_of (begun ticket snapshot read_only shown)).replies ≡ [] }
-    ensures next { (t : OpenTransaction) (statement : Resolved)
+    ensures first { (ticket snapshot : ℕ) (read_only : Bool) (shown : ViewState)
+        → (run_of (transaction_at_begin ticket snapshot read_only shown)).replies ≡ [] }
+    ensures next { (t : OpenTransaction) (statement : ResolvedStatement)
         → (run_of (with_statement t statement)).replies ≡ (run_of t).replies ++ (step_of t statement).reply ∷ [] }
 {
     runs_are_joined();
@@ -38,13 +37,14 @@ pub fn safe_readers_are_never_refused()
     ensures begun { (c : CoreState) (t : OpenTransaction) → IsLive c t → IsSafeReader c t
         → (read_only : Bool) → IsSafeReader (with_begun read_only c) t }
     ensures ended { (c : CoreState) (t : OpenTransaction) → IsLive c t → IsSafeReader c t
-        → (other : OpenTransaction) → IsSafeReader (ended c other) t }
+        → (other : OpenTransaction) → IsSafeReader (core_after_end c other) t }
     ensures refused { (c : CoreState) (t : OpenTransaction) → IsLive c t → IsSafeReader c t
         → (session : List ℕ) (other : OpenTransaction) (refusal : AnyRefusal)
         → IsSafeReader (refused_to c session other refusal) t }
     ensures committed { (c : CoreState) (t : OpenTransaction) → IsLive c t → IsSafeReader c t
-        → (session : List ℕ) (other : OpenTransaction) → IsLog (log_of (committed c session other)) → IsLive c other
-        → IsSafeReader (committed c session other) t }
+        → (session : List ℕ) (other : OpenTransaction) → IsLog (log_of (core_after_commit c session other))
+        → IsLive c other
+        → IsSafeReader (core_after_commit c session other) t }
 {}
 
 /// The headline, of the definitions alone. Whatever answers events may get, each after those before it, from tables on

@@ -28,7 +28,7 @@
 //!
 //! How it works. What a core keeps at hand (the newest tables, the least conflict out of each commit, the order) is
 //! what its records determine, and each record was accepted over those before it and recorded as it runs alone on
-//! its snapshot (`specs/Kept`): that is the premise of the laws of `serial`, so they hold of every core. A commit
+//! its snapshot (`specs/Kept`): that is the premise of the laws of `alone`, so they hold of every core. A commit
 //! is judged by the commits after its snapshot (`conflict::judge`), and all that takes memory is made before the
 //! first field changes.
 //!
@@ -46,8 +46,8 @@ mod laws;
 mod prepared;
 mod seats;
 
-pub use admission::{admit, first_false, require_satisfied};
-pub use cores::{Core, Uncommitted};
+pub use admission::{admit, find_first_false, require_satisfied};
+pub use cores::{CommitFailure, Core};
 pub use engine::{Engine, Outcome, run};
 pub use epochs::{Epoch, Epochs, readmit, run_epochs};
 pub use laws::{

@@ -1,16 +1,15 @@
 //! The sessions' seats, and what an event does in one.
 
-ghost use Rattle.std.specs.Prelude.{◌≡◌, ◌<◌, [], false, true, length, nat_le, is_none, IfSome, IfOk, IsOkUnless, OnErr, OnOk, Some, None};
+ghost use Rattle.std.specs.Prelude.{◌≡◌, ◌<◌, [], false, true, length, nat_le, is_none, IfSome, IfOk, OnErr, OnOk, Some, None};
 ghost use Rattle.value.specs.Ordered.{HoldsOf};
-ghost use Rattle.value.specs.declared.refusals.Refusal.TheVariants.{NoMemory};
 ghost use Rattle.commit.specs.Cores.{IsLive};
 ghost use Rattle.syntax.specs.declared.statements.Event.TheVariants.{Commit, Rollback, Run};
-ghost use Rattle.commit.specs.Events.{IsReply, begin_answer, core_after, core_begun, found_no_memory, rollback_answer, run_answer, seat_of, takes_memory, txn_after, txn_begun, txn_with};
-ghost use Rattle.commit.specs.Runs.{all_seated, seated};
+ghost use Rattle.commit.specs.Events.{IsReply, begin_answer, core_after, core_after_begin, found_no_memory, rollback_answer, run_answer, seat_of, takes_memory, txn_after, txn_after_begin, txn_with};
+ghost use Rattle.commit.specs.Runs.{seats_with_all, seats_with};
 
-use crate::cores::{Core, Uncommitted};
-use answer::Answer;
-use std::alloc::Global;
+use crate::cores::{CommitFailure, Core};
+use alone::Answer;
+use std::alloc::{AllocError, Global};
 use std::mem;
 use syntax::{Event, Statement, Step};
 use txn::Txn;
@@ -45,19 +44,17 @@ fn set_txn(seat: &mut Seat, txn: Option<Txn>)
     }
 }
 
-/// A seat for each session of some events, in the order of their first events. NoMemory is the only error.
-pub fn make_seats(alloc: Global, steps: &[Step]) -> Result<Vec<Seat>, Refusal>
-    ensures only_memory { IsOkUnless result NoMemory }
-    ensures seats { IfOk result (λ seats. seats.items ≡ all_seated [] steps.now) }
+/// A seat for each session of some events, in the order of their first events.
+pub fn make_seats(alloc: Global, steps: &[Step]) -> Result<Vec<Seat>, AllocError>
+    ensures { IfOk result (λ seats. seats.items ≡ seats_with_all [] steps.now) }
 {
     let mut seats = Vec::new(alloc);
     seat_all(&mut seats, steps)?;
     Ok(seats)
 }
 
-fn seat_all(seats: &mut Vec<Seat>, steps: &[Step]) -> Result<(), Refusal>
-    ensures only_memory { IsOkUnless result NoMemory }
-    ensures seated { OnOk result (seats.new.items ≡ all_seated seats.old.items steps.now) }
+fn seat_all(seats: &mut Vec<Seat>, steps: &[Step]) -> Result<(), AllocError>
+    ensures { OnOk result (seats.new.items ≡ seats_with_all seats.old.items steps.now) }
 {
     for step in steps {
         seat_session(seats, &step.session)?;
@@ -66,11 +63,10 @@ fn seat_all(seats: &mut Vec<Seat>, steps: &[Step]) -> Result<(), Refusal>
 }
 
 /// Whether events are of so many sessions or fewer. It goes no further than the first session that is one too many, so
-/// its time does not grow with the square of a long script. NoMemory is the only error.
+/// its time does not grow with the square of a long script.
 #[tactic(auto, using(crate::proofs::Seating::too_many))]
-pub fn has_few_sessions(alloc: Global, steps: &[Step], most: usize) -> Result<bool, Refusal>
-    ensures only_memory { IsOkUnless result NoMemory }
-    ensures counted { IfOk result (λ few. few ≡ nat_le (length (all_seated [] steps.now)) most) }
+pub fn has_few_sessions(alloc: Global, steps: &[Step], most: usize) -> Result<bool, AllocError>
+    ensures { IfOk result (λ few. few ≡ nat_le (length (seats_with_all [] steps.now)) most) }
 {
     let mut seats = Vec::new(alloc);
     for step in steps {
@@ -83,9 +79,8 @@ pub fn has_few_sessions(alloc: Global, steps: &[Step], most: usize) -> Result<bo
 }
 
 /// A seat for a session, if it has none.
-pub fn seat_session(seats: &mut Vec<Seat>, session: &Text) -> Result<(), Refusal>
-    ensures only_memory { IsOkUnless result NoMemory }
-    ensures seated { OnOk result (seats.new.items ≡ seated seats.old.items session.now) }
+pub fn seat_session(seats: &mut Vec<Seat>, session: &Text) -> Result<(), AllocError>
+    ensures seated { OnOk result (seats.new.items ≡ seats_with seats.old.items session.now) }
     ensures same { OnErr result (seats.new.items ≡ seats.old.items) }
 {
     if find_seat(seats, session).is_none() {
@@ -105,10 +100,9 @@ pub fn find_seat(seats: &[Seat], session: &Text) -> Option<usize>
 }
 
 /// Answers an event of the session in a seat.
-pub fn answer_event(core: &mut Core, seat: &mut Seat, step: &Step) -> Result<Answer, Refusal>
+pub fn answer_event(core: &mut Core, seat: &mut Seat, step: &Step) -> Result<Answer, AllocError>
     requires live { HoldsOf (IsLive core.old) seat.old.txn }
     requires idle { core.old.prepared ≡ None }
-    ensures only_memory { IsOkUnless result NoMemory }
     ensures answered { IfOk result (IsReply core.old step.now.session step.now.event seat.old.txn) }
     ensures known { IfOk result (λ answer. found_no_memory answer ≡ false) }
     ensures takes { OnErr result (takes_memory step.now.event seat.old.txn ≡ true) }
@@ -128,15 +122,14 @@ pub fn answer_event(core: &mut Core, seat: &mut Seat, step: &Step) -> Result<Ans
 }
 
 /// BEGIN, or BEGIN READ ONLY: a transaction begins on the newest tables.
-fn begin(core: &mut Core, seat: &mut Seat, read_only: bool) -> Result<Answer, Refusal>
+fn begin(core: &mut Core, seat: &mut Seat, read_only: bool) -> Result<Answer, AllocError>
     requires live { HoldsOf (IsLive core.old) seat.old.txn }
     requires idle { core.old.prepared ≡ None }
-    ensures only_memory { IsOkUnless result NoMemory }
     ensures answered { IfOk result (λ answer. answer ≡ begin_answer core.old seat.old.txn) }
     ensures known { IfOk result (λ answer. found_no_memory answer ≡ false) }
     ensures takes { OnErr result (is_none seat.old.txn ≡ true) }
-    ensures commits { OnOk result (core.new ≡ core_begun core.old read_only seat.old.txn) }
-    ensures seat { OnOk result (seat.new ≡ record seat.old { txn = txn_begun core.old read_only seat.old.txn }) }
+    ensures commits { OnOk result (core.new ≡ core_after_begin core.old read_only seat.old.txn) }
+    ensures seat { OnOk result (seat.new ≡ record seat.old { txn = txn_after_begin core.old read_only seat.old.txn }) }
     ensures same { OnErr result ((core.new ≡ core.old) × (seat.new ≡ seat.old)) }
     ensures live { HoldsOf (IsLive core.new) seat.new.txn }
 {
@@ -150,8 +143,7 @@ fn begin(core: &mut Core, seat: &mut Seat, read_only: bool) -> Result<Answer, Re
 }
 
 /// A statement, in the open transaction.
-fn run(seat: &mut Seat, statement: &Statement) -> Result<Answer, Refusal>
-    ensures only_memory { IsOkUnless result NoMemory }
+fn run(seat: &mut Seat, statement: &Statement) -> Result<Answer, AllocError>
     ensures answered { IfOk result (λ answer. answer ≡ run_answer statement.now seat.old.txn) }
     ensures known { IfOk result (λ answer. found_no_memory answer ≡ false) }
     ensures takes { OnErr result (takes_memory (Run statement.now) seat.old.txn ≡ true) }
@@ -162,17 +154,16 @@ fn run(seat: &mut Seat, statement: &Statement) -> Result<Answer, Refusal>
         None => Ok(Answer::Refused(Refusal::NoTransaction)),
         Some(txn) => match txn.execute(statement) {
             Ok(reply) => Ok(Answer::Replied(reply)),
-            Err(Refusal::NoMemory) => Err(Refusal::NoMemory),
+            Err(Refusal::NoMemory) => Err(AllocError),
             Err(refusal) => Ok(Answer::Refused(refusal)),
         },
     }
 }
 
 /// COMMIT of the open transaction.
-fn commit(core: &mut Core, seat: &mut Seat, session: &Text) -> Result<Answer, Refusal>
+fn commit(core: &mut Core, seat: &mut Seat, session: &Text) -> Result<Answer, AllocError>
     requires live { HoldsOf (IsLive core.old) seat.old.txn }
     requires idle { core.old.prepared ≡ None }
-    ensures only_memory { IsOkUnless result NoMemory }
     ensures answered { IfOk result (IsReply core.old session.now Commit seat.old.txn) }
     ensures known { IfOk result (λ answer. found_no_memory answer ≡ false) }
     ensures takes { OnErr result (takes_memory Commit seat.old.txn ≡ true) }
@@ -185,10 +176,10 @@ fn commit(core: &mut Core, seat: &mut Seat, session: &Text) -> Result<Answer, Re
     };
     match core.commit(session, txn) {
         Ok(number) => Ok(Answer::Committed(number)),
-        Err(Uncommitted { refusal, txn: None }) => Ok(Answer::Refused(refusal)),
-        Err(Uncommitted { refusal, txn }) => {
+        Err(CommitFailure { refusal, txn: None }) => Ok(Answer::Refused(refusal)),
+        Err(CommitFailure { refusal: _, txn }) => {
             set_txn(seat, txn);
-            Err(refusal)
+            Err(AllocError)
         }
     }
 }

@@ -15,7 +15,7 @@ use leaf_parser::{
 };
 use sqlite_items::Boxed;
 use std::alloc::{AllocError, Global};
-use syntax::{Condition, Expression, Found, Want};
+use syntax::{Condition, Expression, PartInParentheses, Want};
 use token::Kind;
 use value::Truth;
 
@@ -99,7 +99,7 @@ fn parse_is_not_truth(
     }
 }
 
-impl<F: Fn(Global, &mut Cursor<'_>, usize, Want) -> Result<Found, Stop>> Level<F> {
+impl<F: Fn(Global, &mut Cursor<'_>, usize, Want) -> Result<PartInParentheses, Stop>> Level<F> {
     /// `BETWEEN expr AND expr`. The AND is its own.
     #[tactic(auto, unfolding(syntax::specs::Readers::between))]
     fn parse_between(

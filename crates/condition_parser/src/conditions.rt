@@ -9,18 +9,18 @@ ghost use Rattle.leaf_parser.specs.Reads.{Reads};
 use crate::comparisons::{begins_comparison, negate_condition};
 use crate::levels::{InnerTest, Level};
 use leaf_parser::{
-    Ands, Cursor, Ors, Part, Repeated, Stop, drop_and_stop, parse_joined_boxed, parse_parens,
+    Ands, Cursor, Ors, Part, RepeatedPart, Stop, drop_and_stop, parse_joined_boxed, parse_parens,
 };
 use sqlite_items::Boxed;
 use std::alloc::Global;
-use syntax::{Condition, Expression, Found, Want};
+use syntax::{Condition, Expression, PartInParentheses, Want};
 use token::Kind;
 
 /// `AND bfact`
 #[derive(Drop)]
 struct NextTest<'a, F>(&'a Level<F>);
 
-impl<'a, F: Fn(Global, &mut Cursor<'_>, usize, Want) -> Result<Found, Stop>> Part
+impl<'a, F: Fn(Global, &mut Cursor<'_>, usize, Want) -> Result<PartInParentheses, Stop>> Part
     for NextTest<'a, F> {
     ghost use Rattle.syntax.specs.Readers as reader;
     ghost use Rattle.condition_parser.specs.Inside.{inside};
@@ -39,8 +39,10 @@ impl<'a, F: Fn(Global, &mut Cursor<'_>, usize, Want) -> Result<Found, Stop>> Par
     }
 }
 
-impl<'a, F: Fn(Global, &mut Cursor<'_>, usize, Want) -> Result<Found, Stop>> Repeated
-    for NextTest<'a, F> {
+impl<
+    'a,
+    F: Fn(Global, &mut Cursor<'_>, usize, Want) -> Result<PartInParentheses, Stop>,
+> RepeatedPart for NextTest<'a, F> {
     ghost use Rattle.syntax.specs.Readers as reader;
 
     ghost begins = { reader.is_and };
@@ -54,7 +56,7 @@ impl<'a, F: Fn(Global, &mut Cursor<'_>, usize, Want) -> Result<Found, Stop>> Rep
 #[derive(Drop)]
 struct NextTerm<'a, F>(&'a Level<F>);
 
-impl<'a, F: Fn(Global, &mut Cursor<'_>, usize, Want) -> Result<Found, Stop>> Part
+impl<'a, F: Fn(Global, &mut Cursor<'_>, usize, Want) -> Result<PartInParentheses, Stop>> Part
     for NextTerm<'a, F> {
     ghost use Rattle.syntax.specs.Readers as reader;
     ghost use Rattle.condition_parser.specs.Inside.{inside};
@@ -73,8 +75,10 @@ impl<'a, F: Fn(Global, &mut Cursor<'_>, usize, Want) -> Result<Found, Stop>> Par
     }
 }
 
-impl<'a, F: Fn(Global, &mut Cursor<'_>, usize, Want) -> Result<Found, Stop>> Repeated
-    for NextTerm<'a, F> {
+impl<
+    'a,
+    F: Fn(Global, &mut Cursor<'_>, usize, Want) -> Result<PartInParentheses, Stop>,
+> RepeatedPart for NextTerm<'a, F> {
     ghost use Rattle.syntax.specs.Readers as reader;
 
     ghost begins = { reader.is_or };
@@ -84,17 +88,17 @@ impl<'a, F: Fn(Global, &mut Cursor<'_>, usize, Want) -> Result<Found, Stop>> Rep
     }
 }
 
-impl<F: Fn(Global, &mut Cursor<'_>, usize, Want) -> Result<Found, Stop>> Level<F> {
+impl<F: Fn(Global, &mut Cursor<'_>, usize, Want) -> Result<PartInParentheses, Stop>> Level<F> {
     /// A condition in parentheses, EXISTS, or the first factor of an expression.
     #[tactic(auto, unfolding(syntax::specs::Readers::first))]
-    pub fn parse_first(&self, cursor: &mut Cursor<'_>) -> Result<Found, Stop>
+    pub fn parse_first(&self, cursor: &mut Cursor<'_>) -> Result<PartInParentheses, Stop>
         requires { Nests self.now.depth (F.pre self.now.inner) (F.post self.now.inner) }
         ensures { Reads (reader.first self.now.depth (inside self.now.depth) cursor.old) result cursor.new }
     {
         match cursor.peek() {
             Kind::Open => parse_parens(&InnerTest(self), cursor, self.depth),
-            Kind::Exists => Ok(Found::Condition(self.parse_exists(cursor)?)),
-            _ => Ok(Found::Expression(self.parse_factor(cursor)?)),
+            Kind::Exists => Ok(PartInParentheses::Condition(self.parse_exists(cursor)?)),
+            _ => Ok(PartInParentheses::Expression(self.parse_factor(cursor)?)),
         }
     }
 
@@ -105,13 +109,13 @@ impl<F: Fn(Global, &mut Cursor<'_>, usize, Want) -> Result<Found, Stop>> Level<F
         ensures { Reads (reader.btest self.now.depth (inside self.now.depth) cursor.old) result cursor.new }
     {
         match self.parse_first(cursor)? {
-            Found::Condition(x) => self.parse_is_after(cursor, x),
-            Found::Expression(x) => {
+            PartInParentheses::Condition(x) => self.parse_is_after(cursor, x),
+            PartInParentheses::Expression(x) => {
                 let left = self.parse_expression_after(cursor, x)?;
                 let test = self.parse_comparison(cursor, left)?;
                 self.parse_is_after(cursor, test)
             }
-            Found::Query(x) => Err(drop_and_stop(Stop::Syntax, x)),
+            PartInParentheses::Query(x) => Err(drop_and_stop(Stop::Syntax, x)),
         }
     }
 
@@ -195,26 +199,30 @@ impl<F: Fn(Global, &mut Cursor<'_>, usize, Want) -> Result<Found, Stop>> Level<F
         &self,
         cursor: &mut Cursor<'_>,
         first: Boxed<Condition>,
-    ) -> Result<Found, Stop>
+    ) -> Result<PartInParentheses, Stop>
         requires { Nests self.now.depth (F.pre self.now.inner) (F.post self.now.inner) }
         ensures { Reads
-            (rd.◌<$>◌ Found.Condition
+            (rd.◌<$>◌ PartInParentheses.Condition
             (rd.◌>>=◌ (reader.is_after self.now.depth (inside self.now.depth) first)
             (reader.cond_after self.now.depth (inside self.now.depth))) cursor.old) result cursor.new }
     {
         let test = self.parse_is_after(cursor, first)?;
         let whole = self.parse_condition_after(cursor, test)?;
-        Ok(Found::Condition(whole))
+        Ok(PartInParentheses::Condition(whole))
     }
 
     /// This expression, or the condition that begins with it.
     #[tactic(auto, unfolding(syntax::specs::Readers::any_after))]
-    pub fn parse_any_after(&self, cursor: &mut Cursor<'_>, left: Expression) -> Result<Found, Stop>
+    pub fn parse_any_after(
+        &self,
+        cursor: &mut Cursor<'_>,
+        left: Expression,
+    ) -> Result<PartInParentheses, Stop>
         requires { Nests self.now.depth (F.pre self.now.inner) (F.post self.now.inner) }
         ensures { Reads (reader.any_after self.now.depth (inside self.now.depth) left cursor.old) result cursor.new }
     {
         if !begins_comparison(cursor.peek()) {
-            return Ok(Found::Expression(left));
+            return Ok(PartInParentheses::Expression(left));
         }
         let test = self.parse_comparison(cursor, left)?;
         self.parse_rest_of_condition(cursor, test)

@@ -8,12 +8,12 @@ ghost use Rattle.leaf_parser.specs.Reads.{Reads};
 
 use crate::levels::{InnerOperand, Level};
 use leaf_parser::{
-    Counted, Cursor, NamedColumn, Part, Products, Repeated, Stop, Sums, parse_column, parse_joined,
-    parse_number, parse_parens, parse_text,
+    CountArgument, Cursor, NamedColumn, Part, Products, RepeatedPart, Stop, Sums, parse_column,
+    parse_joined, parse_number, parse_parens, parse_text,
 };
 use sqlite_items::Boxed;
 use std::alloc::{AllocError, Global};
-use syntax::{Aggregate, Expression, Found, Want};
+use syntax::{Aggregate, Expression, PartInParentheses, Want};
 use token::Kind;
 
 #[tactic(auto, unfolding(syntax::specs::Readers::text))]
@@ -33,7 +33,7 @@ fn negate_expression(alloc: Global, inner: Expression) -> Result<Expression, All
 #[derive(Drop)]
 struct NextFactor<'a, F>(&'a Level<F>);
 
-impl<'a, F: Fn(Global, &mut Cursor<'_>, usize, Want) -> Result<Found, Stop>> Part
+impl<'a, F: Fn(Global, &mut Cursor<'_>, usize, Want) -> Result<PartInParentheses, Stop>> Part
     for NextFactor<'a, F> {
     ghost use Rattle.syntax.specs.Readers as reader;
     ghost use Rattle.condition_parser.specs.Inside.{inside};
@@ -52,8 +52,10 @@ impl<'a, F: Fn(Global, &mut Cursor<'_>, usize, Want) -> Result<Found, Stop>> Par
     }
 }
 
-impl<'a, F: Fn(Global, &mut Cursor<'_>, usize, Want) -> Result<Found, Stop>> Repeated
-    for NextFactor<'a, F> {
+impl<
+    'a,
+    F: Fn(Global, &mut Cursor<'_>, usize, Want) -> Result<PartInParentheses, Stop>,
+> RepeatedPart for NextFactor<'a, F> {
     ghost use Rattle.syntax.specs.Readers as reader;
 
     ghost begins = { reader.is_star };
@@ -67,7 +69,7 @@ impl<'a, F: Fn(Global, &mut Cursor<'_>, usize, Want) -> Result<Found, Stop>> Rep
 #[derive(Drop)]
 struct NextTerm<'a, F>(&'a Level<F>);
 
-impl<'a, F: Fn(Global, &mut Cursor<'_>, usize, Want) -> Result<Found, Stop>> Part
+impl<'a, F: Fn(Global, &mut Cursor<'_>, usize, Want) -> Result<PartInParentheses, Stop>> Part
     for NextTerm<'a, F> {
     ghost use Rattle.syntax.specs.Readers as reader;
     ghost use Rattle.condition_parser.specs.Inside.{inside};
@@ -94,8 +96,10 @@ impl<'a, F: Fn(Global, &mut Cursor<'_>, usize, Want) -> Result<Found, Stop>> Par
     }
 }
 
-impl<'a, F: Fn(Global, &mut Cursor<'_>, usize, Want) -> Result<Found, Stop>> Repeated
-    for NextTerm<'a, F> {
+impl<
+    'a,
+    F: Fn(Global, &mut Cursor<'_>, usize, Want) -> Result<PartInParentheses, Stop>,
+> RepeatedPart for NextTerm<'a, F> {
     ghost use Rattle.syntax.specs.Readers as reader;
 
     ghost begins = { reader.is_sign };
@@ -112,7 +116,7 @@ fn goes_on(kind: Kind) -> bool
     matches!(kind, Kind::Star | Kind::Plus | Kind::Minus)
 }
 
-impl<F: Fn(Global, &mut Cursor<'_>, usize, Want) -> Result<Found, Stop>> Level<F> {
+impl<F: Fn(Global, &mut Cursor<'_>, usize, Want) -> Result<PartInParentheses, Stop>> Level<F> {
     /// What follows the name of a set function.
     #[tactic(auto, unfolding(syntax::specs::Readers::aggregate_of))]
     fn parse_aggregate(
@@ -134,7 +138,7 @@ impl<F: Fn(Global, &mut Cursor<'_>, usize, Want) -> Result<Found, Stop>> Level<F
         requires { Nests self.now.depth (F.pre self.now.inner) (F.post self.now.inner) }
         ensures { Reads (reader.counted self.now.depth (inside self.now.depth) cursor.old) result cursor.new }
     {
-        parse_parens(&Counted(self.alloc), cursor, self.depth)
+        parse_parens(&CountArgument(self.alloc), cursor, self.depth)
     }
 
     /// A prim that is no number.

@@ -8,7 +8,7 @@ ghost use Rattle.leaf_parser.specs.Reads.{Reads};
 use leaf_parser::{Cursor, Part, Stop, drop_and_stop};
 use sqlite_items::Boxed;
 use std::alloc::Global;
-use syntax::{Expression, Found, Query, Want};
+use syntax::{Expression, PartInParentheses, Query, Want};
 
 /// What one level of parentheses is read with: how many more may be opened, and the reader of what stands in one.
 #[derive(Clone, Copy)]
@@ -18,10 +18,14 @@ pub struct Level<F> {
     pub inner: F,
 }
 
-impl<F: Fn(Global, &mut Cursor<'_>, usize, Want) -> Result<Found, Stop>> Level<F> {
+impl<F: Fn(Global, &mut Cursor<'_>, usize, Want) -> Result<PartInParentheses, Stop>> Level<F> {
     /// What stands in parentheses that are open.
     #[tactic(auto, unfolding(crate::specs::Inside::inside))]
-    pub fn parse_inside(&self, cursor: &mut Cursor<'_>, wanted: Want) -> Result<Found, Stop>
+    pub fn parse_inside(
+        &self,
+        cursor: &mut Cursor<'_>,
+        wanted: Want,
+    ) -> Result<PartInParentheses, Stop>
         requires { Nests self.now.depth (F.pre self.now.inner) (F.post self.now.inner) }
         ensures { Reads (inside self.now.depth wanted cursor.old) result cursor.new }
     {
@@ -36,7 +40,7 @@ impl<F: Fn(Global, &mut Cursor<'_>, usize, Want) -> Result<Found, Stop>> Level<F
 #[derive(Drop)]
 pub struct InnerExpression<'a, F>(pub &'a Level<F>);
 
-impl<'a, F: Fn(Global, &mut Cursor<'_>, usize, Want) -> Result<Found, Stop>> Part
+impl<'a, F: Fn(Global, &mut Cursor<'_>, usize, Want) -> Result<PartInParentheses, Stop>> Part
     for InnerExpression<'a, F> {
     ghost use Rattle.syntax.specs.Readers as reader;
     ghost use Rattle.condition_parser.specs.Inside.{inside};
@@ -51,9 +55,9 @@ impl<'a, F: Fn(Global, &mut Cursor<'_>, usize, Want) -> Result<Found, Stop>> Par
     #[tactic(auto, unfolding(syntax::specs::Readers::inner_expr))]
     fn parse(&self, cursor: &mut Cursor<'_>) -> Result<Expression, Stop> {
         match self.0.parse_inside(cursor, Want::Expression)? {
-            Found::Expression(x) => Ok(x),
-            Found::Condition(x) => Err(drop_and_stop(Stop::Syntax, x)),
-            Found::Query(x) => Err(drop_and_stop(Stop::Syntax, x)),
+            PartInParentheses::Expression(x) => Ok(x),
+            PartInParentheses::Condition(x) => Err(drop_and_stop(Stop::Syntax, x)),
+            PartInParentheses::Query(x) => Err(drop_and_stop(Stop::Syntax, x)),
         }
     }
 }
@@ -62,7 +66,7 @@ impl<'a, F: Fn(Global, &mut Cursor<'_>, usize, Want) -> Result<Found, Stop>> Par
 #[derive(Drop)]
 pub struct InnerQuery<'a, F>(pub &'a Level<F>);
 
-impl<'a, F: Fn(Global, &mut Cursor<'_>, usize, Want) -> Result<Found, Stop>> Part
+impl<'a, F: Fn(Global, &mut Cursor<'_>, usize, Want) -> Result<PartInParentheses, Stop>> Part
     for InnerQuery<'a, F> {
     ghost use Rattle.syntax.specs.Readers as reader;
     ghost use Rattle.condition_parser.specs.Inside.{inside};
@@ -77,9 +81,9 @@ impl<'a, F: Fn(Global, &mut Cursor<'_>, usize, Want) -> Result<Found, Stop>> Par
     #[tactic(auto, unfolding(syntax::specs::Readers::inner_query))]
     fn parse(&self, cursor: &mut Cursor<'_>) -> Result<Boxed<Query>, Stop> {
         match self.0.parse_inside(cursor, Want::Query)? {
-            Found::Query(x) => Ok(x),
-            Found::Condition(x) => Err(drop_and_stop(Stop::Syntax, x)),
-            Found::Expression(x) => Err(drop_and_stop(Stop::Syntax, x)),
+            PartInParentheses::Query(x) => Ok(x),
+            PartInParentheses::Condition(x) => Err(drop_and_stop(Stop::Syntax, x)),
+            PartInParentheses::Expression(x) => Err(drop_and_stop(Stop::Syntax, x)),
         }
     }
 }
@@ -88,7 +92,7 @@ impl<'a, F: Fn(Global, &mut Cursor<'_>, usize, Want) -> Result<Found, Stop>> Par
 #[derive(Drop)]
 pub struct InnerOperand<'a, F>(pub &'a Level<F>);
 
-impl<'a, F: Fn(Global, &mut Cursor<'_>, usize, Want) -> Result<Found, Stop>> Part
+impl<'a, F: Fn(Global, &mut Cursor<'_>, usize, Want) -> Result<PartInParentheses, Stop>> Part
     for InnerOperand<'a, F> {
     ghost use Rattle.syntax.specs.Readers as reader;
     ghost use Rattle.condition_parser.specs.Inside.{inside};
@@ -103,9 +107,9 @@ impl<'a, F: Fn(Global, &mut Cursor<'_>, usize, Want) -> Result<Found, Stop>> Par
     #[tactic(auto, unfolding(syntax::specs::Readers::inner_operand))]
     fn parse(&self, cursor: &mut Cursor<'_>) -> Result<Expression, Stop> {
         match self.0.parse_inside(cursor, Want::Operand)? {
-            Found::Expression(x) => Ok(x),
-            Found::Query(x) => Ok(Expression::Subquery(x)),
-            Found::Condition(x) => Err(drop_and_stop(Stop::Syntax, x)),
+            PartInParentheses::Expression(x) => Ok(x),
+            PartInParentheses::Query(x) => Ok(Expression::Subquery(x)),
+            PartInParentheses::Condition(x) => Err(drop_and_stop(Stop::Syntax, x)),
         }
     }
 }
@@ -114,24 +118,26 @@ impl<'a, F: Fn(Global, &mut Cursor<'_>, usize, Want) -> Result<Found, Stop>> Par
 #[derive(Drop)]
 pub struct InnerTest<'a, F>(pub &'a Level<F>);
 
-impl<'a, F: Fn(Global, &mut Cursor<'_>, usize, Want) -> Result<Found, Stop>> Part
+impl<'a, F: Fn(Global, &mut Cursor<'_>, usize, Want) -> Result<PartInParentheses, Stop>> Part
     for InnerTest<'a, F> {
     ghost use Rattle.syntax.specs.Readers as reader;
     ghost use Rattle.condition_parser.specs.Inside.{inside};
     ghost use Rattle.condition_parser.specs.Nests.{Nests};
 
-    type Tree = Found;
+    type Tree = PartInParentheses;
 
     ghost ready = { λ p. Nests p.0.now.depth (F.pre p.0.now.inner) (F.post p.0.now.inner) };
 
     ghost reader = { λ p. reader.inner_test p.0.now.depth (inside p.0.now.depth) };
 
     #[tactic(auto, unfolding(syntax::specs::Readers::inner_test))]
-    fn parse(&self, cursor: &mut Cursor<'_>) -> Result<Found, Stop> {
+    fn parse(&self, cursor: &mut Cursor<'_>) -> Result<PartInParentheses, Stop> {
         match self.0.parse_inside(cursor, Want::Any)? {
-            Found::Query(x) => Ok(Found::Expression(Expression::Subquery(x))),
-            Found::Condition(x) => Ok(Found::Condition(x)),
-            Found::Expression(x) => Ok(Found::Expression(x)),
+            PartInParentheses::Query(x) => Ok(PartInParentheses::Expression(Expression::Subquery(
+                x,
+            ))),
+            PartInParentheses::Condition(x) => Ok(PartInParentheses::Condition(x)),
+            PartInParentheses::Expression(x) => Ok(PartInParentheses::Expression(x)),
         }
     }
 }

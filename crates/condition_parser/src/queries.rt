@@ -12,11 +12,11 @@ use leaf_parser::{
 };
 use sqlite_items::Boxed;
 use std::alloc::Global;
-use syntax::{Condition, Found, Query, SelectList, Want};
+use syntax::{Condition, PartInParentheses, Query, SelectList, Want};
 use token::Kind;
 use value::Text;
 
-impl<F: Fn(Global, &mut Cursor<'_>, usize, Want) -> Result<Found, Stop>> Level<F> {
+impl<F: Fn(Global, &mut Cursor<'_>, usize, Want) -> Result<PartInParentheses, Stop>> Level<F> {
     /// `"*" | expr`
     #[tactic(auto, unfolding(syntax::specs::Readers::selected))]
     pub fn parse_selected(&self, cursor: &mut Cursor<'_>) -> Result<SelectList, Stop>
@@ -142,55 +142,59 @@ impl<F: Fn(Global, &mut Cursor<'_>, usize, Want) -> Result<Found, Stop>> Level<F
     }
 
     /// A condition or an expression that begins with no NOT and no SELECT.
-    pub fn parse_first_from(&self, cursor: &mut Cursor<'_>) -> Result<Found, Stop>
+    pub fn parse_first_from(&self, cursor: &mut Cursor<'_>) -> Result<PartInParentheses, Stop>
         requires { Nests self.now.depth (F.pre self.now.inner) (F.post self.now.inner) }
         ensures { Reads
             (rd.◌>>=◌ (reader.first self.now.depth (inside self.now.depth))
             (reader.any_from self.now.depth (inside self.now.depth)) cursor.old) result cursor.new }
     {
         match self.parse_first(cursor)? {
-            Found::Condition(x) => self.parse_rest_of_condition(cursor, x),
-            Found::Expression(x) => {
+            PartInParentheses::Condition(x) => self.parse_rest_of_condition(cursor, x),
+            PartInParentheses::Expression(x) => {
                 let left = self.parse_expression_after(cursor, x)?;
                 self.parse_any_after(cursor, left)
             }
-            Found::Query(x) => Err(drop_and_stop(Stop::Syntax, x)),
+            PartInParentheses::Query(x) => Err(drop_and_stop(Stop::Syntax, x)),
         }
     }
 
     /// A condition, an expression or a query.
     #[tactic(auto, unfolding(syntax::specs::Readers::any))]
-    pub fn parse_any(&self, cursor: &mut Cursor<'_>) -> Result<Found, Stop>
+    pub fn parse_any(&self, cursor: &mut Cursor<'_>) -> Result<PartInParentheses, Stop>
         requires { Nests self.now.depth (F.pre self.now.inner) (F.post self.now.inner) }
         ensures { Reads (reader.any self.now.depth (inside self.now.depth) cursor.old) result cursor.new }
     {
         match cursor.peek() {
-            Kind::Not => Ok(Found::Condition(self.parse_condition(cursor)?)),
-            Kind::Select => Ok(Found::Query(self.parse_query(cursor)?)),
+            Kind::Not => Ok(PartInParentheses::Condition(self.parse_condition(cursor)?)),
+            Kind::Select => Ok(PartInParentheses::Query(self.parse_query(cursor)?)),
             _ => self.parse_first_from(cursor),
         }
     }
 
     /// An expression or a query.
     #[tactic(auto, unfolding(syntax::specs::Readers::operand))]
-    pub fn parse_operand(&self, cursor: &mut Cursor<'_>) -> Result<Found, Stop>
+    pub fn parse_operand(&self, cursor: &mut Cursor<'_>) -> Result<PartInParentheses, Stop>
         requires { Nests self.now.depth (F.pre self.now.inner) (F.post self.now.inner) }
         ensures { Reads (reader.operand self.now.depth (inside self.now.depth) cursor.old) result cursor.new }
     {
         match cursor.peek() {
-            Kind::Select => Ok(Found::Query(self.parse_query(cursor)?)),
-            _ => Ok(Found::Expression(self.parse_expression(cursor)?)),
+            Kind::Select => Ok(PartInParentheses::Query(self.parse_query(cursor)?)),
+            _ => Ok(PartInParentheses::Expression(self.parse_expression(cursor)?)),
         }
     }
 
-    pub fn parse_wanted(&self, cursor: &mut Cursor<'_>, wanted: Want) -> Result<Found, Stop>
+    pub fn parse_wanted(
+        &self,
+        cursor: &mut Cursor<'_>,
+        wanted: Want,
+    ) -> Result<PartInParentheses, Stop>
         requires { Nests self.now.depth (F.pre self.now.inner) (F.post self.now.inner) }
         ensures { Reads (reader.level self.now.depth (inside self.now.depth) wanted cursor.old) result cursor.new }
     {
         match wanted {
-            Want::Condition => Ok(Found::Condition(self.parse_condition(cursor)?)),
-            Want::Expression => Ok(Found::Expression(self.parse_expression(cursor)?)),
-            Want::Query => Ok(Found::Query(self.parse_query(cursor)?)),
+            Want::Condition => Ok(PartInParentheses::Condition(self.parse_condition(cursor)?)),
+            Want::Expression => Ok(PartInParentheses::Expression(self.parse_expression(cursor)?)),
+            Want::Query => Ok(PartInParentheses::Query(self.parse_query(cursor)?)),
             Want::Operand => self.parse_operand(cursor),
             Want::Any => self.parse_any(cursor),
         }

@@ -7,7 +7,7 @@ use crate::levels::Level;
 use leaf_parser::{Cursor, Stop, drop_and_stop};
 use sqlite_items::Boxed;
 use std::alloc::Global;
-use syntax::{Condition, Expression, Found, Want};
+use syntax::{Condition, Expression, PartInParentheses, Want};
 
 /// What is wanted, where so many parentheses may be opened.
 pub fn read(
@@ -15,7 +15,7 @@ pub fn read(
     cursor: &mut Cursor<'_>,
     depth: usize,
     wanted: Want,
-) -> Result<Found, Stop>
+) -> Result<PartInParentheses, Stop>
     ensures { Reads (reader.read depth wanted cursor.old) result cursor.new }
 {
     Level {
@@ -36,9 +36,9 @@ pub fn parse_condition(
     ensures { Reads (reader.cond_at depth cursor.old) result cursor.new }
 {
     match read(alloc, cursor, depth, Want::Condition)? {
-        Found::Condition(x) => Ok(x),
-        Found::Expression(x) => Err(drop_and_stop(Stop::Syntax, x)),
-        Found::Query(x) => Err(drop_and_stop(Stop::Syntax, x)),
+        PartInParentheses::Condition(x) => Ok(x),
+        PartInParentheses::Expression(x) => Err(drop_and_stop(Stop::Syntax, x)),
+        PartInParentheses::Query(x) => Err(drop_and_stop(Stop::Syntax, x)),
     }
 }
 
@@ -52,8 +52,8 @@ pub fn parse_expression(
     ensures { Reads (reader.expr_at depth cursor.old) result cursor.new }
 {
     match read(alloc, cursor, depth, Want::Expression)? {
-        Found::Expression(x) => Ok(x),
-        Found::Condition(x) => Err(drop_and_stop(Stop::Syntax, x)),
-        Found::Query(x) => Err(drop_and_stop(Stop::Syntax, x)),
+        PartInParentheses::Expression(x) => Ok(x),
+        PartInParentheses::Condition(x) => Err(drop_and_stop(Stop::Syntax, x)),
+        PartInParentheses::Query(x) => Err(drop_and_stop(Stop::Syntax, x)),
     }
 }

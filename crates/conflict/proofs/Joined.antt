@@ -2,16 +2,16 @@
 use Rattle.std.proofs.Common.{◌≡◌, ℕ, ◌<◌, true, List, [], ◌∷◌, ◌++◌, map, sym, ap, ◌∙◌, subst}
 use mathlib.Core.List.{reverse}
 use Rattle.std.proofs.lemmas.List.{map_push, reverse-append}
-use Rattle.serial.specs.declared.records.Record.{Record}
-use Rattle.serial.specs.Commits.{IsAccepted, IsLog, IsNext, reach}
-use Rattle.serial.specs.Order.{least_out}
-use Rattle.serial.proofs.Kept.{places_more}
-use Rattle.conflict.specs.Judged.{IsVerdict}
-use Rattle.conflict.specs.declared.verdicts.Verdict.TheVariants.{Fine}
+use Rattle.alone.specs.declared.records.Record.{Record}
+use Rattle.alone.specs.Commits.{IsAccepted, IsLog, IsNext, reach}
+use Rattle.alone.specs.Order.{least_out}
+use Rattle.alone.proofs.Kept.{places_more}
+use Rattle.conflict.specs.Judged.{IsJudgmentOf}
+use Rattle.conflict.specs.declared.verdicts.Judgment.TheVariants.{Fine}
 
 pub accepted : (log : List Record) (commit : Record) (place : ℕ) → IsNext commit log
     → commit.snapshot < commit.number → (commit.read_only ≡ true → commit.changes ≡ [])
-    → IsVerdict log commit (Fine place) → IsAccepted commit log
+    → IsJudgmentOf log commit (Fine place) → IsAccepted commit log
 accepted log commit place next after nothing verdict = record {
   numbered = next.numbered;
   after_snapshot = after;
@@ -23,14 +23,14 @@ accepted log commit place next after nothing verdict = record {
 -- the commits with one more, and the least conflicts out with that of the verdict
 pub log_after : (commits : List Record) (commit : Record) (place : ℕ) → IsNext commit (reverse commits)
     → commit.snapshot < commit.number → (commit.read_only ≡ true → commit.changes ≡ [])
-    → IsVerdict (reverse commits) commit (Fine place) → IsLog (reverse (commits ++ commit ∷ []))
+    → IsJudgmentOf (reverse commits) commit (Fine place) → IsLog (reverse (commits ++ commit ∷ []))
 log_after commits commit place next after nothing verdict =
     subst IsLog (sym (reverse-append commits (commit ∷ [])))
     (accepted (reverse commits) commit place next after nothing verdict, next.accepted)
 
 pub places_after : (commits : List Record) (places : List ℕ) (commit : Record) (place : ℕ)
     → IsNext commit (reverse commits) → commit.snapshot < commit.number
-    → (commit.read_only ≡ true → commit.changes ≡ []) → IsVerdict (reverse commits) commit (Fine place)
+    → (commit.read_only ≡ true → commit.changes ≡ []) → IsJudgmentOf (reverse commits) commit (Fine place)
     → places ≡ map (least_out (reverse commits)) commits
     → places ++ place ∷ [] ≡ map (least_out (reverse (commits ++ commit ∷ []))) (commits ++ commit ∷ [])
 places_after commits places commit place next after nothing verdict kept =

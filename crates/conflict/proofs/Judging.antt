@@ -4,18 +4,18 @@ use Rattle.std.specs.List.{list_any}
 use mathlib.Core.List.{reverse}
 use Rattle.std.proofs.lemmas.Bool.{le-leb, lt-leb}
 use Rattle.std.proofs.lemmas.List.{length-reverse, take_rest}
-use Rattle.serial.specs.declared.records.Record.{Record}
-use Rattle.serial.specs.Commits.{HasNoDanger, HasNoWriteConflict, IsLog, IsNext, share_row}
-use Rattle.serial.specs.Numbers.{greatest_in, is_pivot, is_reader, IsLeastPivot}
-use Rattle.serial.specs.Order.{least_out}
-use Rattle.serial.specs.Answer.{AreJudged, IsPivotNamed, IsReaderNamed}
-use Rattle.serial.proofs.Alike.{Alike, greatest_in_alike, is_reader_alike, least_out_alike, least_pivot_alike}
-use Rattle.serial.proofs.Snapshots.{Parts, parts, least_out_recent}
+use Rattle.alone.specs.declared.records.Record.{Record}
+use Rattle.alone.specs.Commits.{HasNoDanger, HasNoWriteConflict, IsLog, IsNext, share_row}
+use Rattle.alone.specs.Numbers.{greatest_in, is_pivot, is_reader, IsLeastPivot}
+use Rattle.alone.specs.Order.{least_out}
+use Rattle.alone.specs.Answer.{AreJudged, IsPivotNamed, IsReaderNamed}
+use Rattle.alone.proofs.Alike.{Alike, greatest_in_alike, is_reader_alike, least_out_alike, least_pivot_alike}
+use Rattle.alone.proofs.Snapshots.{Parts, parts, least_out_recent}
 use Rattle.conflict.specs.declared.candidates.Candidate.{Candidate}
 use Rattle.conflict.specs.Candidates.{record_of, IsOf}
-use Rattle.conflict.specs.Judged.{IsConflictAt, IsFirstShared, IsVerdict}
+use Rattle.conflict.specs.Judged.{IsConflictAt, IsFirstShared, IsJudgmentOf}
 use Rattle.conflict.specs.declared.dangers.Danger.TheVariants.{AsPivot, AsReader}
-use Rattle.conflict.specs.declared.verdicts.Verdict.TheVariants.{Fine, Dangerous}
+use Rattle.conflict.specs.declared.verdicts.Judgment.TheVariants.{Fine, Dangerous}
 use Rattle.conflict.proofs.Shared.{first_conflict, no_write_conflict}
 
 -- a commit that the candidate would be, over those before it
@@ -116,7 +116,7 @@ module _ (commits : List Record) (candidate : Candidate) (commit : Record) (aske
   }
 
   pub as_pivot : (place reader : ℕ) → AreJudged (reverse commits) commit → IsFree → Found place reader → place ≤ reader
-      → IsVerdict (reverse commits) commit (Dangerous (AsPivot reader place))
+      → IsJudgmentOf (reverse commits) commit (Dangerous (AsPivot reader place))
   as_pivot place reader judged none f within =
       let e : place ≡ least_out (reverse commits) commit = least_is place f.least in
       let g : reader ≡ greatest_in (reverse commits) commit = greatest_is reader f.greatest in
@@ -137,7 +137,7 @@ module _ (commits : List Record) (candidate : Candidate) (commit : Record) (aske
 
   pub as_reader : (place reader : ℕ) → AreJudged (reverse commits) commit → IsFree → Found place reader → reader < place
       → (pivot : Record) (writer : ℕ) → IsLeastPivot (reverse commits) (record_of candidate) pivot → writer ≡ least_out (reverse commits) pivot
-      → IsVerdict (reverse commits) commit (Dangerous (AsReader pivot.number writer))
+      → IsJudgmentOf (reverse commits) commit (Dangerous (AsReader pivot.number writer))
   as_reader place reader judged none f past pivot writer least e = (
     free none,
     inr (
@@ -149,7 +149,7 @@ module _ (commits : List Record) (candidate : Candidate) (commit : Record) (aske
   )
 
   pub as_fine : (place reader : ℕ) → AreJudged (reverse commits) commit → IsFree → Found place reader → reader < place
-      → is_reader (reverse commits) (record_of candidate) ≡ false → IsVerdict (reverse commits) commit (Fine place)
+      → is_reader (reverse commits) (record_of candidate) ≡ false → IsJudgmentOf (reverse commits) commit (Fine place)
   as_fine place reader judged none f past no_reader =
       let no_danger : HasNoDanger (commit ∷ reverse commits)
       = judged.decide.1 (record {

@@ -7,3 +7,5 @@ pub mod Joined
 pub mod Reading
 pub mod Readers
 pub mod Safety
+pub mod Least
+pub mod Holding

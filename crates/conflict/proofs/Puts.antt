@@ -6,12 +6,12 @@ use mathlib.Core.List.{reverse}
 use Rattle.std.proofs.lemmas.List.{append-nil, drop_more, get_or-map, length-map, length-reverse, map-append, take-append-drop}
 use Rattle.std.proofs.lemmas.List.Elements.{Contains-get_or}
 use Rattle.alone.proofs.Lists.{Each, each_at, each_from}
-use Rattle.serial.specs.declared.records.Record.{Record}
-use Rattle.serial.specs.Commits.{IsLog}
-use Rattle.serial.specs.Order.{least_out, put_by, rank, rank_at, serial_order}
-use Rattle.serial.proofs.Arranged.{arranges_each}
-use Rattle.serial.proofs.Ranks.{Ascends, ascends, clean, numbers_below, order_step, rank_high, sorted_arranges}
-use Rattle.serial.proofs.Snapshots.{kept_at}
+use Rattle.alone.specs.declared.records.Record.{Record}
+use Rattle.alone.specs.Commits.{IsLog}
+use Rattle.alone.specs.Order.{least_out, put_by, rank, rank_at, serial_order}
+use Rattle.alone.proofs.Arranged.{arranges_each}
+use Rattle.alone.proofs.Ranks.{Ascends, ascends, clean, numbers_below, order_step, rank_high, sorted_arranges}
+use Rattle.alone.proofs.Snapshots.{kept_at}
 use Rattle.conflict.specs.Ordered.{numbers_of, IsPlaceOf}
 
 -- any record

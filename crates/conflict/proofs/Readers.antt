@@ -8,13 +8,13 @@ use Rattle.std.proofs.lemmas.List.Elements.{All-contains, All-filter, All-from_r
 use Rattle.siread.specs.declared.keys.LockKey.{LockKey}
 use Rattle.siread.specs.Keys.{same_key}
 use Rattle.siread.specs.Readers.{reach_of, reaches_above}
-use Rattle.siread.specs.Locks.{AreBelow, Reads, reaching, with_reader}
+use Rattle.siread.specs.Locks.{AreBelow, Reads, reads_above, with_reader}
 use Rattle.siread.proofs.Members.{in_head, in_tail}
 use Rattle.alone.proofs.Lists.{Each}
 use Rattle.alone.proofs.Members.{from_filter}
-use Rattle.serial.specs.declared.records.Record.{Record}
-use Rattle.serial.specs.Commits.{reach}
-use Rattle.serial.proofs.Turned.{each_turned}
+use Rattle.alone.specs.declared.records.Record.{Record}
+use Rattle.alone.specs.Commits.{reach}
+use Rattle.alone.proofs.Turned.{each_turned}
 use Rattle.conflict.specs.Readers.{has_read, reads_of}
 
 -- one commit more has read its keys
@@ -47,7 +47,7 @@ all_below commits number below = λ key reader m.
     (each_turned (λ (r : Record). r.number < number) commits below)))) m
 
 pub reads_below : (commits : List Record) (number low : ℕ) (reaches : List ℕ)
-    → Each (λ (w : Record). w.number < number) (reverse commits) → AreBelow number (reaching low reaches (reads_of commits))
+    → Each (λ (w : Record). w.number < number) (reverse commits) → AreBelow number (reads_above low reaches (reads_of commits))
 reads_below commits number low reaches below = λ key reader m.
     all_below commits number below key reader (from_filter (reaches_above low reaches) (reads_of commits key) reader m)
 
@@ -68,7 +68,7 @@ filter_twice early late (x ∷ xs) stayed =
 
 -- the second time those that do not reach above a number that is no less
 pub reaching_twice : (low high : ℕ) (reaches : List ℕ) → low ≤ high → (reads : Reads)
-    → reaching high reaches (reaching low reaches reads) ≡ reaching high reaches reads
+    → reads_above high reaches (reads_above low reaches reads) ≡ reads_above high reaches reads
 reaching_twice low high reaches h reads = λ i key.
     filter_twice (reaches_above low reaches) (reaches_above high reaches) (reads key)
     (λ reader m stays.
@@ -91,15 +91,15 @@ stayed_above low high far reaches h reader before stays =
 -- some are let go, a reader is put, and then, where it is known how far that one reaches, some are let go again
 pub reaching_put : (low high number far : ℕ) (reaches : List ℕ) (keys : List LockKey) → low ≤ high
     → (reads : Reads) → AreBelow (length reaches + 1) reads
-    → reaching high (reaches ++ far ∷ []) (with_reader number keys (reaching low reaches reads))
-    ≡ reaching high (reaches ++ far ∷ []) (with_reader number keys reads)
+    → reads_above high (reaches ++ far ∷ []) (with_reader number keys (reads_above low reaches reads))
+    ≡ reads_above high (reaches ++ far ∷ []) (with_reader number keys reads)
 reaching_put low high number far reaches keys h reads below = λ i key. at key i
   where
     late : ℕ → Bool
     late = reaches_above high (reaches ++ far ∷ [])
 
     kept : LockKey → List ℕ
-    kept key = reaching low reaches reads key
+    kept key = reads_above low reaches reads key
 
     twice : (key : LockKey) → filter late (kept key) ≡ filter late (reads key)
     twice key =
@@ -114,21 +114,21 @@ reaching_put low high number far reaches keys h reads below = λ i key. at key i
     go key false = twice key
 
     at : (key : LockKey)
-        → reaching high (reaches ++ far ∷ []) (with_reader number keys (reaching low reaches reads)) key
-        ≡ reaching high (reaches ++ far ∷ []) (with_reader number keys reads) key
+        → reads_above high (reaches ++ far ∷ []) (with_reader number keys (reads_above low reaches reads)) key
+        ≡ reads_above high (reaches ++ far ∷ []) (with_reader number keys reads) key
     at key = go key (list_any (same_key key) keys)
 
 -- so of the readers that were kept before a commit, and it, the same stay as of all
 pub reaching_more : (low high : ℕ) (commits : List Record) (c : Record) → low ≤ high
     → Each (λ (w : Record). w.number < length commits + 1) (reverse commits)
-    → reaching high (map reach (commits ++ c ∷ []))
-    (with_reader c.number c.reads (reaching low (map reach commits) (reads_of commits)))
-    ≡ reaching high (map reach (commits ++ c ∷ [])) (reads_of (commits ++ c ∷ []))
+    → reads_above high (map reach (commits ++ c ∷ []))
+    (with_reader c.number c.reads (reads_above low (map reach commits) (reads_of commits)))
+    ≡ reads_above high (map reach (commits ++ c ∷ [])) (reads_of (commits ++ c ∷ []))
 reaching_more low high commits c h below =
     let longer : map reach (commits ++ c ∷ []) ≡ map reach commits ++ reach c ∷ [] = map_push reach commits c in
     let number : length commits ≡ length (map reach commits) = sym (length-map commits reach) in
-    let before = reaching low (map reach commits) (reads_of commits) in
-    (λ i. reaching high (longer i) (with_reader c.number c.reads before))
+    let before = reads_above low (map reach commits) (reads_of commits) in
+    (λ i. reads_above high (longer i) (with_reader c.number c.reads before))
     ∙ reaching_put low high c.number (reach c) (map reach commits) c.reads h (reads_of commits)
     (subst (λ n. AreBelow (n + 1) (reads_of commits)) number (all_below commits (length commits + 1) below))
-    ∙ (λ i. reaching high (sym longer i) (sym (reads_more commits c) i))
+    ∙ (λ i. reads_above high (sym longer i) (sym (reads_more commits c) i))

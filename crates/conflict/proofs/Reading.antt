@@ -15,15 +15,15 @@ use Rattle.siread.proofs.KeyOrder.{same_key-true, same_key-refl}
 use Rattle.siread.proofs.Members.{in_head}
 use Rattle.alone.proofs.Lists.{each_at}
 use Rattle.alone.proofs.Members.{any_from, from_filter, from_map, in_filter, in_map, filter_passes}
-use Rattle.serial.specs.declared.records.Record.{Record}
-use Rattle.serial.specs.Commits.{IsLog, IsNext, conflicts_to, reach, touch_any}
-use Rattle.serial.specs.Numbers.{greatest_in}
-use Rattle.serial.specs.Order.{least_out}
-use Rattle.serial.proofs.Arranged.{conflict_from, conflict_overlaps}
-use Rattle.serial.proofs.Judging.{any_met, greatest_in_met, greatest_in_up_to}
-use Rattle.serial.proofs.Ranks.{clean, least_out_met, numbers_below, reach_high}
-use Rattle.serial.proofs.Snapshots.{kept_at}
-use Rattle.serial.proofs.Turned.{from_turned, in_turned, turned_twice}
+use Rattle.alone.specs.declared.records.Record.{Record}
+use Rattle.alone.specs.Commits.{IsLog, IsNext, conflicts_to, reach, touch_any}
+use Rattle.alone.specs.Numbers.{greatest_in}
+use Rattle.alone.specs.Order.{least_out}
+use Rattle.alone.proofs.Arranged.{conflict_from, conflict_overlaps}
+use Rattle.alone.proofs.Judging.{any_met, greatest_in_met, greatest_in_up_to}
+use Rattle.alone.proofs.Ranks.{clean, least_out_met, numbers_below, reach_high}
+use Rattle.alone.proofs.Snapshots.{kept_at}
+use Rattle.alone.proofs.Turned.{from_turned, in_turned, turned_twice}
 use Rattle.conflict.specs.Readers.{HasReaders, has_read, reads_of}
 
 -- what one commit read

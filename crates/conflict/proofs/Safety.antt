@@ -3,12 +3,12 @@ use Rattle.std.proofs.Common.{◌≡◌, ℕ, ◌+◌, ◌<◌, ◌≤◌, false
 use Rattle.std.specs.Prelude.{Contains}
 use Rattle.std.proofs.lemmas.List.{get_or-drop, length-drop, take_all}
 use Rattle.alone.proofs.Lists.{Each, each_at, each_weaker}
-use Rattle.serial.specs.declared.records.Record.{Record}
-use Rattle.serial.specs.Commits.{IsLog}
-use Rattle.serial.specs.Order.{least_out}
-use Rattle.serial.specs.Safe.{IsSafe}
-use Rattle.serial.proofs.Snapshots.{parts}
-use Rattle.serial.proofs.Turned.{in_turned}
+use Rattle.alone.specs.declared.records.Record.{Record}
+use Rattle.alone.specs.Commits.{IsLog}
+use Rattle.alone.specs.Order.{least_out}
+use Rattle.alone.specs.Safe.{IsSafe}
+use Rattle.alone.proofs.Snapshots.{parts}
+use Rattle.alone.proofs.Turned.{in_turned}
 use Rattle.conflict.proofs.Steps.{log_more}
 use Rattle.conflict.proofs.Walks.{IsTurn}
 

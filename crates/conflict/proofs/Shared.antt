@@ -12,10 +12,10 @@ use Rattle.siread.specs.Keys.{same_place, place_of}
 use Rattle.siread.proofs.Members.{in_head, in_tail, in_cases}
 use Rattle.alone.proofs.Lists.{Pairs, each_at}
 use Rattle.alone.proofs.Members.{any_from}
-use Rattle.serial.specs.declared.records.Record.{Record}
-use Rattle.serial.specs.Commits.{HasNoWriteConflict, share_row}
-use Rattle.serial.specs.Answer.{IsFirstConflict}
-use Rattle.serial.proofs.Snapshots.{Parts, in_recent, recent_in, recent_past}
+use Rattle.alone.specs.declared.records.Record.{Record}
+use Rattle.alone.specs.Commits.{HasNoWriteConflict, share_row}
+use Rattle.alone.specs.Answer.{IsFirstConflict}
+use Rattle.alone.proofs.Snapshots.{Parts, in_recent, recent_in, recent_past}
 use Rattle.conflict.specs.Judged.{has_row_of, IsFirstShared}
 
 -- the first element that passes a test

@@ -2,9 +2,9 @@
 use Rattle.std.proofs.Common.{◌≡◌, ℕ, ◌+◌, ◌<◌, cond, ltb, min, List, [], ◌∷◌, reverse, length, take, get_or, sym, ap, ◌∙◌}
 use Rattle.std.specs.Prelude.{◌&&◌}
 use Rattle.std.proofs.lemmas.List.{take_more, reverse-append}
-use Rattle.serial.specs.declared.records.Record.{Record}
-use Rattle.serial.specs.Commits.{conflicts_to}
-use Rattle.serial.specs.Order.{least_out}
+use Rattle.alone.specs.declared.records.Record.{Record}
+use Rattle.alone.specs.Commits.{conflicts_to}
+use Rattle.alone.specs.Order.{least_out}
 
 pub log_more : (xs : List Record) (i : ℕ) (item : Record) → i < length xs → item ≡ get_or xs i item → reverse (take (i + 1) xs) ≡ item ∷ reverse (take i xs)
 log_more xs i item l is =

@@ -14,12 +14,12 @@ use Rattle.std.proofs.lemmas.Bool.{both_ways, or_from}
 use Rattle.std.proofs.lemmas.List.{drop_more, get_or-drop, get_or-map, length-drop, take_rest, take-append-drop, reverse-append}
 use Rattle.alone.proofs.Lists.{Each, Pairs, each_append, each_put, each_at, each_from, each_weaker, pairs_before, in_middle}
 use Rattle.alone.proofs.Members.{any_from}
-use Rattle.serial.specs.declared.records.Record.{Record}
-use Rattle.serial.specs.Commits.{IsLog, conflicts_to, reach}
-use Rattle.serial.specs.Numbers.{is_reader_of, IsLeastPivot}
-use Rattle.serial.specs.Order.{least_out}
-use Rattle.serial.proofs.Ranks.{log_falls}
-use Rattle.serial.proofs.Snapshots.{Parts, no_pivot_held}
+use Rattle.alone.specs.declared.records.Record.{Record}
+use Rattle.alone.specs.Commits.{IsLog, conflicts_to, reach}
+use Rattle.alone.specs.Numbers.{is_reader_of, IsLeastPivot}
+use Rattle.alone.specs.Order.{least_out}
+use Rattle.alone.proofs.Ranks.{log_falls}
+use Rattle.alone.proofs.Snapshots.{Parts, no_pivot_held}
 use Rattle.conflict.proofs.Steps.{log_more}
 
 pub split : (xs : List Record) (i : ℕ) (x : Record) → i < length xs → x ≡ get_or xs i x → reverse xs ≡ reverse (drop (i + 1) xs) ++ x ∷ reverse (take i xs)

@@ -1,6 +1,6 @@
 -- Transactions that ask to be committed.
 use Rattle.std.specs.Prelude.{◌≡◌, []}
-use Rattle.serial.specs.declared.records.Record.{Record}
+use Rattle.alone.specs.declared.records.Record.{Record}
 use Rattle.conflict.specs.declared.candidates.Candidate.{Candidate}
 
 -- the commit that the candidate would be, but for its session and its statements, by which no conflict is decided

@@ -3,13 +3,13 @@ use Rattle.std.specs.Prelude.{◌≡◌, ◌<◌, ℕ, Bool, false, List, Some, 
 use Rattle.std.specs.List.{list_any}
 use Rattle.table.specs.declared.rows.Change.{Change}
 use Rattle.siread.specs.Keys.{same_place, place_of}
-use Rattle.serial.specs.declared.records.Record.{Record}
-use Rattle.serial.specs.Commits.{share_row}
-use Rattle.serial.specs.Answer.{IsAnswer, Number, WriteConflict as FirstWriter, Dangerous as Triple}
-use Rattle.serial.specs.Order.{least_out}
+use Rattle.alone.specs.declared.records.Record.{Record}
+use Rattle.alone.specs.Commits.{share_row}
+use Rattle.alone.specs.Answer.{IsAnswer, Number, WriteConflict as FirstWriter, Dangerous as Triple}
+use Rattle.alone.specs.Order.{least_out}
 use Rattle.conflict.specs.declared.dangers.Danger.TheVariants.{AsPivot, AsReader}
-use Rattle.conflict.specs.declared.verdicts.Verdict.{Verdict}
-use Rattle.conflict.specs.declared.verdicts.Verdict.TheVariants.{Fine, WriteConflict, Dangerous}
+use Rattle.conflict.specs.declared.verdicts.Judgment.{Judgment}
+use Rattle.conflict.specs.declared.verdicts.Judgment.TheVariants.{Fine, WriteConflict, Dangerous}
 
 -- the answer is a write conflict at this place of the net change
 pub record IsConflictAt (log : List Record) (commit : Record) (row by : ℕ) : Type 0 where
@@ -18,11 +18,11 @@ pub record IsConflictAt (log : List Record) (commit : Record) (row by : ℕ) : T
       → IsAnswer log commit (FirstWriter (place_of (slice_index_or commit.changes row c)) by)
 
 -- what a verdict says of the answer; a commit that may join the others also learns where it stands
-abbrev pub IsVerdict : List Record → Record → Verdict → Type 0
-IsVerdict log commit (Fine place) = IsAnswer log commit (Number commit.number) × (place ≡ least_out log commit)
-IsVerdict log commit (WriteConflict row by) = IsConflictAt log commit row by
-IsVerdict log commit (Dangerous (AsPivot reader writer)) = IsAnswer log commit (Triple reader commit.number writer)
-IsVerdict log commit (Dangerous (AsReader pivot writer)) = IsAnswer log commit (Triple commit.number pivot writer)
+abbrev pub IsJudgmentOf : List Record → Record → Judgment → Type 0
+IsJudgmentOf log commit (Fine place) = IsAnswer log commit (Number commit.number) × (place ≡ least_out log commit)
+IsJudgmentOf log commit (WriteConflict row by) = IsConflictAt log commit row by
+IsJudgmentOf log commit (Dangerous (AsPivot reader writer)) = IsAnswer log commit (Triple reader commit.number writer)
+IsJudgmentOf log commit (Dangerous (AsReader pivot writer)) = IsAnswer log commit (Triple commit.number pivot writer)
 
 -- a commit changed the row of this change
 abbrev pub has_row_of : Change → Record → Bool

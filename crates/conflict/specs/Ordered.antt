@@ -1,8 +1,8 @@
 -- The serial order, by the numbers of the commits, and the place in it of one of a rank.
 use Rattle.std.specs.Prelude.{◌<◌, ◌≤◌, ℕ, List, drop, length, map, take}
 use Rattle.std.specs.List.{AllByRecursion}
-use Rattle.serial.specs.declared.records.Record.{Record}
-use Rattle.serial.specs.Order.{rank, serial_order}
+use Rattle.alone.specs.declared.records.Record.{Record}
+use Rattle.alone.specs.Order.{rank, serial_order}
 
 -- the numbers of some commits, in the order in which they stand
 abbrev pub numbers_of : List Record → List ℕ

@@ -3,8 +3,8 @@ use Rattle.std.specs.Prelude.{◌≡◌, ◌≤◌, ℕ, Bool, List, map, filter
 use Rattle.std.specs.List.{list_any}
 use Rattle.siread.specs.declared.keys.LockKey.{LockKey}
 use Rattle.siread.specs.Keys.{same_key}
-use Rattle.siread.specs.Locks.{Reads, reaching}
-use Rattle.serial.specs.declared.records.Record.{Record}
+use Rattle.siread.specs.Locks.{Reads, reads_above}
+use Rattle.alone.specs.declared.records.Record.{Record}
 
 -- whether a commit has read under a key
 abbrev pub has_read : LockKey → Record → Bool
@@ -19,4 +19,4 @@ reads_of commits key = map (λ (commit : Record). commit.number) (filter (has_re
 pub record HasReaders (reads : Reads) (reaches : List ℕ) (commits : List Record) (snapshot : ℕ) : Type 0 where
   pub low : ℕ
   pub within : low ≤ snapshot
-  pub are : reads ≡ reaching low reaches (reads_of commits)
+  pub are : reads ≡ reads_above low reaches (reads_of commits)

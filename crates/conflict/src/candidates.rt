@@ -1,7 +1,7 @@
 //! Transactions that ask to be committed.
 
 ghost use Rattle.std.specs.Prelude.{◌≡◌};
-ghost use Rattle.serial.specs.Commits.{reach};
+ghost use Rattle.alone.specs.Commits.{reach};
 ghost use Rattle.conflict.specs.Candidates.{record_of};
 
 use siread::LockKey;

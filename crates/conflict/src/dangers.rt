@@ -1,14 +1,14 @@
 //! The dangerous triple that a candidate would complete.
 
 ghost use Rattle.std.specs.Prelude.{◌≡◌, ◌<◌, ◌+◌, ◌&&◌, false, length, map, nat_le, nat_lt, reverse, IfNone, IfSome};
-ghost use Rattle.serial.specs.Commits.{conflicts_to, reach, IsLog};
-ghost use Rattle.serial.specs.Numbers.{is_reader, IsLeastPivot};
-ghost use Rattle.serial.specs.Order.{least_out};
+ghost use Rattle.alone.specs.Commits.{conflicts_to, reach, IsLog};
+ghost use Rattle.alone.specs.Numbers.{is_reader, IsLeastPivot};
+ghost use Rattle.alone.specs.Order.{least_out};
 ghost use Rattle.conflict.specs.Candidates.{record_of};
 
 use crate::candidates::Candidate;
 use crate::pairs::conflicts_to;
-use serial::Record;
+use alone::Record;
 
 /// A dangerous triple that a candidate would complete. The others in it are named by their numbers.
 #[derive(Clone, Copy, Debug, PartialEq, Eq)]

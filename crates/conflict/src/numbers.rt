@@ -3,16 +3,16 @@
 ghost use Rattle.std.specs.Prelude.{◌≡◌, ◌<◌, ◌&&◌, true, false, List, [], if◌then◌else◌, map, min, nat_lt, reverse};
 ghost use Rattle.siread.specs.Locks.{readers_at};
 ghost use Rattle.siread.specs.Readers.{ReachNoFurther};
-ghost use Rattle.serial.specs.Commits.{conflicts_to, reach, IsNext};
-ghost use Rattle.serial.specs.Numbers.{greatest_in};
-ghost use Rattle.serial.specs.Order.{least_out};
+ghost use Rattle.alone.specs.Commits.{conflicts_to, reach, IsNext};
+ghost use Rattle.alone.specs.Numbers.{greatest_in};
+ghost use Rattle.alone.specs.Order.{least_out};
 ghost use Rattle.conflict.specs.Candidates.{record_of};
 ghost use Rattle.conflict.specs.Readers.{HasReaders};
-ghost use Rattle.serial.specs.declared.records.Record.{Record};
+ghost use Rattle.alone.specs.declared.records.Record.{Record};
 
 use crate::candidates::Candidate;
 use crate::pairs::conflicts_to;
-use serial::Record;
+use alone::Record;
 use siread::LockTable;
 
 /// The least of the earlier commits to which the candidate conflicts, or its own number where there is none.

@@ -1,12 +1,12 @@
 //! The serial order, by the numbers of the commits.
 
 ghost use Rattle.std.specs.Prelude.{◌≡◌, ◌≤◌, ◌<◌, ◌+◌, ◌-◌, length, map, reverse, slice_index_or, vec_capacity, vec_len};
-ghost use Rattle.serial.specs.declared.records.Record.{Record as Commit};
-ghost use Rattle.serial.specs.Commits.{IsLog};
-ghost use Rattle.serial.specs.Order.{least_out, put_by, rank, rank_at, serial_order};
+ghost use Rattle.alone.specs.declared.records.Record.{Record as Commit};
+ghost use Rattle.alone.specs.Commits.{IsLog};
+ghost use Rattle.alone.specs.Order.{least_out, put_by, rank, rank_at, serial_order};
 ghost use Rattle.conflict.specs.Ordered.{numbers_of, IsPlaceOf};
 
-use serial::Record;
+use alone::Record;
 
 /// Puts the next commit into the serial order, which has room for it: behind all of no greater rank. `places` are the
 /// least conflicts out of those committed, and `place` is that of the next. Where it stands is looked for from the end,

@@ -2,11 +2,11 @@
 
 ghost use Rattle.std.specs.Prelude.{◌≡◌, false, find, option_copied, IfNone, IfSome};
 ghost use Rattle.std.specs.List.{list_any};
-ghost use Rattle.serial.specs.Commits.{share_row};
+ghost use Rattle.alone.specs.Commits.{share_row};
 ghost use Rattle.conflict.specs.Judged.{has_row_of, IsFirstShared};
 
 use crate::pairs::has_row_of;
-use serial::Record;
+use alone::Record;
 use table::Change;
 
 /// The place of the first of some changes whose row one of these changed too, and the number of the first of these that

@@ -3,11 +3,11 @@
 ghost use Rattle.std.specs.Prelude.{◌≡◌};
 ghost use Rattle.std.specs.List.{list_any};
 ghost use Rattle.siread.specs.Keys.{place_of, same_place, touches};
-ghost use Rattle.serial.specs.Commits.{conflicts_to, overlap, share_row, touch_any};
+ghost use Rattle.alone.specs.Commits.{conflicts_to, overlap, share_row, touch_any};
 ghost use Rattle.conflict.specs.Candidates.{record_of};
 
 use crate::candidates::Candidate;
-use serial::Record;
+use alone::Record;
 use siread::{LockKey, touches};
 use table::Change;
 use value::order;

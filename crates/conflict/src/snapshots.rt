@@ -1,11 +1,11 @@
 //! Snapshots that no dangerous triple can have a reader of.
 
 ghost use Rattle.std.specs.Prelude.{◌≡◌, ◌≤◌, ◌↔◌, true, length, map, reverse};
-ghost use Rattle.serial.specs.Commits.{IsLog};
-ghost use Rattle.serial.specs.Order.{least_out};
-ghost use Rattle.serial.specs.Safe.{IsSafe};
+ghost use Rattle.alone.specs.Commits.{IsLog};
+ghost use Rattle.alone.specs.Order.{least_out};
+ghost use Rattle.alone.specs.Safe.{IsSafe};
 
-use serial::Record;
+use alone::Record;
 
 /// Whether the snapshot that holds so many commits is safe among those committed: none past it conflicts to one that it
 /// holds, but for those that are read only. `places` are the least conflicts out of those committed. It takes no memory.

@@ -2,23 +2,23 @@
 
 ghost use Rattle.std.specs.Prelude.{◌≡◌, ◌<◌, ◌+◌, true, false, [], length, map, reverse};
 ghost use Rattle.siread.specs.Locks.{readers_at};
-ghost use Rattle.serial.specs.declared.records.Record.{Record as Commit};
-ghost use Rattle.serial.specs.Commits.{reach, IsLog};
-ghost use Rattle.serial.specs.Order.{least_out};
+ghost use Rattle.alone.specs.declared.records.Record.{Record as Commit};
+ghost use Rattle.alone.specs.Commits.{reach, IsLog};
+ghost use Rattle.alone.specs.Order.{least_out};
 ghost use Rattle.conflict.specs.Candidates.{IsOf};
-ghost use Rattle.conflict.specs.Judged.{IsVerdict};
+ghost use Rattle.conflict.specs.Judged.{IsJudgmentOf};
 ghost use Rattle.conflict.specs.Readers.{HasReaders};
 
 use crate::candidates::Candidate;
 use crate::dangers::{Danger, find_pivot};
 use crate::numbers::{greatest_in, least_out};
 use crate::overwrites::find_write_conflict;
-use serial::{Record, two_numbers_decide};
+use alone::{Record, two_numbers_decide};
 use siread::LockTable;
 
 /// What a candidate is answered by the commits before it.
 #[derive(Clone, Copy, Debug, PartialEq, Eq)]
-pub enum Verdict {
+pub enum Judgment {
     /// It may join them. `place` is the least commit to which it conflicts, or its own number where there is none.
     Fine { place: u64 },
     /// `changes[row]` is the first of its changes whose row a commit after the snapshot changed, and `by` the least
@@ -39,7 +39,7 @@ pub fn judge(
     reaches: &[u64],
     locks: &LockTable,
     candidate: &Candidate,
-) -> Verdict
+) -> Judgment
     requires log { IsLog (reverse committed.now) }
     requires next { candidate.now.number ≡ length committed.now + 1 }
     requires after_snapshot { candidate.now.snapshot < candidate.now.number }
@@ -48,24 +48,24 @@ pub fn judge(
     requires readers { candidate.now.read_only ≡ false
         → HasReaders (readers_at locks.now) reaches.now committed.now candidate.now.snapshot }
     requires changes_nothing { candidate.now.read_only ≡ true → candidate.now.changes.now ≡ [] }
-    ensures { (commit : Commit) → IsOf candidate.now commit → IsVerdict (reverse committed.now) commit result }
+    ensures { (commit : Commit) → IsOf candidate.now commit → IsJudgmentOf (reverse committed.now) commit result }
 {
     two_numbers_decide();
     let recent = &committed[candidate.snapshot as usize..];
     if let Some((row, by)) = find_write_conflict(recent, candidate.changes) {
-        return Verdict::WriteConflict { row, by };
+        return Judgment::WriteConflict { row, by };
     }
     let place = least_out(recent, candidate);
     let reader = greatest_in(locks, reaches, place, candidate);
     if place <= reader {
-        return Verdict::Dangerous(Danger::AsPivot {
+        return Judgment::Dangerous(Danger::AsPivot {
             reader,
             writer: place,
         });
     }
     match find_pivot(committed, places, candidate) {
-        None => Verdict::Fine { place },
-        Some((pivot, writer)) => Verdict::Dangerous(Danger::AsReader {
+        None => Judgment::Fine { place },
+        Some((pivot, writer)) => Judgment::Dangerous(Danger::AsReader {
             pivot: pivot.number,
             writer,
         }),

@@ -3,33 +3,42 @@
 ghost use Rattle.std.specs.Prelude.{◌≡◌, IfOk};
 
 use crate::parts::{Part, copy_all, copy_if};
-use alone::Resolved;
+use alone::ResolvedStatement;
 use assertcheck::{Delete, NewRow, Select, Setting, Update};
 use sqlite_items::Items;
 use std::alloc::{AllocError, Global};
 
 /// Statements equal to these.
-pub fn copy_trace(alloc: Global, trace: &[Resolved]) -> Result<Items<Resolved>, AllocError>
+pub fn copy_trace(
+    alloc: Global,
+    trace: &[ResolvedStatement],
+) -> Result<Items<ResolvedStatement>, AllocError>
     ensures { IfOk result (λ copy. copy ≡ trace.now) }
 {
     copy_all(alloc, trace)
 }
 
-impl Part for Resolved {
-    fn copy_in(&self, alloc: Global) -> Result<Resolved, AllocError>
+impl Part for ResolvedStatement {
+    fn copy_in(&self, alloc: Global) -> Result<ResolvedStatement, AllocError>
         ensures { IfOk result (λ copy. copy ≡ self.now) }
     {
         match self {
-            Resolved::Refused(refusal) => Ok(Resolved::Refused(refusal.copy()?)),
-            Resolved::Insert(new) => Ok(Resolved::Insert(copy_new_row(new)?)),
-            Resolved::Update(update) => Ok(Resolved::Update(copy_update(alloc, update)?)),
-            Resolved::Delete(delete) => Ok(Resolved::Delete(copy_delete(alloc, delete)?)),
-            Resolved::Select(select) => Ok(Resolved::Select(copy_select(alloc, select)?)),
-            Resolved::SetModes { names, mode } => Ok(Resolved::SetModes {
+            ResolvedStatement::Refused(refusal) => Ok(ResolvedStatement::Refused(refusal.copy()?)),
+            ResolvedStatement::Insert(new) => Ok(ResolvedStatement::Insert(copy_new_row(new)?)),
+            ResolvedStatement::Update(update) => Ok(ResolvedStatement::Update(copy_update(
+                alloc, update,
+            )?)),
+            ResolvedStatement::Delete(delete) => Ok(ResolvedStatement::Delete(copy_delete(
+                alloc, delete,
+            )?)),
+            ResolvedStatement::Select(select) => Ok(ResolvedStatement::Select(copy_select(
+                alloc, select,
+            )?)),
+            ResolvedStatement::SetModes { names, mode } => Ok(ResolvedStatement::SetModes {
                 names: copy_all(alloc, names.as_slice())?,
                 mode: *mode,
             }),
-            Resolved::Verdict(name) => Ok(Resolved::Verdict(name.copy()?)),
+            ResolvedStatement::Verdict(name) => Ok(ResolvedStatement::Verdict(name.copy()?)),
         }
     }
 }

@@ -1,6 +1,6 @@
 -- What definitions keep: assertions that are evaluated without overflow, and good tables.
 use Rattle.std.proofs.Common.{◌≡◌, ℕ, ◌+◌, ◌<◌, zero, suc, List, [], ◌∷◌, ◌++◌, length, refl, sym, ◌∙◌, ap, subst, arith}
-use Rattle.std.specs.Prelude.{◌^◌, slice_set}
+use Rattle.std.specs.Prelude.{◌^◌}
 use Rattle.std.proofs.lemmas.List.{map-append, length-append}
 use Rattle.std.proofs.lemmas.List.Elements.{All-nil, All-cons, All-append}
 use Rattle.table.specs.Rows.{RowValues, Layout, Tables, FitsColumns, IsTable, layouts_of}
@@ -38,9 +38,3 @@ pub bounded_more : (before after : List Assertion) (a : Assertion) → after ≡
 bounded_more before after a e bounded one =
     let P : Assertion → Type 0 = λ x. IsBounded x.form in
     subst AreBounded (sym e) (All-append P before (a ∷ []) bounded (All-cons P a [] one (All-nil P)))
-
--- what is put at a place twice stands there as it was put last
-pub put_twice : {X : Type 0} (xs : List X) (i : ℕ) (x y : X) → slice_set (slice_set xs i x) i y ≡ slice_set xs i y
-put_twice [] i x y = refl
-put_twice (z ∷ zs) zero x y = refl
-put_twice (z ∷ zs) (suc i) x y = ap (λ ws. z ∷ ws) (put_twice zs i x y)

@@ -9,50 +9,50 @@ use Rattle.value.specs.Results.{and_then}
 use Rattle.value.proofs.Results.{and_then_ok, ok_same, provided_ok}
 use Rattle.syntax.specs.declared.definitions.Definition.{Definition}
 use Rattle.assertion.specs.declared.assertions.Assertion.{Assertion}
-use Rattle.assertcheck.specs.Assertions.{checked}
+use Rattle.assertcheck.specs.Assertions.{checked_assertion}
 use Rattle.meaning.specs.Laws.{Pairs}
 use Rattle.meaning.proofs.Checked.{TakesWritten-law}
-use Rattle.delta.specs.Views.{Shown}
+use Rattle.delta.specs.Views.{ViewState}
 use Rattle.definitions.specs.declared.redeclaration.NewAssertion.{NewAssertion}
 use Rattle.definitions.specs.Redeclaration.{AreCreated, IsCreated, definition_of, with_new, without_names}
 use Rattle.definitions.specs.Taken.{is_asserted, with_assertion}
 use Rattle.definitions.specs.Written.{is_assertion}
 
 -- one is created, and then others
-new_first : (new : NewAssertion) (rest : List NewAssertion) (now next after : Shown) → with_assertion new.name new.condition new.attributes now ≡ Ok next → AreCreated next rest after → AreCreated now (new ∷ rest) after
+new_first : (new : NewAssertion) (rest : List NewAssertion) (now next after : ViewState) → with_assertion new.name new.condition new.attributes now ≡ Ok next → AreCreated next rest after → AreCreated now (new ∷ rest) after
 new_first new rest now next after e made =
-    let make : Assertion → Shown = λ a. record now { declared = record (now.declared) { assertions = now.declared.assertions ++ a ∷ [] } } in
-    let step : Assertion → Result Shown Refusal = λ a. Ok (make a) in
-    let form : Result Assertion Refusal = checked now.declared.tables new.name new.condition new.attributes in
+    let make : Assertion → ViewState = λ a. record now { declared = record (now.declared) { assertions = now.declared.assertions ++ a ∷ [] } } in
+    let step : Assertion → Result ViewState Refusal = λ a. Ok (make a) in
+    let form : Result Assertion Refusal = checked_assertion now.declared.tables new.name new.condition new.attributes in
     let found = and_then_ok form step next (provided_ok (not (is_asserted new.name now.declared.assertions)) (NameTaken new.name) (and_then form step) next e) in
     let is : make found.0 ≡ next = ok_same (make found.0) next found.1.1 in
     record {
       more = found.0 ∷ made.more;
-      assertions = made.assertions ∙ ap (λ (s : Shown). s.declared.assertions ++ made.more) (sym is) ∙ append_assoc now.declared.assertions (found.0 ∷ []) made.more;
-      written = (TakesWritten-law now.declared.tables new.name new.condition new.attributes found.0 found.1.0, subst (λ (s : Shown). Pairs (IsCreated s.declared.tables) rest made.more) (sym is) made.written);
-      tables = made.tables ∙ ap (λ (s : Shown). s.declared.tables) (sym is);
-      state = made.state ∙ ap (λ (s : Shown). s.state) (sym is);
+      assertions = made.assertions ∙ ap (λ (s : ViewState). s.declared.assertions ++ made.more) (sym is) ∙ append_assoc now.declared.assertions (found.0 ∷ []) made.more;
+      written = (TakesWritten-law now.declared.tables new.name new.condition new.attributes found.0 found.1.0, subst (λ (s : ViewState). Pairs (IsCreated s.declared.tables) rest made.more) (sym is) made.written);
+      tables = made.tables ∙ ap (λ (s : ViewState). s.declared.tables) (sym is);
+      state = made.state ∙ ap (λ (s : ViewState). s.state) (sym is);
     }
 
-new_written : (created : List NewAssertion) (now after : Shown) → with_new created now ≡ Ok after → AreCreated now created after
+new_written : (created : List NewAssertion) (now after : ViewState) → with_new created now ≡ Ok after → AreCreated now created after
 new_written [] now after e =
     let same : now ≡ after = ok_same now after e in
     record {
       more = [];
-      assertions = ap (λ (s : Shown). s.declared.assertions) (sym same) ∙ sym (append-nil now.declared.assertions);
+      assertions = ap (λ (s : ViewState). s.declared.assertions) (sym same) ∙ sym (append-nil now.declared.assertions);
       written = tt;
-      tables = ap (λ (s : Shown). s.declared.tables) (sym same);
-      state = ap (λ (s : Shown). s.state) (sym same);
+      tables = ap (λ (s : ViewState). s.declared.tables) (sym same);
+      state = ap (λ (s : ViewState). s.state) (sym same);
     }
 new_written (new ∷ rest) now after e =
     let found = and_then_ok (with_assertion new.name new.condition new.attributes now) (with_new rest) after e in
     new_first new rest now found.0 after found.1.0 (new_written rest found.0 after found.1.1)
 
 -- so it is of whatever was left
-pub as_written : (dropped : List (List ℕ)) (created : List NewAssertion) (view now : Shown) (result : Result Shown Refusal) → without_names dropped view ≡ Ok now → IfOk result (λ next. with_new created now ≡ Ok next)
-    → IfOk result (λ next. (left : Shown) → without_names dropped view ≡ Ok left → AreCreated left created next)
+pub as_written : (dropped : List (List ℕ)) (created : List NewAssertion) (view now : ViewState) (result : Result ViewState Refusal) → without_names dropped view ≡ Ok now → IfOk result (λ next. with_new created now ≡ Ok next)
+    → IfOk result (λ next. (left : ViewState) → without_names dropped view ≡ Ok left → AreCreated left created next)
 as_written dropped created view now (Ok next) d h = λ left e.
-    subst (λ (s : Shown). AreCreated s created next) (ok_same now left (sym d ∙ e)) (new_written created now next h)
+    subst (λ (s : ViewState). AreCreated s created next) (ok_same now left (sym d ∙ e)) (new_written created now next h)
 as_written dropped created view now (Err refusal) d h = tt
 
 not_all : (rest more : List Definition) (d : Definition) → is_assertion d ≡ false → list_all is_assertion (rest ++ d ∷ more) ≡ false

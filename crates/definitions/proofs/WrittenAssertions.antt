@@ -15,15 +15,15 @@ use Rattle.syntax.specs.declared.definitions.Definition.TheVariants as definitio
 use Rattle.assertion.specs.declared.assertions.Assertion.{Assertion}
 use Rattle.assertion.specs.Declarations.{Declared, layouts_in}
 use Rattle.assertion.specs.Roots.{state_after_all}
-use Rattle.assertcheck.specs.Assertions.{checked}
+use Rattle.assertcheck.specs.Assertions.{checked_assertion}
 use Rattle.assertcheck.specs.Statements.{insert_of}
 use Rattle.changes.specs.Statements.{insert_effect}
 use Rattle.meaning.specs.Laws.{IsWritten, Pairs}
 use Rattle.meaning.proofs.Checked.{StaysWritten-law}
-use Rattle.delta.specs.Views.{Shown}
-use Rattle.changes.specs.Insertions.{inserted}
+use Rattle.delta.specs.Views.{ViewState}
+use Rattle.changes.specs.Insertions.{tables_after_insert}
 use Rattle.definitions.specs.Tables.{layout_from}
-use Rattle.definitions.specs.Taken.{empty_database, is_asserted, taken, with_all, with_assertion, with_definition, with_table}
+use Rattle.definitions.specs.Taken.{empty_database, is_asserted, view_of_definitions, with_all, with_assertion, with_definition, with_table}
 use Rattle.definitions.specs.Written.{AreWritten, IsDefined, is_assertion}
 
 -- what definitions add: tables behind those that there were, and behind the assertions those that are written
@@ -35,44 +35,44 @@ record Adds (definitions : List Definition) (before after : Declared) : Type 0 w
   written : Pairs (IsDefined after.tables) (filter is_assertion definitions) more
 
 -- a table more
-table_first : (name : List ℕ) (columns : List ColumnDefinition) (rest : List Definition) (now next : Shown) (after : Declared) → with_table name columns now ≡ Ok next → Adds rest next.declared after → Adds (definition.Table name columns ∷ rest) now.declared after
+table_first : (name : List ℕ) (columns : List ColumnDefinition) (rest : List Definition) (now next : ViewState) (after : Declared) → with_table name columns now ≡ Ok next → Adds rest next.declared after → Adds (definition.Table name columns ∷ rest) now.declared after
 table_first name columns rest now next after e adds =
-    let make : Layout → Shown = λ layout. record { declared = record (now.declared) { tables = now.declared.tables ++ (name, layout) ∷ [] }; state = now.state ++ [] ∷ [] } in
-    let step : Layout → Result Shown Refusal = λ layout. Ok (make layout) in
+    let make : Layout → ViewState = λ layout. record { declared = record (now.declared) { tables = now.declared.tables ++ (name, layout) ∷ [] }; state = now.state ++ [] ∷ [] } in
+    let step : Layout → Result ViewState Refusal = λ layout. Ok (make layout) in
     let found = and_then_ok (layout_from columns) step next (provided_ok (is_none (layout_of name now.declared.tables)) (NameTaken name) (and_then (layout_from columns) step) next e) in
     let is : make found.0 ≡ next = ok_same (make found.0) next found.1.1 in
     record {
       later = (name, found.0) ∷ adds.later;
       more = adds.more;
-      tables = adds.tables ∙ ap (λ (s : Shown). s.declared.tables ++ adds.later) (sym is) ∙ append_assoc now.declared.tables ((name, found.0) ∷ []) adds.later;
-      assertions = adds.assertions ∙ ap (λ (s : Shown). s.declared.assertions ++ adds.more) (sym is);
+      tables = adds.tables ∙ ap (λ (s : ViewState). s.declared.tables ++ adds.later) (sym is) ∙ append_assoc now.declared.tables ((name, found.0) ∷ []) adds.later;
+      assertions = adds.assertions ∙ ap (λ (s : ViewState). s.declared.assertions ++ adds.more) (sym is);
       written = adds.written;
     }
 
 -- an assertion more, which is the one that is written, also over the tables that come later
-assertion_first : (name : List ℕ) (condition : Condition) (attributes : Attributes) (rest : List Definition) (now next : Shown) (after : Declared) → with_assertion name condition attributes now ≡ Ok next → Adds rest next.declared after
+assertion_first : (name : List ℕ) (condition : Condition) (attributes : Attributes) (rest : List Definition) (now next : ViewState) (after : Declared) → with_assertion name condition attributes now ≡ Ok next → Adds rest next.declared after
     → Adds (definition.Assertion name condition attributes ∷ rest) now.declared after
 assertion_first name condition attributes rest now next after e adds =
-    let make : Assertion → Shown = λ a. record now { declared = record (now.declared) { assertions = now.declared.assertions ++ a ∷ [] } } in
-    let step : Assertion → Result Shown Refusal = λ a. Ok (make a) in
-    let found = and_then_ok (checked now.declared.tables name condition attributes) step next (provided_ok (not (is_asserted name now.declared.assertions)) (NameTaken name) (and_then (checked now.declared.tables name condition attributes) step) next e) in
+    let make : Assertion → ViewState = λ a. record now { declared = record (now.declared) { assertions = now.declared.assertions ++ a ∷ [] } } in
+    let step : Assertion → Result ViewState Refusal = λ a. Ok (make a) in
+    let found = and_then_ok (checked_assertion now.declared.tables name condition attributes) step next (provided_ok (not (is_asserted name now.declared.assertions)) (NameTaken name) (and_then (checked_assertion now.declared.tables name condition attributes) step) next e) in
     let is : make found.0 ≡ next = ok_same (make found.0) next found.1.1 in
-    let tables : after.tables ≡ now.declared.tables ++ adds.later = adds.tables ∙ ap (λ (s : Shown). s.declared.tables ++ adds.later) (sym is) in
+    let tables : after.tables ≡ now.declared.tables ++ adds.later = adds.tables ∙ ap (λ (s : ViewState). s.declared.tables ++ adds.later) (sym is) in
     record {
       later = adds.later;
       more = found.0 ∷ adds.more;
       tables = tables;
-      assertions = adds.assertions ∙ ap (λ (s : Shown). s.declared.assertions ++ adds.more) (sym is) ∙ append_assoc now.declared.assertions (found.0 ∷ []) adds.more;
+      assertions = adds.assertions ∙ ap (λ (s : ViewState). s.declared.assertions ++ adds.more) (sym is) ∙ append_assoc now.declared.assertions (found.0 ∷ []) adds.more;
       written = (subst (λ (ts : Tables). IsWritten ts name condition attributes found.0) (sym tables) (StaysWritten-law now.declared.tables adds.later name condition attributes found.0 found.1.0), adds.written);
     }
 
 -- a row more, which declares nothing
-row_first : (insert : Insert) (rest : List Definition) (now next : Shown) (after : Declared) → inserted now insert ≡ Ok next → Adds rest next.declared after → Adds (definition.Insert insert ∷ rest) now.declared after
+row_first : (insert : Insert) (rest : List Definition) (now next : ViewState) (after : Declared) → tables_after_insert now insert ≡ Ok next → Adds rest next.declared after → Adds (definition.Insert insert ∷ rest) now.declared after
 row_first insert rest now next after e adds =
     let new = and_then_ok (insert_of now.declared.tables insert) _ next e in
     let effect = and_then_ok (insert_effect now.declared.tables new.0 now.state) _ next new.1.1 in
     let is : record now { state = state_after_all (layouts_in now.declared) effect.0.changes now.state } ≡ next = ok_same _ next effect.1.1 in
-    subst (λ (d : Declared). Adds (definition.Insert insert ∷ rest) d after) (ap (λ (s : Shown). s.declared) (sym is)) (record {
+    subst (λ (d : Declared). Adds (definition.Insert insert ∷ rest) d after) (ap (λ (s : ViewState). s.declared) (sym is)) (record {
       later = adds.later;
       more = adds.more;
       tables = adds.tables;
@@ -80,26 +80,26 @@ row_first insert rest now next after e adds =
       written = adds.written;
     })
 
-one_first : (d : Definition) (rest : List Definition) (now next : Shown) (after : Declared) → with_definition d now ≡ Ok next → Adds rest next.declared after → Adds (d ∷ rest) now.declared after
+one_first : (d : Definition) (rest : List Definition) (now next : ViewState) (after : Declared) → with_definition d now ≡ Ok next → Adds rest next.declared after → Adds (d ∷ rest) now.declared after
 one_first (definition.Table name columns) rest now next after e adds = table_first name columns rest now next after e adds
 one_first (definition.Assertion name condition attributes) rest now next after e adds = assertion_first name condition attributes rest now next after e adds
 one_first (definition.Insert insert) rest now next after e adds = row_first insert rest now next after e adds
 
-all_add : (definitions : List Definition) (now made : Shown) → with_all definitions now ≡ Ok made → Adds definitions now.declared made.declared
+all_add : (definitions : List Definition) (now made : ViewState) → with_all definitions now ≡ Ok made → Adds definitions now.declared made.declared
 all_add [] now made e =
     let same : now ≡ made = ok_same now made e in
     record {
       later = [];
       more = [];
-      tables = ap (λ (s : Shown). s.declared.tables) (sym same) ∙ sym (append-nil now.declared.tables);
-      assertions = ap (λ (s : Shown). s.declared.assertions) (sym same) ∙ sym (append-nil now.declared.assertions);
+      tables = ap (λ (s : ViewState). s.declared.tables) (sym same) ∙ sym (append-nil now.declared.tables);
+      assertions = ap (λ (s : ViewState). s.declared.assertions) (sym same) ∙ sym (append-nil now.declared.assertions);
       written = tt;
     }
 all_add (d ∷ rest) now made e =
     let found = and_then_ok (with_definition d now) (with_all rest) made e in
     one_first d rest now found.0 made.declared found.1.0 (all_add rest found.0 made found.1.1)
 
-taken_written : (definitions : List Definition) (made : Shown) → taken definitions ≡ Ok made → AreWritten definitions made.declared
+taken_written : (definitions : List Definition) (made : ViewState) → view_of_definitions definitions ≡ Ok made → AreWritten definitions made.declared
 taken_written definitions made e =
     let adds = all_add definitions empty_database made e in
     subst (λ (all : List Assertion). Pairs (IsDefined made.declared.tables) (filter is_assertion definitions) all) (sym adds.assertions) adds.written
@@ -111,5 +111,5 @@ none_left (x ∷ xs) zero h = absurd (omega arith)
 none_left (x ∷ xs) (suc n) h = none_left xs n (omega arith)
 
 -- when no definition is left, all are taken in
-pub all_written : (definitions : List Definition) (made : Shown) (n : ℕ) → length definitions ≤ n → with_all (drop n definitions) made ≡ taken definitions → AreWritten definitions made.declared
+pub all_written : (definitions : List Definition) (made : ViewState) (n : ℕ) → length definitions ≤ n → with_all (drop n definitions) made ≡ view_of_definitions definitions → AreWritten definitions made.declared
 all_written definitions made n h e = taken_written definitions made (sym e ∙ ap (λ (ds : List Definition). with_all ds made) (none_left definitions n h))

@@ -3,7 +3,7 @@
 ghost use Rattle.std.specs.Prelude.{◌≡◌, ◌≢◌, false, map, IfOk, IfErr, Ok, Err};
 ghost use Rattle.std.specs.List.{list_all};
 ghost use Rattle.value.specs.declared.refusals.Refusal.TheVariants.{NoMemory, OutsideClass};
-ghost use Rattle.delta.specs.Views.{Shown};
+ghost use Rattle.delta.specs.Views.{ViewState};
 ghost use Rattle.definitions.specs.Redeclaration.{AreCreated, definition_of, redeclaration, with_new, without_name, without_names};
 ghost use Rattle.definitions.specs.Taken.{with_assertion};
 ghost use Rattle.definitions.specs.Written.{is_assertion};
@@ -101,7 +101,7 @@ pub fn redeclare(
     ensures redeclared { IfOk result (λ next. redeclaration dropped.now created.now view.now ≡ Ok next) }
     ensures refused { IfErr result (λ refusal. refusal ≢ NoMemory
         → redeclaration dropped.now created.now view.now ≡ Err refusal) }
-    ensures written { IfOk result (λ next. (left : Shown) → without_names dropped.now view.now ≡ Ok left
+    ensures written { IfOk result (λ next. (left : ViewState) → without_names dropped.now view.now ≡ Ok left
         → AreCreated left created.now next) }
 {
     let left = drop_assertions(view, dropped)?;

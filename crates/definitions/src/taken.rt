@@ -1,25 +1,24 @@
 //! Definitions are taken in one after the other.
 
-ghost use Rattle.std.specs.Prelude.{◌≡◌, ◌≢◌, ◌<◌, [], ◌∷◌, IfOk, IfErr, IsOkUnless, Ok, Err, length, slice_index_or, slice_set};
+ghost use Rattle.std.specs.Prelude.{◌≡◌, ◌≢◌, ◌<◌, [], ◌∷◌, IfOk, IfErr, IsOkUnless, Ok, Err, length};
 ghost use Rattle.value.specs.declared.refusals.Refusal.TheVariants.{NoMemory};
-ghost use Rattle.definitions.specs.Taken.{is_asserted, empty_database, taken, with_assertion, with_definition, with_table};
+ghost use Rattle.definitions.specs.Taken.{is_asserted, empty_database, view_of_definitions, with_assertion, with_definition, with_table};
 ghost use Rattle.definitions.specs.Written.{AreWritten};
 ghost use Rattle.assertion.specs.Declarations.{layouts_in};
 ghost use Rattle.assertion.specs.Roots.{IsChangeOf, state_after};
-ghost use Rattle.answer.specs.declared.answers.Reply.TheVariants.{Inserted};
+ghost use Rattle.alone.specs.declared.answers.Reply.TheVariants.{Inserted};
 ghost use Rattle.changes.specs.Statements.{insert_effect};
-ghost use Rattle.changes.specs.Insertions.{inserted};
+ghost use Rattle.changes.specs.Insertions.{tables_after_insert};
 ghost use Rattle.delta.specs.Views.{IsFitting};
 
 use crate::tables::schema_of;
 use assertcheck::{NewRow, check, check_insert};
 use assertion::Assertion;
 use changes::{insertion, name_at, schema_at};
-use delta::{View, copy_assertions, copy_catalog};
+use delta::{View, copy_assertions, copy_catalog, put_change};
 use mvrows::Rows;
 use std::alloc::{AllocError, Global};
 use std::marker::Model;
-use std::mem;
 use syntax::{Attributes, ColumnDefinition, Condition, Definition, Insert};
 use table::{Catalog, Change, Row};
 use value::{Refusal, Text};
@@ -38,9 +37,9 @@ impl Model for Definitions {
     ghost use Rattle.std.specs.Coded.{codes};
     ghost use Rattle.table.specs.Rows.{layouts_of};
     ghost use Rattle.delta.specs.Maintained.{IsGood};
-    ghost use Rattle.delta.specs.Views.{AreBounded, Shown};
+    ghost use Rattle.delta.specs.Views.{AreBounded, ViewState};
 
-    ghost Value = { Shown };
+    ghost Value = { ViewState };
 
     ghost coded = { Prim.hlevel (codes, cond_type.the_row.coded, expr_type.the_row.coded) };
 
@@ -64,8 +63,9 @@ impl Definitions {
     /// [`Refusal::NullNotAllowed`] and [`Refusal::OutOfRange`], and last [`Refusal::DuplicateKey`]. Or
     /// [`Refusal::NoMemory`].
     pub fn take(alloc: Global, definitions: &[Definition]) -> Result<Definitions, Refusal>
-        ensures taken { IfOk result (λ made. taken definitions.now ≡ Ok made) }
-        ensures refused { IfErr result (λ refusal. refusal ≢ NoMemory → taken definitions.now ≡ Err refusal) }
+        ensures taken { IfOk result (λ made. view_of_definitions definitions.now ≡ Ok made) }
+        ensures refused { IfErr result (λ refusal.
+            refusal ≢ NoMemory → view_of_definitions definitions.now ≡ Err refusal) }
         ensures written { IfOk result (λ made. AreWritten definitions.now made.declared) }
     {
         let mut made = Definitions::empty_database(alloc);
@@ -96,10 +96,6 @@ impl Definitions {
     }
 
     /// The view of these tables, with the verdicts of the assertions on the rows that they begin with.
-    ///
-    /// # Errors
-    ///
-    /// [`Refusal::NoMemory`] alone.
     pub fn load(self, alloc: Global) -> Result<View, AllocError>
         ensures { IfOk result (λ view. view ≡ self) }
     {
@@ -199,8 +195,9 @@ impl Definitions {
 
     /// INSERT: no assertion is looked at.
     fn with_row(self, alloc: Global, insert: &Insert) -> Result<Definitions, Refusal>
-        ensures taken { IfOk result (λ made. inserted self insert.now ≡ Ok made) }
-        ensures refused { IfErr result (λ refusal. refusal ≢ NoMemory → inserted self insert.now ≡ Err refusal) }
+        ensures taken { IfOk result (λ made. tables_after_insert self insert.now ≡ Ok made) }
+        ensures refused { IfErr result (λ refusal.
+            refusal ≢ NoMemory → tables_after_insert self insert.now ≡ Err refusal) }
     {
         let NewRow { table, row } = check_insert(alloc, &self.catalog, insert)?;
         let change = self.insertion(table, row)?;
@@ -238,11 +235,10 @@ impl Definitions {
         let Definitions {
             catalog,
             assertions,
-            mut rows,
+            rows,
         } = self;
         let key = schema_at(&catalog, change.table).key();
-        let old = take_rows(&mut rows, change.table);
-        rows[change.table] = old.with(key, change)?;
+        let rows = put_change(rows, key, change)?;
         Ok(Definitions {
             catalog,
             assertions,
@@ -256,15 +252,4 @@ pub(crate) fn is_asserted(assertions: &[Assertion], name: &Text) -> bool
     ensures { result ≡ is_asserted name.now assertions.now }
 {
     assertions.iter().any(|assertion| assertion.name == *name)
-}
-
-/// Takes the rows of a table out, and leaves none in their place: nobody else holds them then, so that a change is made
-/// where they stand.
-fn take_rows(rows: &mut Vec<Rows>, table: usize) -> Rows
-    requires { table < length rows.old.items }
-    ensures taken { result ≡ slice_index_or rows.old.items table result }
-    ensures left { rows.new.items ≡ slice_set rows.old.items table [] }
-{
-    let none = Rows::new(*rows.allocator());
-    mem::replace(&mut rows[table], none)
 }

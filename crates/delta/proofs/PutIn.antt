@@ -8,10 +8,10 @@ use Rattle.table.specs.Rows.{Layout}
 use Rattle.assertion.specs.Declarations.{Declared, layouts_in}
 use Rattle.assertion.specs.Meaning.{State}
 use Rattle.assertion.specs.Roots.{IsChangeOf, AreChangesOf, state_after, state_after_all}
-use Rattle.delta.specs.Views.{Shown, IsFitting}
+use Rattle.delta.specs.Views.{ViewState, IsFitting}
 
 -- changes that are left may be put into a view
-pub record AreLeft (declared : Declared) (changes : List Change) (view : Shown) : Type 0 where
+pub record AreLeft (declared : Declared) (changes : List Change) (view : ViewState) : Type 0 where
   pub same : view.declared ≡ declared
   pub are : AreChangesOf (layouts_in declared) changes view.state
   pub fit : All (IsFitting (layouts_in declared)) changes
@@ -19,7 +19,7 @@ pub record AreLeft (declared : Declared) (changes : List Change) (view : Shown) 
 split : (changes : List Change) (n : ℕ) (change : Change) → n < length changes → change ≡ get_or changes n change → drop n changes ≡ change ∷ drop (n + 1) changes
 split changes n change h e = drop_more changes n change h ∙ ap (λ c. c ∷ drop (n + 1) changes) (sym e)
 
-module _ (declared : Declared) (changes : List Change) (n : ℕ) (change : Change) (view : Shown) (h : n < length changes) (e : change ≡ get_or changes n change) (left : AreLeft declared (drop n changes) view) where
+module _ (declared : Declared) (changes : List Change) (n : ℕ) (change : Change) (view : ViewState) (h : n < length changes) (e : change ≡ get_or changes n change) (left : AreLeft declared (drop n changes) view) where
   abbrev pub layouts : List Layout
   layouts = layouts_in declared
 
@@ -37,7 +37,7 @@ module _ (declared : Declared) (changes : List Change) (n : ℕ) (change : Chang
   next_fits = subst (λ (d : Declared). IsFitting (layouts_in d) change) (sym left.same) (All-head (IsFitting layouts) change (drop (n + 1) changes) fits)
 
   -- and then the others
-  pub left_after : (after : Shown) → after ≡ record view { state = state_after (layouts_in view.declared) change view.state } → AreLeft declared (drop (n + 1) changes) after
+  pub left_after : (after : ViewState) → after ≡ record view { state = state_after (layouts_in view.declared) change view.state } → AreLeft declared (drop (n + 1) changes) after
   left_after after a = subst (AreLeft declared (drop (n + 1) changes)) (sym (a ∙ ap (λ (d : Declared). record view { state = state_after (layouts_in d) change view.state }) left.same)) (record {
     same = left.same;
     are = all.1;
@@ -45,7 +45,7 @@ module _ (declared : Declared) (changes : List Change) (n : ℕ) (change : Chang
   })
 
   -- which lead to the same state
-  pub leads_after : (after : Shown) → after ≡ record view { state = state_after (layouts_in view.declared) change view.state } → (end : State) → state_after_all layouts (drop n changes) view.state ≡ end → state_after_all layouts (drop (n + 1) changes) after.state ≡ end
+  pub leads_after : (after : ViewState) → after ≡ record view { state = state_after (layouts_in view.declared) change view.state } → (end : State) → state_after_all layouts (drop n changes) view.state ≡ end → state_after_all layouts (drop (n + 1) changes) after.state ≡ end
   leads_after after a end l =
-      ap (λ (v : Shown). state_after_all layouts (drop (n + 1) changes) v.state) (a ∙ ap (λ (d : Declared). record view { state = state_after (layouts_in d) change view.state }) left.same)
+      ap (λ (v : ViewState). state_after_all layouts (drop (n + 1) changes) v.state) (a ∙ ap (λ (d : Declared). record view { state = state_after (layouts_in d) change view.state }) left.same)
       ∙ sym (ap (λ (cs : List Change). state_after_all layouts cs view.state) (split changes n change h e)) ∙ l

@@ -1,5 +1,5 @@
 -- The tables stay tables through a change.
-use Rattle.std.proofs.Common.{◌≡◌, ℕ, ◌<◌, Bool, true, false, List, [], Option, Some, None, length, get_or, refl, sym, ◌∙◌, ap, subst}
+use Rattle.std.proofs.Common.{◌≡◌, ℕ, zero, suc, ◌<◌, Bool, true, false, List, [], ◌∷◌, Option, Some, None, length, get_or, refl, sym, ◌∙◌, ap, subst}
 use Rattle.std.specs.Prelude.{◌==◌, ◌^◌, All, slice_set}
 use Rattle.std.proofs.lemmas.List.{get_or_default, length-set}
 use Rattle.std.proofs.lemmas.List.Elements.{All-weaker}
@@ -40,6 +40,12 @@ pub old_small : (layouts : List Layout) (change : Change) (state : State) → Is
 old_small layouts change state is g =
     subst (HoldsOf IsSmallRow) is.stands
     (All-at value_cmp (value_in (key_of change.table layouts)) IsSmallRow change.key (rows_of change.table state) (rows_are_small (layout_at change.table layouts) (rows_of change.table state) (g.tables.each change.table)))
+
+-- what is put at a place twice stands there as it was put last
+pub put_twice : {X : Type 0} (xs : List X) (i : ℕ) (x y : X) → slice_set (slice_set xs i x) i y ≡ slice_set xs i y
+put_twice [] i x y = refl
+put_twice (z ∷ zs) zero x y = refl
+put_twice (z ∷ zs) (suc i) x y = ap (λ ws. z ∷ ws) (put_twice zs i x y)
 
 module _ (layouts : List Layout) (change : Change) (state : State) (is : IsChangeOf layouts change state) where
   -- what each table's rows have is kept where the changed rows have it

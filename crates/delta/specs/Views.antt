@@ -10,7 +10,7 @@ use Rattle.assertion.specs.Declarations.{Declared}
 use Rattle.assertion.specs.Meaning.{State, rows_of}
 
 -- a view: the tables and assertions that are declared, and the rows of each table
-pub record Shown : Type 0 where
+pub record ViewState : Type 0 where
   pub declared : Declared
   pub state : State
 

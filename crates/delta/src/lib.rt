@@ -38,15 +38,16 @@
 //!   and [`View::copy`] one that is equal.
 //! - [`View::with_assertion`] and [`View::without_assertion`] are views of the same tables on which an assertion more
 //!   is declared, or one less.
+//! - [`put_change`] puts a change of one row into tables of which there is no view yet.
 //! - [`View::catalog`], [`View::schema`], [`View::assertions`] and [`View::rows`] lend what it shows.
 //! - [`View::verdict`] and [`View::least_bad`] are an assertion's truth and the least root at which it is false. They
 //!   take no memory.
 //! - [`View::candidates`] are the roots that changes can turn, for who has to note what a check has read.
 //!
 //! What the layer above may rest on: the rows are always tables of the catalog (each row fits its columns, and they
-//! are in key order), and there is one for each name; NoMemory is the only error, and it changes nothing. What it
-//! owes: the assertions are evaluated without overflow; given rows are tables of the catalog; a change is of one of
-//! the tables, names the row that stands under its key, and its new row fits and has that key.
+//! are in key order), and there is one for each name; calls fail only where memory runs out, and that changes nothing.
+//! What it owes: the assertions are evaluated without overflow; given rows are tables of the catalog; a change is of
+//! one of the tables, names the row that stands under its key, and its new row fits and has that key.
 //!
 //! The definitions are in `specs/`: `Views` (what contracts see of a view, and what may be put into it) and
 //! `Maintained` (how what is maintained agrees with the tables; no public contract cites it). Truth, bad roots and
@@ -59,4 +60,5 @@ mod views;
 mod watches;
 
 pub use declarations::{copy_assertions, copy_catalog};
+pub use versions::put_change;
 pub use views::View;

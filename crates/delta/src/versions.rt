@@ -1,9 +1,13 @@
 //! The tables and what is maintained for the assertions, at the start and after a change.
 
-ghost use Rattle.std.specs.Prelude.{◌≡◌, filter, map, length, not, IfOk};
+ghost use Rattle.std.specs.Prelude.{◌≡◌, ◌<◌, [], List, filter, map, length, not, slice_index_or, slice_set, IfOk};
 ghost use Rattle.std.specs.Arc.{arc_value};
 ghost use Rattle.std.specs.Str.{bytes_eq};
-ghost use Rattle.assertion.specs.Roots.{IsChangeOf, state_after};
+ghost use Rattle.value.specs.Ordered.{HasKey, IsAscending};
+ghost use Rattle.value.specs.ValueOrder.{value_cmp};
+ghost use Rattle.table.specs.Rows.{Layout, value_in};
+ghost use Rattle.assertion.specs.Meaning.{key_of, rows_of};
+ghost use Rattle.assertion.specs.Roots.{IsChangeOf};
 ghost use Rattle.delta.specs.Maintained.{AreShort, AreWatched, IsGood, IsStep};
 ghost use Rattle.delta.specs.Views.{AreBounded, IsFitting};
 
@@ -12,6 +16,7 @@ use assertion::{Assertion, Form, Link, Query};
 use mvrows::Rows;
 use roots::key_column;
 use std::alloc::{AllocError, Global};
+use std::mem;
 use std::sync::Arc;
 use table::{Change, Schema};
 use value::Text;
@@ -46,14 +51,43 @@ pub fn tables_after(
     requires good { IsGood schemas.now tables.now }
     requires is { IsChangeOf schemas.now change.now tables.now }
     requires fits { IsFitting schemas.now change.now }
-    ensures changed { IfOk result (λ made. made.items ≡ state_after schemas.now change.now tables.now) }
-    ensures step { IfOk result (λ made. IsStep schemas.now change.now tables.now made.items) }
+    ensures { IfOk result (λ made. IsStep schemas.now change.now tables.now made.items) }
 {
     let column = key_column(schemas, change.table);
-    let rows = tables[change.table].copy()?.with(column, change)?;
-    let mut made = copy_tables(alloc, tables)?;
-    made[change.table] = rows;
+    let made = copy_tables(alloc, tables)?;
+    put_change(made, column, change)
+}
+
+/// Tables after a change, whose table has its keys in this column. Copies of them stay as they are; what no copy shares
+/// is changed where it stands.
+pub fn put_change(
+    tables: Vec<Rows>,
+    key_column: usize,
+    change: &Change,
+) -> Result<Vec<Rows>, AllocError>
+    requires table_in { change.now.table < length tables.items }
+    requires keyed { HasKey value_cmp (value_in key_column) change.now.key change.now.new }
+    requires ordered { IsAscending value_cmp (value_in key_column) (rows_of change.now.table tables.items) }
+    // Where they are tables of some layouts, and the change is one of them, they are the tables with it.
+    ensures { IfOk result (λ made. (layouts : List Layout) → key_column ≡ key_of change.now.table layouts
+        → IsGood layouts tables.items → IsChangeOf layouts change.now tables.items → IsFitting layouts change.now
+        → IsStep layouts change.now tables.items made.items) }
+{
+    let mut made = tables;
+    let old = take_rows(&mut made, change.table);
+    made[change.table] = old.with(key_column, change)?;
     Ok(made)
+}
+
+/// Takes the rows of a table out, and leaves none in their place: nobody else holds them then, so that a change is made
+/// where they stand.
+fn take_rows(tables: &mut Vec<Rows>, table: usize) -> Rows
+    requires { table < length tables.old.items }
+    ensures taken { result ≡ slice_index_or tables.old.items table result }
+    ensures left { tables.new.items ≡ slice_set tables.old.items table [] }
+{
+    let none = Rows::new(*tables.allocator());
+    mem::replace(&mut tables[table], none)
 }
 
 /// What is maintained for the assertions after a change of the tables.
@@ -158,7 +192,7 @@ fn index_joint(
     let (table, column) = (query.table, query.grouping.inner);
     let key = key_column(schemas, table);
     if table < tables.len() && column != key && query.filter.has_slots() {
-        tables[table] = tables[table].indexed(key, column)?;
+        tables[table] = tables[table].with_index(key, column)?;
     }
     Ok(())
 }
@@ -174,7 +208,7 @@ fn index_links(
     for query in queries {
         let column = query.grouping.outer;
         if column != key_column {
-            *rows = rows.indexed(key_column, column)?;
+            *rows = rows.with_index(key_column, column)?;
         }
     }
     Ok(())
@@ -192,7 +226,7 @@ pub fn copy_watches(alloc: Global, watches: &[Arc<Watch>]) -> Result<Vec<Arc<Wat
 }
 
 /// Assertions, and what is maintained for each of them.
-pub struct Watched {
+pub struct WatchedAssertions {
     pub assertions: Vec<Assertion>,
     pub watches: Vec<Arc<Watch>>,
 }
@@ -205,7 +239,7 @@ pub fn leave_out(
     assertions: &[Assertion],
     watches: &[Arc<Watch>],
     name: &Text,
-) -> Result<Watched, AllocError>
+) -> Result<WatchedAssertions, AllocError>
     requires watched { AreWatched _schemas.now _tables.now assertions.now (length assertions.now)
         (map arc_value watches.now) }
     ensures left { IfOk result (λ made.
@@ -222,7 +256,7 @@ pub fn leave_out(
             shared.push(Arc::try_clone(&watches[index])?)?;
         }
     }
-    Ok(Watched {
+    Ok(WatchedAssertions {
         assertions: left,
         watches: shared,
     })

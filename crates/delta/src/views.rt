@@ -17,7 +17,7 @@ ghost use Rattle.value.specs.declared.refusals.Refusal.TheVariants.{NoMemory};
 
 use crate::declarations::{Declarations, copy_assertions, copy_catalog, schemas_of};
 use crate::versions::{
-    Watched, copy_tables, copy_watches, index_for, index_tables, leave_out, tables_after,
+    WatchedAssertions, copy_tables, copy_watches, index_for, index_tables, leave_out, tables_after,
     watches_after, watches_of,
 };
 use crate::watches::Watch;
@@ -46,9 +46,9 @@ impl Model for View {
     ghost use Rattle.table.specs.contracts.conds.Cond as cond_type;
     ghost use Rattle.table.specs.contracts.exprs.Expr as expr_type;
     ghost use Rattle.delta.specs.Maintained.{IsMaintained};
-    ghost use Rattle.delta.specs.Views.{Shown};
+    ghost use Rattle.delta.specs.Views.{ViewState};
 
-    ghost Value = { Shown };
+    ghost Value = { ViewState };
 
     ghost coded = { Prim.hlevel (codes, cond_type.the_row.coded, expr_type.the_row.coded) };
 
@@ -176,7 +176,7 @@ impl View {
         self.redeclare(
             alloc,
             tables,
-            Watched {
+            WatchedAssertions {
                 assertions,
                 watches,
             },
@@ -204,7 +204,12 @@ impl View {
     }
 
     /// The view of these tables, which are the same, with other assertions, for which this is maintained.
-    fn redeclare(&self, alloc: Global, tables: Vec<Rows>, watched: Watched) -> Result<View, Refusal>
+    fn redeclare(
+        &self,
+        alloc: Global,
+        tables: Vec<Rows>,
+        watched: WatchedAssertions,
+    ) -> Result<View, Refusal>
         requires tables { tables.items ≡ self.now.state }
         requires short { AreShort tables.items }
         requires bounded { AreBounded watched.assertions.items }
@@ -215,7 +220,7 @@ impl View {
           declared = record self.now.declared { assertions = watched.assertions.items };
         }) }
     {
-        let Watched {
+        let WatchedAssertions {
             assertions,
             watches,
         } = watched;

@@ -1,7 +1,7 @@
 //! What is wrong with a condition: a name, its shape, its types or its width.
 
 use crate::leaves::Range;
-use crate::names::{Sought, Unknown, first_unknown};
+use crate::names::{LookupScope, Unknown, first_unknown};
 use crate::parts::parts_of_condition;
 use crate::rules::{advice, wrong};
 use crate::shapes::{Outside, in_assertion, in_where};
@@ -124,9 +124,9 @@ pub fn diagnose_name(
     unknown: &Unknown,
 ) -> Result<Diagnosis, AllocError> {
     let what = match unknown.sought {
-        Sought::Table => format!(in alloc; "there is no table {name}")?,
-        Sought::Qualifier => format!(in alloc; "no table here goes by {name}")?,
-        Sought::Column => format!(in alloc; "there is no column {name} here")?,
+        LookupScope::Table => format!(in alloc; "there is no table {name}")?,
+        LookupScope::Qualifier => format!(in alloc; "no table here goes by {name}")?,
+        LookupScope::Column => format!(in alloc; "there is no column {name} here")?,
     };
     let place = context.name_at(context.piece.leaf(unknown.leaf), name);
     let found = Diagnosis::new(alloc, context.which, 3, what, place);
@@ -143,17 +143,20 @@ const MOST_NAMES: usize = 8;
 fn names_there(alloc: Global, context: Context, unknown: &Unknown) -> Result<String, AllocError> {
     let around = unknown.around.as_str();
     match unknown.sought {
-        Sought::Qualifier if around.is_empty() => String::from_str(alloc, "No table is around it."),
-        Sought::Qualifier => format!(in alloc;
+        LookupScope::Qualifier if around.is_empty() => String::from_str(
+            alloc,
+            "No table is around it.",
+        ),
+        LookupScope::Qualifier => format!(in alloc;
             "The tables here go by {around}. One that was given a name goes by that name alone."
         ),
-        Sought::Column if around.is_empty() => {
+        LookupScope::Column if around.is_empty() => {
             String::from_str(alloc, "A column stands in a query: (SELECT MAX(C) FROM T).")
         }
-        Sought::Column => format!(in alloc;
+        LookupScope::Column => format!(in alloc;
             "The tables here go by {around}. A text stands in single quotes."
         ),
-        Sought::Table => {
+        LookupScope::Table => {
             if context.catalog.len() == 0 {
                 return String::from_str(alloc, "No table is created before it.");
             }

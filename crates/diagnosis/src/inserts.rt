@@ -47,7 +47,7 @@ pub fn diagnose_insert(
         let unknown = unknown_table(alloc, context.catalog, &insert.table, names)?;
         return diagnose_name(alloc, context, &insert.table, &unknown);
     };
-    let known = Known {
+    let known = KnownInsert {
         context,
         insert,
         schema,
@@ -66,16 +66,16 @@ pub fn diagnose_insert(
 
 /// An INSERT into a table that there is.
 #[derive(Clone, Copy)]
-struct Known<'a> {
+struct KnownInsert<'a> {
     context: Context<'a>,
     insert: &'a Insert,
     schema: &'a Schema,
     names: usize,
 }
 
-impl<'a> Known<'a> {
+impl<'a> KnownInsert<'a> {
     /// The names of the columns that are listed.
-    fn listed(&self) -> &'a [Text] {
+    fn column_list(&self) -> &'a [Text] {
         match &self.insert.columns {
             Some(columns) => columns.as_slice(),
             None => &[],
@@ -101,7 +101,7 @@ impl<'a> Known<'a> {
     /// A column that is listed twice.
     fn listed_twice(&self, alloc: Global, name: &Text) -> Result<Diagnosis, AllocError> {
         let mut places = self
-            .listed()
+            .column_list()
             .iter()
             .enumerate()
             .filter(|(_, listed)| **listed == *name)
@@ -126,12 +126,12 @@ impl<'a> Known<'a> {
             None => self.schema.columns().len(),
         };
         if values.len() != wanted {
-            return self.miscounted(alloc, wanted);
+            return self.count_fault(alloc, wanted);
         }
         for (place, value) in values.iter().enumerate() {
             if let Some(column) = self.column_at(place) {
                 if !column.is_typed(value) {
-                    return self.mistyped(alloc, column, value, place);
+                    return self.type_fault(alloc, column, value, place);
                 }
             }
         }
@@ -149,7 +149,7 @@ impl<'a> Known<'a> {
         }
     }
 
-    fn miscounted(&self, alloc: Global, wanted: usize) -> Result<Diagnosis, AllocError> {
+    fn count_fault(&self, alloc: Global, wanted: usize) -> Result<Diagnosis, AllocError> {
         let given = self.insert.values.len();
         let place = wanted.min(given.saturating_sub(1));
         let advice = match &self.insert.columns {
@@ -171,13 +171,13 @@ impl<'a> Known<'a> {
             alloc,
             self.context.which,
             5,
-            counted(alloc, given, wanted)?,
+            count_text(alloc, given, wanted)?,
             self.context.at(self.context.piece.value(place)),
         )
         .with(advice)
     }
 
-    fn mistyped(
+    fn type_fault(
         &self,
         alloc: Global,
         column: &Column,
@@ -290,7 +290,7 @@ impl<'a> Known<'a> {
 }
 
 /// How many values were given, and how many were wanted.
-fn counted(alloc: Global, given: usize, wanted: usize) -> Result<String, AllocError> {
+fn count_text(alloc: Global, given: usize, wanted: usize) -> Result<String, AllocError> {
     let values = if given == 1 { "value" } else { "values" };
     let columns = if wanted == 1 { "column" } else { "columns" };
     format!(in alloc; "{given} {values} for {wanted} {columns}")

@@ -13,7 +13,7 @@ use value::Text;
 
 /// What a name was looked up among.
 #[derive(Clone, Copy)]
-pub enum Sought {
+pub enum LookupScope {
     Table,
     /// The tables around, by the names that they go by.
     Qualifier,
@@ -26,7 +26,7 @@ pub enum Sought {
 pub struct Unknown {
     /// The place of its leaf.
     pub leaf: usize,
-    pub sought: Sought,
+    pub sought: LookupScope,
     /// The nearest name that there is.
     pub nearest: Nearest,
     /// The names that the tables around go by.
@@ -127,7 +127,7 @@ pub fn unknown_table(
     }
     Ok(Unknown {
         leaf,
-        sought: Sought::Table,
+        sought: LookupScope::Table,
         nearest,
         around: String::new(alloc),
     })
@@ -148,7 +148,7 @@ pub fn unknown_column(
     }
     Ok(Unknown {
         leaf,
-        sought: Sought::Column,
+        sought: LookupScope::Column,
         nearest,
         around: exposed_names(alloc, scopes)?,
     })
@@ -167,7 +167,7 @@ fn unknown_qualifier(
     }
     Ok(Unknown {
         leaf,
-        sought: Sought::Qualifier,
+        sought: LookupScope::Qualifier,
         nearest,
         around: exposed_names(alloc, scopes)?,
     })

@@ -24,7 +24,7 @@ pub struct Outside<'a> {
     pub root: Option<Scope<'a>>,
 }
 
-fn broken<'a>(rule: Rule, range: Range) -> Option<Outside<'a>> {
+fn fault_of_rule<'a>(rule: Rule, range: Range) -> Option<Outside<'a>> {
     Some(Outside {
         rule,
         range,
@@ -61,8 +61,11 @@ pub fn in_where<'a>(
 pub fn in_parts<'a>(parts: &[Part]) -> Option<Outside<'a>> {
     for part in parts {
         match part.node {
-            Node::Exists(_) | Node::Value(_) => return broken(Rule::QueryInWhere, part.range),
-            Node::Function(_) => return broken(Rule::FunctionInWhere, part.range),
+            Node::Exists(_) | Node::Value(_) => return fault_of_rule(
+                Rule::QueryInWhere,
+                part.range,
+            ),
+            Node::Function(_) => return fault_of_rule(Rule::FunctionInWhere, part.range),
             Node::Column(_) | Node::Arithmetic(_) | Node::End => {}
         }
     }
@@ -93,11 +96,11 @@ fn not_exists<'a>(
         (Some(group), Some(having)) => by_group(alloc, scope, query, group, having, at),
         (Some(group), None) => {
             let range = Range::new(clauses.group, of_column(group));
-            Ok(broken(Rule::GroupWithoutHaving, range))
+            Ok(fault_of_rule(Rule::GroupWithoutHaving, range))
         }
         (None, Some(having)) => {
             let range = Range::new(clauses.having, of_condition(having));
-            Ok(broken(Rule::HavingWithoutGroup, range))
+            Ok(fault_of_rule(Rule::HavingWithoutGroup, range))
         }
     }
 }
@@ -124,9 +127,12 @@ fn by_group<'a>(
     let parts = parts_of_condition(alloc, having, clauses.having)?;
     for part in &parts {
         match part.node {
-            Node::Exists(_) | Node::Value(_) => return Ok(broken(Rule::QueryInHaving, part.range)),
+            Node::Exists(_) | Node::Value(_) => return Ok(fault_of_rule(
+                Rule::QueryInHaving,
+                part.range,
+            )),
             Node::Column(column) if scope.own(column) != group => {
-                return Ok(broken(Rule::ColumnInHaving, part.range));
+                return Ok(fault_of_rule(Rule::ColumnInHaving, part.range));
             }
             Node::Column(_) | Node::Function(_) | Node::Arithmetic(_) | Node::End => {}
         }
@@ -155,7 +161,7 @@ fn listed_outside<'a>(
     if may_be_listed {
         None
     } else {
-        broken(
+        fault_of_rule(
             Rule::Listed,
             Range::of(listed, clauses_of(query, at).listed),
         )
@@ -195,7 +201,7 @@ fn in_row<'a>(
     part: &Part<'a>,
 ) -> Result<Option<Outside<'a>>, AllocError> {
     if let Node::Function(_) = part.node {
-        return Ok(broken(Rule::FunctionInWhere, part.range));
+        return Ok(fault_of_rule(Rule::FunctionInWhere, part.range));
     }
     let Some((query, at)) = part.query() else {
         return Ok(None);
@@ -209,7 +215,7 @@ fn in_row<'a>(
     };
     match listed {
         Some(found) => Ok(Some(found)),
-        None => linked(alloc, scope, inner, query, at),
+        None => link_fault(alloc, scope, inner, query, at),
     }
 }
 
@@ -217,23 +223,23 @@ fn in_row<'a>(
 fn value_of_row<'a>(query: &Query, at: usize) -> Option<Outside<'a>> {
     match &query.select_list {
         SelectList::One(Expression::CountRows | Expression::Aggregate(_, _)) => None,
-        SelectList::One(listed) => broken(
+        SelectList::One(listed) => fault_of_rule(
             Rule::ValueOfRow,
             Range::of(listed, clauses_of(query, at).listed),
         ),
-        SelectList::Star => broken(Rule::ValueOfRow, Range::new(at, 1)),
+        SelectList::Star => fault_of_rule(Rule::ValueOfRow, Range::new(at, 1)),
     }
 }
 
 /// GROUP BY or HAVING in a query that may have neither.
-fn grouped<'a>(query: &Query, at: usize) -> Option<Outside<'a>> {
+fn group_fault<'a>(query: &Query, at: usize) -> Option<Outside<'a>> {
     let clauses = clauses_of(query, at);
     match (&query.group, &query.having) {
-        (Some(group), _) => broken(
+        (Some(group), _) => fault_of_rule(
             Rule::GroupInSubquery,
             Range::new(clauses.group, of_column(group)),
         ),
-        (None, Some(having)) => broken(
+        (None, Some(having)) => fault_of_rule(
             Rule::GroupInSubquery,
             Range::new(clauses.having, of_condition(having)),
         ),
@@ -294,14 +300,14 @@ fn joins(outer: Scope, inner: Scope, from: &ColumnName, to: &ColumnName) -> bool
 }
 
 /// A query that is to be linked to the row around it.
-fn linked<'a>(
+fn link_fault<'a>(
     alloc: Global,
     outer: Scope<'a>,
     inner: Scope<'a>,
     query: &'a Query,
     at: usize,
 ) -> Result<Option<Outside<'a>>, AllocError> {
-    if let Some(found) = grouped(query, at) {
+    if let Some(found) = group_fault(query, at) {
         return Ok(Some(found));
     }
     let conjuncts = conjuncts_of(alloc, outer, inner, query, at)?;
@@ -339,7 +345,7 @@ fn single<'a>(
     }
     if exists > 1 {
         let range = Range::new(at, of_condition(condition));
-        return Ok(broken(Rule::SeveralRules, range));
+        return Ok(fault_of_rule(Rule::SeveralRules, range));
     }
     for part in &parts {
         if part.depth == 0 {
@@ -354,11 +360,11 @@ fn single<'a>(
 /// What is outside the class in a part of a condition of its own.
 fn in_single<'a>(alloc: Global, part: &Part) -> Result<Option<Outside<'a>>, AllocError> {
     match part.node {
-        Node::Exists(_) => Ok(broken(Rule::ExistsAlone, Range::new(part.range.from, 1))),
-        Node::Function(_) => Ok(broken(Rule::FunctionAlone, part.range)),
+        Node::Exists(_) => Ok(fault_of_rule(Rule::ExistsAlone, Range::new(part.range.from, 1))),
+        Node::Function(_) => Ok(fault_of_rule(Rule::FunctionAlone, part.range)),
         Node::Value(query) => {
             let at = part.range.from;
-            if let Some(found) = value_of_row(query, at).or(grouped(query, at)) {
+            if let Some(found) = value_of_row(query, at).or(group_fault(query, at)) {
                 return Ok(Some(found));
             }
             match &query.keeps {

@@ -18,7 +18,7 @@ use faults::{At, Diagnosis, Nearest, Piece, Span, Which, enumeration};
 use form_check::Scope;
 use sqlite_items::Boxed;
 use std::alloc::{AllocError, Global};
-use syntax::{Assigned, Assignment, Condition, Statement, Which as Listed};
+use syntax::{Assignment, Condition, Statement, UpdateSource, Which as Listed};
 use table::Catalog;
 use value::{Refusal, Text};
 
@@ -225,8 +225,8 @@ fn diagnose_update(
 /// A column's name, the sign, and what it is given.
 fn leaves_of(assignment: &Assignment) -> usize {
     match &assignment.value {
-        Assigned::Null => 2,
-        Assigned::To(expression) => of_expression(expression).saturating_add(2),
+        UpdateSource::Null => 2,
+        UpdateSource::To(expression) => of_expression(expression).saturating_add(2),
     }
 }
 
@@ -272,7 +272,7 @@ fn diagnose_value(
     at: usize,
     refusal: &Refusal,
 ) -> Result<Option<Diagnosis>, AllocError> {
-    let Assigned::To(expression) = &assignment.value else {
+    let UpdateSource::To(expression) = &assignment.value else {
         return Ok(None);
     };
     let at = at.saturating_add(2);
@@ -311,7 +311,7 @@ fn diagnose_assigned(
     found: DataType,
     at: usize,
 ) -> Result<Option<Diagnosis>, AllocError> {
-    let (Some(place), Assigned::To(expression)) = (
+    let (Some(place), UpdateSource::To(expression)) = (
         scope.schema.column(&assignment.column),
         &assignment.value,
     ) else {

@@ -26,7 +26,7 @@ pub enum Mismatch {
 }
 
 /// The type of an expression, or the first mismatch in it.
-pub type Typed = Result<DataType, Mismatch>;
+pub type TypeOrMismatch = Result<DataType, Mismatch>;
 
 /// The first mismatch of a condition whose leaves begin here, seen from these tables, the innermost last.
 #[cycle(types)]
@@ -64,21 +64,21 @@ pub fn in_condition<'a>(
                 right,
                 left.range.to.saturating_add(1),
             )?;
-            Ok(compared(left, right))
+            Ok(side_mismatch(left, right))
         }
         Condition::IsNull(part) => Ok(of_type(alloc, catalog, scopes, part, at)?.err()),
         Condition::Between(subject, low, high) => {
             let subject = side_of(alloc, catalog, scopes, subject, at)?;
             let low = side_of(alloc, catalog, scopes, low, subject.range.to)?;
             let high = side_of(alloc, catalog, scopes, high, low.range.to)?;
-            Ok(compared(subject, low).or(compared(subject, high)))
+            Ok(side_mismatch(subject, low).or(side_mismatch(subject, high)))
         }
         Condition::In(subject, values) => {
             let subject = side_of(alloc, catalog, scopes, subject, at)?;
             let mut at = subject.range.to;
             for value in values.as_slice() {
                 let value = side_of(alloc, catalog, scopes, value, at)?;
-                if let Some(mismatch) = compared(subject, value) {
+                if let Some(mismatch) = side_mismatch(subject, value) {
                     return Ok(Some(mismatch));
                 }
                 at = value.range.to;
@@ -92,7 +92,7 @@ pub fn in_condition<'a>(
 #[derive(Clone, Copy)]
 struct Side {
     range: Range,
-    typed: Typed,
+    typed: TypeOrMismatch,
 }
 
 /// A side of a comparison, whose leaves begin here.
@@ -110,7 +110,7 @@ fn side_of<'a>(
 }
 
 /// The mismatch of two sides, or that of one of them.
-fn compared(left: Side, right: Side) -> Option<Mismatch> {
+fn side_mismatch(left: Side, right: Side) -> Option<Mismatch> {
     match (left.typed, right.typed) {
         (Err(mismatch), _) | (Ok(_), Err(mismatch)) => Some(mismatch),
         (Ok(left_type), Ok(right_type)) if left_type == right_type => None,
@@ -131,7 +131,7 @@ pub fn of_type<'a>(
     scopes: &[Scope<'a>],
     expression: &'a Expression,
     at: usize,
-) -> Result<Typed, AllocError> {
+) -> Result<TypeOrMismatch, AllocError> {
     match expression {
         Expression::Number(_) | Expression::CountRows => Ok(Ok(DataType::Number)),
         Expression::Text(_) => Ok(Ok(DataType::Text)),
@@ -164,7 +164,7 @@ pub fn of_type<'a>(
 }
 
 /// The type of what a set function gives.
-fn function_type(function: Aggregate, column: DataType, range: Range) -> Typed {
+fn function_type(function: Aggregate, column: DataType, range: Range) -> TypeOrMismatch {
     match (function, column) {
         (Aggregate::Count, _) => Ok(DataType::Number),
         (Aggregate::Sum, DataType::Text) => Err(Mismatch::SumOfTexts(range)),
@@ -193,7 +193,7 @@ fn listed_type<'a>(
     outer: &[Scope<'a>],
     query: &'a Query,
     at: usize,
-) -> Result<Typed, AllocError> {
+) -> Result<TypeOrMismatch, AllocError> {
     let clauses = clauses_of(query, at);
     let Some(schema) = catalog.get(&query.table) else {
         return Ok(Ok(DataType::Number));

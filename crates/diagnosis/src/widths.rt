@@ -12,7 +12,7 @@ use value::Value;
 
 /// A part of an expression, and the greatest number that it can be.
 #[derive(Clone, Copy)]
-pub struct Bounded {
+pub struct BoundedPart {
     pub range: Range,
     pub bound: u128,
 }
@@ -22,7 +22,7 @@ pub struct Bounded {
 pub struct Wide {
     pub range: Range,
     pub is_product: bool,
-    pub parts: Vec<Bounded>,
+    pub parts: Vec<BoundedPart>,
 }
 
 /// The first expression without a bound among the parts of a tree, the innermost of those that hold one another.
@@ -57,13 +57,17 @@ fn wide_of(
 }
 
 /// The bounds of parts that each have one, and whose leaves begin here.
-fn bounds_of(alloc: Global, parts: &[Expression], at: usize) -> Result<Vec<Bounded>, AllocError> {
+fn bounds_of(
+    alloc: Global,
+    parts: &[Expression],
+    at: usize,
+) -> Result<Vec<BoundedPart>, AllocError> {
     let mut made = Vec::new(alloc);
     let mut at = at;
     for part in parts {
         let range = Range::of(part, at);
         if let Some(bound) = bound_of(alloc, part)? {
-            made.push(Bounded { range, bound })?;
+            made.push(BoundedPart { range, bound })?;
         }
         at = range.to;
     }

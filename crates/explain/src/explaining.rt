@@ -4,7 +4,7 @@ ghost use Rattle.std.specs.Prelude.{◌≤◌};
 
 use crate::happenings::add_event;
 use crate::stories::Story;
-use answer::Answer;
+use alone::Answer;
 use history::{Source, read_history};
 use replay::{ProgramFault, flush, write_all};
 use std::alloc::{AllocError, Global};

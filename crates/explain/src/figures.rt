@@ -196,7 +196,7 @@ fn add_demand_of(
             write!(out, ", and {words} {value}")
         }
         Cond::Compare(comparison, Expr::Literal(value), Expr::Slot(at)) if *at == slot => {
-            let words = words_of(turned(*comparison), is_forbidden);
+            let words = words_of(mirrored_comparison(*comparison), is_forbidden);
             write!(out, ", and {words} {value}")
         }
         Cond::Exists(at) if *at == slot => out.push_str(if is_forbidden {
@@ -231,7 +231,7 @@ fn words_of(comparison: Comparison, is_forbidden: bool) -> &'static str {
 }
 
 /// The comparison with its sides turned.
-fn turned(comparison: Comparison) -> Comparison {
+fn mirrored_comparison(comparison: Comparison) -> Comparison {
     match comparison {
         Comparison::Equal => Comparison::Equal,
         Comparison::NotEqual => Comparison::NotEqual,

@@ -3,7 +3,7 @@
 use crate::conflicts::add_reader;
 use crate::faults::add_refusal;
 use crate::stories::{MOST_LINES, Story, add_left_out, add_snapshot, number_of};
-use answer::Answer;
+use alone::Answer;
 use history::{End, Happening, Read, Transaction, add_bytes, add_change, add_key};
 use report::Report;
 use std::alloc::{AllocError, Global};

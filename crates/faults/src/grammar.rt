@@ -104,7 +104,7 @@ fn syntax(alloc: Global, which: Which, bytes: &[u8], at: usize) -> Result<Diagno
                 kinds: &kinds,
             };
             let meant = hint(alloc, stop)?;
-            let what = stopped(alloc, stop)?;
+            let what = stop_text(alloc, stop)?;
             let span = shown_span(token);
             Diagnosis::new(alloc, which, 2, what, At::Bytes(span))
                 .with_some(meant)?
@@ -126,7 +126,7 @@ fn shown_span(token: Token) -> Span {
 }
 
 /// What may not stand there.
-fn stopped(alloc: Global, stop: Stop) -> Result<String, AllocError> {
+fn stop_text(alloc: Global, stop: Stop) -> Result<String, AllocError> {
     if stop.token.kind == Kind::Bad {
         return bad(alloc, stop);
     }

@@ -106,8 +106,8 @@ fn push_line(
     )?;
     let column = width(alloc, before)?.saturating_add(cut_before.len());
     let carets = width(alloc, between(bytes, span.start, span.end.min(to)))?.max(1);
-    let spaces = repeated(alloc, ' ', column)?;
-    let marks = repeated(alloc, '^', carets)?;
+    let spaces = repetition_of(alloc, ' ', column)?;
+    let marks = repetition_of(alloc, '^', carets)?;
     writeln!(shown, " {margin} {blue}|{end} {spaces}{red}{marks}{end}")
 }
 
@@ -171,10 +171,10 @@ fn push_definition(
 /// As many spaces as the number of a line has digits.
 fn margin_of(alloc: Global, line: usize) -> Result<String, AllocError> {
     let number = format!(in alloc; "{line}")?;
-    repeated(alloc, ' ', number.len())
+    repetition_of(alloc, ' ', number.len())
 }
 
-fn repeated(alloc: Global, letter: char, count: usize) -> Result<String, AllocError> {
+fn repetition_of(alloc: Global, letter: char, count: usize) -> Result<String, AllocError> {
     let mut made = String::new(alloc);
     for _ in 0..count.min(400) {
         made.push(letter)?;

@@ -129,7 +129,7 @@ pub fn is_reserved(kind: Kind) -> bool {
 }
 
 /// What a person calls a kind of token that is spelled so.
-fn called(alloc: Global, kind: Kind, spelling: &str) -> Result<String, AllocError> {
+fn name_of_kind(alloc: Global, kind: Kind, spelling: &str) -> Result<String, AllocError> {
     match kind {
         Kind::Name => String::from_str(alloc, "a name"),
         Kind::Number => String::from_str(alloc, "a number"),
@@ -163,7 +163,7 @@ pub fn choice(alloc: Global, kinds: &[Kind]) -> Result<String, AllocError> {
             || (condition && OF_CONDITIONS.contains(kind))
             || (comparison && COMPARISONS.contains(kind));
         if kinds.contains(kind) && !is_said {
-            parts.push(called(alloc, *kind, spelling)?)?;
+            parts.push(name_of_kind(alloc, *kind, spelling)?)?;
         }
     }
     enumeration(alloc, &parts, " or ")

@@ -19,19 +19,19 @@ use Rattle.table.specs.declared.exprs.Expr.TheViews as expr_of
 use Rattle.table.specs.declared.conds.Cond.{Cond}
 use Rattle.table.specs.declared.conds.Cond.TheVariants as cond
 use Rattle.table.specs.declared.conds.Cond.TheViews as cond_of
-use Rattle.form_check.specs.Leaves.{Leaves, Numbered, Rows, Of, Exists, Value, placed, slot, then_made, compared, between, listed, all, numbered, numbered_expression, numbered_conditions, numbered_expressions, expression_step, condition_step, select_list_step, query_step}
+use Rattle.form_check.specs.Leaves.{Leaves, Numbering, Rows, Of, Exists, Value, expression_of_column, slot, then_made, comparison_of, between, in_predicate_of, all, numbered, numbered_expression, numbered_conditions, numbered_expressions, expression_step, condition_step, select_list_step, query_step}
 
 -- an expression by its layer
 expression_rolled : (place : ColumnName → Option Expr) (layer : Expression-F Condition Expression SelectList Query) (leaves : Leaves)
-    → numbered_expression place (roll-Expression layer) leaves ≡ expression_step place (map-Expression Condition Expression SelectList Query (Condition × Numbered Cond) (Expression × Numbered Expr) (SelectList × Unit {0}) (Query × Unit {0}) (λ c. (c, numbered place c)) (λ e. (e, numbered_expression place e)) (λ l. (l, tt)) (λ q. (q, tt)) layer) leaves
+    → numbered_expression place (roll-Expression layer) leaves ≡ expression_step place (map-Expression Condition Expression SelectList Query (Condition × Numbering Cond) (Expression × Numbering Expr) (SelectList × Unit {0}) (Query × Unit {0}) (λ c. (c, numbered place c)) (λ e. (e, numbered_expression place e)) (λ l. (l, tt)) (λ q. (q, tt)) layer) leaves
 unfolding numbered numbered_expression
-expression_rolled place layer leaves = ap (λ made. made leaves) (para-roll-Expression (Numbered Cond) (Numbered Expr) (Unit {0}) (Unit {0}) (condition_step place) (expression_step place) select_list_step query_step layer)
+expression_rolled place layer leaves = ap (λ made. made leaves) (para-roll-Expression (Numbering Cond) (Numbering Expr) (Unit {0}) (Unit {0}) (condition_step place) (expression_step place) select_list_step query_step layer)
 
 -- a condition by its layer
 condition_rolled : (place : ColumnName → Option Expr) (layer : Condition-F Condition Expression SelectList Query) (leaves : Leaves)
-    → numbered place (roll-Condition layer) leaves ≡ condition_step place (map-Condition Condition Expression SelectList Query (Condition × Numbered Cond) (Expression × Numbered Expr) (SelectList × Unit {0}) (Query × Unit {0}) (λ c. (c, numbered place c)) (λ e. (e, numbered_expression place e)) (λ l. (l, tt)) (λ q. (q, tt)) layer) leaves
+    → numbered place (roll-Condition layer) leaves ≡ condition_step place (map-Condition Condition Expression SelectList Query (Condition × Numbering Cond) (Expression × Numbering Expr) (SelectList × Unit {0}) (Query × Unit {0}) (λ c. (c, numbered place c)) (λ e. (e, numbered_expression place e)) (λ l. (l, tt)) (λ q. (q, tt)) layer) leaves
 unfolding numbered numbered_expression
-condition_rolled place layer leaves = ap (λ made. made leaves) (para-roll-Condition (Numbered Cond) (Numbered Expr) (Unit {0}) (Unit {0}) (condition_step place) (expression_step place) select_list_step query_step layer)
+condition_rolled place layer leaves = ap (λ made. made leaves) (para-roll-Condition (Numbering Cond) (Numbering Expr) (Unit {0}) (Unit {0}) (condition_step place) (expression_step place) select_list_step query_step layer)
 
 pub expression_number : (place : ColumnName → Option Expr) (n : ℤ) (leaves : Leaves) → numbered_expression place (e.Number n) leaves ≡ Ok (expr.Literal (value.Int n), leaves)
 expression_number place n leaves = ap (λ x. numbered_expression place x leaves) (sym (e.rolls-Number n)) ∙ expression_rolled place (Expression-F.Number n) leaves
@@ -39,7 +39,7 @@ expression_number place n leaves = ap (λ x. numbered_expression place x leaves)
 pub expression_text : (place : ColumnName → Option Expr) (t : List ℕ) (leaves : Leaves) → numbered_expression place (e.Text t) leaves ≡ Ok (expr.Literal (value.Text t), leaves)
 expression_text place t leaves = ap (λ x. numbered_expression place x leaves) (sym (e.rolls-Text t)) ∙ expression_rolled place (Expression-F.Text t) leaves
 
-pub expression_column : (place : ColumnName → Option Expr) (column : ColumnName) (leaves : Leaves) → numbered_expression place (e.Column column) leaves ≡ placed (place column) leaves
+pub expression_column : (place : ColumnName → Option Expr) (column : ColumnName) (leaves : Leaves) → numbered_expression place (e.Column column) leaves ≡ expression_of_column (place column) leaves
 expression_column place column leaves = ap (λ x. numbered_expression place x leaves) (sym (e.rolls-Column column)) ∙ expression_rolled place (Expression-F.Column column) leaves
 
 pub expression_countrows : (place : ColumnName → Option Expr) (leaves : Leaves) → numbered_expression place e.CountRows leaves ≡ slot Rows leaves
@@ -79,7 +79,7 @@ condition_is place part truth leaves = ap (λ x. numbered place x leaves) (sym (
 pub condition_exists : (place : ColumnName → Option Expr) (query : Query) (leaves : Leaves) → numbered place (b.Exists query) leaves ≡ Ok (cond.Exists (length leaves), leaves ++ Exists query ∷ [])
 condition_exists place query leaves = ap (λ x. numbered place x leaves) (sym (b.rolls-Exists query)) ∙ condition_rolled place (Condition-F.Exists query) leaves
 
-pub condition_compare : (place : ColumnName → Option Expr) (left : Expression) (comparison : Comparison) (right : Expression) (leaves : Leaves) → numbered place (b.Compare left comparison right) leaves ≡ compared comparison (numbered_expression place left) (numbered_expression place right) leaves
+pub condition_compare : (place : ColumnName → Option Expr) (left : Expression) (comparison : Comparison) (right : Expression) (leaves : Leaves) → numbered place (b.Compare left comparison right) leaves ≡ comparison_of comparison (numbered_expression place left) (numbered_expression place right) leaves
 condition_compare place left comparison right leaves = ap (λ x. numbered place x leaves) (sym (b.rolls-Compare left comparison right)) ∙ condition_rolled place (Condition-F.Compare left comparison right) leaves
 
 pub condition_isnull : (place : ColumnName → Option Expr) (part : Expression) (leaves : Leaves) → numbered place (b.IsNull part) leaves ≡ then_made cond.IsNull (numbered_expression place part leaves)
@@ -88,7 +88,7 @@ condition_isnull place part leaves = ap (λ x. numbered place x leaves) (sym (b.
 pub condition_between : (place : ColumnName → Option Expr) (subject low high : Expression) (leaves : Leaves) → numbered place (b.Between subject low high) leaves ≡ between (numbered_expression place subject) (numbered_expression place low) (numbered_expression place high) leaves
 condition_between place subject low high leaves = ap (λ x. numbered place x leaves) (sym (b.rolls-Between subject low high)) ∙ condition_rolled place (Condition-F.Between subject low high) leaves
 
-pub condition_in : (place : ColumnName → Option Expr) (subject : Expression) (values : List Expression) (leaves : Leaves) → numbered place (b.In subject values) leaves ≡ listed (numbered_expression place subject) (numbered_expressions place values) leaves
+pub condition_in : (place : ColumnName → Option Expr) (subject : Expression) (values : List Expression) (leaves : Leaves) → numbered place (b.In subject values) leaves ≡ in_predicate_of (numbered_expression place subject) (numbered_expressions place values) leaves
 unfolding numbered_expressions
 condition_in place subject values leaves = ap (λ x. numbered place x leaves) (sym (b.rolls-In subject values)) ∙ condition_rolled place (Condition-F.In subject values) leaves
 

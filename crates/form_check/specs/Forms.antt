@@ -40,33 +40,33 @@ linked_by child root aggregate condition =
     Ok (record { table = child.table; filter = cond_of.And filters; grouping = link; aggregate = aggregate })))
 
 -- a query of a row has WHERE, and neither GROUP BY nor HAVING
-abbrev pub linked_where : Source → Scope → Aggregate → Option Condition → Option ColumnName → Option Condition
+abbrev pub linked_filter : Source → Scope → Aggregate → Option Condition → Option ColumnName → Option Condition
     → Result (Subquery Link) Refusal
-linked_where child root aggregate (Some condition) None None = linked_by child root aggregate condition
-linked_where child root aggregate None group having = Err OutsideClass
-linked_where child root aggregate (Some condition) (Some group) having = Err OutsideClass
-linked_where child root aggregate (Some condition) None (Some having) = Err OutsideClass
+linked_filter child root aggregate (Some condition) None None = linked_by child root aggregate condition
+linked_filter child root aggregate None group having = Err OutsideClass
+linked_filter child root aggregate (Some condition) (Some group) having = Err OutsideClass
+linked_filter child root aggregate (Some condition) None (Some having) = Err OutsideClass
 
 -- a query of a row under EXISTS: the count of its rows
 abbrev pub linked_exists : Tables → Scope → Clauses → Result (Subquery Link) Refusal
 linked_exists tables root query =
     in_class (source_of tables query.table query.correlation_name) (λ child.
     only_if (may_be_selected (own_column child.scope) query.select_list)
-    (linked_where child root CountRows query.keeps query.group query.having))
+    (linked_filter child root CountRows query.keeps query.group query.having))
 
 -- a query of a row that stands for its value: one set function
 abbrev pub linked_value : Tables → Scope → Clauses → Result (Subquery Link) Refusal
 linked_value tables root query =
     in_class (source_of tables query.table query.correlation_name) (λ child.
     in_class (selected_aggregate child.scope query.select_list) (λ aggregate.
-    linked_where child root aggregate query.keeps query.group query.having))
+    linked_filter child root aggregate query.keeps query.group query.having))
 
 -- what stands in a slot of a condition over a row
-abbrev pub linked : Tables → Scope → Leaf → Result (Subquery Link) Refusal
-linked tables root Rows = Err OutsideClass
-linked tables root (Of function column) = Err OutsideClass
-linked tables root (Exists query) = linked_exists tables root (out-Query query)
-linked tables root (Value query) = linked_value tables root (out-Query query)
+abbrev pub slot_query_of : Tables → Scope → Leaf → Result (Subquery Link) Refusal
+slot_query_of tables root Rows = Err OutsideClass
+slot_query_of tables root (Of function column) = Err OutsideClass
+slot_query_of tables root (Exists query) = linked_exists tables root (out-Query query)
+slot_query_of tables root (Value query) = linked_value tables root (out-Query query)
 
 -- ---- queries of their own
 
@@ -112,7 +112,7 @@ abbrev pub by_row : Tables → Source → Clauses → Result Form Refusal
 by_row tables source query =
     only_if (may_be_selected (own_column source.scope) query.select_list) (
     and_then (row_where source.scope query.keeps) (λ made.
-    and_then (each (linked tables source.scope) made.1) (λ queries. Ok (ByRow source.table made.0 queries))))
+    and_then (each (slot_query_of tables source.scope) made.1) (λ queries. Ok (ByRow source.table made.0 queries))))
 
 -- by groups, behind WHERE: the condition of HAVING over a group, with a set function in each of its slots
 abbrev pub having_over : Source → ℕ → Cond → Condition → Result Form Refusal
@@ -148,13 +148,14 @@ single tables condition =
     and_then (each (plain tables) made.1) (λ queries. Ok (Single made.0 queries)))
 
 -- the condition under a NOT
-abbrev pub denied : Tables → Condition → Condition-F Condition Expression SelectList Query → Result Form Refusal
-denied tables whole (Condition-F.Exists query) = not_exists tables (out-Query query)
-denied tables whole other = single tables whole
+abbrev pub form_of_negation : Tables → Condition → Condition-F Condition Expression SelectList Query
+    → Result Form Refusal
+form_of_negation tables whole (Condition-F.Exists query) = not_exists tables (out-Query query)
+form_of_negation tables whole other = single tables whole
 
 -- a condition by whether it is a NOT
 abbrev pub form_in : Tables → Condition → Condition-F Condition Expression SelectList Query → Result Form Refusal
-form_in tables whole (Condition-F.Not part) = denied tables whole (out-Condition part)
+form_in tables whole (Condition-F.Not part) = form_of_negation tables whole (out-Condition part)
 form_in tables whole other = single tables whole
 
 -- NOT EXISTS of a query is by rows or by groups, and all else is a single condition

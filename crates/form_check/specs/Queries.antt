@@ -28,16 +28,16 @@ pub record Source : Type 0 where
   pub scope : Scope
 
 -- a table by its place and its layout, under this name, if there is one
-abbrev pub sourced : List ℕ → Option ℕ → Option Layout → Option Source
-sourced name None layout = None
-sourced name (Some table) None = None
-sourced name (Some table) (Some layout) =
+abbrev pub source_named : List ℕ → Option ℕ → Option Layout → Option Source
+source_named name None layout = None
+source_named name (Some table) None = None
+source_named name (Some table) (Some layout) =
     Some (record { table = table; scope = record { exposed_name = name; layout = layout } })
 
 -- the table that a query names, under its correlation name where one is written, if there is one
 abbrev pub source_of : Tables → List ℕ → Option (List ℕ) → Option Source
 source_of tables table correlation_name =
-    sourced (unwrap_or correlation_name table) (position_of table tables) (layout_of table tables)
+    source_named (unwrap_or correlation_name table) (position_of table tables) (layout_of table tables)
 
 -- nothing but the row's own columns stood there
 abbrev pub alone : {A : Type 0} → A → Leaves → Result A Refusal

@@ -3,7 +3,7 @@ use Rattle.std.specs.Prelude.{ℕ, List, map, Option}
 use Rattle.syntax.specs.declared.trees.ColumnName.{ColumnName}
 use Rattle.table.specs.declared.exprs.Expr.{Expr}
 use Rattle.form_check.specs.Scopes.{own_column}
-use Rattle.form_check.specs.ShownScopes.{shown}
+use Rattle.form_check.specs.ShownScopes.{lent_scope}
 use Rattle.form_check.specs.Columns.{no_column, grouping_column, at_place, of_both}
 use Rattle.form_check.specs.declared.leaves.Leaf.{Leaf as Lent}
 use Rattle.form_check.specs.declared.leaves.Leaf.TheVariants as lent
@@ -25,13 +25,13 @@ shown_leaves leaves = map shown_leaf leaves
 -- the column of the row at hand that a name means, of those that may stand there
 abbrev pub place : Columns → ColumnName → Option ℕ
 place columns.None = no_column
-place (columns.Own scope) = own_column (shown scope)
-place (columns.Grouping scope group) = grouping_column (shown scope) group
-place (columns.Both child root) = own_column (shown child)
+place (columns.Own scope) = own_column (lent_scope scope)
+place (columns.Grouping scope group) = grouping_column (lent_scope scope) group
+place (columns.Both child root) = own_column (lent_scope child)
 
 -- what a name means, where it may stand there
-abbrev pub meant : Columns → ColumnName → Option Expr
-meant columns.None = at_place no_column
-meant (columns.Own scope) = at_place (own_column (shown scope))
-meant (columns.Grouping scope group) = at_place (grouping_column (shown scope) group)
-meant (columns.Both child root) = of_both (shown child) (shown root)
+abbrev pub meaning_of : Columns → ColumnName → Option Expr
+meaning_of columns.None = at_place no_column
+meaning_of (columns.Own scope) = at_place (own_column (lent_scope scope))
+meaning_of (columns.Grouping scope group) = at_place (grouping_column (lent_scope scope) group)
+meaning_of (columns.Both child root) = of_both (lent_scope child) (lent_scope root)

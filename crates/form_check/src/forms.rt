@@ -3,12 +3,12 @@
 ghost use Rattle.std.specs.Prelude.{◌≡◌, ◌≢◌, IfOk, IfErr, Ok, Err};
 ghost use Rattle.syntax.specs.declared.trees.Query.{out-Query};
 ghost use Rattle.value.specs.declared.refusals.Refusal.TheVariants.{NoMemory};
-ghost use Rattle.form_check.specs.ShownScopes.{shown};
+ghost use Rattle.form_check.specs.ShownScopes.{lent_scope};
 ghost use Rattle.form_check.specs.Forms.{aggregate_of, by_clauses, by_group, by_row, form_of, having_over, not_exists, row_where, single};
 ghost use Rattle.form_check.specs.ShownSources.{shown_source};
 ghost use Rattle.form_check.specs.ShownLeaves.{shown_leaves};
 
-use crate::leaves::{Columns, Leaf, numbered};
+use crate::leaves::{Columns, Leaf, numbered_condition};
 use crate::linked_queries::RowQueries;
 use crate::plain_queries::WholeQueries;
 use crate::queries::{Source, may_be_selected, of_column, row_filter};
@@ -92,13 +92,13 @@ fn row_where<'a>(
     keeps: &'a Option<Condition>,
 ) -> Result<(Cond, Vec<Leaf<'a>>), Refusal>
     ensures made { IfOk result (λ made.
-        row_where (shown scope.entry) keeps.now ≡ Ok (made.0, shown_leaves made.1.items)) }
+        row_where (lent_scope scope.entry) keeps.now ≡ Ok (made.0, shown_leaves made.1.items)) }
     ensures refused { IfErr result (λ refusal.
-        refusal ≢ NoMemory → row_where (shown scope.entry) keeps.now ≡ Err refusal) }
+        refusal ≢ NoMemory → row_where (lent_scope scope.entry) keeps.now ≡ Err refusal) }
 {
     let mut leaves = Vec::new(alloc);
     let condition = match keeps {
-        Some(condition) => numbered(alloc, &Columns::Own(scope), condition, &mut leaves)?,
+        Some(condition) => numbered_condition(alloc, &Columns::Own(scope), condition, &mut leaves)?,
         None => Cond::And(Items::new(alloc)),
     };
     Ok((condition, leaves))
@@ -141,7 +141,12 @@ fn having_over(
 {
     let mut leaves = Vec::new(alloc);
     let scope = source.scope;
-    let having = match numbered(alloc, &Columns::Grouping(scope, group), having, &mut leaves) {
+    let having = match numbered_condition(
+        alloc,
+        &Columns::Grouping(scope, group),
+        having,
+        &mut leaves,
+    ) {
         Ok(having) => having,
         Err(refusal) => return drop_and_refuse(refusal, filter),
     };
@@ -166,7 +171,7 @@ struct Aggregates<'a> {
 impl<'a> Slots for Aggregates<'a> {
     type Slot = Aggregate;
 
-    ghost slot = { λ s. aggregate_of (shown s.scope) };
+    ghost slot = { λ s. aggregate_of (lent_scope s.scope) };
 
     fn slot(&self, _alloc: Global, leaf: &Leaf) -> Result<Aggregate, Refusal> {
         match leaf {
@@ -186,7 +191,7 @@ fn single(alloc: Global, catalog: &Catalog, condition: &Condition) -> Result<For
     ensures refused { IfErr result (λ refusal. refusal ≢ NoMemory → single catalog.now condition.now ≡ Err refusal) }
 {
     let mut leaves = Vec::new(alloc);
-    let condition = numbered(alloc, &Columns::None, condition, &mut leaves)?;
+    let condition = numbered_condition(alloc, &Columns::None, condition, &mut leaves)?;
     match all_slots(alloc, &WholeQueries { catalog }, &leaves) {
         Ok(queries) => Ok(Form::Single { condition, queries }),
         Err(refusal) => drop_and_refuse(refusal, condition),

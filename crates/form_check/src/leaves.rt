@@ -2,8 +2,8 @@
 
 ghost use Rattle.std.specs.Prelude.{◌≡◌, ◌≢◌, ◌++◌, ◌∷◌, [], length, IfOk, IfErr, OnOk, Ok, Err};
 ghost use Rattle.value.specs.declared.refusals.Refusal.TheVariants.{NoMemory};
-ghost use Rattle.form_check.specs.Leaves.{between, compared, listed, numbered, numbered_conditions, numbered_expression, numbered_expressions, slot};
-ghost use Rattle.form_check.specs.ShownLeaves.{shown_leaf, shown_leaves, place, meant};
+ghost use Rattle.form_check.specs.Leaves.{between, comparison_of, in_predicate_of, numbered, numbered_conditions, numbered_expression, numbered_expressions, slot};
+ghost use Rattle.form_check.specs.ShownLeaves.{shown_leaf, shown_leaves, place, meaning_of};
 
 use crate::scopes::Scope;
 use sqlite_items::{Boxed, Items};
@@ -39,8 +39,8 @@ pub enum Columns<'a> {
 
 impl<'a> Columns<'a> {
     /// What a name means, if it may stand there.
-    fn meant(&self, column: &ColumnName) -> Option<Expr>
-        ensures { result ≡ meant self.now column.now }
+    fn meaning_of(&self, column: &ColumnName) -> Option<Expr>
+        ensures { result ≡ meaning_of self.now column.now }
     {
         if let Some(own) = self.place(column) {
             return Some(Expr::Column(own));
@@ -75,17 +75,17 @@ impl<'a> Columns<'a> {
 /// there may then have been put behind the others.
 #[cycle(conditions)]
 #[tactic(auto, using(crate::proofs::Equations::condition_or, crate::proofs::Equations::condition_and, crate::proofs::Equations::condition_not, crate::proofs::Equations::condition_is, crate::proofs::Equations::condition_exists, crate::proofs::Equations::condition_compare, crate::proofs::Equations::condition_isnull, crate::proofs::Equations::condition_between, crate::proofs::Equations::condition_in))]
-pub fn numbered<'a>(
+pub fn numbered_condition<'a>(
     alloc: Global,
     columns: &Columns,
     condition: &'a Condition,
     leaves: &mut Vec<Leaf<'a>>,
 ) -> Result<Cond, Refusal>
     ensures made { IfOk result (λ made.
-        numbered (meant columns.now) condition.now (shown_leaves leaves.old.items)
+        numbered (meaning_of columns.now) condition.now (shown_leaves leaves.old.items)
         ≡ Ok (made, shown_leaves leaves.new.items)) }
     ensures refused { IfErr result (λ refusal. refusal ≢ NoMemory
-        → numbered (meant columns.now) condition.now (shown_leaves leaves.old.items) ≡ Err refusal) }
+        → numbered (meaning_of columns.now) condition.now (shown_leaves leaves.old.items) ≡ Err refusal) }
 {
     match condition {
         Condition::Or(parts) => {
@@ -97,16 +97,16 @@ pub fn numbered<'a>(
             Ok(Cond::And(Items::from_vec(made)))
         }
         Condition::Not(part) => {
-            let part = numbered(alloc, columns, part.get(), leaves)?;
+            let part = numbered_condition(alloc, columns, part.get(), leaves)?;
             Ok(Cond::negation(alloc, part)?)
         }
         Condition::Is(part, wanted) => {
-            let part = numbered(alloc, columns, part.get(), leaves)?;
+            let part = numbered_condition(alloc, columns, part.get(), leaves)?;
             Ok(Cond::Is(Boxed::new(alloc, part)?, *wanted))
         }
         Condition::Exists(query) => { Ok(Cond::Exists(put(leaves, Leaf::Exists(query.get()))?)) }
         Condition::Compare(left, comparison, right) => {
-            compared(alloc, columns, left, *comparison, right, leaves)
+            numbered_comparison(alloc, columns, left, *comparison, right, leaves)
         }
         Condition::IsNull(part) => {
             Ok(Cond::IsNull(numbered_expression(alloc, columns, part, leaves)?))
@@ -115,13 +115,13 @@ pub fn numbered<'a>(
             between(alloc, columns, subject, low, high, leaves)
         }
         Condition::In(subject, values) => {
-            listed(alloc, columns, subject, values.as_slice(), leaves)
+            numbered_in_predicate(alloc, columns, subject, values.as_slice(), leaves)
         }
     }
 }
 
 /// A comparison.
-fn compared<'a>(
+fn numbered_comparison<'a>(
     alloc: Global,
     columns: &Columns,
     left: &'a Expression,
@@ -130,12 +130,12 @@ fn compared<'a>(
     leaves: &mut Vec<Leaf<'a>>,
 ) -> Result<Cond, Refusal>
     ensures made { IfOk result (λ made.
-        compared comparison (numbered_expression (meant columns.now) left.now)
-        (numbered_expression (meant columns.now) right.now) (shown_leaves leaves.old.items)
+        comparison_of comparison (numbered_expression (meaning_of columns.now) left.now)
+        (numbered_expression (meaning_of columns.now) right.now) (shown_leaves leaves.old.items)
         ≡ Ok (made, shown_leaves leaves.new.items)) }
     ensures refused { IfErr result (λ refusal. refusal ≢ NoMemory
-        → compared comparison (numbered_expression (meant columns.now) left.now)
-        (numbered_expression (meant columns.now) right.now) (shown_leaves leaves.old.items) ≡ Err refusal) }
+        → comparison_of comparison (numbered_expression (meaning_of columns.now) left.now)
+        (numbered_expression (meaning_of columns.now) right.now) (shown_leaves leaves.old.items) ≡ Err refusal) }
 {
     let left = numbered_expression(alloc, columns, left, leaves)?;
     let right = numbered_expression(alloc, columns, right, leaves)?;
@@ -152,12 +152,12 @@ fn between<'a>(
     leaves: &mut Vec<Leaf<'a>>,
 ) -> Result<Cond, Refusal>
     ensures made { IfOk result (λ made.
-        between (numbered_expression (meant columns.now) subject.now)
-        (numbered_expression (meant columns.now) low.now) (numbered_expression (meant columns.now) high.now)
+        between (numbered_expression (meaning_of columns.now) subject.now)
+        (numbered_expression (meaning_of columns.now) low.now) (numbered_expression (meaning_of columns.now) high.now)
         (shown_leaves leaves.old.items) ≡ Ok (made, shown_leaves leaves.new.items)) }
     ensures refused { IfErr result (λ refusal. refusal ≢ NoMemory
-        → between (numbered_expression (meant columns.now) subject.now)
-        (numbered_expression (meant columns.now) low.now) (numbered_expression (meant columns.now) high.now)
+        → between (numbered_expression (meaning_of columns.now) subject.now)
+        (numbered_expression (meaning_of columns.now) low.now) (numbered_expression (meaning_of columns.now) high.now)
         (shown_leaves leaves.old.items) ≡ Err refusal) }
 {
     let subject = numbered_expression(alloc, columns, subject, leaves)?;
@@ -167,7 +167,7 @@ fn between<'a>(
 }
 
 /// IN, as comparisons with each value that OR joins.
-fn listed<'a>(
+fn numbered_in_predicate<'a>(
     alloc: Global,
     columns: &Columns,
     subject: &'a Expression,
@@ -175,12 +175,12 @@ fn listed<'a>(
     leaves: &mut Vec<Leaf<'a>>,
 ) -> Result<Cond, Refusal>
     ensures made { IfOk result (λ made.
-        listed (numbered_expression (meant columns.now) subject.now)
-        (numbered_expressions (meant columns.now) values.now) (shown_leaves leaves.old.items)
+        in_predicate_of (numbered_expression (meaning_of columns.now) subject.now)
+        (numbered_expressions (meaning_of columns.now) values.now) (shown_leaves leaves.old.items)
         ≡ Ok (made, shown_leaves leaves.new.items)) }
     ensures refused { IfErr result (λ refusal. refusal ≢ NoMemory
-        → listed (numbered_expression (meant columns.now) subject.now)
-        (numbered_expressions (meant columns.now) values.now) (shown_leaves leaves.old.items) ≡ Err refusal) }
+        → in_predicate_of (numbered_expression (meaning_of columns.now) subject.now)
+        (numbered_expressions (meaning_of columns.now) values.now) (shown_leaves leaves.old.items) ≡ Err refusal) }
 {
     let subject = numbered_expression(alloc, columns, subject, leaves)?;
     let values = all_expressions(alloc, columns, values, leaves)?;
@@ -197,19 +197,19 @@ fn all_numbered<'a>(
     leaves: &mut Vec<Leaf<'a>>,
 ) -> Result<Vec<Cond>, Refusal>
     ensures made { IfOk result (λ made.
-        numbered_conditions (meant columns.now) parts.now (shown_leaves leaves.old.items)
+        numbered_conditions (meaning_of columns.now) parts.now (shown_leaves leaves.old.items)
         ≡ Ok (made.items, shown_leaves leaves.new.items)) }
     ensures refused { IfErr result (λ refusal. refusal ≢ NoMemory
-        → numbered_conditions (meant columns.now) parts.now (shown_leaves leaves.old.items) ≡ Err refusal) }
+        → numbered_conditions (meaning_of columns.now) parts.now (shown_leaves leaves.old.items) ≡ Err refusal) }
 {
     let mut made = Vec::new(alloc);
     for part in parts {
-        made.push(numbered(alloc, columns, part, leaves)?)?;
+        made.push(numbered_condition(alloc, columns, part, leaves)?)?;
     }
     Ok(made)
 }
 
-/// The expression, as the condition in [`numbered`].
+/// The expression, as the condition in [`numbered_condition`].
 #[cycle(expressions)]
 #[tactic(auto, using(crate::proofs::Equations::expression_number, crate::proofs::Equations::expression_text, crate::proofs::Equations::expression_column, crate::proofs::Equations::expression_countrows, crate::proofs::Equations::expression_aggregate, crate::proofs::Equations::expression_subquery, crate::proofs::Equations::expression_negation, crate::proofs::Equations::expression_sum, crate::proofs::Equations::expression_product))]
 pub fn numbered_expression<'a>(
@@ -219,15 +219,15 @@ pub fn numbered_expression<'a>(
     leaves: &mut Vec<Leaf<'a>>,
 ) -> Result<Expr, Refusal>
     ensures made { IfOk result (λ made.
-        numbered_expression (meant columns.now) expression.now (shown_leaves leaves.old.items)
+        numbered_expression (meaning_of columns.now) expression.now (shown_leaves leaves.old.items)
         ≡ Ok (made, shown_leaves leaves.new.items)) }
     ensures refused { IfErr result (λ refusal. refusal ≢ NoMemory
-        → numbered_expression (meant columns.now) expression.now (shown_leaves leaves.old.items) ≡ Err refusal) }
+        → numbered_expression (meaning_of columns.now) expression.now (shown_leaves leaves.old.items) ≡ Err refusal) }
 {
     match expression {
         Expression::Number(number) => Ok(Expr::Literal(Value::Int(*number))),
         Expression::Text(text) => Ok(Expr::Literal(Value::Text(text.copy()?))),
-        Expression::Column(column) => match columns.meant(column) {
+        Expression::Column(column) => match columns.meaning_of(column) {
             Some(meant) => Ok(meant),
             None => Err(Refusal::OutsideClass),
         },
@@ -259,10 +259,10 @@ fn all_expressions<'a>(
     leaves: &mut Vec<Leaf<'a>>,
 ) -> Result<Vec<Expr>, Refusal>
     ensures made { IfOk result (λ made.
-        numbered_expressions (meant columns.now) parts.now (shown_leaves leaves.old.items)
+        numbered_expressions (meaning_of columns.now) parts.now (shown_leaves leaves.old.items)
         ≡ Ok (made.items, shown_leaves leaves.new.items)) }
     ensures refused { IfErr result (λ refusal. refusal ≢ NoMemory
-        → numbered_expressions (meant columns.now) parts.now (shown_leaves leaves.old.items) ≡ Err refusal) }
+        → numbered_expressions (meaning_of columns.now) parts.now (shown_leaves leaves.old.items) ≡ Err refusal) }
 {
     let mut made = Vec::new(alloc);
     for part in parts {

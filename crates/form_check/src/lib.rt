@@ -24,10 +24,10 @@
 //! # Columns and slots
 //!
 //! A condition as it is written names columns and holds set functions and queries anywhere. What the layers below can
-//! evaluate is a `table::Cond`: over the columns of one row, by their places, and slots for all else. [`numbered`]
-//! makes the one of the other. It finds each column by its name, where that may stand there ([`Columns`]), and puts
-//! each set function and query that it meets into a list ([`Leaf`]); its place there is its slot. What the form of a
-//! condition has in its slots is made of that list alone.
+//! evaluate is a `table::Cond`: over the columns of one row, by their places, and slots for all else.
+//! [`numbered_condition`] makes the one of the other. It finds each column by its name, where that may stand there
+//! ([`Columns`]), and puts each set function and query that it meets into a list ([`Leaf`]); its place there is its
+//! slot. What the form of a condition has in its slots is made of that list alone.
 //!
 //! # Shapes
 //!
@@ -76,7 +76,7 @@ mod slots;
 mod trees;
 
 pub use forms::form;
-pub use leaves::{Columns, Leaf, numbered, numbered_expression};
+pub use leaves::{Columns, Leaf, numbered_condition, numbered_expression};
 pub use queries::{Source, row_condition, row_expression, row_filter};
 pub use scopes::{Scope, exposed_name};
 pub use trees::{look_up_condition, look_up_expression};

@@ -3,9 +3,9 @@
 ghost use Rattle.std.specs.Prelude.{◌≡◌, ◌≢◌, IfOk, IfErr, Ok, Err};
 ghost use Rattle.syntax.specs.declared.trees.Query.{out-Query};
 ghost use Rattle.value.specs.declared.refusals.Refusal.TheVariants.{NoMemory};
-ghost use Rattle.form_check.specs.ShownScopes.{shown};
+ghost use Rattle.form_check.specs.ShownScopes.{lent_scope};
 ghost use Rattle.form_check.specs.Links.{top_parts};
-ghost use Rattle.form_check.specs.Forms.{linked, linked_by, linked_exists, linked_value, linked_where};
+ghost use Rattle.form_check.specs.Forms.{slot_query_of, linked_by, linked_exists, linked_value, linked_filter};
 ghost use Rattle.form_check.specs.ShownSources.{shown_source};
 
 use crate::leaves::{Columns, Leaf};
@@ -31,7 +31,7 @@ pub struct RowQueries<'a> {
 impl<'a> Slots for RowQueries<'a> {
     type Slot = Query<Link>;
 
-    ghost slot = { λ s. linked s.catalog.now (shown s.root) };
+    ghost slot = { λ s. slot_query_of s.catalog.now (lent_scope s.root) };
 
     fn slot(&self, alloc: Global, leaf: &Leaf) -> Result<Query<Link>, Refusal> {
         match leaf {
@@ -49,9 +49,10 @@ fn linked_exists(
     root: Scope,
     query: &WrittenQuery,
 ) -> Result<Query<Link>, Refusal>
-    ensures made { IfOk result (λ made. linked_exists catalog.now (shown root.entry) (out-Query query.now) ≡ Ok made) }
+    ensures made { IfOk result (λ made.
+        linked_exists catalog.now (lent_scope root.entry) (out-Query query.now) ≡ Ok made) }
     ensures refused { IfErr result (λ refusal.
-        refusal ≢ NoMemory → linked_exists catalog.now (shown root.entry) (out-Query query.now) ≡ Err refusal) }
+        refusal ≢ NoMemory → linked_exists catalog.now (lent_scope root.entry) (out-Query query.now) ≡ Err refusal) }
 {
     let Some(child) = Source::of(catalog, &query.table, &query.correlation_name) else {
         return Err(Refusal::OutsideClass);
@@ -59,7 +60,7 @@ fn linked_exists(
     if !may_be_selected(&Columns::Own(child.scope), &query.select_list) {
         return Err(Refusal::OutsideClass);
     }
-    linked_where(
+    linked_filter(
         alloc,
         child,
         root,
@@ -77,9 +78,10 @@ fn linked_value(
     root: Scope,
     query: &WrittenQuery,
 ) -> Result<Query<Link>, Refusal>
-    ensures made { IfOk result (λ made. linked_value catalog.now (shown root.entry) (out-Query query.now) ≡ Ok made) }
+    ensures made { IfOk result (λ made.
+        linked_value catalog.now (lent_scope root.entry) (out-Query query.now) ≡ Ok made) }
     ensures refused { IfErr result (λ refusal.
-        refusal ≢ NoMemory → linked_value catalog.now (shown root.entry) (out-Query query.now) ≡ Err refusal) }
+        refusal ≢ NoMemory → linked_value catalog.now (lent_scope root.entry) (out-Query query.now) ≡ Err refusal) }
 {
     let Some(child) = Source::of(catalog, &query.table, &query.correlation_name) else {
         return Err(Refusal::OutsideClass);
@@ -87,7 +89,7 @@ fn linked_value(
     let Some(aggregate) = selected_aggregate(child.scope, &query.select_list) else {
         return Err(Refusal::OutsideClass);
     };
-    linked_where(
+    linked_filter(
         alloc,
         child,
         root,
@@ -99,7 +101,7 @@ fn linked_value(
 }
 
 /// A query of the row by its clauses: it has WHERE, and neither GROUP BY nor HAVING.
-fn linked_where(
+fn linked_filter(
     alloc: Global,
     child: Source,
     root: Scope,
@@ -109,9 +111,10 @@ fn linked_where(
     having: &Option<Condition>,
 ) -> Result<Query<Link>, Refusal>
     ensures made { IfOk result (λ made.
-        linked_where (shown_source child.entry) (shown root.entry) aggregate keeps.now group.now having.now ≡ Ok made) }
+        linked_filter (shown_source child.entry) (lent_scope root.entry) aggregate keeps.now group.now having.now
+        ≡ Ok made) }
     ensures refused { IfErr result (λ refusal. refusal ≢ NoMemory
-        → linked_where (shown_source child.entry) (shown root.entry) aggregate keeps.now group.now having.now
+        → linked_filter (shown_source child.entry) (lent_scope root.entry) aggregate keeps.now group.now having.now
         ≡ Err refusal) }
 {
     match (keeps, group, having) {
@@ -131,9 +134,9 @@ fn linked_by(
     condition: &Condition,
 ) -> Result<Query<Link>, Refusal>
     ensures made { IfOk result (λ made.
-        linked_by (shown_source child.entry) (shown root.entry) aggregate condition.now ≡ Ok made) }
+        linked_by (shown_source child.entry) (lent_scope root.entry) aggregate condition.now ≡ Ok made) }
     ensures refused { IfErr result (λ refusal. refusal ≢ NoMemory
-        → linked_by (shown_source child.entry) (shown root.entry) aggregate condition.now ≡ Err refusal) }
+        → linked_by (shown_source child.entry) (lent_scope root.entry) aggregate condition.now ≡ Err refusal) }
 {
     let tables = LinkedTables {
         child: child.scope,

@@ -2,7 +2,7 @@
 
 ghost use Rattle.std.specs.Prelude.{◌≡◌, ◌≢◌, IfOk, IfErr, Ok, Err};
 ghost use Rattle.value.specs.declared.refusals.Refusal.TheVariants.{NoMemory};
-ghost use Rattle.form_check.specs.ShownScopes.{shown};
+ghost use Rattle.form_check.specs.ShownScopes.{lent_scope};
 ghost use Rattle.form_check.specs.Links.{link_of_names, link_of, first_link, filter_parts, key_linked, is_link};
 
 use crate::queries::joint_condition;
@@ -23,7 +23,7 @@ pub struct LinkedTables<'a> {
 impl<'a> LinkedTables<'a> {
     /// The link among these parts: the first of the child's key, and else the first of all.
     pub fn first_link(&self, parts: &[Condition]) -> Option<Link>
-        ensures { result ≡ first_link (shown self.now.child) (shown self.now.root) parts.now }
+        ensures { result ≡ first_link (lent_scope self.now.child) (lent_scope self.now.root) parts.now }
     {
         let column = self.key_linked(parts);
         for part in parts {
@@ -38,9 +38,10 @@ impl<'a> LinkedTables<'a> {
     #[tactic(auto, using(value::proofs::Results::behind_next, value::proofs::Results::behind_none))]
     pub fn filter_parts(&self, alloc: Global, parts: &[Condition]) -> Result<Vec<Cond>, Refusal>
         ensures made { IfOk result (λ made.
-            filter_parts (shown self.now.child) (shown self.now.root) parts.now ≡ Ok made.items) }
+            filter_parts (lent_scope self.now.child) (lent_scope self.now.root) parts.now ≡ Ok made.items) }
         ensures refused { IfErr result (λ refusal.
-            refusal ≢ NoMemory → filter_parts (shown self.now.child) (shown self.now.root) parts.now ≡ Err refusal) }
+            refusal ≢ NoMemory → filter_parts (lent_scope self.now.child) (lent_scope self.now.root) parts.now
+            ≡ Err refusal) }
     {
         let column = self.key_linked(parts);
         let mut made = Vec::new(alloc);
@@ -57,7 +58,7 @@ impl<'a> LinkedTables<'a> {
 
     /// The child's key, if one of these parts is a link by it.
     fn key_linked(&self, parts: &[Condition]) -> Option<usize>
-        ensures { result ≡ key_linked (shown self.now.child) (shown self.now.root) parts.now }
+        ensures { result ≡ key_linked (lent_scope self.now.child) (lent_scope self.now.root) parts.now }
     {
         let key = Some(self.child.schema.key());
         for part in parts {
@@ -70,7 +71,7 @@ impl<'a> LinkedTables<'a> {
 
     /// Whether a part is a link, by this column of the child if one is given.
     fn is_link(&self, column: Option<usize>, part: &Condition) -> bool
-        ensures { result ≡ is_link (shown self.now.child) (shown self.now.root) column part.now }
+        ensures { result ≡ is_link (lent_scope self.now.child) (lent_scope self.now.root) column part.now }
     {
         match (self.link(part), column) {
             (Some(link), Some(column)) => link.inner == column,
@@ -82,7 +83,7 @@ impl<'a> LinkedTables<'a> {
     /// The columns of the child and of the root that a part joins, if it is a link: an equality of the two, either way
     /// round.
     fn link(&self, part: &Condition) -> Option<Link>
-        ensures { result ≡ link_of (shown self.now.child) (shown self.now.root) part.now }
+        ensures { result ≡ link_of (lent_scope self.now.child) (lent_scope self.now.root) part.now }
     {
         match part {
             Condition::Compare(
@@ -99,7 +100,7 @@ impl<'a> LinkedTables<'a> {
 
     /// The link of the child's column of one name and the root's of the other, if that is what they mean.
     fn link_of_names(&self, inner: &ColumnName, outer: &ColumnName) -> Option<Link>
-        ensures { result ≡ link_of_names (shown self.now.child) (shown self.now.root) inner.now outer.now }
+        ensures { result ≡ link_of_names (lent_scope self.now.child) (lent_scope self.now.root) inner.now outer.now }
     {
         match (self.child.own(inner), self.child.outer(&self.root, outer)) {
             (Some(inner), Some(outer)) => Some(Link { inner, outer }),

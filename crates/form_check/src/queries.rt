@@ -4,12 +4,12 @@ ghost use Rattle.std.specs.Prelude.{◌≡◌, ◌≢◌, ◌<◌, length, IfOk,
 ghost use Rattle.table.specs.Rows.{layout_of, position_of};
 ghost use Rattle.std.specs.Option.{option_map};
 ghost use Rattle.value.specs.declared.refusals.Refusal.TheVariants.{NoMemory};
-ghost use Rattle.form_check.specs.ShownScopes.{shown};
-ghost use Rattle.form_check.specs.Queries.{alone, source_of, sourced, row_condition, joint_condition, row_expression, row_filter, of_column, selected_aggregate, may_be_selected};
+ghost use Rattle.form_check.specs.ShownScopes.{lent_scope};
+ghost use Rattle.form_check.specs.Queries.{alone, source_of, source_named, row_condition, joint_condition, row_expression, row_filter, of_column, selected_aggregate, may_be_selected};
 ghost use Rattle.form_check.specs.ShownSources.{shown_source};
 ghost use Rattle.form_check.specs.ShownLeaves.{shown_leaves, place};
 
-use crate::leaves::{Columns, Leaf, numbered, numbered_expression};
+use crate::leaves::{Columns, Leaf, numbered_condition, numbered_expression};
 use crate::scopes::{Scope, exposed_name};
 use sqlite_items::Items;
 use std::alloc::Global;
@@ -33,7 +33,7 @@ impl<'a> Source<'a> {
     ) -> Option<Source<'a>>
         ensures { option_map shown_source result ≡ source_of catalog.now table.now correlation_name.now }
     {
-        Source::named(catalog, table, exposed_name(correlation_name, table))
+        Source::of_table(catalog, table, exposed_name(correlation_name, table))
     }
 
     /// The rows of a statement's table, which goes by its own name.
@@ -41,13 +41,13 @@ impl<'a> Source<'a> {
         ensures source { option_map shown_source result ≡ source_of catalog.now table.now None }
         ensures within { IfSome result (λ source. source.table < length catalog.now) }
     {
-        Source::named(catalog, table, table)
+        Source::of_table(catalog, table, table)
     }
 
     /// The rows of this table under a name that it goes by.
-    fn named(catalog: &'a Catalog, table: &Text, name: &'a Text) -> Option<Source<'a>>
+    fn of_table(catalog: &'a Catalog, table: &Text, name: &'a Text) -> Option<Source<'a>>
         ensures source { option_map shown_source result
-            ≡ sourced name.now (position_of table.now catalog.now) (layout_of table.now catalog.now) }
+            ≡ source_named name.now (position_of table.now catalog.now) (layout_of table.now catalog.now) }
         ensures within { IfSome result (λ source. source.table < length catalog.now) }
     {
         let place = catalog.position(table)?;
@@ -69,12 +69,12 @@ impl<'a> Source<'a> {
 /// [`Refusal::OutsideClass`] where it holds a set function, a query or a column of another table; or
 /// [`Refusal::NoMemory`].
 pub fn row_condition(alloc: Global, scope: Scope, condition: &Condition) -> Result<Cond, Refusal>
-    ensures made { IfOk result (λ made. row_condition (shown scope.entry) condition.now ≡ Ok made) }
+    ensures made { IfOk result (λ made. row_condition (lent_scope scope.entry) condition.now ≡ Ok made) }
     ensures refused { IfErr result (λ refusal.
-        refusal ≢ NoMemory → row_condition (shown scope.entry) condition.now ≡ Err refusal) }
+        refusal ≢ NoMemory → row_condition (lent_scope scope.entry) condition.now ≡ Err refusal) }
 {
     let mut leaves = Vec::new(alloc);
-    let made = numbered(alloc, &Columns::Own(scope), condition, &mut leaves)?;
+    let made = numbered_condition(alloc, &Columns::Own(scope), condition, &mut leaves)?;
     require_own_columns(made, &leaves)
 }
 
@@ -91,12 +91,12 @@ pub fn joint_condition(
     condition: &Condition,
 ) -> Result<Cond, Refusal>
     ensures made { IfOk result (λ made.
-        joint_condition (shown child.entry) (shown root.entry) condition.now ≡ Ok made) }
+        joint_condition (lent_scope child.entry) (lent_scope root.entry) condition.now ≡ Ok made) }
     ensures refused { IfErr result (λ refusal. refusal ≢ NoMemory
-        → joint_condition (shown child.entry) (shown root.entry) condition.now ≡ Err refusal) }
+        → joint_condition (lent_scope child.entry) (lent_scope root.entry) condition.now ≡ Err refusal) }
 {
     let mut leaves = Vec::new(alloc);
-    let made = numbered(alloc, &Columns::Both(child, root), condition, &mut leaves)?;
+    let made = numbered_condition(alloc, &Columns::Both(child, root), condition, &mut leaves)?;
     require_own_columns(made, &leaves)
 }
 
@@ -107,9 +107,9 @@ pub fn joint_condition(
 /// [`Refusal::OutsideClass`] where it holds a set function, a query or a column of another table; or
 /// [`Refusal::NoMemory`].
 pub fn row_expression(alloc: Global, scope: Scope, expression: &Expression) -> Result<Expr, Refusal>
-    ensures made { IfOk result (λ made. row_expression (shown scope.entry) expression.now ≡ Ok made) }
+    ensures made { IfOk result (λ made. row_expression (lent_scope scope.entry) expression.now ≡ Ok made) }
     ensures refused { IfErr result (λ refusal.
-        refusal ≢ NoMemory → row_expression (shown scope.entry) expression.now ≡ Err refusal) }
+        refusal ≢ NoMemory → row_expression (lent_scope scope.entry) expression.now ≡ Err refusal) }
 {
     let mut leaves = Vec::new(alloc);
     let made = numbered_expression(alloc, &Columns::Own(scope), expression, &mut leaves)?;
@@ -133,9 +133,9 @@ pub fn row_filter(
     scope: Scope,
     condition: &Option<Condition>,
 ) -> Result<Cond, Refusal>
-    ensures made { IfOk result (λ made. row_filter (shown scope.entry) condition.now ≡ Ok made) }
+    ensures made { IfOk result (λ made. row_filter (lent_scope scope.entry) condition.now ≡ Ok made) }
     ensures refused { IfErr result (λ refusal.
-        refusal ≢ NoMemory → row_filter (shown scope.entry) condition.now ≡ Err refusal) }
+        refusal ≢ NoMemory → row_filter (lent_scope scope.entry) condition.now ≡ Err refusal) }
 {
     match condition {
         Some(condition) => row_condition(alloc, scope, condition),
@@ -145,7 +145,7 @@ pub fn row_filter(
 
 /// The one set function that a query lists, over a column of its own table.
 pub fn selected_aggregate(scope: Scope, select_list: &SelectList) -> Option<Aggregate>
-    ensures { result ≡ selected_aggregate (shown scope.entry) select_list.now }
+    ensures { result ≡ selected_aggregate (lent_scope scope.entry) select_list.now }
 {
     match select_list {
         SelectList::One(Expression::CountRows) => Some(Aggregate::CountRows),

@@ -4,7 +4,7 @@ ghost use Rattle.std.specs.Prelude.{◌≡◌, ◌≢◌, ◌∷◌, IfOk, IfErr
 ghost use Rattle.value.specs.declared.refusals.Refusal.TheVariants.{NoMemory};
 ghost use Rattle.form_check.specs.Columns.{outer_column};
 ghost use Rattle.form_check.specs.Scopes.{column_error, column_fault, is_name_of, own_column};
-ghost use Rattle.form_check.specs.ShownScopes.{shown, all_shown};
+ghost use Rattle.form_check.specs.ShownScopes.{lent_scope, lent_scopes};
 
 use std::alloc::{AllocError, Global};
 use syntax::ColumnName;
@@ -23,7 +23,7 @@ impl<'a> Scope<'a> {
     /// Whether a column's name is of this table, seen from where the table is the innermost: the table goes by its
     /// qualifier, or, without one, has such a column.
     pub fn is_named(&self, column: &ColumnName) -> bool
-        ensures { result ≡ is_name_of column.now.qualifier column.now.name (shown self.now) }
+        ensures { result ≡ is_name_of column.now.qualifier column.now.name (lent_scope self.now) }
     {
         match &column.qualifier {
             Some(qualifier) => *self.exposed_name == *qualifier,
@@ -33,7 +33,7 @@ impl<'a> Scope<'a> {
 
     /// The place of the column that a name means, if the name is of this table, the innermost, and the table has it.
     pub fn own(&self, column: &ColumnName) -> Option<usize>
-        ensures { result ≡ own_column (shown self.now) column.now }
+        ensures { result ≡ own_column (lent_scope self.now) column.now }
     {
         if self.is_named(column) {
             self.schema.column(&column.name)
@@ -44,7 +44,7 @@ impl<'a> Scope<'a> {
 
     /// The place of the column of another table, further out, that a name means, if the name is not of this one.
     pub fn outer(&self, root: &Scope, column: &ColumnName) -> Option<usize>
-        ensures { result ≡ outer_column (shown self.now) (shown root.now) column.now }
+        ensures { result ≡ outer_column (lent_scope self.now) (lent_scope root.now) column.now }
     {
         if self.is_named(column) {
             return None;
@@ -70,7 +70,7 @@ pub fn put_inside<'a>(
     inner: Scope<'a>,
     outer: &[Scope<'a>],
 ) -> Result<Vec<Scope<'a>>, AllocError>
-    ensures { IfOk result (λ scopes. all_shown scopes.items ≡ shown inner.entry ∷ all_shown outer.now) }
+    ensures { IfOk result (λ scopes. lent_scopes scopes.items ≡ lent_scope inner.entry ∷ lent_scopes outer.now) }
 {
     let mut scopes = Vec::new(alloc);
     scopes.push(inner)?;
@@ -82,9 +82,9 @@ pub fn put_inside<'a>(
 
 /// Refuses a column's name that means nothing: UnknownName of the qualifier if no table goes by it, else of the column.
 pub fn look_up_column(scopes: &[Scope], column: &ColumnName) -> Result<(), Refusal>
-    ensures known { IfOk result (λ _. column_fault column.now (all_shown scopes.now) ≡ None) }
+    ensures known { IfOk result (λ _. column_fault column.now (lent_scopes scopes.now) ≡ None) }
     ensures refused { IfErr result (λ refusal.
-        refusal ≢ NoMemory → column_fault column.now (all_shown scopes.now) ≡ Some refusal) }
+        refusal ≢ NoMemory → column_fault column.now (lent_scopes scopes.now) ≡ Some refusal) }
 {
     for scope in scopes {
         if scope.is_named(column) {
@@ -100,9 +100,9 @@ pub fn look_up_column(scopes: &[Scope], column: &ColumnName) -> Result<(), Refus
 
 /// Refuses the name of a column that this table does not have.
 fn look_up_in(scope: &Scope, name: &Text) -> Result<(), Refusal>
-    ensures known { IfOk result (λ _. column_error name.now (shown scope.now) ≡ None) }
+    ensures known { IfOk result (λ _. column_error name.now (lent_scope scope.now) ≡ None) }
     ensures refused { IfErr result (λ refusal.
-        refusal ≢ NoMemory → column_error name.now (shown scope.now) ≡ Some refusal) }
+        refusal ≢ NoMemory → column_error name.now (lent_scope scope.now) ≡ Some refusal) }
 {
     if scope.schema.column(name).is_some() {
         return Ok(());

@@ -3,7 +3,7 @@
 ghost use Rattle.std.specs.Prelude.{◌≡◌, ◌≢◌, IfOk, IfErr, Some, None};
 ghost use Rattle.value.specs.declared.refusals.Refusal.TheVariants.{NoMemory};
 ghost use Rattle.form_check.specs.Names.{condition_fault, expression_fault, query_fault, group_fault};
-ghost use Rattle.form_check.specs.ShownScopes.{all_shown};
+ghost use Rattle.form_check.specs.ShownScopes.{lent_scopes};
 
 use crate::scopes::{Scope, exposed_name, look_up_column, put_inside};
 use std::alloc::Global;
@@ -24,9 +24,9 @@ pub fn look_up_condition(
     scopes: &[Scope],
     condition: &Condition,
 ) -> Result<(), Refusal>
-    ensures known { IfOk result (λ _. condition_fault catalog.now condition.now (all_shown scopes.now) ≡ None) }
+    ensures known { IfOk result (λ _. condition_fault catalog.now condition.now (lent_scopes scopes.now) ≡ None) }
     ensures refused { IfErr result (λ refusal.
-        refusal ≢ NoMemory → condition_fault catalog.now condition.now (all_shown scopes.now) ≡ Some refusal) }
+        refusal ≢ NoMemory → condition_fault catalog.now condition.now (lent_scopes scopes.now) ≡ Some refusal) }
 {
     match condition {
         Condition::Or(parts) | Condition::And(parts) => {
@@ -67,9 +67,9 @@ pub fn look_up_expression(
     scopes: &[Scope],
     expression: &Expression,
 ) -> Result<(), Refusal>
-    ensures known { IfOk result (λ _. expression_fault catalog.now expression.now (all_shown scopes.now) ≡ None) }
+    ensures known { IfOk result (λ _. expression_fault catalog.now expression.now (lent_scopes scopes.now) ≡ None) }
     ensures refused { IfErr result (λ refusal.
-        refusal ≢ NoMemory → expression_fault catalog.now expression.now (all_shown scopes.now) ≡ Some refusal) }
+        refusal ≢ NoMemory → expression_fault catalog.now expression.now (lent_scopes scopes.now) ≡ Some refusal) }
 {
     match expression {
         Expression::Number(_) | Expression::Text(_) | Expression::CountRows => Ok(()),
@@ -95,9 +95,9 @@ fn look_up_query(
     scopes: &[Scope],
     query: &Query,
 ) -> Result<(), Refusal>
-    ensures known { IfOk result (λ _. query_fault catalog.now query.now (all_shown scopes.now) ≡ None) }
+    ensures known { IfOk result (λ _. query_fault catalog.now query.now (lent_scopes scopes.now) ≡ None) }
     ensures refused { IfErr result (λ refusal.
-        refusal ≢ NoMemory → query_fault catalog.now query.now (all_shown scopes.now) ≡ Some refusal) }
+        refusal ≢ NoMemory → query_fault catalog.now query.now (lent_scopes scopes.now) ≡ Some refusal) }
 {
     let Some(schema) = catalog.get(&query.table) else {
         return Err(Refusal::UnknownName {
@@ -128,9 +128,9 @@ fn look_up_query(
 
 /// Looks up the column of GROUP BY, if there is one.
 fn look_up_group(scopes: &[Scope], group: &Option<ColumnName>) -> Result<(), Refusal>
-    ensures known { IfOk result (λ _. group_fault group.now (all_shown scopes.now) ≡ None) }
+    ensures known { IfOk result (λ _. group_fault group.now (lent_scopes scopes.now) ≡ None) }
     ensures refused { IfErr result (λ refusal.
-        refusal ≢ NoMemory → group_fault group.now (all_shown scopes.now) ≡ Some refusal) }
+        refusal ≢ NoMemory → group_fault group.now (lent_scopes scopes.now) ≡ Some refusal) }
 {
     match group {
         Some(column) => look_up_column(scopes, column),

@@ -92,24 +92,34 @@ impl Totals {
             (None, None) => Ok(self),
             (None, Some(new)) => self.more(asked, new),
             (Some(old), None) => self.less(asked, old),
-            (Some(old), Some(new)) => self.replaced(asked, old, new),
+            (Some(old), Some(new)) => self.after_replacement(asked, old, new),
         }
     }
 
     /// The totals after one row goes and one comes.
-    fn replaced(self, asked: Aggregate, old: &Member, new: &Member) -> Result<Totals, AllocError>
+    fn after_replacement(
+        self,
+        asked: Aggregate,
+        old: &Member,
+        new: &Member,
+    ) -> Result<Totals, AllocError>
         ensures { IfOk result (λ totals. (before after : Members)
             → IsChange (Some new.now) (Some old.now) before after
             → AreTotalsOf asked before self → AreWithin after → AreTotalsOf asked after totals) }
     {
         match order(&old.group, &new.group) {
-            Ordering::Equal => self.revalued(asked, old, new),
+            Ordering::Equal => self.after_new_value(asked, old, new),
             Ordering::Less | Ordering::Greater => self.less(asked, old)?.more(asked, new),
         }
     }
 
     /// The totals after a row of a group gets another value: its total is looked up and put once.
-    fn revalued(self, asked: Aggregate, old: &Member, new: &Member) -> Result<Totals, AllocError>
+    fn after_new_value(
+        self,
+        asked: Aggregate,
+        old: &Member,
+        new: &Member,
+    ) -> Result<Totals, AllocError>
         requires same { old.now.group ≡ new.now.group }
         ensures { IfOk result (λ totals. (before after : Members)
             → IsChange (Some new.now) (Some old.now) before after
@@ -117,14 +127,14 @@ impl Totals {
     {
         match order(&old.value, &new.value) {
             Ordering::Equal => Ok(self),
-            Ordering::Less | Ordering::Greater => self.moved(
+            Ordering::Less | Ordering::Greater => self.after_move(
                 asked, &old.group, &old.value, &new.value,
             ),
         }
     }
 
     /// The totals with another value for a row of a group.
-    fn moved(
+    fn after_move(
         self,
         asked: Aggregate,
         group: &Value,

@@ -93,7 +93,7 @@ impl Index {
             (None, None) => Ok(self),
             (None, Some(come)) => self.more(come, key),
             (Some(gone), None) => self.less(gone, key),
-            (Some(gone), Some(come)) => self.replaced(gone, come, key),
+            (Some(gone), Some(come)) => self.after_replacement(gone, come, key),
         }
     }
 
@@ -114,7 +114,7 @@ impl Index {
     }
 
     /// The index after a row's value becomes another.
-    fn replaced(self, old: &Value, new: &Value, key: &Value) -> Result<Index, AllocError>
+    fn after_replacement(self, old: &Value, new: &Value, key: &Value) -> Result<Index, AllocError>
         ensures { IfOk result (λ index.
             index ≡ index_after (Some old.now) (Some new.now) key.now self) }
     {

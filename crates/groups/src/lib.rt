@@ -21,10 +21,10 @@
 //! What the layer above may rest on: totals of some groups for a set function are, after `with`, those of the groups
 //! with that change; what stands for a group is the total of its rows, and nothing stands for a group without rows;
 //! what a set function gives by them is what it gives of the group's rows from scratch, MIN and MAX after removals
-//! too; `get` takes no memory; a copy is equal to its original; and NoMemory is the only error. No call has a premise:
-//! the contract of `with` says what follows where the groups after it are within bounds, which are fewer than 2^63
-//! rows with numbers within 10^15. There no number passes its width (a sum stays within 2^113), and what is answered
-//! fits a slot of a condition.
+//! too; `get` takes no memory; a copy is equal to its original; and calls fail only where memory runs out. No call has
+//! a premise: the contract of `with` says what follows where the groups after it are within bounds, which are fewer
+//! than 2^63 rows with numbers within 10^15. There no number passes its width (a sum stays within 2^113), and what is
+//! answered fits a slot of a condition.
 //!
 //! That the groups of a table's rows have such a change wherever the table has a changed row, and are within bounds
 //! where its rows are, is the law [`members_follow_rows`]; and that a column makes the groups of GROUP BY is
@@ -50,8 +50,8 @@
 //! What the layer above may rest on: the index of a table's rows is, after `with`, that of the rows with that change
 //! (`specs/Indexes`, `IsIndexOf`), wherever the rows are in key order, the old row is the one under the key and the new
 //! row has that key; its keys of a value are those of the rows that have it, in the order of the rows; a copy is equal
-//! to its original; and rows have one index, which is the law [`rows_have_one_index`]. NoMemory is the only error, and
-//! no call has a premise.
+//! to its original; and rows have one index, which is the law [`rows_have_one_index`]. Calls fail only where memory
+//! runs out, and none has a premise.
 //!
 //! Values with keys stand in `pages::Pages`, and the keys of each in one more: a change makes the path to one value and
 //! the path to one key anew, or two of each, and shares the rest. The steps are in `specs/IndexSteps`.

@@ -1,6 +1,6 @@
 //! Transactions with what they read and changed, and the events of a script with what each was answered.
 
-use answer::Answer;
+use alone::Answer;
 use delta::View;
 use siread::LockKey;
 use sqlite_items::Items;

@@ -3,17 +3,15 @@
 use crate::checks::push_checks;
 use crate::histories::{End, Happening, Read, Reader, Transaction};
 use crate::tries::{Trial, try_statement};
-use alone::Resolved;
-use answer::Answer;
+use alone::{Answer, Modes, ResolvedStatement};
 use commit::{Engine, Seat};
 use copies::copy_changes;
 use delta::View;
-use modes::Modes;
 use sqlite_items::Items;
 use std::alloc::{AllocError, Global};
 use std::mem;
 use syntax::{Event, Mode, Statement, Step};
-use txn::{Closed, Txn, Unclosed};
+use txn::{CloseFailure, ClosedTransaction, Txn};
 use value::Refusal;
 
 /// A session's open transaction, run beside the engine's.
@@ -175,8 +173,8 @@ fn execute(
         return Err(AllocError);
     }
     let most = match txn.trace().last() {
-        Some(Resolved::Refused(_) | Resolved::SetModes { .. }) | None => 0,
-        Some(Resolved::Verdict(_)) => usize::MAX,
+        Some(ResolvedStatement::Refused(_) | ResolvedStatement::SetModes { .. }) | None => 0,
+        Some(ResolvedStatement::Verdict(_)) => usize::MAX,
         Some(_) => 1,
     };
     for key in txn.reads().iter().skip(before).take(most) {
@@ -211,13 +209,13 @@ fn follow_modes(
 
 fn follow_modes_in(
     alloc: Global,
-    closed: &Closed,
+    closed: &ClosedTransaction,
     mirror: &mut Mirror,
     event: usize,
     happening: &Happening,
     transaction: &mut Transaction,
 ) -> Result<(), AllocError> {
-    let Some(Resolved::SetModes { names, mode }) = closed.trace().last() else {
+    let Some(ResolvedStatement::SetModes { names, mode }) = closed.trace().last() else {
         return Ok(());
     };
     let own = closed.own();
@@ -274,7 +272,7 @@ fn follow_commit(
 
 fn note_closed(
     alloc: Global,
-    closed: &Closed,
+    closed: &ClosedTransaction,
     event: usize,
     happening: &mut Happening,
     transaction: &mut Transaction,
@@ -297,8 +295,8 @@ fn note_closed(
 }
 
 /// The transaction could not be taken to COMMIT for want of memory.
-fn give_up(unclosed: Unclosed) -> AllocError {
-    let Unclosed { refusal: _, txn } = unclosed;
+fn give_up(unclosed: CloseFailure) -> AllocError {
+    let CloseFailure { txn } = unclosed;
     let_go(txn.abandon());
     AllocError
 }

@@ -4,8 +4,8 @@ ghost use Rattle.std.specs.Prelude.{◌≤◌};
 
 use crate::histories::{Happening, History};
 use crate::mirrors::{Mirror, Notes, follow};
+use alone::Modes;
 use commit::{Engine, Seat};
-use modes::Modes;
 use replay::{ProgramFault, begin_run};
 use sqlite_items::Items;
 use std::alloc::{AllocError, Global};

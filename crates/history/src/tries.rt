@@ -4,14 +4,15 @@ ghost use Rattle.assertion.specs.Declarations.{layouts_in};
 ghost use Rattle.txn.specs.Effects.{ArePutIn};
 ghost use Rattle.txn.specs.Runnable.{IsRunnable};
 
-use alone::Resolved;
+use alone::ResolvedStatement;
 use changes::real_changes;
 use delta::View;
 use std::alloc::{AllocError, Global};
 use syntax::Statement;
 use table::Change;
-use txn::{Effect, delete_effect, insert_effect, recall_order, resolve, update_effect};
-use value::Refusal;
+use txn::{
+    Effect, delete_effect, insert_effect, recall_order, resolve, unless_memory, update_effect,
+};
 
 /// The rows that a statement changes, and the view with these changes.
 #[derive(Drop)]
@@ -35,20 +36,26 @@ pub fn try_statement(
 fn try_resolved(
     alloc: Global,
     own: &View,
-    statement: &Resolved,
+    statement: &ResolvedStatement,
 ) -> Result<Option<Trial>, AllocError>
     requires runnable { IsRunnable own.now.declared statement.now }
 {
     match statement {
-        Resolved::Insert(new) => match insert_effect(alloc, own, new) {
+        ResolvedStatement::Insert(new) => match insert_effect(alloc, own, new) {
             Ok(effect) => put_in(own, effect),
-            Err(refusal) => unless_memory(refusal),
+            Err(refusal) => {
+                unless_memory(refusal)?;
+                Ok(None)
+            }
         },
-        Resolved::Update(update) => match update_effect(alloc, own, update) {
+        ResolvedStatement::Update(update) => match update_effect(alloc, own, update) {
             Ok(effect) => put_in(own, effect),
-            Err(refusal) => unless_memory(refusal),
+            Err(refusal) => {
+                unless_memory(refusal)?;
+                Ok(None)
+            }
         },
-        Resolved::Delete(delete) => {
+        ResolvedStatement::Delete(delete) => {
             let effect = delete_effect(alloc, own, delete)?;
             put_in(own, effect)
         }
@@ -67,12 +74,4 @@ fn put_in(own: &View, effect: Effect) -> Result<Option<Trial>, AllocError>
         changes: real_changes(changes),
         view,
     }))
-}
-
-/// Nothing, unless memory ran out.
-fn unless_memory(refusal: Refusal) -> Result<Option<Trial>, AllocError> {
-    match refusal {
-        Refusal::NoMemory => Err(AllocError),
-        _ => Ok(None),
-    }
 }

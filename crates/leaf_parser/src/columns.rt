@@ -91,9 +91,9 @@ impl Part for NamedColumn {
 
 /// What stands in the parentheses of COUNT: `*`, or the name of a column.
 #[derive(Drop)]
-pub struct Counted(pub Global);
+pub struct CountArgument(pub Global);
 
-impl Part for Counted {
+impl Part for CountArgument {
     ghost use Rattle.syntax.specs.Readers as reader;
 
     type Tree = Expression;

@@ -34,10 +34,12 @@ mod parts;
 mod signs;
 mod stops;
 
-pub use columns::{Counted, NamedColumn, parse_column, parse_correlation_name, parse_group_by};
+pub use columns::{
+    CountArgument, NamedColumn, parse_column, parse_correlation_name, parse_group_by,
+};
 pub use cursors::{Cursor, Piece};
 pub use loops::{
-    Part, Repeated, expect_after, parse_list, parse_many, parse_parens, parse_parens_list,
+    Part, RepeatedPart, expect_after, parse_list, parse_many, parse_parens, parse_parens_list,
 };
 pub use names::{NamePart, parse_name, parse_number, parse_signed_number, parse_text, value_of};
 pub use parts::{Ands, Joint, Ors, Products, Sums, parse_joined, parse_joined_boxed};

@@ -29,7 +29,7 @@ pub trait Part {
 }
 
 /// A part that may stand there again and again, as long as the next token says so.
-pub trait Repeated: Part {
+pub trait RepeatedPart: Part {
     ghost use Rattle.std.specs.Prelude.{Bool};
     ghost use Rattle.token.specs.declared.kinds.Kind.{Kind};
 
@@ -42,7 +42,7 @@ pub trait Repeated: Part {
 
 /// The parts that stand there, behind those found before.
 #[tactic(auto, using(crate::proofs::Turns::many_stops, crate::proofs::Turns::many_goes, crate::proofs::Turns::many_over))]
-pub fn parse_many<P: Repeated>(
+pub fn parse_many<P: RepeatedPart>(
     part: &P,
     cursor: &mut Cursor<'_>,
     mut found: Items<P::Tree>,
@@ -79,7 +79,7 @@ impl<'a, P: Part> Part for Behind<'a, P> {
     }
 }
 
-impl<'a, P: Part> Repeated for Behind<'a, P> {
+impl<'a, P: Part> RepeatedPart for Behind<'a, P> {
     ghost use Rattle.syntax.specs.Reading as rd;
 
     ghost begins = { rd.is_comma };
@@ -134,12 +134,12 @@ pub fn parse_parens<P: Part>(
 
 /// A list of parts.
 #[derive(Drop)]
-struct Listed<'a, P> {
+struct PartList<'a, P> {
     alloc: Global,
     part: &'a P,
 }
 
-impl<'a, P: Part> Part for Listed<'a, P> {
+impl<'a, P: Part> Part for PartList<'a, P> {
     ghost use Rattle.syntax.specs.Reading as rd;
 
     type Tree = Items<P::Tree>;
@@ -163,5 +163,5 @@ pub fn parse_parens_list<P: Part>(
     requires { P.ready part.now }
     ensures { Reads (rd.parens depth (rd.list (P.reader part.now)) cursor.old) result cursor.new }
 {
-    parse_parens(&Listed { alloc, part }, cursor, depth)
+    parse_parens(&PartList { alloc, part }, cursor, depth)
 }

@@ -37,7 +37,7 @@ pub fn value_of(piece: &Piece<'_>) -> u64
 
 fn with_sign(is_negative: bool, magnitude: u64) -> i64
     requires { magnitude ≤ largest_number }
-    ensures { result ≡ spec.signed is_negative magnitude }
+    ensures { result ≡ spec.signed_number is_negative magnitude }
 {
     let number = magnitude as i64;
     if is_negative { -number } else { number }
@@ -45,7 +45,8 @@ fn with_sign(is_negative: bool, magnitude: u64) -> i64
 
 /// A number, whose sign is read.
 pub fn parse_signed_number(cursor: &mut Cursor<'_>, is_negative: bool) -> Result<i64, Stop>
-    ensures { Reads (rd.◌<$>◌ (λ x. spec.signed is_negative (spec.digits_value x)) (rd.expect k.Number) cursor.old)
+    ensures { Reads (rd.◌<$>◌ (λ x. spec.signed_number is_negative (spec.digits_value x))
+        (rd.expect k.Number) cursor.old)
         result cursor.new }
 {
     let piece = cursor.expect(Kind::Number)?;

@@ -7,7 +7,7 @@ ghost use Rattle.leaf_parser.specs.Reads.{Reads};
 ghost use Rattle.syntax.specs.Grammar as spec;
 
 use crate::cursors::Cursor;
-use crate::loops::{Repeated, parse_many};
+use crate::loops::{RepeatedPart, parse_many};
 use crate::names::start_list;
 use crate::stops::Stop;
 use sqlite_items::{Boxed, Items};
@@ -210,7 +210,7 @@ fn join_parts<T: Drop, J: Joint<T>>(alloc: Global, mut parts: Items<T>) -> Resul
 
 /// The tree of a part and of those that follow it. A part that none follows stands for itself.
 #[tactic(auto, using(crate::proofs::Turns::many_stops))]
-pub fn parse_joined<P: Repeated, J: Joint<P::Tree>>(
+pub fn parse_joined<P: RepeatedPart, J: Joint<P::Tree>>(
     alloc: Global,
     part: &P,
     cursor: &mut Cursor<'_>,
@@ -230,7 +230,7 @@ pub fn parse_joined<P: Repeated, J: Joint<P::Tree>>(
 
 /// The same of a first part in a box.
 #[tactic(auto, using(crate::proofs::Turns::many_stops))]
-pub fn parse_joined_boxed<P: Repeated, J: Joint<P::Tree>>(
+pub fn parse_joined_boxed<P: RepeatedPart, J: Joint<P::Tree>>(
     alloc: Global,
     part: &P,
     cursor: &mut Cursor<'_>,

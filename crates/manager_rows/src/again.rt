@@ -1,7 +1,7 @@
 //! What shows that a call which found no memory has changed nothing: all that can be seen before it and after it.
 
 use crate::driver::{Seat, let_go};
-use alone::Resolved;
+use alone::ResolvedStatement;
 use commit::Core;
 use delta::View;
 use mvrows::Rows;
@@ -115,7 +115,7 @@ pub fn show_txn<N: Named>(txn: &Txn<N>, text: &mut String) -> Result<(), Fail> {
 /// A transaction by its parts.
 pub fn show_run(
     snapshot: u64,
-    trace: &[Resolved],
+    trace: &[ResolvedStatement],
     reads: &[LockKey],
     own: &View,
     text: &mut String,

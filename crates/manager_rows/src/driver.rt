@@ -3,7 +3,7 @@
 ghost use Rattle.std.specs.Prelude.{◌<◌, length, IfOk, IfSome};
 
 use crate::again::{for_ever, is_same, shown};
-use answer::Answer;
+use alone::Answer;
 use report::Report;
 use session::{CommitFault, Manager, Named, Receipt, Session, Txn};
 use std::alloc::Global;

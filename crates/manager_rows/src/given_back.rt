@@ -9,7 +9,7 @@ use crate::printed::{
     COVER, Case, KIM, Opening, SEVEN, TABLES, make_opening, open, prints, run_script, steps_of,
 };
 use crate::rows::FUNDS_DEFERRABLE;
-use answer::Answer;
+use alone::Answer;
 use commit::{Core, Engine, admit};
 use delta::View;
 use parse::parse_schema;

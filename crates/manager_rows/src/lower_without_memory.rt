@@ -9,12 +9,11 @@ ghost use Rattle.commit.specs.Cores.{IsLive};
 use crate::driver::{equal, let_go};
 use crate::printed::{COVER, SEVEN, TABLES, defined, steps_of};
 use crate::without_memory::{ask_in_vain, end_memory};
-use commit::{Core, Uncommitted, admit, first_false};
-use conflict::{Candidate, Verdict, is_safe, judge, share_row, touch_any};
+use alone::Modes;
+use commit::{CommitFailure, Core, admit, find_first_false};
+use conflict::{Candidate, Judgment, Live, is_safe, judge, share_row, touch_any};
 use delta::View;
 use groups::{Member, Totals};
-use live::Live;
-use modes::Modes;
 use mvrows::Rows;
 use pages::Pages;
 use parse::parse_schema;
@@ -26,7 +25,7 @@ use std::process::Abort;
 use std::test::Fail;
 use syntax::{Event, Mode, Step};
 use table::{Aggregate, Change, Cond, Expr, Row, Slots, bound, eval, is_bounded};
-use txn::{Closed, Txn, Unclosed};
+use txn::{CloseFailure, ClosedTransaction, Txn};
 use value::{Comparison, Root, Text, Truth, Value, compare, order};
 
 #[test]
@@ -109,7 +108,7 @@ fn stands<R: Abort>(rt: &R, view: &View) {
         assert_eq!(rt; view.verdict(place), Truth::False);
         assert!(rt; view.least_bad(place) == Some(&bad));
     }
-    assert!(rt; matches!(first_false(view), Some((_, root)) if *root == bad));
+    assert!(rt; matches!(find_first_false(view), Some((_, root)) if *root == bad));
 }
 
 /// Whether each row is found by its key, which is its first value.
@@ -214,7 +213,7 @@ fn judgment(rt: HostRuntime) -> Result<(), Fail> {
     assert!(rt; end_memory(rt.alloc()));
     assert_eq!(rt;
         judged(&locks, &reads, &changes),
-        Verdict::Fine { place: 1 }
+        Judgment::Fine { place: 1 }
     );
     assert!(rt; is_safe(&[], &[], 0));
     assert!(rt; touch_any(&changes, &reads) && share_row(&changes, &changes));
@@ -230,7 +229,7 @@ fn no_locks(alloc: Global) -> LockTable
 }
 
 /// The verdict on the first that is to be committed.
-fn judged(locks: &LockTable, reads: &[LockKey], changes: &[Change]) -> Verdict
+fn judged(locks: &LockTable, reads: &[LockKey], changes: &[Change]) -> Judgment
     requires { readers_at locks.now ≡ no_reads }
 {
     let candidate = Candidate {
@@ -278,14 +277,14 @@ fn run(core: &mut Core, event: &Event) -> Result<Txn, Fail>
     }
 }
 
-fn close(txn: Txn) -> Result<Closed, Fail>
+fn close(txn: Txn) -> Result<ClosedTransaction, Fail>
     ensures { IfOk result (λ closed. closed ≡ txn) }
 {
     match txn.close_check() {
         Ok(closed) => Ok(closed),
-        Err(Unclosed { refusal, txn }) => {
+        Err(CloseFailure { txn }) => {
             let_go(txn.abandon());
-            Err(Fail::from(refusal))
+            Err(Fail::from(AllocError))
         }
     }
 }
@@ -302,8 +301,8 @@ fn prepare(core: &mut Core, steps: &[Step]) -> Result<(), Fail>
     }
 }
 
-fn unprepared(fault: Uncommitted) -> Fail {
-    let Uncommitted { refusal, txn } = fault;
+fn unprepared(fault: CommitFailure) -> Fail {
+    let CommitFailure { refusal, txn } = fault;
     if let Some(txn) = txn {
         let_go(txn.abandon());
     }
@@ -348,7 +347,7 @@ fn a_commit_is_given_up(rt: HostRuntime) -> Result<(), Fail> {
     Ok(())
 }
 
-fn reopens<R: Abort>(rt: &R, closed: Closed, cover: &Text) {
+fn reopens<R: Abort>(rt: &R, closed: ClosedTransaction, cover: &Text) {
     equal(rt, closed.changes().len(), 1);
     assert!(rt; closed.refused().is_none() && !closed.reads().is_empty());
     let txn = closed.reopen();

@@ -4,8 +4,8 @@ ghost use Rattle.std.specs.Prelude.{◌≡◌};
 
 use crate::driver::{equal, let_go};
 use crate::printed::{Opening, make_opening, open, steps_of};
-use answer::Reply;
-use session::{Closed, CommitFault, Manager, Named, Receipt, Txn, Unclosed};
+use alone::Reply;
+use session::{CloseFailure, ClosedTransaction, CommitFault, Manager, Named, Receipt, Txn};
 use std::alloc::Global;
 use std::marker::Brand;
 use std::process::Abort;
@@ -82,14 +82,14 @@ fn reopened<N: Named, R: Abort>(rt: &R, txn: Txn<N>) -> Txn<N> {
             closed_tells(rt, &closed);
             closed.reopen()
         }
-        Err(Unclosed { refusal, txn }) => {
+        Err(CloseFailure { refusal, txn }) => {
             let_go(refusal);
             txn
         }
     }
 }
 
-fn closed_tells<N: Named, R: Abort>(rt: &R, closed: &Closed<N>) {
+fn closed_tells<N: Named, R: Abort>(rt: &R, closed: &ClosedTransaction<N>) {
     equal(rt, closed.snapshot(), 0);
     equal(rt, closed.changes().len(), 1);
     assert!(rt; !closed.reads().is_empty());

@@ -5,8 +5,8 @@ ghost use Rattle.std.specs.Prelude.{◌≡◌};
 use crate::driver::{Seat, equal, let_go};
 use crate::printed::{COVER, Opening, SEVEN, make_opening, open, run_script};
 use crate::strangers::is_ended;
-use commit::first_false;
-use session::{Closed, History, Manager, Named, Receipt, Txn, Unclosed};
+use commit::find_first_false;
+use session::{CloseFailure, ClosedTransaction, History, Manager, Named, Receipt, Txn};
 use std::alloc::Global;
 use std::marker::Brand;
 use std::process::Abort;
@@ -62,14 +62,14 @@ fn end_all<N: Named, R: Wait + Abort>(
 }
 
 /// The transaction of the last seat, taken to COMMIT.
-fn last_closed<N: Named>(seats: &mut Vec<Seat<N>>) -> Result<Closed<N>, Fail> {
+fn last_closed<N: Named>(seats: &mut Vec<Seat<N>>) -> Result<ClosedTransaction<N>, Fail> {
     let mut seat = seats.pop().ok_or("no seat")?;
     let Some(txn) = seat.txn.take() else {
         return Err(Fail::from("no transaction"));
     };
     match txn.close_check() {
         Ok(closed) => Ok(closed),
-        Err(Unclosed { refusal, txn }) => {
+        Err(CloseFailure { refusal, txn }) => {
             let_go(txn.abandon());
             Err(Fail::from(refusal))
         }
@@ -107,7 +107,7 @@ fn tells<N: Named, R: Abort>(rt: &R, txn: &Txn<N>, cover: &Text) {
 }
 
 /// What an open transaction's close_check made, as it stands and open again.
-fn reopens<N: Named, R: Abort>(rt: &R, closed: Closed<N>) {
+fn reopens<N: Named, R: Abort>(rt: &R, closed: ClosedTransaction<N>) {
     equal(rt, closed.snapshot(), 1);
     equal(rt, closed.is_read_only(), false);
     equal(rt, closed.changes().len(), 1);
@@ -128,5 +128,5 @@ fn leaves<N: Named, R: Abort>(rt: &R, history: &History<N>, receipt: &Receipt<N>
     equal(rt, core.refused().len(), 0);
     equal(rt, core.locks(), 0);
     equal(rt, core.verdict(cover), Some(Truth::True));
-    assert!(rt; first_false(core.newest()).is_none());
+    assert!(rt; find_first_false(core.newest()).is_none());
 }

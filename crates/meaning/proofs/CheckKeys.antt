@@ -16,7 +16,7 @@ use Rattle.assertion.specs.declared.queries.Whole.{Whole}
 use Rattle.assertion.specs.declared.forms.Form.{Form}
 use Rattle.assertion.specs.declared.forms.Form.TheVariants.{ByRow, ByGroup}
 use Rattle.assertion.specs.Meaning.{State, key_of, rows_of}
-use Rattle.assertion.specs.Candidates.{touched, linked_values}
+use Rattle.assertion.specs.Candidates.{rows_of_change, linked_values}
 use Rattle.syntax.specs.declared.trees.ColumnName.{ColumnName}
 use Rattle.syntax.specs.declared.trees.Condition.{Condition}
 use Rattle.syntax.specs.declared.trees.Query.{Query, out-Query}
@@ -26,7 +26,7 @@ use Rattle.form_check.specs.Results.{in_class, only_if}
 use Rattle.form_check.specs.Columns.{no_column, at_place}
 use Rattle.form_check.specs.Leaves.{Leaf, Leaves}
 use Rattle.form_check.specs.Queries.{Source, source_of, selected_aggregate, may_be_selected}
-use Rattle.form_check.specs.Forms.{form_of, plain, plain_by, row_where, by_row, by_group, by_clauses, not_exists, single, linked, linked_where}
+use Rattle.form_check.specs.Forms.{form_of, plain, plain_by, row_where, by_row, by_group, by_clauses, not_exists, single, slot_query_of, linked_filter}
 use Rattle.siread.specs.declared.keys.LockKey.TheVariants as key
 use Rattle.siread.specs.declared.keys.LockKey.{LockKey}
 use Rattle.alone.specs.States.{row_in}
@@ -35,7 +35,7 @@ use Rattle.meaning.specs.Class as class
 use Rattle.meaning.specs.Class.{Piece, Pieces, pieces_in, IfWritten, IsOverRows, IsDenied}
 use Rattle.meaning.specs.Laws.{Pairs}
 use Rattle.meaning.specs.Keys as written
-use Rattle.meaning.specs.Keys.{IsTable, IsOfLink, joined_keys, link_keys, found_keys, looks_of, IsTableKey, InWhere, InSingle, where_pieces, ReadsRow, ReadsGroup, ReadsAsWritten, ReadsWhole}
+use Rattle.meaning.specs.Keys.{IsTable, IsOfLink, joined_keys, link_keys, found_keys, looks_of, IsTableKey, InWhere, InSingle, filter_pieces, ReadsRow, ReadsGroup, ReadsAsWritten, ReadsWhole}
 use Rattle.meaning.proofs.Steps.{in_class_ok, only_if_ok, ok_pair}
 use Rattle.meaning.proofs.Queries.{plain_by_ok}
 use Rattle.meaning.proofs.Links.{linked_where_ok}
@@ -100,7 +100,7 @@ key_is tables name correlation_name source found =
 link_read : (tables : Tables) (root : Scope) (reads : ℕ → Scope → Link → List LockKey) (read : Subquery Link → List LockKey)
     → ((child : Source) (q : Subquery Link) → key_of child.table (layouts_of tables) ≡ child.scope.layout.key → q.table ≡ child.table → read q ≡ reads child.table child.scope q.grouping)
     → (query : Query) (child : Source) (a : Aggregate) (q : Subquery Link) → source_of tables (out-Query query).table (out-Query query).correlation_name ≡ Some child
-    → linked_where child root a (out-Query query).keeps (out-Query query).group (out-Query query).having ≡ Ok q → IsOfLink tables root reads query (read q)
+    → linked_filter child root a (out-Query query).keeps (out-Query query).group (out-Query query).having ≡ Ok q → IsOfLink tables root reads query (read q)
 link_read tables root reads read same query child a q found e =
     let c = out-Query query in
     let (no_group, (no_having, (condition, (keeps, (link, (first, (restriction, (are, makes)))))))) = linked_where_ok child root a c.keeps c.group c.having q e in record {
@@ -134,14 +134,14 @@ module _ (tables : Tables) (root : Scope) (table : ℕ) (is_key : key_of table (
       → outer_keys table (key_of table (layouts_of tables)) change q ≡ found_keys root table change child.table q.grouping
   change_read change child q own same =
       λ i. if q.grouping.outer == is_key i then []
-      else if same i == change.table then map (key.Column table q.grouping.outer) (linked_values q.grouping (touched change)) else []
+      else if same i == change.table then map (key.Column table q.grouping.outer) (linked_values q.grouping (rows_of_change change)) else []
 
 flattened : {X Y : Type 0} (f : X → List Y) (xs : List X) → flat_map f xs ≡ flat_map (λ ys. ys) (map f xs)
 flattened f [] = refl
 flattened f (x ∷ xs) = ap (λ ys. f x ++ ys) (flattened f xs)
 
 link_table : (tables : Tables) (root : Scope) (query : Query) (child : Source) (a : Aggregate) (q : Subquery Link) → source_of tables (out-Query query).table (out-Query query).correlation_name ≡ Some child
-    → linked_where child root a (out-Query query).keeps (out-Query query).group (out-Query query).having ≡ Ok q → IsTableKey tables query (key.Table q.table)
+    → linked_filter child root a (out-Query query).keeps (out-Query query).group (out-Query query).having ≡ Ok q → IsTableKey tables query (key.Table q.table)
 link_table tables root query child a q found e =
     let c = out-Query query in
     let (no_group, (no_having, (condition, (keeps, (link, (first, (restriction, (are, makes)))))))) = linked_where_ok child root a c.keeps c.group c.having q e in
@@ -154,27 +154,27 @@ mapped_tables (q ∷ queries) = ap (λ rest. key.Table q.table ∷ rest) (mapped
 -- what is read for a linked query
 module _ {Read : Type 0} (tables : Tables) (root : Scope) (P : Query → Read → Type 0) (read : Subquery Link → Read)
     (one : (query : Query) (child : Source) (a : Aggregate) (q : Subquery Link) → source_of tables (out-Query query).table (out-Query query).correlation_name ≡ Some child
-    → linked_where child root a (out-Query query).keeps (out-Query query).group (out-Query query).having ≡ Ok q → P query (read q)) where
-  linked_read : (p : Piece) (q : Subquery Link) → linked tables root (leaf_of p) ≡ Ok q → InWhere P p (read q)
+    → linked_filter child root a (out-Query query).keeps (out-Query query).group (out-Query query).having ≡ Ok q → P query (read q)) where
+  linked_read : (p : Piece) (q : Subquery Link) → slot_query_of tables root (leaf_of p) ≡ Ok q → InWhere P p (read q)
   linked_read class.Rows q e = cc
   linked_read (class.Of f c) q e = cc
   linked_read (class.Exists query) q e =
       let c = out-Query query in
-      let (child, (found, more)) = in_class_ok (source_of tables c.table c.correlation_name) (λ child. only_if (may_be_selected (own_column child.scope) c.select_list) (linked_where child root CountRows c.keeps c.group c.having)) q e in
-      let (lists, rest) = only_if_ok (may_be_selected (own_column child.scope) c.select_list) (linked_where child root CountRows c.keeps c.group c.having) q more in
+      let (child, (found, more)) = in_class_ok (source_of tables c.table c.correlation_name) (λ child. only_if (may_be_selected (own_column child.scope) c.select_list) (linked_filter child root CountRows c.keeps c.group c.having)) q e in
+      let (lists, rest) = only_if_ok (may_be_selected (own_column child.scope) c.select_list) (linked_filter child root CountRows c.keeps c.group c.having) q more in
       one query child CountRows q found rest
   linked_read (class.Value query) q e =
       let c = out-Query query in
-      let (child, (found, more)) = in_class_ok (source_of tables c.table c.correlation_name) (λ child. in_class (selected_aggregate child.scope c.select_list) (λ a. linked_where child root a c.keeps c.group c.having)) q e in
-      let (a, (lists, rest)) = in_class_ok (selected_aggregate child.scope c.select_list) (λ a. linked_where child root a c.keeps c.group c.having) q more in
+      let (child, (found, more)) = in_class_ok (source_of tables c.table c.correlation_name) (λ child. in_class (selected_aggregate child.scope c.select_list) (λ a. linked_filter child root a c.keeps c.group c.having)) q e in
+      let (a, (lists, rest)) = in_class_ok (selected_aggregate child.scope c.select_list) (λ a. linked_filter child root a c.keeps c.group c.having) q more in
       one query child a q found rest
 
-  where_reads : (keeps : Option Condition) (made : Cond) (leaves : Leaves) (queries : List (Subquery Link)) → row_where root keeps ≡ Ok (made, leaves) → each (linked tables root) leaves ≡ Ok queries → Pairs (InWhere P) (where_pieces keeps) (map read queries)
+  where_reads : (keeps : Option Condition) (made : Cond) (leaves : Leaves) (queries : List (Subquery Link)) → row_where root keeps ≡ Ok (made, leaves) → each (slot_query_of tables root) leaves ≡ Ok queries → Pairs (InWhere P) (filter_pieces keeps) (map read queries)
   where_reads None made leaves queries is are =
       let none : Leaves = [] in
-      pieces_made (linked tables root) (InWhere P) read linked_read leaves [] queries (sym (ok_pair (cond_of.And []) made none leaves is).1) are
+      pieces_made (slot_query_of tables root) (InWhere P) read linked_read leaves [] queries (sym (ok_pair (cond_of.And []) made none leaves is).1) are
   where_reads (Some c) made leaves queries is are =
-      pieces_made (linked tables root) (InWhere P) read linked_read leaves (pieces_in c) queries ((condition_numbers (at_place (own_column root)) c).says [] made leaves is).1 are
+      pieces_made (slot_query_of tables root) (InWhere P) read linked_read leaves (pieces_in c) queries ((condition_numbers (at_place (own_column root)) c).says [] made leaves is).1 are
 
 row_reads : (tables : Tables) (c : Condition) (query : Query) → IsDenied c query → (source : Source) → source_of tables (out-Query query).table (out-Query query).correlation_name ≡ Some source → (out-Query query).group ≡ None → (form : Form) → by_row tables source (out-Query query) ≡ Ok form
     → Reads tables c form
@@ -212,14 +212,14 @@ row_reads tables c query denied source found no_group form e =
           (link_read tables scope (by_change change) (finds change) (change_read tables scope source.table is_key change)) q.keeps m.made m.leaves m.queries m.keeps m.are;
     } in
     let named = where_reads tables scope (IsTableKey tables) (λ q. key.Table q.table) (link_table tables scope) q.keeps m.made m.leaves m.queries m.keeps m.are in
-    let verdict : Pairs (InWhere (IsTableKey tables)) (class.Exists query ∷ where_pieces q.keeps) (key.Table source.table ∷ map key.Table places) =
-    ((source.table, of_table.placed, refl), subst (Pairs (InWhere (IsTableKey tables)) (where_pieces q.keeps)) (sym (mapped_tables m.queries)) named) in
+    let verdict : Pairs (InWhere (IsTableKey tables)) (class.Exists query ∷ filter_pieces q.keeps) (key.Table source.table ∷ map key.Table places) =
+    ((source.table, of_table.placed, refl), subst (Pairs (InWhere (IsTableKey tables)) (filter_pieces q.keeps)) (sym (mapped_tables m.queries)) named) in
     subst (Reads tables c) m.is (inl checks, inl (query, denied, verdict))
 
 -- ---- by groups
 
 -- a condition over the rows of one table has no query
-no_queries : (scope : Scope) (keeps : Option Condition) → IfWritten (IsOverRows scope) keeps → where_pieces keeps ≡ []
+no_queries : (scope : Scope) (keeps : Option Condition) → IfWritten (IsOverRows scope) keeps → filter_pieces keeps ≡ []
 no_queries scope None h = refl
 no_queries scope (Some c) h = h.alone
 
@@ -245,7 +245,7 @@ group_reads tables c query denied source found column having grouped form e =
       finding = λ change. refl;
     } in
     let none : List LockKey = [] in
-    let verdict : Pairs (InWhere (IsTableKey tables)) (class.Exists query ∷ where_pieces q.keeps) (key.Table source.table ∷ []) =
+    let verdict : Pairs (InWhere (IsTableKey tables)) (class.Exists query ∷ filter_pieces q.keeps) (key.Table source.table ∷ []) =
     ((source.table, of_table.placed, refl), subst (λ ps. Pairs (InWhere (IsTableKey tables)) ps none) (sym (no_queries scope q.keeps (over_filter scope q.keeps (m.restriction, m.keeps)))) tt) in
     subst (Reads tables c) m.is (inr (inl checks), inl (query, denied, verdict))
 

@@ -16,14 +16,14 @@ use Rattle.assertion.specs.declared.forms.Form.{Form}
 use Rattle.assertion.specs.Meaning.{State, rows_of, filtered_rows}
 use Rattle.syntax.specs.declared.trees.Condition.{Condition}
 use Rattle.syntax.specs.declared.definitions.Attributes.{Attributes}
-use Rattle.syntax.specs.declared.statements.Assigned.{Assigned}
-use Rattle.syntax.specs.declared.statements.Assigned.TheVariants.{Null, To}
+use Rattle.syntax.specs.declared.statements.UpdateSource.{UpdateSource}
+use Rattle.syntax.specs.declared.statements.UpdateSource.TheVariants.{Null, To}
 use Rattle.syntax.specs.declared.statements.Assignment.{Assignment}
 use Rattle.syntax.specs.declared.statements.Which.{Which}
 use Rattle.syntax.specs.declared.statements.Which.TheVariants.{All, Names}
 use Rattle.form_check.specs.Scopes.{Scope}
 use Rattle.form_check.specs.Names.{condition_fault}
-use Rattle.value.specs.Results.{and_then, found, provided, unless}
+use Rattle.value.specs.Results.{and_then, result_of_name, provided, unless}
 use Rattle.value.proofs.Results.{found_ok, provided_is, provided_ok, unless_is, unless_ok}
 use Rattle.form_check.specs.Forms.{form_of}
 use Rattle.form_check.specs.Queries.{Source, source_of, row_expression, row_filter}
@@ -34,13 +34,13 @@ use Rattle.assertcheck.specs.declared.deletes.Delete.{Delete}
 use Rattle.assertcheck.specs.declared.selects.Select.{Select}
 use Rattle.assertcheck.specs.declared.updates.Setting.{Setting}
 use Rattle.assertcheck.specs.declared.updates.Update.{Update}
-use Rattle.assertcheck.specs.Assertions.{are_at_odds, attributes_of, of_form, checked}
-use Rattle.assertcheck.specs.Conditions.{target_of, sound_condition, where_fault, where_of}
-use Rattle.assertcheck.specs.Statements.{delete_of, named_column, new_place, places_from, selected, select_of, unlisted}
+use Rattle.assertcheck.specs.Assertions.{are_at_odds, attributes_of, of_form, checked_assertion}
+use Rattle.assertcheck.specs.Conditions.{target_of, sound_condition, filter_fault, filter_of}
+use Rattle.assertcheck.specs.Statements.{delete_of, named_column, new_place, places_from, selected_places, select_of, unlisted_column}
 use Rattle.assertcheck.specs.Updates.{assignable, not_key, update_of, value_of, names_fault, assigned_places, settings_of, fits, is_bounded_setting, sound_update, update_over}
 use Rattle.meaning.specs.Meaning.{Reference, table_of, truth, passes, with_rows}
 use Rattle.meaning.specs.Laws as law
-use Rattle.meaning.specs.Laws.{seen, where_rows, Pairs, IsPlaceOf, IsListOf, Gives, written_value, given_value}
+use Rattle.meaning.specs.Laws.{reference_to, rows_by_filter, Pairs, IsPlaceOf, IsListOf, Gives, written_value, given_value}
 use Rattle.meaning.proofs.Steps.{and_then_ok, ok_same}
 use Rattle.meaning.proofs.Rows.{row_expression_value, row_filter_keeps}
 use Rattle.meaning.proofs.Queries.{source_seen}
@@ -63,7 +63,7 @@ record Passed (tables : Tables) (name : List ℕ) (condition : Condition) (attri
   bounded : is_bounded_form form ≡ true
   made : made_of name attributes form ≡ assertion
 
-passed : (tables : Tables) (name : List ℕ) (condition : Condition) (attributes : Attributes) (assertion : Assertion) → checked tables name condition attributes ≡ Ok assertion → Passed tables name condition attributes assertion
+passed : (tables : Tables) (name : List ℕ) (condition : Condition) (attributes : Attributes) (assertion : Assertion) → checked_assertion tables name condition attributes ≡ Ok assertion → Passed tables name condition attributes assertion
 passed tables name condition attributes assertion e =
     let shaped = and_then (form_of tables condition) (of_form tables name (attributes_of attributes)) in
     let (agreed, named) = provided_is (not (are_at_odds attributes)) (AttributeClash name) (unless (condition_fault tables condition []) shaped) assertion e in
@@ -98,7 +98,7 @@ StaysWritten-law tables more name condition attributes assertion e =
 same_form : (tables : Tables) (condition : Condition) (f g : Form) → form_of tables condition ≡ Ok f → form_of tables condition ≡ Ok g → f ≡ g
 same_form tables condition f g e h = ok_same f g (sym e ∙ h)
 
-may_be_taken : (tables : Tables) (name : List ℕ) (condition : Condition) (attributes : Attributes) → ((assertion : Assertion) × (checked tables name condition attributes ≡ Ok assertion)) → law.MayBeTaken tables condition attributes
+may_be_taken : (tables : Tables) (name : List ℕ) (condition : Condition) (attributes : Attributes) → ((assertion : Assertion) × (checked_assertion tables name condition attributes ≡ Ok assertion)) → law.MayBeTaken tables condition attributes
 may_be_taken tables name condition attributes (assertion, e) =
     let p = passed tables name condition attributes assertion e in record {
       agreed = not-true (are_at_odds attributes) p.agreed;
@@ -108,7 +108,7 @@ may_be_taken tables name condition attributes (assertion, e) =
       bounded = λ form is. subst (λ f. is_bounded_form f ≡ true) (same_form tables condition p.form form p.formed is) p.bounded;
     }
 
-is_taken : (tables : Tables) (name : List ℕ) (condition : Condition) (attributes : Attributes) → law.MayBeTaken tables condition attributes → (assertion : Assertion) × (checked tables name condition attributes ≡ Ok assertion)
+is_taken : (tables : Tables) (name : List ℕ) (condition : Condition) (attributes : Attributes) → law.MayBeTaken tables condition attributes → (assertion : Assertion) × (checked_assertion tables name condition attributes ≡ Ok assertion)
 is_taken tables name condition attributes may =
     let (form, is) = class_form tables condition may.shaped in
     let shaped = and_then (form_of tables condition) (of_form tables name (attributes_of attributes)) in
@@ -127,20 +127,20 @@ TakesExactly-law tables name condition attributes = (may_be_taken tables name co
 
 -- ---- statements
 
-where_filter : (tables : Tables) (scope : Scope) (condition : Option Condition) (restriction : Cond) → where_of tables scope condition ≡ Ok restriction → row_filter scope condition ≡ Ok restriction
+where_filter : (tables : Tables) (scope : Scope) (condition : Option Condition) (restriction : Cond) → filter_of tables scope condition ≡ Ok restriction → row_filter scope condition ≡ Ok restriction
 where_filter tables scope condition restriction e =
-    let (made, (is, more)) = and_then_ok (row_filter scope condition) (sound_condition scope) restriction (unless_ok (where_fault tables scope condition) (and_then (row_filter scope condition) (sound_condition scope)) restriction e) in
+    let (made, (is, more)) = and_then_ok (row_filter scope condition) (sound_condition scope) restriction (unless_ok (filter_fault tables scope condition) (and_then (row_filter scope condition) (sound_condition scope)) restriction e) in
     let bounded : Result Cond Refusal = provided (is_bounded [] made) TooWide (Ok made) in
     let same = provided_ok (is_bounded [] made) TooWide (Ok made) restriction (provided_ok (is_typed_condition scope.layout.columns [] made) TypeMismatch bounded restriction more) in
     is ∙ same
 
 -- the rows that a resolved WHERE keeps of its table
 filtered_of : (tables : Tables) (state : State) (name : List ℕ) (condition : Option Condition) (target : Source) (restriction : Cond) → source_of tables name None ≡ Some target → row_filter target.scope condition ≡ Ok restriction
-    → where_rows tables state name condition ≡ filtered_rows restriction (rows_of target.table state)
+    → rows_by_filter tables state name condition ≡ filtered_rows restriction (rows_of target.table state)
 filtered_of tables state name condition target restriction found is =
     let rows = rows_of target.table state in
     ap (λ table. filter (λ row. passes (option_map (truth tables state) condition) (with_rows table (row ∷ []) [])) table.rows) (source_seen tables state name None target found)
-    ∙ filter_agree (λ row. passes (option_map (truth tables state) condition) (with_rows (seen target.scope rows) (row ∷ []) [])) (λ row. resolved.keeps row [] restriction) (λ row. row_filter_keeps target.scope condition restriction is tables state row []) rows
+    ∙ filter_agree (λ row. passes (option_map (truth tables state) condition) (with_rows (reference_to target.scope rows) (row ∷ []) [])) (λ row. resolved.keeps row [] restriction) (λ row. row_filter_keeps target.scope condition restriction is tables state row []) rows
 
 -- the parts of a DELETE that is taken
 pub record Deletes (tables : Tables) (name : List ℕ) (condition : Option Condition) (delete : Delete) : Type 0 where
@@ -153,8 +153,8 @@ pub record Deletes (tables : Tables) (name : List ℕ) (condition : Option Condi
 pub deletes : (tables : Tables) (name : List ℕ) (condition : Option Condition) (delete : Delete) → delete_of tables name condition ≡ Ok delete → Deletes tables name condition delete
 deletes tables name condition delete e =
     let make : Source → Cond → Delete = λ target restriction. record { table = target.table; filter = restriction } in
-    let (target, (is, more)) = and_then_ok (target_of tables name) (λ target. and_then (where_of tables target.scope condition) (λ restriction. let r : Result Delete Refusal = Ok (make target restriction) in r)) delete e in
-    let (restriction, (keeps, makes)) = and_then_ok (where_of tables target.scope condition) (λ restriction. let r : Result Delete Refusal = Ok (make target restriction) in r) delete more in
+    let (target, (is, more)) = and_then_ok (target_of tables name) (λ target. and_then (filter_of tables target.scope condition) (λ restriction. let r : Result Delete Refusal = Ok (make target restriction) in r)) delete e in
+    let (restriction, (keeps, makes)) = and_then_ok (filter_of tables target.scope condition) (λ restriction. let r : Result Delete Refusal = Ok (make target restriction) in r) delete more in
     record { target = target; found = found_ok name (source_of tables name None) target is; restriction = restriction; keeps = where_filter tables target.scope condition restriction keeps; made = ok_same (make target restriction) delete makes }
 
 pub DeletesRows-law : law.DeletesRows
@@ -171,7 +171,7 @@ pub record Selects (tables : Tables) (columns : Which) (name : List ℕ) (condit
   pub target : Source
   pub found : source_of tables name None ≡ Some target
   pub places : List ℕ
-  pub select_list : selected target.scope.layout.columns columns ≡ Ok places
+  pub select_list : selected_places target.scope.layout.columns columns ≡ Ok places
   pub restriction : Cond
   pub keeps : row_filter target.scope condition ≡ Ok restriction
   pub made : ◌≡◌ {A = Select} (record { table = target.table; columns = places; filter = restriction }) select
@@ -179,9 +179,9 @@ pub record Selects (tables : Tables) (columns : Which) (name : List ℕ) (condit
 pub selects : (tables : Tables) (columns : Which) (name : List ℕ) (condition : Option Condition) (select : Select) → select_of tables columns name condition ≡ Ok select → Selects tables columns name condition select
 selects tables columns name condition select e =
     let make : Source → List ℕ → Cond → Select = λ target places restriction. record { table = target.table; columns = places; filter = restriction } in
-    let (target, (is, more)) = and_then_ok (target_of tables name) (λ target. and_then (selected target.scope.layout.columns columns) (λ places. and_then (where_of tables target.scope condition) (λ restriction. let r : Result Select Refusal = Ok (make target places restriction) in r))) select e in
-    let (places, (are, rest)) = and_then_ok (selected target.scope.layout.columns columns) (λ places. and_then (where_of tables target.scope condition) (λ restriction. let r : Result Select Refusal = Ok (make target places restriction) in r)) select more in
-    let (restriction, (keeps, makes)) = and_then_ok (where_of tables target.scope condition) (λ restriction. let r : Result Select Refusal = Ok (make target places restriction) in r) select rest in
+    let (target, (is, more)) = and_then_ok (target_of tables name) (λ target. and_then (selected_places target.scope.layout.columns columns) (λ places. and_then (filter_of tables target.scope condition) (λ restriction. let r : Result Select Refusal = Ok (make target places restriction) in r))) select e in
+    let (places, (are, rest)) = and_then_ok (selected_places target.scope.layout.columns columns) (λ places. and_then (filter_of tables target.scope condition) (λ restriction. let r : Result Select Refusal = Ok (make target places restriction) in r)) select more in
+    let (restriction, (keeps, makes)) = and_then_ok (filter_of tables target.scope condition) (λ restriction. let r : Result Select Refusal = Ok (make target places restriction) in r) select rest in
     record { target = target; found = found_ok name (source_of tables name None) target is; places = places; select_list = are; restriction = restriction; keeps = where_filter tables target.scope condition restriction keeps; made = ok_same (make target places restriction) select makes }
 
 pub SelectsRows-law : law.SelectsRows
@@ -192,7 +192,7 @@ SelectsRows-law tables columns name condition select e state =
 named_is : (scope : Scope) (name : List ℕ) (place : ℕ) → named_column scope.layout.columns name ≡ Ok place → IsPlaceOf scope name place
 named_is scope name place e = found_ok name (column_of name scope.layout.columns) place e
 
-selected_are : (scope : Scope) (columns : Which) (places : List ℕ) → selected scope.layout.columns columns ≡ Ok places → IsListOf scope columns places
+selected_are : (scope : Scope) (columns : Which) (places : List ℕ) → selected_places scope.layout.columns columns ≡ Ok places → IsListOf scope columns places
 selected_are scope All places e = sym (ok_same (places_from 0 scope.layout.columns) places e)
 selected_are scope (Names names) places e = each_pairs (named_column scope.layout.columns) (IsPlaceOf scope) (named_is scope) names places e
 
@@ -240,7 +240,7 @@ not_refused false refusal c d e = ok_same c d e
 assignable_is : (scope : Scope) (before : List ℕ) (name : List ℕ) (place : ℕ) → assignable scope.layout before name ≡ Ok place → IsPlaceOf scope name place
 assignable_is scope before name place e =
     let (new, (is, rest)) = and_then_ok (new_place scope.layout.columns before name) (not_key scope.layout.key name) place e in
-    let (c, (named, more)) = and_then_ok (named_column scope.layout.columns name) (unlisted before name) new is in
+    let (c, (named, more)) = and_then_ok (named_column scope.layout.columns name) (unlisted_column before name) new is in
     let same = not_refused (list_any (λ place. place == c) before) (NameTaken name) c new more ∙ not_refused (new == scope.layout.key) (KeyUpdate name) new place rest in
     subst (IsPlaceOf scope name) same (named_is scope name c named)
 
@@ -254,22 +254,22 @@ assigned_are scope before (assignment ∷ rest) columns e =
     let (others, (are, pairs)) = assigned_are scope (before ++ new ∷ []) rest columns more in
     (new ∷ others, (are ∙ append_assoc before (new ∷ []) others, (assignable_is scope before assignment.column new is, pairs)))
 
-value_is : (tables : Tables) (state : State) (scope : Scope) (rows : List RowValues) (assigned : Assigned) (made : Option Expr) → value_of scope assigned ≡ Ok made → (row : RowValues) → written_value tables state (seen scope rows) assigned row ≡ given_value made row
+value_is : (tables : Tables) (state : State) (scope : Scope) (rows : List RowValues) (assigned : UpdateSource) (made : Option Expr) → value_of scope assigned ≡ Ok made → (row : RowValues) → written_value tables state (reference_to scope rows) assigned row ≡ given_value made row
 value_is tables state scope rows Null made e row = ap (λ m. given_value m row) (ok_same None made e)
 value_is tables state scope rows (To expression) made e row =
     let (found, (is, makes)) = and_then_ok (row_expression scope expression) (λ found. let r : Result (Option Expr) Refusal = Ok (Some found) in r) made e in
     row_expression_value scope expression found is tables state row [] ∙ ap (λ m. given_value m row) (ok_same (Some found) made makes)
 
 settings_are : (tables : Tables) (state : State) (scope : Scope) (rows : List RowValues) (columns : List ℕ) (sets : List Assignment) (settings : List Setting) → Pairs (IsAssigned scope) sets columns → settings_of scope columns sets ≡ Ok settings
-    → Pairs (Gives tables state (seen scope rows)) sets settings
-settings_are tables state scope rows [] [] settings h e = let none : List Setting = [] in subst (Pairs (Gives tables state (seen scope rows)) []) (ok_same none settings e) tt
+    → Pairs (Gives tables state (reference_to scope rows)) sets settings
+settings_are tables state scope rows [] [] settings h e = let none : List Setting = [] in subst (Pairs (Gives tables state (reference_to scope rows)) []) (ok_same none settings e) tt
 settings_are tables state scope rows [] (assignment ∷ sets) settings h e = absurd h
 settings_are tables state scope rows (column ∷ columns) [] settings h e = absurd h
 settings_are tables state scope rows (column ∷ columns) (assignment ∷ rest) settings h e =
     let make : Option Expr → Setting = λ value. record { column = column; value = value } in
     let (value, (is, more)) = and_then_ok (value_of scope assignment.value) (λ value. and_then (settings_of scope columns rest) (λ others. let r : Result (List Setting) Refusal = Ok (make value ∷ others) in r)) settings e in
     let (others, (are, makes)) = and_then_ok (settings_of scope columns rest) (λ others. let r : Result (List Setting) Refusal = Ok (make value ∷ others) in r) settings more in
-    subst (Pairs (Gives tables state (seen scope rows)) (assignment ∷ rest)) (ok_same (make value ∷ others) settings makes)
+    subst (Pairs (Gives tables state (reference_to scope rows)) (assignment ∷ rest)) (ok_same (make value ∷ others) settings makes)
     (record { column = h.0; value = value_is tables state scope rows assignment.value value is }, settings_are tables state scope rows columns rest others h.1 are)
 
 pub UpdatesColumns-law : law.UpdatesColumns

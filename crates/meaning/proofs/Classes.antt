@@ -30,12 +30,12 @@ use Rattle.value.specs.Results.{and_then, each}
 use Rattle.form_check.specs.Results.{in_class, only_if}
 use Rattle.form_check.specs.Columns.{no_column, in_group, grouping_column, at_place, outer_column, in_both, of_both}
 use Rattle.form_check.specs.Leaves.{Leaf, Leaves, numbered}
-use Rattle.form_check.specs.Queries.{Source, sourced, source_of, alone, aggregate_in, aggregate_selected, expression_may_stand, selection_may_stand, row_condition, joint_condition, row_filter, of_column, selected_aggregate, may_be_selected}
-use Rattle.form_check.specs.Forms.{Clauses, plain, plain_by, plain_value, aggregate_of, row_where, by_row, having_over, by_group, by_clauses, not_exists, single, denied, form_in, form_of, linked}
+use Rattle.form_check.specs.Queries.{Source, source_named, source_of, alone, aggregate_in, aggregate_selected, expression_may_stand, selection_may_stand, row_condition, joint_condition, row_filter, of_column, selected_aggregate, may_be_selected}
+use Rattle.form_check.specs.Forms.{Clauses, plain, plain_by, plain_value, aggregate_of, row_where, by_row, having_over, by_group, by_clauses, not_exists, single, form_of_negation, form_in, form_of, slot_query_of}
 use Rattle.meaning.specs.Class as class
 use Rattle.meaning.specs.Class.{Piece, Pieces, Each, IfWritten, columns_in, pieces_in, read_by, named_as, IsColumnAt, IsSimple, IsSimpleList, IsSet, IsSetList, condition_pieces, expression_pieces, condition_columns, expression_columns, IsOwn, IsOverRows, IsPlainQuery, IsPlainPiece, IsSingle, IsSetFunction, IsGroupQuery, IsOfEither, IsOverBoth, IsLink, JoinsRow, JoinsKey, IsFirstLink, IsLinkedWhere, IsLinkedPiece, IsRowWhere, IsRowQuery, IsDenied, IsByRows, IsByGroups, IsInClass}
 use Rattle.form_check.specs.Links.{top_parts, name_in, link_by, link_of_names, either, link_between, link_in, link_of, is_by, is_link, key_linked, may_link, first_link, beside, filter_parts}
-use Rattle.form_check.specs.Forms.{linked_where}
+use Rattle.form_check.specs.Forms.{linked_filter}
 use Rattle.syntax.specs.declared.trees.Condition.TheFolds.{map-Condition, map-Expression, fold_out-Condition, fold_out-Expression}
 use Rattle.std.proofs.Common.{arith}
 use Rattle.std.proofs.lemmas.Bool.Decides.{nat_tests}
@@ -151,7 +151,7 @@ of_pieces make P one ps h = let (made, is) = of_each (λ p. make (leaf_of p)) P 
 
 -- ---- the table that a query reads
 
-pub source_read : (name : List ℕ) (p : Option ℕ) (l : Option Layout) (source : Source) → sourced name p l ≡ Some source → option_map (named_as name) l ≡ Some source.scope
+pub source_read : (name : List ℕ) (p : Option ℕ) (l : Option Layout) (source : Source) → source_named name p l ≡ Some source → option_map (named_as name) l ≡ Some source.scope
 source_read name None l source e = cc
 source_read name (Some t) None source e = cc
 source_read name (Some t) (Some l) source e =
@@ -184,7 +184,7 @@ scope_reads tables query scope e =
     let name = unwrap_or q.correlation_name q.table in
     let (l, (is, same)) = scope_layout name (layout_of q.table tables) scope e in
     let t = position_or_len (pointwise nat_eq q.table) (names_of tables) in
-    (t, ap (λ p. sourced name p (layout_of q.table tables)) (placed_at q.table tables l is) ∙ ap (sourced name (Some t)) is ∙ ap (λ (scope : Scope). let o : Option Source = Some (record { table = t; scope = scope }) in o) same)
+    (t, ap (λ p. source_named name p (layout_of q.table tables)) (placed_at q.table tables l is) ∙ ap (source_named name (Some t)) is ∙ ap (λ (scope : Scope). let o : Option Source = Some (record { table = t; scope = scope }) in o) same)
 
 -- ---- select lists
 
@@ -636,38 +636,38 @@ HasOneLink-law child root condition link other is are =
 abbrev Made : Source → Scope → Option Condition → Option ColumnName → Option Condition → Type 0
 Made child root keeps g h = (condition : Condition) × ((keeps ≡ Some condition) × ((link : Link) × (IsLinkedWhere child.scope root link condition × (IsNone g × IsNone h))))
 
-linked_where_class : (child : Source) (root : Scope) (a : Aggregate) (keeps : Option Condition) (g : Option ColumnName) (h : Option Condition) → Answers (linked_where child root a keeps g h) → Made child root keeps g h
+linked_where_class : (child : Source) (root : Scope) (a : Aggregate) (keeps : Option Condition) (g : Option ColumnName) (h : Option Condition) → Answers (linked_filter child root a keeps g h) → Made child root keeps g h
 linked_where_class child root a keeps g h (q, e) =
     let (no_group, (no_having, (condition, (is, (link, (first, (restriction, (are, makes)))))))) = linked_where_ok child root a keeps g h q e in
     (condition, (is, (link, (where_class child.scope root condition link first (restriction, are), (ap is_some no_group, ap is_some no_having)))))
 
-class_linked_where : (child : Source) (root : Scope) (a : Aggregate) (keeps : Option Condition) (g : Option ColumnName) (h : Option Condition) → Made child root keeps g h → Answers (linked_where child root a keeps g h)
+class_linked_where : (child : Source) (root : Scope) (a : Aggregate) (keeps : Option Condition) (g : Option ColumnName) (h : Option Condition) → Made child root keeps g h → Answers (linked_filter child root a keeps g h)
 class_linked_where child root a keeps g h (condition, (is, (link, (linked, (no_group, no_having))))) =
     let (first, (restriction, are)) = class_where child.scope root condition link linked in
     let make : Link → List Cond → Subquery Link = λ link restriction. record { table = child.table; filter = cond_of.And restriction; grouping = link; aggregate = a } in (
       make link restriction,
-      ap (λ k. linked_where child root a k g h) is ∙ ap (λ g. linked_where child root a (Some condition) g h) (none_is g no_group) ∙ ap (λ h. linked_where child root a (Some condition) None h) (none_is h no_having)
+      ap (λ k. linked_filter child root a k g h) is ∙ ap (λ g. linked_filter child root a (Some condition) g h) (none_is g no_group) ∙ ap (λ h. linked_filter child root a (Some condition) None h) (none_is h no_having)
           ∙ ap (λ o. in_class o (λ link. and_then (filter_parts child.scope root (top_parts condition)) (λ restriction. let r : Result (Subquery Link) Refusal = Ok (make link restriction) in r))) first
           ∙ ap (λ r. and_then r (λ restriction. let r : Result (Subquery Link) Refusal = Ok (make link restriction) in r)) are,
     )
 
-linked_leaf_class : (tables : Tables) (root : Scope) (p : Piece) → Answers (linked tables root (leaf_of p)) → IsLinkedPiece tables root p
+linked_leaf_class : (tables : Tables) (root : Scope) (p : Piece) → Answers (slot_query_of tables root (leaf_of p)) → IsLinkedPiece tables root p
 linked_leaf_class tables root class.Rows (q, e) = cc
 linked_leaf_class tables root (class.Of f c) (q, e) = cc
 linked_leaf_class tables root (class.Exists query) (q, e) =
     let c = out-Query query in
-    let (child, (found, more)) = in_class_ok (source_of tables c.table c.correlation_name) (λ child. only_if (may_be_selected (own_column child.scope) c.select_list) (linked_where child root CountRows c.keeps c.group c.having)) q e in
-    let (lists, rest) = only_if_ok (may_be_selected (own_column child.scope) c.select_list) (linked_where child root CountRows c.keeps c.group c.having) q more in
+    let (child, (found, more)) = in_class_ok (source_of tables c.table c.correlation_name) (λ child. only_if (may_be_selected (own_column child.scope) c.select_list) (linked_filter child root CountRows c.keeps c.group c.having)) q e in
+    let (lists, rest) = only_if_ok (may_be_selected (own_column child.scope) c.select_list) (linked_filter child root CountRows c.keeps c.group c.having) q more in
     let (condition, (is, (link, (where_is, (g, h))))) = linked_where_class child root CountRows c.keeps c.group c.having (q, rest) in
     record { scope = child.scope; condition = condition; reads = reads_scope tables query child found; lists = own_list child.scope c.select_list lists; filter = is; link = link; linked = where_is; ungrouped = g; whole = h }
 linked_leaf_class tables root (class.Value query) (q, e) =
     let c = out-Query query in
-    let (child, (found, more)) = in_class_ok (source_of tables c.table c.correlation_name) (λ child. in_class (selected_aggregate child.scope c.select_list) (λ a. linked_where child root a c.keeps c.group c.having)) q e in
-    let (a, (lists, rest)) = in_class_ok (selected_aggregate child.scope c.select_list) (λ a. linked_where child root a c.keeps c.group c.having) q more in
+    let (child, (found, more)) = in_class_ok (source_of tables c.table c.correlation_name) (λ child. in_class (selected_aggregate child.scope c.select_list) (λ a. linked_filter child root a c.keeps c.group c.having)) q e in
+    let (a, (lists, rest)) = in_class_ok (selected_aggregate child.scope c.select_list) (λ a. linked_filter child root a c.keeps c.group c.having) q more in
     let (condition, (is, (link, (where_is, (g, h))))) = linked_where_class child root a c.keeps c.group c.having (q, rest) in
     record { scope = child.scope; condition = condition; reads = reads_scope tables query child found; lists = set_list child.scope c.select_list (ap is_some lists); filter = is; link = link; linked = where_is; ungrouped = g; whole = h }
 
-class_linked_leaf : (tables : Tables) (root : Scope) (p : Piece) → IsLinkedPiece tables root p → Answers (linked tables root (leaf_of p))
+class_linked_leaf : (tables : Tables) (root : Scope) (p : Piece) → IsLinkedPiece tables root p → Answers (slot_query_of tables root (leaf_of p))
 class_linked_leaf tables root class.Rows h = absurd h
 class_linked_leaf tables root (class.Of f c) h = absurd h
 class_linked_leaf tables root (class.Exists query) h =
@@ -676,8 +676,8 @@ class_linked_leaf tables root (class.Exists query) h =
     let child : Source = record { table = t; scope = h.scope } in
     let (q, is) = class_linked_where child root CountRows c.keeps c.group c.having (h.condition, (h.filter, (h.link, (h.linked, (h.ungrouped, h.whole))))) in (
       q,
-      ap (λ o. in_class o (λ child. only_if (may_be_selected (own_column child.scope) c.select_list) (linked_where child root CountRows c.keeps c.group c.having))) reads
-          ∙ ap (λ b. only_if b (linked_where child root CountRows c.keeps c.group c.having)) (list_own h.scope c.select_list h.lists) ∙ is,
+      ap (λ o. in_class o (λ child. only_if (may_be_selected (own_column child.scope) c.select_list) (linked_filter child root CountRows c.keeps c.group c.having))) reads
+          ∙ ap (λ b. only_if b (linked_filter child root CountRows c.keeps c.group c.having)) (list_own h.scope c.select_list h.lists) ∙ is,
     )
 class_linked_leaf tables root (class.Value query) h =
     let c = out-Query query in
@@ -686,21 +686,21 @@ class_linked_leaf tables root (class.Value query) h =
     let (a, lists) = some_is (selected_aggregate h.scope c.select_list) (list_set h.scope c.select_list h.lists) in
     let (q, is) = class_linked_where child root a c.keeps c.group c.having (h.condition, (h.filter, (h.link, (h.linked, (h.ungrouped, h.whole))))) in (
       q,
-      ap (λ o. in_class o (λ child. in_class (selected_aggregate child.scope c.select_list) (λ a. linked_where child root a c.keeps c.group c.having))) reads
-          ∙ ap (λ o. in_class o (λ a. linked_where child root a c.keeps c.group c.having)) lists ∙ is,
+      ap (λ o. in_class o (λ child. in_class (selected_aggregate child.scope c.select_list) (λ a. linked_filter child root a c.keeps c.group c.having))) reads
+          ∙ ap (λ o. in_class o (λ a. linked_filter child root a c.keeps c.group c.having)) lists ∙ is,
     )
 
-row_where_class : (tables : Tables) (root : Scope) (keeps : Option Condition) (made : Cond) (leaves : Leaves) → row_where root keeps ≡ Ok (made, leaves) → Answers (each (linked tables root) leaves) → IfWritten (IsRowWhere tables root) keeps
+row_where_class : (tables : Tables) (root : Scope) (keeps : Option Condition) (made : Cond) (leaves : Leaves) → row_where root keeps ≡ Ok (made, leaves) → Answers (each (slot_query_of tables root) leaves) → IfWritten (IsRowWhere tables root) keeps
 row_where_class tables root None made leaves e h = tt
 row_where_class tables root (Some c) made leaves e h =
     let (columns, are) = (condition_numbers (at_place (own_column root)) c).says [] made leaves e in
-    record { columns = each_other (MayStand (at_place (own_column root))) (IsOwn root) (at_stands (own_column root)) (columns_in c) columns; queries = pieces_of (linked tables root) (IsLinkedPiece tables root) (linked_leaf_class tables root) leaves (pieces_in c) are h }
+    record { columns = each_other (MayStand (at_place (own_column root))) (IsOwn root) (at_stands (own_column root)) (columns_in c) columns; queries = pieces_of (slot_query_of tables root) (IsLinkedPiece tables root) (linked_leaf_class tables root) leaves (pieces_in c) are h }
 
-class_row_where : (tables : Tables) (root : Scope) (keeps : Option Condition) → IfWritten (IsRowWhere tables root) keeps → (made : Cond) × ((leaves : Leaves) × ((row_where root keeps ≡ Ok (made, leaves)) × Answers (each (linked tables root) leaves)))
+class_row_where : (tables : Tables) (root : Scope) (keeps : Option Condition) → IfWritten (IsRowWhere tables root) keeps → (made : Cond) × ((leaves : Leaves) × ((row_where root keeps ≡ Ok (made, leaves)) × Answers (each (slot_query_of tables root) leaves)))
 class_row_where tables root None h = let none : Leaves = [] in let no_queries : List (Subquery Link) = [] in (cond_of.And [], (none, (refl, (no_queries, refl))))
 class_row_where tables root (Some c) h =
     let (made, is) = (condition_numbers (at_place (own_column root)) c).finds [] (each_other (IsOwn root) (MayStand (at_place (own_column root))) (stands_at (own_column root)) (columns_in c) h.columns) in
-    (made, (map leaf_of (pieces_in c), (is, of_pieces (linked tables root) (IsLinkedPiece tables root) (class_linked_leaf tables root) (pieces_in c) h.queries)))
+    (made, (map leaf_of (pieces_in c), (is, of_pieces (slot_query_of tables root) (IsLinkedPiece tables root) (class_linked_leaf tables root) (pieces_in c) h.queries)))
 
 row_class : (tables : Tables) (source : Source) (query : Clauses) → Answers (by_row tables source query) → IsSimpleList (IsOwn source.scope) (out-SelectList query.select_list) × IfWritten (IsRowWhere tables source.scope) query.keeps
 row_class tables source query (form, e) =
@@ -712,8 +712,8 @@ class_row tables source query lists keeps =
     let scope = source.scope in
     let (made, (leaves, (is, (queries, are)))) = class_row_where tables scope query.keeps keeps in (
       ByRow source.table made queries,
-      ap (λ b. only_if b (and_then (row_where scope query.keeps) (λ made. and_then (each (linked tables scope) made.1) (λ queries. let r : Result Form Refusal = Ok (ByRow source.table made.0 queries) in r)))) (list_own scope query.select_list lists)
-          ∙ ap (λ r. and_then r (λ made. and_then (each (linked tables scope) made.1) (λ queries. let r : Result Form Refusal = Ok (ByRow source.table made.0 queries) in r))) is
+      ap (λ b. only_if b (and_then (row_where scope query.keeps) (λ made. and_then (each (slot_query_of tables scope) made.1) (λ queries. let r : Result Form Refusal = Ok (ByRow source.table made.0 queries) in r)))) (list_own scope query.select_list lists)
+          ∙ ap (λ r. and_then r (λ made. and_then (each (slot_query_of tables scope) made.1) (λ queries. let r : Result Form Refusal = Ok (ByRow source.table made.0 queries) in r))) is
           ∙ ap (λ r. and_then r (λ queries. let r : Result Form Refusal = Ok (ByRow source.table made queries) in r)) are,
     )
 
@@ -752,7 +752,7 @@ class_groups tables query h =
 abbrev pub Cases : Tables → Condition → Form → Type 0
 Cases tables c form = ((query : Query) × IsDenied c query × (not_exists tables (out-Query query) ≡ Ok form)) ⊎ (single tables c ≡ Ok form)
 
-denied_cases : (tables : Tables) (c part : Condition) (layer : Condition-F Condition Expression SelectList Query) → out-Condition c ≡ Condition-F.Not part → out-Condition part ≡ layer → (form : Form) → denied tables c layer ≡ Ok form → Cases tables c form
+denied_cases : (tables : Tables) (c part : Condition) (layer : Condition-F Condition Expression SelectList Query) → out-Condition c ≡ Condition-F.Not part → out-Condition part ≡ layer → (form : Form) → form_of_negation tables c layer ≡ Ok form → Cases tables c form
 denied_cases tables c part (Condition-F.Or parts) n p form e = inr e
 denied_cases tables c part (Condition-F.And parts) n p form e = inr e
 denied_cases tables c part (Condition-F.Not inner) n p form e = inr e
@@ -787,7 +787,7 @@ form_class tables c (form, e) =
 
 -- NOT EXISTS of a query has the form that its query has
 denied_form : (tables : Tables) (c : Condition) (query : Query) → IsDenied c query → Answers (not_exists tables (out-Query query)) → Answers (form_of tables c)
-denied_form tables c query d (form, is) = (form, ap (form_in tables c) d.denies ∙ ap (denied tables c) d.exists ∙ is)
+denied_form tables c query d (form, is) = (form, ap (form_in tables c) d.denies ∙ ap (form_of_negation tables c) d.exists ∙ is)
 
 pub rows_form : (tables : Tables) (c : Condition) → IsByRows tables c → Answers (form_of tables c)
 rows_form tables c h = denied_form tables c h.0 h.1 (class_rows tables h.0 h.2)
@@ -796,7 +796,7 @@ pub groups_form : (tables : Tables) (c : Condition) → IsByGroups tables c → 
 groups_form tables c h = denied_form tables c h.0 h.1 (class_groups tables h.0 h.2)
 
 -- a single condition is no NOT EXISTS
-denied_single : (tables : Tables) (c part : Condition) (layer : Condition-F Condition Expression SelectList Query) → out-Condition c ≡ Condition-F.Not part → out-Condition part ≡ layer → IsSingle tables c → Answers (denied tables c layer)
+denied_single : (tables : Tables) (c part : Condition) (layer : Condition-F Condition Expression SelectList Query) → out-Condition c ≡ Condition-F.Not part → out-Condition part ≡ layer → IsSingle tables c → Answers (form_of_negation tables c layer)
 denied_single tables c part (Condition-F.Or parts) n p h = class_single tables c h
 denied_single tables c part (Condition-F.And parts) n p h = class_single tables c h
 denied_single tables c part (Condition-F.Not inner) n p h = class_single tables c h

@@ -11,7 +11,7 @@ use Rattle.value.specs.declared.comparisons.Comparison.{Comparison}
 use Rattle.value.specs.declared.comparisons.Comparison.TheVariants.{Equal, AtMost, Greater}
 use Rattle.value.specs.declared.truths.Truth.{Truth}
 use Rattle.value.specs.declared.truths.Truth.TheVariants.{True, False, Unknown}
-use Rattle.value.specs.Truths.{and_of, not_of, known}
+use Rattle.value.specs.Truths.{and_of, not_of, truth_of_bool}
 use Rattle.table.specs.declared.schemas.Column.{Column}
 use Rattle.table.specs.Rows.{RowValues, Layout, Tables}
 use Rattle.table.specs.declared.exprs.Expr.TheOpen.{Expr-F}
@@ -23,7 +23,7 @@ use Rattle.table.specs.declared.conds.Cond.TheVariants as cond
 use Rattle.table.specs.declared.conds.Cond.TheViews as cond_of
 use Rattle.table.specs.declared.conds.Cond.TheViews.{out-Cond}
 use Rattle.table.specs.Eval as resolved
-use Rattle.table.specs.Values.{compared}
+use Rattle.table.specs.Values.{comparison_truth}
 use Rattle.table.proofs.EvalLemmas.{truth-And}
 use Rattle.assertion.specs.Meaning.{State}
 use Rattle.assertion.specs.declared.queries.Link.{Link}
@@ -43,8 +43,8 @@ use Rattle.alone.specs.Reads.{Equality}
 use Rattle.meaning.specs.Class.{IsColumnAt, IsOuterColumn, IsLink, IsLinkedWhere}
 use Rattle.meaning.specs.Keys as keys
 use Rattle.meaning.specs.Meaning as written
-use Rattle.meaning.specs.Meaning.{References, Valued, Answer, answers, simple, first_value, column_values, rows_counted, set_of_column, only_value, is_any, written_bad_roots, written_truth}
-use Rattle.meaning.specs.Laws.{seen}
+use Rattle.meaning.specs.Meaning.{References, Evaluation, Answer, answers, simple, first_value, column_values, rows_counted, set_of_column, only_value, is_any, written_bad_roots, written_truth}
+use Rattle.meaning.specs.Laws.{reference_to}
 use Rattle.meaning.proofs.Classes.{of_link, link_over}
 use Rattle.meaning.proofs.Keys.{in_parts, where_key_is, shown_expr, shown_cond}
 use Rattle.meaning.proofs.Nodes.{clauses, clauses_as, number_is, column_is, count_is, set_is, value_is, compare_is, both_is, exists_is, denies_is, star_is, one_is, filtered_is, grouped_is}
@@ -92,8 +92,8 @@ of qualifier name = record { qualifier = Some (qualifier ∷ []); name = name �
 -- a row of D inside a row of S, each under its name
 abbrev inside : ℕ → ℕ → References
 inside child outer =
-    seen (record { exposed_name = child ∷ []; layout = of_d }) ((number 1 ∷ number 7 ∷ number 0 ∷ []) ∷ [])
-    ∷ seen (record { exposed_name = outer ∷ []; layout = of_s }) ((number 5 ∷ []) ∷ []) ∷ []
+    reference_to (record { exposed_name = child ∷ []; layout = of_d }) ((number 1 ∷ number 7 ∷ number 0 ∷ []) ∷ [])
+    ∷ reference_to (record { exposed_name = outer ∷ []; layout = of_s }) ((number 5 ∷ []) ∷ []) ∷ []
 
 -- both have I: without a qualifier it is the inner table's
 inner_name : column_values (bare I) (inside D S) ≡ number 1 ∷ []
@@ -104,7 +104,7 @@ qualified_name : column_values (of S I) (inside D S) ≡ number 5 ∷ []
 qualified_name = refl
 
 -- and without one, a name that only the outer table has
-outer_name : column_values (bare O) (seen (record { exposed_name = S ∷ []; layout = of_s }) ((number 5 ∷ []) ∷ []) ∷ seen (record { exposed_name = D ∷ []; layout = of_d }) ((number 1 ∷ number 7 ∷ number 0 ∷ []) ∷ []) ∷ []) ≡ number 0 ∷ []
+outer_name : column_values (bare O) (reference_to (record { exposed_name = S ∷ []; layout = of_s }) ((number 5 ∷ []) ∷ []) ∷ reference_to (record { exposed_name = D ∷ []; layout = of_d }) ((number 1 ∷ number 7 ∷ number 0 ∷ []) ∷ []) ∷ []) ≡ number 0 ∷ []
 outer_name = refl
 
 -- a column is not a table: S without a qualifier is D's column
@@ -115,7 +115,7 @@ column_name = refl
 same_exposed_name : column_values (of X I) (inside X X) ≡ number 1 ∷ []
 same_exposed_name = refl
 
-hidden_column : column_values (of X O) (seen (record { exposed_name = X ∷ []; layout = of_s }) ((number 5 ∷ []) ∷ []) ∷ seen (record { exposed_name = X ∷ []; layout = of_d }) ((number 1 ∷ number 7 ∷ number 0 ∷ []) ∷ []) ∷ []) ≡ []
+hidden_column : column_values (of X O) (reference_to (record { exposed_name = X ∷ []; layout = of_s }) ((number 5 ∷ []) ∷ []) ∷ reference_to (record { exposed_name = X ∷ []; layout = of_d }) ((number 1 ∷ number 7 ∷ number 0 ∷ []) ∷ []) ∷ []) ≡ []
 hidden_column = refl
 
 -- ---- trees
@@ -135,13 +135,13 @@ not_exists q = roll-Condition (Condition-F.Not (roll-Condition (Condition-F.Exis
 abbrev star : SelectList
 star = roll-SelectList SelectList-F.Star
 
-abbrev star_value : Valued
+abbrev star_value : Evaluation
 star_value = written.select_list_step SelectList-F.Star
 
-abbrev value_named : ColumnName → Valued
+abbrev value_named : ColumnName → Evaluation
 value_named c = simple (λ around. first_value (column_values c around))
 
-abbrev value_number : ℕ → Valued
+abbrev value_number : ℕ → Evaluation
 value_number n = simple (λ around. number n)
 
 -- the bad roots of NOT EXISTS of a query are what the query gives
@@ -164,7 +164,7 @@ abbrev uncovered : Query-F Condition Expression SelectList Query
 uncovered = clauses star (S ∷ []) (Some (not_exists (roll-Query duty))) None None
 
 abbrev duty_where : References → Truth
-duty_where around = and_of (compared Equal ((value_named (of D S)).value around) ((value_named (of S I)).value around)) (and_of (compared Equal ((value_named (of D O)).value around) (number 1)) True)
+duty_where around = and_of (comparison_truth Equal ((value_named (of D S)).value around) ((value_named (of S I)).value around)) (and_of (comparison_truth Equal ((value_named (of D O)).value around) (number 1)) True)
 
 abbrev duty_given : State → References → List Answer
 duty_given state = written.query_step both state (clauses star_value (D ∷ []) (Some duty_where) None None)
@@ -172,12 +172,12 @@ duty_given state = written.query_step both state (clauses star_value (D ∷ []) 
 duty_is : (state : State) → answers both state (roll-Query duty) ≡ duty_given state
 duty_is state =
     filtered_is both state star (D ∷ []) None (roll-Condition (Condition-F.And (compare (column (of D S)) Equal (column (of S I)) ∷ compare (column (of D O)) Equal (literal 1) ∷ []))) star_value duty_where (star_is both state)
-    (both_is both state (compare (column (of D S)) Equal (column (of S I))) (compare (column (of D O)) Equal (literal 1)) (λ around. compared Equal ((value_named (of D S)).value around) ((value_named (of S I)).value around)) (λ around. compared Equal ((value_named (of D O)).value around) (number 1))
+    (both_is both state (compare (column (of D S)) Equal (column (of S I))) (compare (column (of D O)) Equal (literal 1)) (λ around. comparison_truth Equal ((value_named (of D S)).value around) ((value_named (of S I)).value around)) (λ around. comparison_truth Equal ((value_named (of D O)).value around) (number 1))
     (compare_is both state (column (of D S)) Equal (column (of S I)) (value_named (of D S)) (value_named (of S I)) (column_is both state (of D S)) (column_is both state (of S I)))
     (compare_is both state (column (of D O)) Equal (literal 1) (value_named (of D O)) (value_number 1) (column_is both state (of D O)) (number_is both state (pos 1))))
 
 abbrev uncovered_where : State → References → Truth
-uncovered_where state around = not_of (known (is_any (duty_given state around)))
+uncovered_where state around = not_of (truth_of_bool (is_any (duty_given state around)))
 
 uncovered_is : (state : State) → answers both state (roll-Query uncovered) ≡ written.query_step both state (clauses star_value (S ∷ []) (Some (uncovered_where state)) None None)
 uncovered_is state = filtered_is both state star (S ∷ []) None (not_exists (roll-Query duty)) star_value (uncovered_where state) (star_is both state) (denies_is both state (roll-Query duty) (duty_given state) (duty_is state))
@@ -203,10 +203,10 @@ abbrev groups : Query-F Condition Expression SelectList Query
 groups = clauses star (D ∷ []) (Some on_call) (Some (bare S)) (Some crowded)
 
 abbrev on_call_truth : References → Truth
-on_call_truth around = compared Equal ((value_named (bare O)).value around) (number 1)
+on_call_truth around = comparison_truth Equal ((value_named (bare O)).value around) (number 1)
 
 abbrev crowded_truth : References → Truth
-crowded_truth around = compared Greater (rows_counted around) (number 1)
+crowded_truth around = comparison_truth Greater (rows_counted around) (number 1)
 
 abbrev groups_given : State → References → List Answer
 groups_given state = written.query_step both state (clauses star_value (D ∷ []) (Some on_call_truth) (Some (bare S)) (Some crowded_truth))
@@ -240,21 +240,21 @@ abbrev followed : Query-F Condition Expression SelectList Query
 followed = clauses_as star (D ∷ []) (Some (X ∷ [])) (Some (roll-Condition (Condition-F.Exists (roll-Query later)))) None None
 
 abbrev later_where : References → Truth
-later_where around = and_of (compared Equal ((value_named (of D S)).value around) ((value_named (of X S)).value around)) (and_of (compared Greater ((value_named (of D I)).value around) ((value_named (of X I)).value around)) True)
+later_where around = and_of (comparison_truth Equal ((value_named (of D S)).value around) ((value_named (of X S)).value around)) (and_of (comparison_truth Greater ((value_named (of D I)).value around) ((value_named (of X I)).value around)) True)
 
 abbrev later_given : State → References → List Answer
 later_given state = written.query_step both state (clauses star_value (D ∷ []) (Some later_where) None None)
 
 later_is : (state : State) → answers both state (roll-Query later) ≡ later_given state
 later_is state =
-    let sides : (l r : ColumnName) (c : Comparison) → written.truth both state (compare (column l) c (column r)) ≡ (λ around. compared c ((value_named l).value around) ((value_named r).value around))
+    let sides : (l r : ColumnName) (c : Comparison) → written.truth both state (compare (column l) c (column r)) ≡ (λ around. comparison_truth c ((value_named l).value around) ((value_named r).value around))
     = λ l r c. compare_is both state (column l) c (column r) (value_named l) (value_named r) (column_is both state l) (column_is both state r) in
     filtered_is both state star (D ∷ []) None (roll-Condition (Condition-F.And (compare (column (of D S)) Equal (column (of X S)) ∷ compare (column (of D I)) Greater (column (of X I)) ∷ []))) star_value later_where (star_is both state)
-    (both_is both state (compare (column (of D S)) Equal (column (of X S))) (compare (column (of D I)) Greater (column (of X I))) (λ around. compared Equal ((value_named (of D S)).value around) ((value_named (of X S)).value around))
-    (λ around. compared Greater ((value_named (of D I)).value around) ((value_named (of X I)).value around)) (sides (of D S) (of X S) Equal) (sides (of D I) (of X I) Greater))
+    (both_is both state (compare (column (of D S)) Equal (column (of X S))) (compare (column (of D I)) Greater (column (of X I))) (λ around. comparison_truth Equal ((value_named (of D S)).value around) ((value_named (of X S)).value around))
+    (λ around. comparison_truth Greater ((value_named (of D I)).value around) ((value_named (of X I)).value around)) (sides (of D S) (of X S) Equal) (sides (of D I) (of X I) Greater))
 
 abbrev followed_where : State → References → Truth
-followed_where state around = known (is_any (later_given state around))
+followed_where state around = truth_of_bool (is_any (later_given state around))
 
 followed_is : (state : State) → answers both state (roll-Query followed) ≡ written.query_step both state (clauses_as star_value (D ∷ []) (Some (X ∷ [])) (Some (followed_where state)) None None)
 followed_is state = filtered_is both state star (D ∷ []) (Some (X ∷ [])) (roll-Condition (Condition-F.Exists (roll-Query later))) star_value (followed_where state) (star_is both state) (exists_is both state (roll-Query later) (later_given state) (later_is state))
@@ -272,10 +272,10 @@ taken f = roll-Query (clauses (roll-SelectList (SelectList-F.One f)) (D ∷ []) 
 abbrev at_most : Expression → ℕ → Condition
 at_most f n = compare (roll-Expression (Expression-F.Subquery (taken f))) AtMost (literal n)
 
-abbrev taken_given : State → Valued → References → List Answer
+abbrev taken_given : State → Evaluation → References → List Answer
 taken_given state v = written.query_step both state (clauses v (D ∷ []) (Some on_call_truth) None None)
 
-single_truth : (state : State) (f : Expression) (v : Valued) (n : ℕ) → written.valued both state f ≡ v → written_truth both state (at_most f n) ≡ compared AtMost (only_value (taken_given state v [])) (number n)
+single_truth : (state : State) (f : Expression) (v : Evaluation) (n : ℕ) → written.evaluation_of both state f ≡ v → written_truth both state (at_most f n) ≡ comparison_truth AtMost (only_value (taken_given state v [])) (number n)
 single_truth state f v n is =
     ap (λ (t : References → Truth). t [])
     (compare_is both state (roll-Expression (Expression-F.Subquery (taken f))) AtMost (literal n) (simple (λ around. only_value (taken_given state v around))) (value_number n)
@@ -447,15 +447,15 @@ set_is_equality column n =
     ∙ ap (reads.sides (Expr-F.Column column)) (shown_expr (Expr-F.Literal (number n)) (expr.Literal (number n)) (expr.rolls-Literal (number n)))
 
 -- two parts of a resolved AND
-key_of_two : (a b : Cond) (d e : Option Equality) → reads.equality_in (out-Cond a) ≡ d → reads.equality_in (out-Cond b) ≡ e → reads.where_key 1 0 (cond_of.And (a ∷ b ∷ [])) ≡ key_by (filter_map (λ o. o) (d ∷ e ∷ []))
+key_of_two : (a b : Cond) (d e : Option Equality) → reads.equality_in (out-Cond a) ≡ d → reads.equality_in (out-Cond b) ≡ e → reads.filter_key 1 0 (cond_of.And (a ∷ b ∷ [])) ≡ key_by (filter_map (λ o. o) (d ∷ e ∷ []))
 key_of_two a b d e first second =
     let whole = cond_of.And (a ∷ b ∷ []) in
     where_key_is 1 0 whole
     ∙ ap (λ y. key_by (in_parts (reads.parts_in whole y))) (shown_cond (Cond-F.And (a ∷ b ∷ [])) whole (cond.rolls-And (a ∷ b ∷ [])))
     ∙ (λ i. key_by (filter_map (λ o. o) (first i ∷ second i ∷ [])))
 
-resolved_key : reads.where_key 1 0 (cond_of.And (set_to 1 7 ∷ set_to 2 1 ∷ [])) ≡ key.Column 1 1 (number 7)
+resolved_key : reads.filter_key 1 0 (cond_of.And (set_to 1 7 ∷ set_to 2 1 ∷ [])) ≡ key.Column 1 1 (number 7)
 resolved_key = key_of_two (set_to 1 7) (set_to 2 1) (Some (record { column = 1; value = number 7 })) (Some (record { column = 2; value = number 1 })) (set_is_equality 1 7) (set_is_equality 2 1)
 
-exchanged_key : reads.where_key 1 0 (cond_of.And (set_to 2 1 ∷ set_to 1 7 ∷ [])) ≡ key.Column 1 2 (number 1)
+exchanged_key : reads.filter_key 1 0 (cond_of.And (set_to 2 1 ∷ set_to 1 7 ∷ [])) ≡ key.Column 1 2 (number 1)
 exchanged_key = key_of_two (set_to 2 1) (set_to 1 7) (Some (record { column = 2; value = number 1 })) (Some (record { column = 1; value = number 7 })) (set_is_equality 2 1) (set_is_equality 1 7)

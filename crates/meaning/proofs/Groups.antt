@@ -34,8 +34,8 @@ use Rattle.form_check.specs.Leaves.{Leaf, Leaves, Rows, Of as SetOf, Exists, Val
 use Rattle.form_check.specs.Queries.{row_filter, of_column}
 use Rattle.form_check.specs.Forms.{aggregate_of}
 use Rattle.meaning.specs.Meaning as written
-use Rattle.meaning.specs.Meaning.{References, Valued, Answer, column_values, first_value, with_rows, passes, distinct, truth, root_of}
-use Rattle.meaning.specs.Laws.{seen}
+use Rattle.meaning.specs.Meaning.{References, Evaluation, Answer, column_values, first_value, with_rows, passes, distinct, truth, root_of}
+use Rattle.meaning.specs.Laws.{reference_to}
 use Rattle.meaning.proofs.Steps.{in_class_ok, ok_same}
 use Rattle.meaning.proofs.Numbering.{leaf_value, condition_faithful, at_place_means}
 use Rattle.meaning.proofs.Rows.{own_value, own_values, row_filter_keeps}
@@ -124,7 +124,7 @@ passing group name p q (v ∷ vs) same =
 
 -- ---- HAVING
 
-pub aggregate_leaf : (tables : Tables) (state : State) (scope : names.Scope) (rows : List RowValues) (leaf : Leaf) (a : Aggregate) → aggregate_of scope leaf ≡ Ok a → leaf_value tables state (seen scope rows ∷ []) leaf ≡ aggregate a rows
+pub aggregate_leaf : (tables : Tables) (state : State) (scope : names.Scope) (rows : List RowValues) (leaf : Leaf) (a : Aggregate) → aggregate_of scope leaf ≡ Ok a → leaf_value tables state (reference_to scope rows ∷ []) leaf ≡ aggregate a rows
 aggregate_leaf tables state scope rows Rows a e = ap (λ (a : Aggregate). aggregate a rows) (ok_same CountRows a e)
 aggregate_leaf tables state scope rows (SetOf f column) a e =
     let (c, (is, makes)) = in_class_ok (own_column scope column) (λ c. let r : Result Aggregate Refusal = Ok (of_column f c) in r) a e in
@@ -142,16 +142,16 @@ in_group_is group (Some column) c e =
     ] in case (column == group) refl e
 
 group_value : (scope : names.Scope) (group : ℕ) (v : Value) (rows : List RowValues) → first_value (map (value_in group) rows) ≡ v → (column : ColumnName) (c : ℕ) → grouping_column scope group column ≡ Some c
-    → first_value (column_values column (seen scope rows ∷ [])) ≡ value_in c (v ∷ [])
+    → first_value (column_values column (reference_to scope rows ∷ [])) ≡ value_in c (v ∷ [])
 group_value scope group v rows is column c e =
     let (own, zero) = in_group_is group (own_column scope column) c e in
     ap first_value (own_values scope rows [] column group own) ∙ is ∙ ap (λ n. value_in n (v ∷ [])) (sym zero)
 
 -- HAVING keeps the group of a value exactly where its resolved condition does
 pub having_keeps : (tables : Tables) (state : State) (scope : names.Scope) (group : ℕ) (having : Condition) (made : Cond) (leaves : Leaves) (aggregates : List Aggregate) → numbered (at_place (grouping_column scope group)) having [] ≡ Ok (made, leaves) → each (aggregate_of scope) leaves ≡ Ok aggregates
-    → (rows : List RowValues) (v : Value) → first_value (map (value_in group) rows) ≡ v → truth tables state having (seen scope rows ∷ []) ≡ resolved.truth (v ∷ []) (map (λ a. aggregate a rows) aggregates) made
+    → (rows : List RowValues) (v : Value) → first_value (map (value_in group) rows) ≡ v → truth tables state having (reference_to scope rows ∷ []) ≡ resolved.truth (v ∷ []) (map (λ a. aggregate a rows) aggregates) made
 having_keeps tables state scope group having made leaves aggregates is are rows v named =
-    let scopes : References = seen scope rows ∷ [] in
+    let scopes : References = reference_to scope rows ∷ [] in
     let slots = map (λ a. aggregate a rows) aggregates in
     let fits = each_leaf tables state scopes (aggregate_of scope) (λ a. aggregate a rows) (aggregate_leaf tables state scope rows) leaves aggregates are ∙ sym (append-nil (map (leaf_value tables state scopes) leaves)) in
     (condition_faithful tables state scopes (v ∷ []) slots (at_place (grouping_column scope group)) (at_place_means tables state scopes (v ∷ []) slots (grouping_column scope group) (group_value scope group v rows named)) having [] made leaves is ([], fits)).0
@@ -168,12 +168,12 @@ regrouped f g same p rows =
     ∙ ap (λ vs. map (λ rows. Of (first_value (map g rows))) (filter p (map (λ v. filter (λ row. eq_by_cmp value_cmp v (g row)) rows) (distinct vs)))) (map_agree f g same rows)
 
 -- the groups that a query with GROUP BY and HAVING gives are those that the form lists
-pub group_roots_are : (tables : Tables) (state : State) (scope : names.Scope) (rows : List RowValues) (l : ℕ) (list : Valued) (keeps : Option Condition) (restriction : Cond) (column : ColumnName) (group : ℕ) (having : Condition) (made : Cond) (leaves : Leaves) (aggregates : List Aggregate)
+pub group_roots_are : (tables : Tables) (state : State) (scope : names.Scope) (rows : List RowValues) (l : ℕ) (list : Evaluation) (keeps : Option Condition) (restriction : Cond) (column : ColumnName) (group : ℕ) (having : Condition) (made : Cond) (leaves : Leaves) (aggregates : List Aggregate)
     → row_filter scope keeps ≡ Ok restriction → own_column scope column ≡ Some group → numbered (at_place (grouping_column scope group)) having [] ≡ Ok (made, leaves) → each (aggregate_of scope) leaves ≡ Ok aggregates → (r : Root)
-    → has root_cmp r (map (root_of (written.grouping (Some column) (seen scope rows) []) l) (answers_by (seen scope rows) list (option_map (truth tables state) keeps) (Some column) (Some (truth tables state having)) []))
+    → has root_cmp r (map (root_of (written.group_value (Some column) (reference_to scope rows) []) l) (answers_by (reference_to scope rows) list (option_map (truth tables state) keeps) (Some column) (Some (truth tables state having)) []))
     ≡ has root_cmp r (group_roots (filtered_rows restriction rows) group made aggregates)
 group_roots_are tables state scope rows l list keeps restriction column group having made leaves aggregates filters own is are r =
-    let table = seen scope rows in
+    let table = reference_to scope rows in
     let f : RowValues → Value = λ row. first_value (column_values column (with_rows table (row ∷ []) [])) in
     let same : (row : RowValues) → f row ≡ value_in group row = λ row. own_value scope row [] column group own in
     let p : List RowValues → Bool = λ rows. passes (Some (truth tables state having)) (with_rows table rows []) in

@@ -22,8 +22,8 @@ use Rattle.form_check.specs.Scopes.{Scope, own_column}
 use Rattle.form_check.specs.Results.{in_class, only_if}
 use Rattle.form_check.specs.Columns.{no_column, at_place}
 use Rattle.form_check.specs.Leaves.{Leaf, Rows, Of, Exists, Value, numbered}
-use Rattle.form_check.specs.Queries.{Source, sourced, source_of, selected_aggregate, may_be_selected}
-use Rattle.form_check.specs.Forms.{Clauses, linked_where, linked, plain_by, plain, row_where, by_row, by_clauses, not_exists, single, denied, form_in}
+use Rattle.form_check.specs.Queries.{Source, source_named, source_of, selected_aggregate, may_be_selected}
+use Rattle.form_check.specs.Forms.{Clauses, linked_filter, slot_query_of, plain_by, plain, row_where, by_row, by_clauses, not_exists, single, form_of_negation, form_in}
 use Rattle.meaning.specs.Laws as law
 use Rattle.meaning.proofs.Steps.{and_then_ok, in_class_ok, only_if_ok}
 use Rattle.meaning.proofs.Rooted.{sourced_parts}
@@ -56,8 +56,8 @@ source_grown : (tables more : Tables) (table : List ℕ) (correlation_name : Opt
 source_grown tables more table correlation_name source e =
     let name = unwrap_or correlation_name table in
     let (place, layout) = sourced_parts name (position_of table tables) (layout_of table tables) source e in
-    ap (λ p. sourced name p (layout_of table (tables ++ more))) (position_grown table tables more source.scope.layout layout)
-    ∙ ap (sourced name (position_of table tables)) (layout_grown table tables more source.scope.layout layout ∙ sym layout) ∙ e
+    ap (λ p. source_named name p (layout_of table (tables ++ more))) (position_grown table tables more source.scope.layout layout)
+    ∙ ap (source_named name (position_of table tables)) (layout_grown table tables more source.scope.layout layout ∙ sym layout) ∙ e
 
 -- ---- queries
 
@@ -77,13 +77,13 @@ module _ (tables more : Tables) where
       let (source, (found, rest)) = in_class_ok (source_of tables q.table q.correlation_name) next a e in
       ap (λ o. in_class o next) (source_grown tables more q.table q.correlation_name source found) ∙ rest
 
-  linked_grown : (root : Scope) (leaf : Leaf) (q : Subquery Link) → linked tables root leaf ≡ Ok q → linked (tables ++ more) root leaf ≡ Ok q
+  linked_grown : (root : Scope) (leaf : Leaf) (q : Subquery Link) → slot_query_of tables root leaf ≡ Ok q → slot_query_of (tables ++ more) root leaf ≡ Ok q
   linked_grown root Rows q e = cc
   linked_grown root (Of f c) q e = cc
   linked_grown root (Exists query) q e =
-      let c = out-Query query in goes_on query (λ child. only_if (may_be_selected (own_column child.scope) c.select_list) (linked_where child root CountRows c.keeps c.group c.having)) q e
+      let c = out-Query query in goes_on query (λ child. only_if (may_be_selected (own_column child.scope) c.select_list) (linked_filter child root CountRows c.keeps c.group c.having)) q e
   linked_grown root (Value query) q e =
-      let c = out-Query query in goes_on query (λ child. in_class (selected_aggregate child.scope c.select_list) (λ a. linked_where child root a c.keeps c.group c.having)) q e
+      let c = out-Query query in goes_on query (λ child. in_class (selected_aggregate child.scope c.select_list) (λ a. linked_filter child root a c.keeps c.group c.having)) q e
 
   plain_grown : (leaf : Leaf) (p : Subquery Whole) → plain tables leaf ≡ Ok p → plain (tables ++ more) leaf ≡ Ok p
   plain_grown Rows p e = cc
@@ -96,13 +96,13 @@ module _ (tables more : Tables) where
   by_row_grown : (source : Source) (query : Clauses) (form : Form) → by_row tables source query ≡ Ok form → by_row (tables ++ more) source query ≡ Ok form
   by_row_grown source query form e =
       let scope = source.scope in
-      let make : Tables → Result Form Refusal = λ ts. and_then (row_where scope query.keeps) (λ made. and_then (each (linked ts scope) made.1) (λ queries. let r : Result Form Refusal = Ok (ByRow source.table made.0 queries) in r)) in
+      let make : Tables → Result Form Refusal = λ ts. and_then (row_where scope query.keeps) (λ made. and_then (each (slot_query_of ts scope) made.1) (λ queries. let r : Result Form Refusal = Ok (ByRow source.table made.0 queries) in r)) in
       let (lists, rest) = only_if_ok (may_be_selected (own_column scope) query.select_list) (make tables) form e in
-      let (m, (is, next)) = and_then_ok (row_where scope query.keeps) (λ made. and_then (each (linked tables scope) made.1) (λ queries. let r : Result Form Refusal = Ok (ByRow source.table made.0 queries) in r)) form rest in
-      let (queries, (are, makes)) = and_then_ok (each (linked tables scope) m.1) (λ queries. let r : Result Form Refusal = Ok (ByRow source.table m.0 queries) in r) form next in
+      let (m, (is, next)) = and_then_ok (row_where scope query.keeps) (λ made. and_then (each (slot_query_of tables scope) made.1) (λ queries. let r : Result Form Refusal = Ok (ByRow source.table made.0 queries) in r)) form rest in
+      let (queries, (are, makes)) = and_then_ok (each (slot_query_of tables scope) m.1) (λ queries. let r : Result Form Refusal = Ok (ByRow source.table m.0 queries) in r) form next in
       ap (λ b. only_if b (make (tables ++ more))) lists
-      ∙ ap (λ r. and_then r (λ made. and_then (each (linked (tables ++ more) scope) made.1) (λ queries. let r : Result Form Refusal = Ok (ByRow source.table made.0 queries) in r))) is
-      ∙ ap (λ r. and_then r (λ queries. let r : Result Form Refusal = Ok (ByRow source.table m.0 queries) in r)) (each_grown (linked tables scope) (linked (tables ++ more) scope) (linked_grown scope) m.1 queries are) ∙ makes
+      ∙ ap (λ r. and_then r (λ made. and_then (each (slot_query_of (tables ++ more) scope) made.1) (λ queries. let r : Result Form Refusal = Ok (ByRow source.table made.0 queries) in r))) is
+      ∙ ap (λ r. and_then r (λ queries. let r : Result Form Refusal = Ok (ByRow source.table m.0 queries) in r)) (each_grown (slot_query_of tables scope) (slot_query_of (tables ++ more) scope) (linked_grown scope) m.1 queries are) ∙ makes
 
   by_clauses_grown : (source : Source) (query : Clauses) (g : Option ColumnName) (h : Option Condition) (form : Form) → by_clauses tables source query g h ≡ Ok form → by_clauses (tables ++ more) source query g h ≡ Ok form
   by_clauses_grown source query None None form e = by_row_grown source query form e
@@ -123,7 +123,7 @@ module _ (tables more : Tables) where
       ap (λ r. and_then r (λ m. and_then (each (plain (tables ++ more)) m.1) (λ queries. let r : Result Form Refusal = Ok (Single m.0 queries) in r))) is
       ∙ ap (λ r. and_then r (λ queries. let r : Result Form Refusal = Ok (Single m.0 queries) in r)) (each_grown (plain tables) (plain (tables ++ more)) plain_grown m.1 queries are) ∙ makes
 
-  denied_grown : (c : Condition) (layer : Condition-F Condition Expression SelectList Query) (form : Form) → denied tables c layer ≡ Ok form → denied (tables ++ more) c layer ≡ Ok form
+  denied_grown : (c : Condition) (layer : Condition-F Condition Expression SelectList Query) (form : Form) → form_of_negation tables c layer ≡ Ok form → form_of_negation (tables ++ more) c layer ≡ Ok form
   denied_grown c (Condition-F.Or parts) form e = single_grown c form e
   denied_grown c (Condition-F.And parts) form e = single_grown c form e
   denied_grown c (Condition-F.Not part) form e = single_grown c form e

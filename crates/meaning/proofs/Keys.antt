@@ -26,7 +26,7 @@ use Rattle.syntax.specs.declared.trees.SelectList.{SelectList}
 use Rattle.syntax.specs.declared.trees.Query.{Query}
 use Rattle.syntax.specs.Grammar.{and_layer}
 use Rattle.form_check.specs.Scopes.{Scope, own_column}
-use Rattle.form_check.specs.Leaves.{Leaves, Numbered, Rows, Of, Exists, Value as Worth, then_made, both, all, numbered, numbered_expression}
+use Rattle.form_check.specs.Leaves.{Leaves, Numbering, Rows, Of, Exists, Value as Worth, then_made, both, all, numbered, numbered_expression}
 use Rattle.form_check.specs.Leaves as leaves_of
 use Rattle.form_check.specs.Columns.{at_place}
 use Rattle.form_check.specs.Queries.{alone, row_filter}
@@ -99,7 +99,7 @@ key_is table None (part ∷ parts) =
       | Some e ↦ refl
     ]
 
-pub where_key_is : (table key : ℕ) (made : Cond) → reads.where_key table key made ≡ written.first_key table (find (λ e. e.column == key) (in_parts (reads.top_parts made))) (in_parts (reads.top_parts made))
+pub where_key_is : (table key : ℕ) (made : Cond) → reads.filter_key table key made ≡ written.first_key table (find (λ e. e.column == key) (in_parts (reads.top_parts made))) (in_parts (reads.top_parts made))
 where_key_is table key made =
     key_is table (reads.first_on key (reads.top_parts made)) (reads.top_parts made)
     ∙ ap (λ row. written.first_key table row (in_parts (reads.top_parts made))) (first_on_is key (reads.top_parts made))
@@ -122,11 +122,11 @@ module _ (scope : Scope) where
   abbrev place : ColumnName → Option Expr
   place = at_place (own_column scope)
 
-  abbrev made_expression : ExpressionLayer → Numbered Expr
-  made_expression layer = leaves_of.expression_step place (map-Expression Condition Expression SelectList Query (Condition × Numbered Cond) (Expression × Numbered Expr) (SelectList × Unit {0}) (Query × Unit {0}) (λ c. (c, numbered place c)) (λ e. (e, numbered_expression place e)) (λ l. (l, tt)) (λ q. (q, tt)) layer)
+  abbrev made_expression : ExpressionLayer → Numbering Expr
+  made_expression layer = leaves_of.expression_step place (map-Expression Condition Expression SelectList Query (Condition × Numbering Cond) (Expression × Numbering Expr) (SelectList × Unit {0}) (Query × Unit {0}) (λ c. (c, numbered place c)) (λ e. (e, numbered_expression place e)) (λ l. (l, tt)) (λ q. (q, tt)) layer)
 
-  abbrev made_condition : ConditionLayer → Numbered Cond
-  made_condition layer = leaves_of.condition_step place (map-Condition Condition Expression SelectList Query (Condition × Numbered Cond) (Expression × Numbered Expr) (SelectList × Unit {0}) (Query × Unit {0}) (λ c. (c, numbered place c)) (λ e. (e, numbered_expression place e)) (λ l. (l, tt)) (λ q. (q, tt)) layer)
+  abbrev made_condition : ConditionLayer → Numbering Cond
+  made_condition layer = leaves_of.condition_step place (map-Condition Condition Expression SelectList Query (Condition × Numbering Cond) (Expression × Numbering Expr) (SelectList × Unit {0}) (Query × Unit {0}) (λ c. (c, numbered place c)) (λ e. (e, numbered_expression place e)) (λ l. (l, tt)) (λ q. (q, tt)) layer)
 
   -- an expression is the same column or literal, or neither
   abbrev Alike : ExpressionLayer → Expr → Type 0

@@ -13,7 +13,7 @@ use Rattle.value.specs.declared.comparisons.Comparison.TheVariants.{Equal, NotEq
 use Rattle.value.specs.ValueOrder.{value_cmp}
 use Rattle.value.specs.declared.truths.Truth.{Truth}
 use Rattle.value.specs.declared.truths.Truth.TheVariants.{True, False, Unknown}
-use Rattle.value.specs.Truths.{and_of, is_of, known}
+use Rattle.value.specs.Truths.{and_of, is_of, truth_of_bool}
 use Rattle.table.specs.Rows.{RowValues, Tables, value_in}
 use Rattle.table.specs.Aggregates.{aggregate}
 use Rattle.table.specs.declared.aggregates.Aggregate.{Aggregate}
@@ -40,10 +40,10 @@ use Rattle.form_check.specs.Leaves.{Leaf, Rows, Of, Exists, Value as Worth}
 use Rattle.form_check.specs.Columns.{outer_column}
 use Rattle.form_check.specs.Queries.{Source, source_of, joint_condition, selected_aggregate, may_be_selected, selection_may_stand, expression_may_stand}
 use Rattle.form_check.specs.Links.{parts_in, top_parts, name_in, link_by, link_of_names, either, link_between, link_in, link_of, may_link, first_link, beside, filter_parts}
-use Rattle.form_check.specs.Forms.{linked_where, linked_exists, linked_value, linked}
+use Rattle.form_check.specs.Forms.{linked_filter, linked_exists, linked_value, slot_query_of}
 use Rattle.meaning.specs.Meaning as written
-use Rattle.meaning.specs.Meaning.{References, Valued, Answer, column_values, first_value, only_value, with_rows, passes, truth, valued, select_list, answers}
-use Rattle.meaning.specs.Laws.{seen}
+use Rattle.meaning.specs.Meaning.{References, Evaluation, Answer, column_values, first_value, only_value, with_rows, passes, truth, evaluation_of, select_list, answers}
+use Rattle.meaning.specs.Laws.{reference_to}
 use Rattle.meaning.proofs.Steps.{and_then_ok, in_class_ok, only_if_ok, ok_same}
 use Rattle.meaning.proofs.Numbering.{leaf_value, truth-And}
 use Rattle.meaning.proofs.Rows.{own_value, outer_column_is, outer_value, joint_condition_truth}
@@ -78,16 +78,16 @@ equal_back v w true e false f = let k : true ≡ false = sym (itself w) ∙ ap (
 equal_back v w false e true f = let k : true ≡ false = sym (itself v) ∙ ap (eq_by_cmp value_cmp v) (sym (same_value w v f)) ∙ e in cc
 equal_back v w false e false f = refl
 
-equal_either : (v w : Value) → sql.compared Equal v w ≡ sql.compared Equal w v
+equal_either : (v w : Value) → sql.comparison_truth Equal v w ≡ sql.comparison_truth Equal w v
 equal_either Null Null = refl
 equal_either Null (Int n) = refl
 equal_either Null (Text t) = refl
 equal_either (Int m) Null = refl
 equal_either (Text s) Null = refl
-equal_either (Int m) (Int n) = ap known (equal_back (Int m) (Int n) (eq_by_cmp value_cmp (Int m) (Int n)) refl (eq_by_cmp value_cmp (Int n) (Int m)) refl)
+equal_either (Int m) (Int n) = ap truth_of_bool (equal_back (Int m) (Int n) (eq_by_cmp value_cmp (Int m) (Int n)) refl (eq_by_cmp value_cmp (Int n) (Int m)) refl)
 equal_either (Int m) (Text t) = refl
 equal_either (Text s) (Int n) = refl
-equal_either (Text s) (Text t) = ap known (equal_back (Text s) (Text t) (eq_by_cmp value_cmp (Text s) (Text t)) refl (eq_by_cmp value_cmp (Text t) (Text s)) refl)
+equal_either (Text s) (Text t) = ap truth_of_bool (equal_back (Text s) (Text t) (eq_by_cmp value_cmp (Text s) (Text t)) refl (eq_by_cmp value_cmp (Text t) (Text s)) refl)
 
 -- ---- what a link's names are
 
@@ -125,12 +125,12 @@ first_link_is child root parts link e = go (find (may_link child root parts) par
     go (Some part) e = (part, (refl, e))
 
 module _ (tables : Tables) (state : State) where
-  pub condition_out : (c : Condition) → truth tables state c ≡ written.condition_step (map-Condition Condition Expression SelectList Query (References → Truth) Valued Valued (References → List Answer) (truth tables state) (valued tables state) (select_list tables state) (answers tables state) (out-Condition c))
-  condition_out c = fold_out-Condition (References → Truth) Valued Valued (References → List Answer) written.condition_step written.expression_step written.select_list_step (written.query_step tables state) c
+  pub condition_out : (c : Condition) → truth tables state c ≡ written.condition_step (map-Condition Condition Expression SelectList Query (References → Truth) Evaluation Evaluation (References → List Answer) (truth tables state) (evaluation_of tables state) (select_list tables state) (answers tables state) (out-Condition c))
+  condition_out c = fold_out-Condition (References → Truth) Evaluation Evaluation (References → List Answer) written.condition_step written.expression_step written.select_list_step (written.query_step tables state) c
 
   -- a name's value
   name_layer : (layer : Expression-F Condition Expression SelectList Query) (column : ColumnName) (scopes : References) → name_in layer ≡ Some column
-      → (written.expression_step (map-Expression Condition Expression SelectList Query (References → Truth) Valued Valued (References → List Answer) (truth tables state) (valued tables state) (select_list tables state) (answers tables state) layer)).value scopes ≡ first_value (column_values column scopes)
+      → (written.expression_step (map-Expression Condition Expression SelectList Query (References → Truth) Evaluation Evaluation (References → List Answer) (truth tables state) (evaluation_of tables state) (select_list tables state) (answers tables state) layer)).value scopes ≡ first_value (column_values column scopes)
   name_layer (Expression-F.Number n) column scopes e = cc
   name_layer (Expression-F.Text t) column scopes e = cc
   name_layer (Expression-F.Column c) column scopes e = ap (λ c. first_value (column_values c scopes)) (same_Some c column e)
@@ -141,15 +141,15 @@ module _ (tables : Tables) (state : State) where
   name_layer (Expression-F.Sum parts) column scopes e = cc
   name_layer (Expression-F.Product parts) column scopes e = cc
 
-  name_value : (x : Expression) (column : ColumnName) (scopes : References) → name_in (out-Expression x) ≡ Some column → (valued tables state x).value scopes ≡ first_value (column_values column scopes)
+  name_value : (x : Expression) (column : ColumnName) (scopes : References) → name_in (out-Expression x) ≡ Some column → (evaluation_of tables state x).value scopes ≡ first_value (column_values column scopes)
   name_value x column scopes e =
-      ap (λ v. v.value scopes) (fold_out-Expression (References → Truth) Valued Valued (References → List Answer) written.condition_step written.expression_step written.select_list_step (written.query_step tables state) x) ∙ name_layer (out-Expression x) column scopes e
+      ap (λ v. v.value scopes) (fold_out-Expression (References → Truth) Evaluation Evaluation (References → List Answer) written.condition_step written.expression_step written.select_list_step (written.query_step tables state) x) ∙ name_layer (out-Expression x) column scopes e
 
   -- the parts that AND joins at the top
   parts_layer : (c : Condition) (scopes : References) (layer : Condition-F Condition Expression SelectList Query) → out-Condition c ≡ layer → truth tables state c scopes ≡ sql.all_of (map (λ part. truth tables state part scopes) (parts_in c layer))
   parts_layer c scopes (Condition-F.Or parts) e = and_true (truth tables state c scopes)
   parts_layer c scopes (Condition-F.And parts) e =
-      ap (λ t. t scopes) (condition_out c) ∙ ap (λ layer. written.condition_step (map-Condition Condition Expression SelectList Query (References → Truth) Valued Valued (References → List Answer) (truth tables state) (valued tables state) (select_list tables state) (answers tables state) layer) scopes) e
+      ap (λ t. t scopes) (condition_out c) ∙ ap (λ layer. written.condition_step (map-Condition Condition Expression SelectList Query (References → Truth) Evaluation Evaluation (References → List Answer) (truth tables state) (evaluation_of tables state) (select_list tables state) (answers tables state) layer) scopes) e
       ∙ ap sql.all_of (map_twice (truth tables state) (λ t. t scopes) parts)
   parts_layer c scopes (Condition-F.Not part) e = and_true (truth tables state c scopes)
   parts_layer c scopes (Condition-F.Is part wanted) e = and_true (truth tables state c scopes)
@@ -161,29 +161,29 @@ module _ (tables : Tables) (state : State) where
 
   module _ (child root : names.Scope) (drow row : RowValues) where
     abbrev around : References
-    around = seen child (drow ∷ []) ∷ seen root (row ∷ []) ∷ []
+    around = reference_to child (drow ∷ []) ∷ reference_to root (row ∷ []) ∷ []
 
     -- the two sides of a link
     sides : (inner outer : ColumnName) (c : Link) → link_of_names child root inner outer ≡ Some c → (first_value (column_values inner around) ≡ value_in c.inner drow) × (first_value (column_values outer around) ≡ value_in c.outer row)
     sides inner outer c e =
         let (own, is) = link_by_is (own_column child inner) (outer_column child root outer) c e in
-        (own_value child drow (seen root (row ∷ []) ∷ []) inner c.inner own, outer_value child root drow row [] outer c.outer is)
+        (own_value child drow (reference_to root (row ∷ []) ∷ []) inner c.inner own, outer_value child root drow row [] outer c.outer is)
 
     link_names : (left right : Expression) (l r : Option ColumnName) → name_in (out-Expression left) ≡ l → name_in (out-Expression right) ≡ r → (c : Link) → link_between child root l r ≡ Some c
-        → sql.compared Equal ((valued tables state left).value around) ((valued tables state right).value around) ≡ sql.compared Equal (value_in c.outer row) (value_in c.inner drow)
+        → sql.comparison_truth Equal ((evaluation_of tables state left).value around) ((evaluation_of tables state right).value around) ≡ sql.comparison_truth Equal (value_in c.outer row) (value_in c.inner drow)
     link_names left right None r e f c is = cc
     link_names left right (Some l) None e f c is = cc
     link_names left right (Some l) (Some r) e f c is =
         let lv = name_value left l around e in
         let rv = name_value right r around f in
-        ap (λ v. sql.compared Equal v ((valued tables state right).value around)) lv ∙ ap (sql.compared Equal (first_value (column_values l around))) rv
+        ap (λ v. sql.comparison_truth Equal v ((evaluation_of tables state right).value around)) lv ∙ ap (sql.comparison_truth Equal (first_value (column_values l around))) rv
         ∙ ⊎_elim
-        (λ one. let (inner, outer) = sides l r c one in equal_either (first_value (column_values l around)) (first_value (column_values r around)) ∙ ap (λ v. sql.compared Equal v (first_value (column_values l around))) outer ∙ ap (sql.compared Equal (value_in c.outer row)) inner)
-        (λ two. let (inner, outer) = sides r l c two in ap (λ v. sql.compared Equal v (first_value (column_values r around))) outer ∙ ap (sql.compared Equal (value_in c.outer row)) inner)
+        (λ one. let (inner, outer) = sides l r c one in equal_either (first_value (column_values l around)) (first_value (column_values r around)) ∙ ap (λ v. sql.comparison_truth Equal v (first_value (column_values l around))) outer ∙ ap (sql.comparison_truth Equal (value_in c.outer row)) inner)
+        (λ two. let (inner, outer) = sides r l c two in ap (λ v. sql.comparison_truth Equal v (first_value (column_values r around))) outer ∙ ap (sql.comparison_truth Equal (value_in c.outer row)) inner)
         (either_is (link_of_names child root l r) (link_of_names child root r l) c is)
 
     link_layer : (layer : Condition-F Condition Expression SelectList Query) (c : Link) → link_in child root layer ≡ Some c
-        → written.condition_step (map-Condition Condition Expression SelectList Query (References → Truth) Valued Valued (References → List Answer) (truth tables state) (valued tables state) (select_list tables state) (answers tables state) layer) around ≡ sql.compared Equal (value_in c.outer row) (value_in c.inner drow)
+        → written.condition_step (map-Condition Condition Expression SelectList Query (References → Truth) Evaluation Evaluation (References → List Answer) (truth tables state) (evaluation_of tables state) (select_list tables state) (answers tables state) layer) around ≡ sql.comparison_truth Equal (value_in c.outer row) (value_in c.inner drow)
     link_layer (Condition-F.Or parts) c e = cc
     link_layer (Condition-F.And parts) c e = cc
     link_layer (Condition-F.Not part) c e = cc
@@ -257,13 +257,13 @@ ones : (f : List RowValues → Answer) (rows : List RowValues) → length (map f
 ones f [] = refl
 ones f (row ∷ rows) = ap suc (ones f rows)
 
-pub is_plain : (table : written.Reference) (list : Valued) (keeps : Option (References → Truth)) (outer : References) → list.sets ≡ false
+pub is_plain : (table : written.Reference) (list : Evaluation) (keeps : Option (References → Truth)) (outer : References) → list.sets ≡ false
     → answers_by table list keeps None None outer ≡ map (λ rows. record { rows = rows; value = list.value (with_rows table rows outer) }) (filter (λ rows. true) (map (λ row. row ∷ []) (filter (λ row. passes keeps (with_rows table (row ∷ []) outer)) table.rows)))
 is_plain table list keeps outer none = rw none refl
 
 -- what may be listed under EXISTS has no set function
 plain_layer : (tables : Tables) (state : State) (place : ColumnName → Option ℕ) (layer : Expression-F Condition Expression SelectList Query) → expression_may_stand place layer ≡ true
-    → (written.expression_step (map-Expression Condition Expression SelectList Query (References → Truth) Valued Valued (References → List Answer) (truth tables state) (valued tables state) (select_list tables state) (answers tables state) layer)).sets ≡ false
+    → (written.expression_step (map-Expression Condition Expression SelectList Query (References → Truth) Evaluation Evaluation (References → List Answer) (truth tables state) (evaluation_of tables state) (select_list tables state) (answers tables state) layer)).sets ≡ false
 plain_layer tables state place (Expression-F.Number n) e = refl
 plain_layer tables state place (Expression-F.Text t) e = refl
 plain_layer tables state place (Expression-F.Column column) e = refl
@@ -275,17 +275,17 @@ plain_layer tables state place (Expression-F.Sum parts) e = cc
 plain_layer tables state place (Expression-F.Product parts) e = cc
 
 plain_list_layer : (tables : Tables) (state : State) (place : ColumnName → Option ℕ) (layer : SelectList-F Condition Expression SelectList Query) → selection_may_stand place layer ≡ true
-    → (written.select_list_step (map-SelectList Condition Expression SelectList Query (References → Truth) Valued Valued (References → List Answer) (truth tables state) (valued tables state) (select_list tables state) (answers tables state) layer)).sets ≡ false
+    → (written.select_list_step (map-SelectList Condition Expression SelectList Query (References → Truth) Evaluation Evaluation (References → List Answer) (truth tables state) (evaluation_of tables state) (select_list tables state) (answers tables state) layer)).sets ≡ false
 plain_list_layer tables state place SelectList-F.Star e = refl
 plain_list_layer tables state place (SelectList-F.One x) e =
-    ap (λ v. v.sets) (fold_out-Expression (References → Truth) Valued Valued (References → List Answer) written.condition_step written.expression_step written.select_list_step (written.query_step tables state) x) ∙ plain_layer tables state place (out-Expression x) e
+    ap (λ v. v.sets) (fold_out-Expression (References → Truth) Evaluation Evaluation (References → List Answer) written.condition_step written.expression_step written.select_list_step (written.query_step tables state) x) ∙ plain_layer tables state place (out-Expression x) e
 
 pub plain_list : (tables : Tables) (state : State) (place : ColumnName → Option ℕ) (list : SelectList) → may_be_selected place list ≡ true → (select_list tables state list).sets ≡ false
 plain_list tables state place list e =
-    ap (λ v. v.sets) (fold_out-SelectList (References → Truth) Valued Valued (References → List Answer) written.condition_step written.expression_step written.select_list_step (written.query_step tables state) list) ∙ plain_list_layer tables state place (out-SelectList list) e
+    ap (λ v. v.sets) (fold_out-SelectList (References → Truth) Evaluation Evaluation (References → List Answer) written.condition_step written.expression_step written.select_list_step (written.query_step tables state) list) ∙ plain_list_layer tables state place (out-SelectList list) e
 
 -- what a linked query is made of
-pub linked_where_ok : (child : Source) (root : names.Scope) (a : Aggregate) (keeps : Option Condition) (g : Option ColumnName) (h : Option Condition) (q : Subquery Link) → linked_where child root a keeps g h ≡ Ok q
+pub linked_where_ok : (child : Source) (root : names.Scope) (a : Aggregate) (keeps : Option Condition) (g : Option ColumnName) (h : Option Condition) (q : Subquery Link) → linked_filter child root a keeps g h ≡ Ok q
     → (g ≡ None) × ((h ≡ None) × ((condition : Condition) × ((keeps ≡ Some condition) × ((link : Link) × ((first_link child.scope root (top_parts condition) ≡ Some link) × ((restriction : List Cond) × ((filter_parts child.scope root (top_parts condition) ≡ Ok restriction)
     × (◌≡◌ {A = Subquery Link} (record { table = child.table; filter = cond_of.And restriction; grouping = link; aggregate = a }) q))))))))
 linked_where_ok child root a (Some condition) None None q e =
@@ -299,21 +299,21 @@ linked_where_ok child root a (Some condition) None (Some h) q e = cc
 
 module _ (tables : Tables) (state : State) (root : names.Scope) (row : RowValues) where
   abbrev outer_row : References
-  outer_row = seen root (row ∷ []) ∷ []
+  outer_row = reference_to root (row ∷ []) ∷ []
 
   -- the rows that a linked query keeps
   filtered_rows_are : (child : Source) (condition : Condition) (link : Link) (restriction : List Cond) → first_link child.scope root (top_parts condition) ≡ Some link → filter_parts child.scope root (top_parts condition) ≡ Ok restriction
-      → filter (λ drow. passes (Some (truth tables state condition)) (with_rows (seen child.scope (rows_of child.table state)) (drow ∷ []) outer_row)) (rows_of child.table state)
+      → filter (λ drow. passes (Some (truth tables state condition)) (with_rows (reference_to child.scope (rows_of child.table state)) (drow ∷ []) outer_row)) (rows_of child.table state)
       ≡ filter (λ drow. links link row drow && resolved.keeps drow row (cond_of.And restriction)) (rows_of child.table state)
   filtered_rows_are child condition link restriction first are =
-      filter_agree (λ drow. passes (Some (truth tables state condition)) (with_rows (seen child.scope (rows_of child.table state)) (drow ∷ []) outer_row)) (λ drow. links link row drow && resolved.keeps drow row (cond_of.And restriction)) (λ drow. where_true tables state child.scope root drow row condition link restriction first are) (rows_of child.table state)
+      filter_agree (λ drow. passes (Some (truth tables state condition)) (with_rows (reference_to child.scope (rows_of child.table state)) (drow ∷ []) outer_row)) (λ drow. links link row drow && resolved.keeps drow row (cond_of.And restriction)) (λ drow. where_true tables state child.scope root drow row condition link restriction first are) (rows_of child.table state)
 
   -- a query of these clauses, without GROUP BY and HAVING
   clauses_are : (query : Query) (child : Source) (condition : Condition) → source_of tables (out-Query query).table (out-Query query).correlation_name ≡ Some child → (out-Query query).group ≡ None → (out-Query query).having ≡ None → (out-Query query).keeps ≡ Some condition
-      → answers tables state query outer_row ≡ answers_by (seen child.scope (rows_of child.table state)) (select_list tables state (out-Query query).select_list) (Some (truth tables state condition)) None None outer_row
+      → answers tables state query outer_row ≡ answers_by (reference_to child.scope (rows_of child.table state)) (select_list tables state (out-Query query).select_list) (Some (truth tables state condition)) None None outer_row
   clauses_are query child condition found no_group no_having keeps =
       let q = out-Query query in
-      let table = seen child.scope (rows_of child.table state) in
+      let table = reference_to child.scope (rows_of child.table state) in
       let list = select_list tables state q.select_list in
       answers_at tables state query child outer_row found
       ∙ ap (λ g. answers_by table list (option_map (truth tables state) q.keeps) g (option_map (truth tables state) q.having) outer_row) no_group
@@ -323,10 +323,10 @@ module _ (tables : Tables) (state : State) (root : names.Scope) (row : RowValues
   exists_is : (query : Query) (q : Subquery Link) → linked_exists tables root (out-Query query) ≡ Ok q → ◌≡◌ {A = Value} (Int (pos (length (answers tables state query outer_row)))) (linked_answer state row q)
   exists_is query q e =
       let c = out-Query query in
-      let (child, (found, more)) = in_class_ok (source_of tables c.table c.correlation_name) (λ child. only_if (may_be_selected (own_column child.scope) c.select_list) (linked_where child root CountRows c.keeps c.group c.having)) q e in
-      let (lists, rest) = only_if_ok (may_be_selected (own_column child.scope) c.select_list) (linked_where child root CountRows c.keeps c.group c.having) q more in
+      let (child, (found, more)) = in_class_ok (source_of tables c.table c.correlation_name) (λ child. only_if (may_be_selected (own_column child.scope) c.select_list) (linked_filter child root CountRows c.keeps c.group c.having)) q e in
+      let (lists, rest) = only_if_ok (may_be_selected (own_column child.scope) c.select_list) (linked_filter child root CountRows c.keeps c.group c.having) q more in
       let (no_group, (no_having, (condition, (keeps, (link, (first, (restriction, (are, makes)))))))) = linked_where_ok child root CountRows c.keeps c.group c.having q rest in
-      let table = seen child.scope (rows_of child.table state) in
+      let table = reference_to child.scope (rows_of child.table state) in
       let list = select_list tables state c.select_list in
       let f : List RowValues → Answer = λ rows. record { rows = rows; value = list.value (with_rows table rows outer_row) } in
       ap (λ (n : ℕ). Int (pos n)) (
@@ -338,10 +338,10 @@ module _ (tables : Tables) (state : State) (root : names.Scope) (row : RowValues
   value_is : (query : Query) (q : Subquery Link) → linked_value tables root (out-Query query) ≡ Ok q → only_value (answers tables state query outer_row) ≡ linked_answer state row q
   value_is query q e =
       let c = out-Query query in
-      let (child, (found, more)) = in_class_ok (source_of tables c.table c.correlation_name) (λ child. in_class (selected_aggregate child.scope c.select_list) (λ a. linked_where child root a c.keeps c.group c.having)) q e in
-      let (a, (lists, rest)) = in_class_ok (selected_aggregate child.scope c.select_list) (λ a. linked_where child root a c.keeps c.group c.having) q more in
+      let (child, (found, more)) = in_class_ok (source_of tables c.table c.correlation_name) (λ child. in_class (selected_aggregate child.scope c.select_list) (λ a. linked_filter child root a c.keeps c.group c.having)) q e in
+      let (a, (lists, rest)) = in_class_ok (selected_aggregate child.scope c.select_list) (λ a. linked_filter child root a c.keeps c.group c.having) q more in
       let (no_group, (no_having, (condition, (keeps, (link, (first, (restriction, (are, makes)))))))) = linked_where_ok child root a c.keeps c.group c.having q rest in
-      let table = seen child.scope (rows_of child.table state) in
+      let table = reference_to child.scope (rows_of child.table state) in
       let list = select_list tables state c.select_list in
       let (sets, gives) = list_set tables state child.scope a c.select_list lists in
       ap only_value (clauses_are query child condition found no_group no_having keeps)
@@ -351,7 +351,7 @@ module _ (tables : Tables) (state : State) (root : names.Scope) (row : RowValues
       ∙ ap (linked_answer state row) makes
 
   -- what stands in a slot of a condition over a row
-  pub linked_leaf : (leaf : Leaf) (q : Subquery Link) → linked tables root leaf ≡ Ok q → leaf_value tables state outer_row leaf ≡ linked_answer state row q
+  pub linked_leaf : (leaf : Leaf) (q : Subquery Link) → slot_query_of tables root leaf ≡ Ok q → leaf_value tables state outer_row leaf ≡ linked_answer state row q
   linked_leaf Rows q e = cc
   linked_leaf (Of f column) q e = cc
   linked_leaf (Exists query) q e = exists_is query q e

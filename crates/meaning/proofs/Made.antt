@@ -17,7 +17,7 @@ use Rattle.form_check.specs.Results.{only_if}
 use Rattle.form_check.specs.Columns.{no_column, grouping_column, at_place}
 use Rattle.form_check.specs.Leaves.{Leaves, numbered}
 use Rattle.form_check.specs.Queries.{Source, row_filter, may_be_selected}
-use Rattle.form_check.specs.Forms.{Clauses, plain, linked, aggregate_of, row_where, by_row, having_over, by_group, single}
+use Rattle.form_check.specs.Forms.{Clauses, plain, slot_query_of, aggregate_of, row_where, by_row, having_over, by_group, single}
 use Rattle.meaning.proofs.Steps.{and_then_ok, in_class_ok, only_if_ok, ok_same}
 
 pub record SingleMade (tables : Tables) (condition : Condition) (form : Form) : Type 0 where
@@ -40,15 +40,15 @@ pub record RowMade (tables : Tables) (source : Source) (query : Clauses) (form :
   pub leaves : Leaves
   pub keeps : row_where source.scope query.keeps ≡ Ok (made, leaves)
   pub queries : List (Subquery Link)
-  pub are : each (linked tables source.scope) leaves ≡ Ok queries
+  pub are : each (slot_query_of tables source.scope) leaves ≡ Ok queries
   pub is : ByRow source.table made queries ≡ form
 
 pub row_made : (tables : Tables) (source : Source) (query : Clauses) (form : Form) → by_row tables source query ≡ Ok form → RowMade tables source query form
 row_made tables source query form e =
     let scope = source.scope in
-    let (lists, rest) = only_if_ok (may_be_selected (own_column scope) query.select_list) (and_then (row_where scope query.keeps) (λ made. and_then (each (linked tables scope) made.1) (λ queries. let r : Result Form Refusal = Ok (ByRow source.table made.0 queries) in r))) form e in
-    let (m, (keeps, more)) = and_then_ok (row_where scope query.keeps) (λ made. and_then (each (linked tables scope) made.1) (λ queries. let r : Result Form Refusal = Ok (ByRow source.table made.0 queries) in r)) form rest in
-    let (queries, (are, makes)) = and_then_ok (each (linked tables scope) m.1) (λ queries. let r : Result Form Refusal = Ok (ByRow source.table m.0 queries) in r) form more in
+    let (lists, rest) = only_if_ok (may_be_selected (own_column scope) query.select_list) (and_then (row_where scope query.keeps) (λ made. and_then (each (slot_query_of tables scope) made.1) (λ queries. let r : Result Form Refusal = Ok (ByRow source.table made.0 queries) in r))) form e in
+    let (m, (keeps, more)) = and_then_ok (row_where scope query.keeps) (λ made. and_then (each (slot_query_of tables scope) made.1) (λ queries. let r : Result Form Refusal = Ok (ByRow source.table made.0 queries) in r)) form rest in
+    let (queries, (are, makes)) = and_then_ok (each (slot_query_of tables scope) m.1) (λ queries. let r : Result Form Refusal = Ok (ByRow source.table m.0 queries) in r) form more in
     record { lists = lists; made = m.0; leaves = m.1; keeps = keeps; queries = queries; are = are; is = ok_same (ByRow source.table m.0 queries) form makes }
 
 pub record GroupMade (source : Source) (query : Clauses) (column : ColumnName) (having : Condition) (form : Form) : Type 0 where

@@ -28,40 +28,40 @@ use Rattle.form_check.specs.Scopes as names
 use Rattle.form_check.specs.Scopes.{own_column}
 use Rattle.value.specs.Results.{and_then, each}
 use Rattle.form_check.specs.Leaves.{Leaf, Leaves, Rows, Of, Exists, Value as Worth}
-use Rattle.form_check.specs.Queries.{Source, sourced, source_of, row_filter, of_column, aggregate_in, aggregate_selected, selected_aggregate}
+use Rattle.form_check.specs.Queries.{Source, source_named, source_of, row_filter, of_column, aggregate_in, aggregate_selected, selected_aggregate}
 use Rattle.form_check.specs.Forms.{Clauses, plain, plain_by, plain_value}
 use Rattle.meaning.specs.Meaning as written
-use Rattle.meaning.specs.Meaning.{Reference, References, Valued, Answer, no_layout, rows_at, table_of, column_values, set_function, only_value, with_rows, passes, grouped, grouping, truth, valued, select_list, answers}
-use Rattle.meaning.specs.Laws.{seen}
+use Rattle.meaning.specs.Meaning.{Reference, References, Evaluation, Answer, no_layout, rows_at, table_of, column_values, set_function, only_value, with_rows, passes, groups_of_rows, group_value, truth, evaluation_of, select_list, answers}
+use Rattle.meaning.specs.Laws.{reference_to}
 use Rattle.meaning.proofs.Steps.{and_then_ok, in_class_ok, ok_same, mapped_some}
 use Rattle.meaning.proofs.Numbering.{leaf_value}
 use Rattle.meaning.proofs.Rows.{own_values, row_filter_keeps}
 
 -- ---- FROM
 
-sourced_seen : (name : List ℕ) (p : Option ℕ) (l : Option Layout) (state : State) (source : Source) → sourced name p l ≡ Some source
-    → ◌≡◌ {A = Reference} (record { table = record { exposed_name = name; layout = unwrap_or l no_layout }; rows = rows_at p state }) (seen source.scope (rows_of source.table state))
+sourced_seen : (name : List ℕ) (p : Option ℕ) (l : Option Layout) (state : State) (source : Source) → source_named name p l ≡ Some source
+    → ◌≡◌ {A = Reference} (record { table = record { exposed_name = name; layout = unwrap_or l no_layout }; rows = rows_at p state }) (reference_to source.scope (rows_of source.table state))
 sourced_seen name None l state source e = cc
 sourced_seen name (Some t) None state source e = cc
 sourced_seen name (Some t) (Some l) state source e =
     let found : Source = record { table = t; scope = record { exposed_name = name; layout = l } } in
-    ap (λ (s : Source). seen s.scope (rows_of s.table state)) (same_Some found source e)
+    ap (λ (s : Source). reference_to s.scope (rows_of s.table state)) (same_Some found source e)
 
 -- the table that a query reads
-pub source_seen : (tables : Tables) (state : State) (table : List ℕ) (correlation_name : Option (List ℕ)) (source : Source) → source_of tables table correlation_name ≡ Some source → table_of tables state table correlation_name ≡ seen source.scope (rows_of source.table state)
+pub source_seen : (tables : Tables) (state : State) (table : List ℕ) (correlation_name : Option (List ℕ)) (source : Source) → source_of tables table correlation_name ≡ Some source → table_of tables state table correlation_name ≡ reference_to source.scope (rows_of source.table state)
 source_seen tables state table correlation_name source e = sourced_seen (unwrap_or correlation_name table) (position_of table tables) (layout_of table tables) state source e
 
 -- ---- the clauses
 
-abbrev pub mapped : Tables → State → Clauses → Query-F (References → Truth) Valued Valued (References → List Answer)
-mapped tables state = map-Query Condition Expression SelectList Query (References → Truth) Valued Valued (References → List Answer) (truth tables state) (valued tables state) (select_list tables state) (answers tables state)
+abbrev pub mapped : Tables → State → Clauses → Query-F (References → Truth) Evaluation Evaluation (References → List Answer)
+mapped tables state = map-Query Condition Expression SelectList Query (References → Truth) Evaluation Evaluation (References → List Answer) (truth tables state) (evaluation_of tables state) (select_list tables state) (answers tables state)
 
 -- what a query gives, by its clauses
-abbrev pub answers_by : Reference → Valued → Option (References → Truth) → Option ColumnName → Option (References → Truth) → References → List Answer
+abbrev pub answers_by : Reference → Evaluation → Option (References → Truth) → Option ColumnName → Option (References → Truth) → References → List Answer
 answers_by table list keeps group having outer =
     map (λ rows. record { rows = rows; value = list.value (with_rows table rows outer) }) (
     filter (λ rows. passes having (with_rows table rows outer)) (
-    grouped (grouping group table outer) (is_some having || list.sets) (
+    groups_of_rows (group_value group table outer) (is_some having || list.sets) (
     filter (λ row. passes keeps (with_rows table (row ∷ []) outer)) table.rows)))
 
 -- a query of these parts
@@ -89,10 +89,10 @@ mapped_option tables state query outer =
 
 pub answers_at : (tables : Tables) (state : State) (query : Query) (source : Source) (outer : References) → source_of tables (out-Query query).table (out-Query query).correlation_name ≡ Some source
     → answers tables state query outer
-    ≡ answers_by (seen source.scope (rows_of source.table state)) (select_list tables state (out-Query query).select_list) (option_map (truth tables state) (out-Query query).keeps) (out-Query query).group (option_map (truth tables state) (out-Query query).having) outer
+    ≡ answers_by (reference_to source.scope (rows_of source.table state)) (select_list tables state (out-Query query).select_list) (option_map (truth tables state) (out-Query query).keeps) (out-Query query).group (option_map (truth tables state) (out-Query query).having) outer
 answers_at tables state query source outer e =
     let q = out-Query query in
-    ap (λ a. a outer) (fold_out-Query (References → Truth) Valued Valued (References → List Answer) written.condition_step written.expression_step written.select_list_step (written.query_step tables state) query)
+    ap (λ a. a outer) (fold_out-Query (References → Truth) Evaluation Evaluation (References → List Answer) written.condition_step written.expression_step written.select_list_step (written.query_step tables state) query)
     ∙ mapped_option tables state q outer
     ∙ ap (λ t. answers_by t (select_list tables state q.select_list) (option_map (truth tables state) q.keeps) q.group (option_map (truth tables state) q.having) outer) (source_seen tables state q.table q.correlation_name source e)
 
@@ -106,15 +106,15 @@ function_alike function.Max c rows = refl
 
 -- a set function of a column of the rows at hand
 pub set_function_of : (f : Function) (scope : names.Scope) (rows : List RowValues) (outer : References) (column : ColumnName) (c : ℕ) → own_column scope column ≡ Some c
-    → set_function f (filter is_there (column_values column (seen scope rows ∷ outer))) ≡ aggregate (of_column f c) rows
+    → set_function f (filter is_there (column_values column (reference_to scope rows ∷ outer))) ≡ aggregate (of_column f c) rows
 set_function_of f scope rows outer column c is = ap (λ vs. set_function f (filter is_there vs)) (own_values scope rows outer column c is) ∙ function_alike f c rows
 
 -- an expression that is one set function
-abbrev IsSet : names.Scope → Aggregate → Valued → Type 0
-IsSet scope a v = (v.sets ≡ true) × ((rows : List RowValues) (outer : References) → v.value (seen scope rows ∷ outer) ≡ aggregate a rows)
+abbrev IsSet : names.Scope → Aggregate → Evaluation → Type 0
+IsSet scope a v = (v.sets ≡ true) × ((rows : List RowValues) (outer : References) → v.value (reference_to scope rows ∷ outer) ≡ aggregate a rows)
 
 set_in : (tables : Tables) (state : State) (scope : names.Scope) (a : Aggregate) (layer : Expression-F Condition Expression SelectList Query) → aggregate_in scope layer ≡ Some a
-    → IsSet scope a (written.expression_step (map-Expression Condition Expression SelectList Query (References → Truth) Valued Valued (References → List Answer) (truth tables state) (valued tables state) (select_list tables state) (answers tables state) layer))
+    → IsSet scope a (written.expression_step (map-Expression Condition Expression SelectList Query (References → Truth) Evaluation Evaluation (References → List Answer) (truth tables state) (evaluation_of tables state) (select_list tables state) (answers tables state) layer))
 set_in tables state scope a (Expression-F.Number n) e = cc
 set_in tables state scope a (Expression-F.Text t) e = cc
 set_in tables state scope a (Expression-F.Column column) e = cc
@@ -128,17 +128,17 @@ set_in tables state scope a (Expression-F.Sum parts) e = cc
 set_in tables state scope a (Expression-F.Product parts) e = cc
 
 list_in : (tables : Tables) (state : State) (scope : names.Scope) (a : Aggregate) (layer : SelectList-F Condition Expression SelectList Query) → aggregate_selected scope layer ≡ Some a
-    → IsSet scope a (written.select_list_step (map-SelectList Condition Expression SelectList Query (References → Truth) Valued Valued (References → List Answer) (truth tables state) (valued tables state) (select_list tables state) (answers tables state) layer))
+    → IsSet scope a (written.select_list_step (map-SelectList Condition Expression SelectList Query (References → Truth) Evaluation Evaluation (References → List Answer) (truth tables state) (evaluation_of tables state) (select_list tables state) (answers tables state) layer))
 list_in tables state scope a SelectList-F.Star e = cc
 list_in tables state scope a (SelectList-F.One x) e =
-    subst (IsSet scope a) (sym (fold_out-Expression (References → Truth) Valued Valued (References → List Answer) written.condition_step written.expression_step written.select_list_step (written.query_step tables state) x)) (set_in tables state scope a (out-Expression x) e)
+    subst (IsSet scope a) (sym (fold_out-Expression (References → Truth) Evaluation Evaluation (References → List Answer) written.condition_step written.expression_step written.select_list_step (written.query_step tables state) x)) (set_in tables state scope a (out-Expression x) e)
 
 pub list_set : (tables : Tables) (state : State) (scope : names.Scope) (a : Aggregate) (list : SelectList) → selected_aggregate scope list ≡ Some a → IsSet scope a (select_list tables state list)
 list_set tables state scope a list e =
-    subst (IsSet scope a) (sym (fold_out-SelectList (References → Truth) Valued Valued (References → List Answer) written.condition_step written.expression_step written.select_list_step (written.query_step tables state) list)) (list_in tables state scope a (out-SelectList list) e)
+    subst (IsSet scope a) (sym (fold_out-SelectList (References → Truth) Evaluation Evaluation (References → List Answer) written.condition_step written.expression_step written.select_list_step (written.query_step tables state) list)) (list_in tables state scope a (out-SelectList list) e)
 
 -- the one value of a query that lists a set function
-pub only_set : (table : Reference) (list : Valued) (keeps : Option (References → Truth)) (outer : References) → list.sets ≡ true
+pub only_set : (table : Reference) (list : Evaluation) (keeps : Option (References → Truth)) (outer : References) → list.sets ≡ true
     → only_value (answers_by table list keeps None None outer) ≡ list.value (with_rows table (filter (λ row. passes keeps (with_rows table (row ∷ []) outer)) table.rows) outer)
 only_set table list keeps outer sets = rw sets refl
 
@@ -160,7 +160,7 @@ plain_is tables state scopes query p e =
     let (source, (found, more)) = in_class_ok (source_of tables q.table q.correlation_name) (λ source. plain_by source (selected_aggregate source.scope q.select_list) q.keeps q.group q.having) p e in
     let (no_group, (no_having, (function, (lists, (restriction, (filters, makes)))))) = plain_by_ok source (selected_aggregate source.scope q.select_list) q.keeps q.group q.having p more in
     let rows = rows_of source.table state in
-    let table = seen source.scope rows in
+    let table = reference_to source.scope rows in
     let list = select_list tables state q.select_list in
     let keeps = option_map (truth tables state) q.keeps in
     let (sets, gives) = list_set tables state source.scope function q.select_list lists in

@@ -23,10 +23,10 @@ use Rattle.form_check.specs.Scopes.{own_column}
 use Rattle.form_check.specs.Columns.{at_place}
 use Rattle.value.specs.Results.{each}
 use Rattle.form_check.specs.Leaves.{Leaves}
-use Rattle.form_check.specs.Queries.{Source, sourced}
-use Rattle.form_check.specs.Forms.{linked, row_where}
-use Rattle.meaning.specs.Meaning.{References, Valued, Answer, first_value, with_rows, passes, truth, root_of}
-use Rattle.meaning.specs.Laws.{seen}
+use Rattle.form_check.specs.Queries.{Source, source_named}
+use Rattle.form_check.specs.Forms.{slot_query_of, row_where}
+use Rattle.meaning.specs.Meaning.{References, Evaluation, Answer, first_value, with_rows, passes, truth, root_of}
+use Rattle.meaning.specs.Laws.{reference_to}
 use Rattle.meaning.proofs.Steps.{ok_pair}
 use Rattle.meaning.proofs.Numbering.{leaf_value, condition_faithful, truth-And}
 use Rattle.meaning.proofs.Rows.{own_means}
@@ -53,7 +53,7 @@ layout_at name d tables t l p e =
     let same : n ≡ t = cond_some (nat_lt n (length (names_of tables))) n t p in
     ap (λ n. slice_index_or (layouts_of tables) n d) (sym same) ∙ at_first name d tables l e
 
-pub sourced_parts : (name : List ℕ) (p : Option ℕ) (l : Option Layout) (source : Source) → sourced name p l ≡ Some source → (p ≡ Some source.table) × (l ≡ Some source.scope.layout)
+pub sourced_parts : (name : List ℕ) (p : Option ℕ) (l : Option Layout) (source : Source) → source_named name p l ≡ Some source → (p ≡ Some source.table) × (l ≡ Some source.scope.layout)
 sourced_parts name None l source e = cc
 sourced_parts name (Some t) None source e = cc
 sourced_parts name (Some t) (Some l) source e =
@@ -63,17 +63,17 @@ sourced_parts name (Some t) (Some l) source e =
 
 -- ---- WHERE of the outer query
 
-row_filtered : (tables : Tables) (state : State) (root : names.Scope) (keeps : Option Condition) (made : Cond) (leaves : Leaves) (queries : List (Subquery Link)) → row_where root keeps ≡ Ok (made, leaves) → each (linked tables root) leaves ≡ Ok queries → (row : RowValues)
-    → passes (option_map (truth tables state) keeps) (seen root (row ∷ []) ∷ []) ≡ lists_row state made queries row
+row_filtered : (tables : Tables) (state : State) (root : names.Scope) (keeps : Option Condition) (made : Cond) (leaves : Leaves) (queries : List (Subquery Link)) → row_where root keeps ≡ Ok (made, leaves) → each (slot_query_of tables root) leaves ≡ Ok queries → (row : RowValues)
+    → passes (option_map (truth tables state) keeps) (reference_to root (row ∷ []) ∷ []) ≡ lists_row state made queries row
 row_filtered tables state root None made leaves queries is are row =
     let none : Leaves = [] in
     let slots = map (linked_answer state row) queries in
     let (same, nothing) = ok_pair (cond_of.And []) made none leaves is in
     ap (λ t. is_of t True) (sym (truth-And tables state [] row slots [])) ∙ ap (resolved.keeps row slots) same
 row_filtered tables state root (Some condition) made leaves queries is are row =
-    let scopes : References = seen root (row ∷ []) ∷ [] in
+    let scopes : References = reference_to root (row ∷ []) ∷ [] in
     let slots = map (linked_answer state row) queries in
-    let fits = each_leaf tables state scopes (linked tables root) (linked_answer state row) (linked_leaf tables state root row) leaves queries are ∙ sym (append-nil (map (leaf_value tables state scopes) leaves)) in
+    let fits = each_leaf tables state scopes (slot_query_of tables root) (linked_answer state row) (linked_leaf tables state root row) leaves queries are ∙ sym (append-nil (map (leaf_value tables state scopes) leaves)) in
     ap (λ t. is_of t True) (condition_faithful tables state scopes row slots (at_place (own_column root)) (own_means tables state root row slots []) condition [] made leaves is ([], fits)).0
 
 one_row : (f : List RowValues → Answer) (key : RowValues → Value) (g : Answer → Root) → ((row : RowValues) → g (f (row ∷ [])) ≡ Of (key row)) → (rows : List RowValues) → map g (map f (filter (λ rows. true) (map (λ row. row ∷ []) rows))) ≡ map (λ row. Of (key row)) rows
@@ -81,11 +81,11 @@ one_row f key g same [] = refl
 one_row f key g same (row ∷ rows) = ap (λ r. r ∷ map g (map f (filter (λ rows. true) (map (λ row. row ∷ []) rows)))) (same row) ∙ ap (λ rs. Of (key row) ∷ rs) (one_row f key g same rows)
 
 -- the rows that a query with neither gives are those that the form lists
-pub row_roots_are : (tables : Tables) (state : State) (root : names.Scope) (table : ℕ) (list : Valued) (keeps : Option Condition) (made : Cond) (leaves : Leaves) (queries : List (Subquery Link)) → list.sets ≡ false → row_where root keeps ≡ Ok (made, leaves) → each (linked tables root) leaves ≡ Ok queries
-    → map (root_of None root.layout.key) (answers_by (seen root (rows_of table state)) list (option_map (truth tables state) keeps) None None []) ≡ row_roots state table root.layout.key made queries
+pub row_roots_are : (tables : Tables) (state : State) (root : names.Scope) (table : ℕ) (list : Evaluation) (keeps : Option Condition) (made : Cond) (leaves : Leaves) (queries : List (Subquery Link)) → list.sets ≡ false → row_where root keeps ≡ Ok (made, leaves) → each (slot_query_of tables root) leaves ≡ Ok queries
+    → map (root_of None root.layout.key) (answers_by (reference_to root (rows_of table state)) list (option_map (truth tables state) keeps) None None []) ≡ row_roots state table root.layout.key made queries
 row_roots_are tables state root table list keeps made leaves queries none is are =
     let rows = rows_of table state in
-    let scope = seen root rows in
+    let scope = reference_to root rows in
     let f : List RowValues → Answer = λ rows. record { rows = rows; value = list.value (with_rows scope rows []) } in
     ap (map (root_of None root.layout.key)) (is_plain scope list (option_map (truth tables state) keeps) [] none)
     ∙ one_row f (value_in root.layout.key) (root_of None root.layout.key) (λ row. refl) (filter (λ row. passes (option_map (truth tables state) keeps) (with_rows scope (row ∷ []) [])) rows)

@@ -19,7 +19,7 @@ use Rattle.syntax.specs.declared.trees.SelectList.{SelectList}
 use Rattle.syntax.specs.declared.trees.Query.{Query}
 use Rattle.value.specs.Results.{and_then}
 use Rattle.form_check.specs.Results.{in_class}
-use Rattle.form_check.specs.Leaves.{Leaf, Leaves, Numbered, Rows, Of, Exists, Value as Worth, placed, then_made, both, all, numbered, numbered_expression}
+use Rattle.form_check.specs.Leaves.{Leaf, Leaves, Numbering, Rows, Of, Exists, Value as Worth, expression_of_column, then_made, both, all, numbered, numbered_expression}
 use Rattle.form_check.specs.Leaves as leaves_of
 use Rattle.meaning.specs.Class as class
 use Rattle.meaning.specs.Class.{Piece, Pieces, Each, condition_columns, expression_columns, columns_in, condition_pieces, expression_pieces, pieces_in}
@@ -68,17 +68,17 @@ module _ (place : ColumnName → Option Expr) where
   MayStand column = IsSome (place column)
 
   -- what is numbered has these columns, all of which may stand there, and these slots; and where they may, it is numbered
-  pub record Numbers {A : Type 0} (columns : List ColumnName) (pieces : Pieces) (make : Numbered A) : Type 0 where
+  pub record Numbers {A : Type 0} (columns : List ColumnName) (pieces : Pieces) (make : Numbering A) : Type 0 where
     pub says : (before : Leaves) (made : A) (after : Leaves) → make before ≡ Ok (made, after) → Each MayStand columns × (after ≡ before ++ map leaf_of pieces)
     pub finds : (before : Leaves) → Each MayStand columns → (made : A) × (make before ≡ Ok (made, before ++ map leaf_of pieces))
 
-  then_numbers : {A B : Type 0} (make : A → B) (columns : List ColumnName) (leaves : Pieces) (n : Numbered A) → Numbers columns leaves n → Numbers columns leaves (λ before. then_made make (n before))
+  then_numbers : {A B : Type 0} (make : A → B) (columns : List ColumnName) (leaves : Pieces) (n : Numbering A) → Numbers columns leaves n → Numbers columns leaves (λ before. then_made make (n before))
   then_numbers make columns leaves n good = record {
     says = λ before made after e. let (a, (is, makes)) = then_ok make (n before) made after e in good.says before a after is;
     finds = λ before h. let (a, is) = good.finds before h in (make a, ap (then_made make) is);
   }
 
-  after_numbers : {A B : Type 0} (make : A → Numbered B) (c1 c2 : List ColumnName) (l1 l2 : Pieces) (m : Numbered A) → Numbers c1 l1 m → ((a : A) → Numbers c2 l2 (make a)) → Numbers (c1 ++ c2) (l1 ++ l2) (λ before. and_then (m before) (λ a. make a.0 a.1))
+  after_numbers : {A B : Type 0} (make : A → Numbering B) (c1 c2 : List ColumnName) (l1 l2 : Pieces) (m : Numbering A) → Numbers c1 l1 m → ((a : A) → Numbers c2 l2 (make a)) → Numbers (c1 ++ c2) (l1 ++ l2) (λ before. and_then (m before) (λ a. make a.0 a.1))
   after_numbers make c1 c2 l1 l2 m first second = record {
     says = λ before made after e.
         let (a, (is, more)) = and_then_ok (m before) (λ a. make a.0 a.1) (made, after) e in
@@ -92,7 +92,7 @@ module _ (place : ColumnName → Option Expr) where
         (b, ap (λ r. and_then r (λ a. make a.0 a.1)) is ∙ more ∙ ap (λ l. Ok (b, l)) (joined before l1 l2));
   }
 
-  both_numbers : {A B C : Type 0} (make : A → B → C) (c1 c2 : List ColumnName) (l1 l2 : Pieces) (m : Numbered A) (n : Numbered B) → Numbers c1 l1 m → Numbers c2 l2 n → Numbers (c1 ++ c2) (l1 ++ l2) (both make m n)
+  both_numbers : {A B C : Type 0} (make : A → B → C) (c1 c2 : List ColumnName) (l1 l2 : Pieces) (m : Numbering A) (n : Numbering B) → Numbers c1 l1 m → Numbers c2 l2 n → Numbers (c1 ++ c2) (l1 ++ l2) (both make m n)
   both_numbers make c1 c2 l1 l2 m n first second = after_numbers (λ a before. then_made (make a) (n before)) c1 c2 l1 l2 m first (λ a. then_numbers (make a) c2 l2 n second)
 
   -- what takes no slot and no column
@@ -112,7 +112,7 @@ module _ (place : ColumnName → Option Expr) where
   is_some_of : {A : Type 0} (o : Option A) (a : A) → o ≡ Some a → IsSome o
   is_some_of o a e = ap is_some e
 
-  column_numbers : (column : ColumnName) → Numbers (column ∷ []) [] (placed (place column))
+  column_numbers : (column : ColumnName) → Numbers (column ∷ []) [] (expression_of_column (place column))
   column_numbers column = record {
     says = λ before made after e.
         let (x, (is, more)) = in_class_ok (place column) (λ x. Ok (x, before)) (made, after) e in
@@ -122,11 +122,11 @@ module _ (place : ColumnName → Option Expr) where
         (x, ap (λ o. in_class o (λ x. Ok (x, before))) is ∙ ap (λ l. Ok (x, l)) (sym (append-nil before)));
   }
 
-  all_numbers : {X A : Type 0} (make : X → Numbered A) (columns : X → List ColumnName) (leaves : X → Pieces) (parts : List ((x : X) × Numbers (columns x) (leaves x) (make x)))
+  all_numbers : {X A : Type 0} (make : X → Numbering A) (columns : X → List ColumnName) (leaves : X → Pieces) (parts : List ((x : X) × Numbers (columns x) (leaves x) (make x)))
       → Numbers (flat_map (λ cs. cs) (map columns (map (λ e. e.0) parts))) (flat_map (λ (p : X × Pieces). p.1) (map (λ x. (x, leaves x)) (map (λ e. e.0) parts))) (all (map (λ x. (x, make x)) (map (λ e. e.0) parts)))
   all_numbers {X = X} {A = A} make columns leaves [] = let none : List A = [] in plain_numbers none
   all_numbers {X = X} {A = A} make columns leaves (part ∷ parts) =
-      let others : Numbered (List A) = all (map (λ x. (x, make x)) (map (λ e. e.0) parts)) in
+      let others : Numbering (List A) = all (map (λ x. (x, make x)) (map (λ e. e.0) parts)) in
       after_numbers (λ a before. then_made (λ rest. a ∷ rest) (others before)) (columns part.0) (flat_map (λ cs. cs) (map columns (map (λ e. e.0) parts))) (leaves part.0) (flat_map (λ (p : X × Pieces). p.1) (map (λ x. (x, leaves x)) (map (λ e. e.0) parts))) (make part.0) part.1
       (λ a. then_numbers (λ rest. a ∷ rest) (flat_map (λ cs. cs) (map columns (map (λ e. e.0) parts))) (flat_map (λ (p : X × Pieces). p.1) (map (λ x. (x, leaves x)) (map (λ e. e.0) parts))) others (all_numbers make columns leaves parts))
 
@@ -157,7 +157,7 @@ module _ (place : ColumnName → Option Expr) where
   expression_layer : (y : Expression-F of_condition of_expression of_select_list of_query)
       → Numbers (expression_columns (map-Expression Condition Expression SelectList Query (List ColumnName) (List ColumnName) (Unit {0}) (Unit {0}) columns_in columns_of (λ l. tt) (λ q. tt) (under_expression y)))
       (expression_pieces (map-Expression Condition Expression SelectList Query (Condition × Pieces) (Expression × Pieces) (SelectList × Unit {0}) (Query × Unit {0}) (λ c. (c, pieces_in c)) (λ e. (e, pieces_at e)) (λ l. (l, tt)) (λ q. (q, tt)) (under_expression y)))
-      (leaves_of.expression_step place (map-Expression Condition Expression SelectList Query (Condition × Numbered Cond) (Expression × Numbered Expr) (SelectList × Unit {0}) (Query × Unit {0}) (λ c. (c, numbered place c)) (λ e. (e, numbered_expression place e)) (λ l. (l, tt)) (λ q. (q, tt)) (under_expression y)))
+      (leaves_of.expression_step place (map-Expression Condition Expression SelectList Query (Condition × Numbering Cond) (Expression × Numbering Expr) (SelectList × Unit {0}) (Query × Unit {0}) (λ c. (c, numbered place c)) (λ e. (e, numbered_expression place e)) (λ l. (l, tt)) (λ q. (q, tt)) (under_expression y)))
   expression_layer (Expression-F.Number n) = plain_numbers (expr.Literal (value.Int n))
   expression_layer (Expression-F.Text t) = plain_numbers (expr.Literal (value.Text t))
   expression_layer (Expression-F.Column column) = column_numbers column
@@ -171,7 +171,7 @@ module _ (place : ColumnName → Option Expr) where
   condition_layer : (y : Condition-F of_condition of_expression of_select_list of_query)
       → Numbers (condition_columns (map-Condition Condition Expression SelectList Query (List ColumnName) (List ColumnName) (Unit {0}) (Unit {0}) columns_in columns_of (λ l. tt) (λ q. tt) (under_condition y)))
       (condition_pieces (map-Condition Condition Expression SelectList Query (Condition × Pieces) (Expression × Pieces) (SelectList × Unit {0}) (Query × Unit {0}) (λ c. (c, pieces_in c)) (λ e. (e, pieces_at e)) (λ l. (l, tt)) (λ q. (q, tt)) (under_condition y)))
-      (leaves_of.condition_step place (map-Condition Condition Expression SelectList Query (Condition × Numbered Cond) (Expression × Numbered Expr) (SelectList × Unit {0}) (Query × Unit {0}) (λ c. (c, numbered place c)) (λ e. (e, numbered_expression place e)) (λ l. (l, tt)) (λ q. (q, tt)) (under_condition y)))
+      (leaves_of.condition_step place (map-Condition Condition Expression SelectList Query (Condition × Numbering Cond) (Expression × Numbering Expr) (SelectList × Unit {0}) (Query × Unit {0}) (λ c. (c, numbered place c)) (λ e. (e, numbered_expression place e)) (λ l. (l, tt)) (λ q. (q, tt)) (under_condition y)))
   condition_layer (Condition-F.Or parts) = then_numbers cond_of.Or (flat_map (λ cs. cs) (map columns_in (map (λ e. e.0) parts))) (flat_map (λ (p : Condition × Pieces). p.1) (map (λ x. (x, pieces_in x)) (map (λ e. e.0) parts))) (all (map (λ c. (c, numbered place c)) (map (λ e. e.0) parts))) (all_numbers (numbered place) columns_in pieces_in parts)
   condition_layer (Condition-F.And parts) = then_numbers cond_of.And (flat_map (λ cs. cs) (map columns_in (map (λ e. e.0) parts))) (flat_map (λ (p : Condition × Pieces). p.1) (map (λ x. (x, pieces_in x)) (map (λ e. e.0) parts))) (all (map (λ c. (c, numbered place c)) (map (λ e. e.0) parts))) (all_numbers (numbered place) columns_in pieces_in parts)
   condition_layer (Condition-F.Not part) = then_numbers cond_of.Not (columns_in part.0) (pieces_in part.0) (numbered place part.0) part.1
@@ -183,7 +183,7 @@ module _ (place : ColumnName → Option Expr) where
       (λ s. both_numbers (between_of s) (columns_of low.0) (columns_of high.0) (pieces_at low.0) (pieces_at high.0) (numbered_expression place low.0) (numbered_expression place high.0) low.1 high.1)
   condition_layer (Condition-F.In x list) = both_numbers in_of (columns_of x.0) (flat_map (λ cs. cs) (map columns_of (map (λ e. e.0) list))) (pieces_at x.0) (flat_map (λ (p : Expression × Pieces). p.1) (map (λ x. (x, pieces_at x)) (map (λ e. e.0) list))) (numbered_expression place x.0) (all (map (λ e. (e, numbered_expression place e)) (map (λ e. e.0) list))) x.1 (all_numbers (numbered_expression place) columns_of pieces_at list)
 
-  moved : {A : Type 0} (c1 c2 : List ColumnName) (l1 l2 : Pieces) (m n : Numbered A) → c1 ≡ c2 → l1 ≡ l2 → m ≡ n → Numbers c2 l2 n → Numbers c1 l1 m
+  moved : {A : Type 0} (c1 c2 : List ColumnName) (l1 l2 : Pieces) (m n : Numbering A) → c1 ≡ c2 → l1 ≡ l2 → m ≡ n → Numbers c2 l2 n → Numbers c1 l1 m
   moved c1 c2 l1 l2 m n c l e good = subst (λ cs. Numbers cs l1 m) (sym c) (subst (λ ls. Numbers c2 ls m) (sym l) (subst (λ k. Numbers c2 l2 k) (sym e) good))
 
   expression_at : (x : Expression-F Condition Expression SelectList Query) (y : Expression-F of_condition of_expression of_select_list of_query) → under_expression y ≡ x → IsNumberedExpression (roll-Expression x)
@@ -191,7 +191,7 @@ module _ (place : ColumnName → Option Expr) where
       let layer = under_expression y in
       let columns = expression_columns (map-Expression Condition Expression SelectList Query (List ColumnName) (List ColumnName) (Unit {0}) (Unit {0}) columns_in columns_of (λ l. tt) (λ q. tt) layer) in
       let leaves = expression_pieces (map-Expression Condition Expression SelectList Query (Condition × Pieces) (Expression × Pieces) (SelectList × Unit {0}) (Query × Unit {0}) (λ c. (c, pieces_in c)) (λ e. (e, pieces_at e)) (λ l. (l, tt)) (λ q. (q, tt)) layer) in
-      let made = leaves_of.expression_step place (map-Expression Condition Expression SelectList Query (Condition × Numbered Cond) (Expression × Numbered Expr) (SelectList × Unit {0}) (Query × Unit {0}) (λ c. (c, numbered place c)) (λ e. (e, numbered_expression place e)) (λ l. (l, tt)) (λ q. (q, tt)) layer) in
+      let made = leaves_of.expression_step place (map-Expression Condition Expression SelectList Query (Condition × Numbering Cond) (Expression × Numbering Expr) (SelectList × Unit {0}) (Query × Unit {0}) (λ c. (c, numbered place c)) (λ e. (e, numbered_expression place e)) (λ l. (l, tt)) (λ q. (q, tt)) layer) in
       subst (λ x. IsNumberedExpression (roll-Expression x)) is (moved (columns_of (roll-Expression layer)) columns (pieces_at (roll-Expression layer)) leaves (numbered_expression place (roll-Expression layer)) made
       (fold-roll-Expression (List ColumnName) (List ColumnName) (Unit {0}) (Unit {0}) condition_columns expression_columns (λ l. tt) (λ q. tt) layer) (expression_pieces_rolled layer) (expression_rolled place layer) (expression_layer y))
 
@@ -200,7 +200,7 @@ module _ (place : ColumnName → Option Expr) where
       let layer = under_condition y in
       let columns = condition_columns (map-Condition Condition Expression SelectList Query (List ColumnName) (List ColumnName) (Unit {0}) (Unit {0}) columns_in columns_of (λ l. tt) (λ q. tt) layer) in
       let leaves = condition_pieces (map-Condition Condition Expression SelectList Query (Condition × Pieces) (Expression × Pieces) (SelectList × Unit {0}) (Query × Unit {0}) (λ c. (c, pieces_in c)) (λ e. (e, pieces_at e)) (λ l. (l, tt)) (λ q. (q, tt)) layer) in
-      let made = leaves_of.condition_step place (map-Condition Condition Expression SelectList Query (Condition × Numbered Cond) (Expression × Numbered Expr) (SelectList × Unit {0}) (Query × Unit {0}) (λ c. (c, numbered place c)) (λ e. (e, numbered_expression place e)) (λ l. (l, tt)) (λ q. (q, tt)) layer) in
+      let made = leaves_of.condition_step place (map-Condition Condition Expression SelectList Query (Condition × Numbering Cond) (Expression × Numbering Expr) (SelectList × Unit {0}) (Query × Unit {0}) (λ c. (c, numbered place c)) (λ e. (e, numbered_expression place e)) (λ l. (l, tt)) (λ q. (q, tt)) layer) in
       subst (λ x. IsNumbered (roll-Condition x)) is (moved (columns_in (roll-Condition layer)) columns (pieces_in (roll-Condition layer)) leaves (numbered place (roll-Condition layer)) made
       (fold-roll-Condition (List ColumnName) (List ColumnName) (Unit {0}) (Unit {0}) condition_columns expression_columns (λ l. tt) (λ q. tt) layer) (condition_pieces_rolled layer) (condition_rolled place layer) (condition_layer y))
 

@@ -9,7 +9,7 @@ use Rattle.value.proofs.OrderedLists.{has, has-itself}
 use Rattle.value.proofs.ValueOrders.{root_cmp_total, root_exact}
 use Rattle.value.specs.declared.truths.Truth.{Truth}
 use Rattle.value.specs.declared.truths.Truth.TheVariants.{False}
-use Rattle.value.specs.Truths.{not_of, is_of, known}
+use Rattle.value.specs.Truths.{not_of, is_of, truth_of_bool}
 use Rattle.table.specs.Rows.{Layout, Tables, layout_of, position_of, layouts_of}
 use Rattle.assertion.specs.declared.forms.Form.{Form}
 use Rattle.assertion.specs.Meaning.{State, rows_of, key_of, bad_roots, verdict_of, truth_of_roots, row_roots}
@@ -24,11 +24,11 @@ use Rattle.syntax.specs.declared.trees.SelectList.{SelectList}
 use Rattle.syntax.specs.declared.trees.Query.{Query, out-Query}
 use Rattle.form_check.specs.Scopes.{own_column}
 use Rattle.form_check.specs.Queries.{Source, source_of}
-use Rattle.form_check.specs.Forms.{Clauses, by_row, by_group, by_clauses, not_exists, single, denied, form_in}
+use Rattle.form_check.specs.Forms.{Clauses, by_row, by_group, by_clauses, not_exists, single, form_of_negation, form_in}
 use Rattle.meaning.specs.Meaning as written
-use Rattle.meaning.specs.Meaning.{References, Valued, Answer, is_any, truth, valued, select_list, answers, table_of, grouping, root_of, roots_of_answers, query_roots, roots_in, denied_roots, written_truth, written_bad_roots}
+use Rattle.meaning.specs.Meaning.{References, Evaluation, Answer, is_any, truth, evaluation_of, select_list, answers, table_of, group_value, root_of, roots_of_answers, query_roots, roots_in, denied_roots, written_truth, written_bad_roots}
 use Rattle.meaning.specs.Laws as law
-use Rattle.meaning.specs.Laws.{seen}
+use Rattle.meaning.specs.Laws.{reference_to}
 use Rattle.meaning.proofs.Steps.{in_class_ok}
 use Rattle.meaning.proofs.Made.{row_made, group_made}
 use Rattle.meaning.proofs.Queries.{answers_by, answers_at, source_seen}
@@ -52,7 +52,7 @@ least_alike xs (y ∷ ys) h =
     let r = lesser root_cmp y (least root_cmp ys) in
     least-only xs r (h r ∙ has-least_of (y ∷ ys) r refl) (λ q e. least-lowest (y ∷ ys) r refl q (sym (h q) ∙ e))
 
-none_given : (g : Answer → Root) (rows : List Answer) → not_of (known (is_any rows)) ≡ truth_of_roots (map g rows)
+none_given : (g : Answer → Root) (rows : List Answer) → not_of (truth_of_bool (is_any rows)) ≡ truth_of_roots (map g rows)
 none_given g [] = refl
 none_given g (row ∷ rows) = refl
 
@@ -83,10 +83,10 @@ by_clauses_ok tables source query (Some column) None form e = cc
 roots_by : (tables : Tables) (state : State) (query : Query) (source : Source) → source_of tables (out-Query query).table (out-Query query).correlation_name ≡ Some source
     → (g : Option ColumnName) (h : Option Condition) → (out-Query query).group ≡ g → (out-Query query).having ≡ h
     → query_roots tables state query (out-Query query)
-    ≡ roots_of_answers g (seen source.scope (rows_of source.table state)) (answers_by (seen source.scope (rows_of source.table state)) (select_list tables state (out-Query query).select_list) (option_map (truth tables state) (out-Query query).keeps) g (option_map (truth tables state) h) [])
+    ≡ roots_of_answers g (reference_to source.scope (rows_of source.table state)) (answers_by (reference_to source.scope (rows_of source.table state)) (select_list tables state (out-Query query).select_list) (option_map (truth tables state) (out-Query query).keeps) g (option_map (truth tables state) h) [])
 roots_by tables state query source found g h is_g is_h =
     let q = out-Query query in
-    let table = seen source.scope (rows_of source.table state) in
+    let table = reference_to source.scope (rows_of source.table state) in
     let list = select_list tables state q.select_list in
     let keeps = option_map (truth tables state) q.keeps in
     ap (λ t. roots_of_answers q.group t (answers tables state query [])) (source_seen tables state q.table q.correlation_name source found)
@@ -129,12 +129,12 @@ by_row_of_roots tables state source query form e = subst (IsOfRoots tables state
 by_group_of_roots : (tables : Tables) (state : State) (source : Source) (query : Clauses) (column : ColumnName) (having : Condition) (form : Form) → by_group source query column having ≡ Ok form → IsOfRoots tables state form
 by_group_of_roots tables state source query column having form e = subst (IsOfRoots tables state) (group_made source query column having form e).is refl
 
-exists_agrees : (tables : Tables) (query : Query) (form : Form) → not_exists tables (out-Query query) ≡ Ok form → (state : State) → Agrees tables state form (query_roots tables state query (out-Query query)) (not_of (known (is_any (answers tables state query []))))
+exists_agrees : (tables : Tables) (query : Query) (form : Form) → not_exists tables (out-Query query) ≡ Ok form → (state : State) → Agrees tables state form (query_roots tables state query (out-Query query)) (not_of (truth_of_bool (is_any (answers tables state query []))))
 exists_agrees tables query form e state =
     let q = out-Query query in
     let (source, (found, more)) = in_class_ok (source_of tables q.table q.correlation_name) (λ source. by_clauses tables source q q.group q.having) form e in
-    let finish : ((r : Root) → has root_cmp r (query_roots tables state query q) ≡ has root_cmp r (bad_roots (layouts_of tables) form state)) → IsOfRoots tables state form → Agrees tables state form (query_roots tables state query q) (not_of (known (is_any (answers tables state query [])))) = λ same of_roots.
-    (same, none_given (root_of (grouping q.group (table_of tables state q.table q.correlation_name) []) (table_of tables state q.table q.correlation_name).table.layout.key) (answers tables state query []) ∙ same_empty (query_roots tables state query q) (bad_roots (layouts_of tables) form state) same ∙ sym of_roots) in
+    let finish : ((r : Root) → has root_cmp r (query_roots tables state query q) ≡ has root_cmp r (bad_roots (layouts_of tables) form state)) → IsOfRoots tables state form → Agrees tables state form (query_roots tables state query q) (not_of (truth_of_bool (is_any (answers tables state query [])))) = λ same of_roots.
+    (same, none_given (root_of (group_value q.group (table_of tables state q.table q.correlation_name) []) (table_of tables state q.table q.correlation_name).table.layout.key) (answers tables state query []) ∙ same_empty (query_roots tables state query q) (bad_roots (layouts_of tables) form state) same ∙ sym of_roots) in
     ⊎_elim
     (λ rows. finish (row_agrees tables state query source form found rows.0 rows.1.0 rows.1.1) (by_row_of_roots tables state source q form rows.1.1))
     (λ groups. finish (group_agrees tables state query source groups.0 groups.1.0 form found groups.1.1.0 groups.1.1.1.0 groups.1.1.1.1) (by_group_of_roots tables state source q groups.0 groups.1.0 form groups.1.1.1.1))
@@ -143,9 +143,9 @@ exists_agrees tables query form e state =
 -- ---- all
 
 abbrev step_at : Tables → State → Condition-F Condition Expression SelectList Query → Truth
-step_at tables state layer = written.condition_step (map-Condition Condition Expression SelectList Query (References → Truth) Valued Valued (References → List Answer) (truth tables state) (valued tables state) (select_list tables state) (answers tables state) layer) []
+step_at tables state layer = written.condition_step (map-Condition Condition Expression SelectList Query (References → Truth) Evaluation Evaluation (References → List Answer) (truth tables state) (evaluation_of tables state) (select_list tables state) (answers tables state) layer) []
 
-denied_agrees : (tables : Tables) (condition part : Condition) (form : Form) (layer : Condition-F Condition Expression SelectList Query) → out-Condition condition ≡ Condition-F.Not part → out-Condition part ≡ layer → denied tables condition layer ≡ Ok form
+denied_agrees : (tables : Tables) (condition part : Condition) (form : Form) (layer : Condition-F Condition Expression SelectList Query) → out-Condition condition ≡ Condition-F.Not part → out-Condition part ≡ layer → form_of_negation tables condition layer ≡ Ok form
     → (state : State) → Agrees tables state form (denied_roots tables state (written_truth tables state condition) layer) (written_truth tables state condition)
 denied_agrees tables condition part form (Condition-F.Or parts) n p e state = single_agrees tables condition form e state
 denied_agrees tables condition part form (Condition-F.And parts) n p e state = single_agrees tables condition form e state

@@ -35,10 +35,10 @@ use Rattle.assertcheck.specs.Statements.{delete_of, select_of}
 use Rattle.assertcheck.specs.Updates.{update_of}
 use Rattle.siread.specs.declared.keys.LockKey.{LockKey}
 use Rattle.siread.specs.declared.keys.LockKey.TheVariants as key
-use Rattle.alone.specs.Alone.{Standing, Step, stepped}
+use Rattle.alone.specs.Alone.{Standing, Step, step_alone}
 use Rattle.alone.specs.Checks.{keys_for, finding_keys, tables_in}
-use Rattle.alone.specs.Reads.{Equality, where_key}
-use Rattle.alone.specs.Resolve.{resolved}
+use Rattle.alone.specs.Reads.{Equality, filter_key}
+use Rattle.alone.specs.Resolve.{resolution_of}
 use Rattle.meaning.specs.Class.{Piece, Pieces, Exists, Value as Worth, pieces_in, read_by}
 use Rattle.meaning.specs.Class.{IsColumnAt, IsLinkedWhere, IsDenied}
 use Rattle.meaning.specs.Laws.{Pairs}
@@ -154,9 +154,9 @@ InSingle P (Worth query) read = P query read
 InSingle P other read = ⊥
 
 -- the queries in a WHERE
-abbrev pub where_pieces : Option Condition → Pieces
-where_pieces None = []
-where_pieces (Some condition) = pieces_in condition
+abbrev pub filter_pieces : Option Condition → Pieces
+filter_pieces None = []
+filter_pieces (Some condition) = pieces_in condition
 
 -- what a check reads: at each root by the row that stands there, and to find the candidates of a change
 pub record Looks : Type 0 where
@@ -176,12 +176,12 @@ pub record ReadsRow (tables : Tables) (condition : Condition) (looks : Looks) : 
       ≡ key.Row (record { table = table; key = k }) ∷ flat_map (λ reads. reads) (others state k)
   pub linked : (state : State) (k : Value)
       → Pairs (InWhere (IsOfLink tables scope (link_keys scope k (row_at scope.layout.key k (rows_of table state)))))
-      (where_pieces (out-Query query).keeps) (others state k)
+      (filter_pieces (out-Query query).keeps) (others state k)
   pub whole : (state : State) → looks.at state root.All ≡ []
   pub found : Change → List (List LockKey)
   pub finding : (change : Change) → looks.finds change ≡ flat_map (λ reads. reads) (found change)
   pub joins : (change : Change) → Pairs (InWhere (IsOfLink tables scope (λ t child. found_keys scope table change t)))
-      (where_pieces (out-Query query).keeps) (found change)
+      (filter_pieces (out-Query query).keeps) (found change)
 
 -- with GROUP BY: the rows of the group
 pub record ReadsGroup (tables : Tables) (condition : Condition) (looks : Looks) : Type 0 where
@@ -214,7 +214,7 @@ ReadsAsWritten tables condition looks =
 abbrev pub ReadsWhole : Tables → Condition → List LockKey → Type 0
 ReadsWhole tables condition reads =
     ((query : Query) × IsDenied condition query
-    × Pairs (InWhere (IsTableKey tables)) (Exists query ∷ where_pieces (out-Query query).keeps) reads)
+    × Pairs (InWhere (IsTableKey tables)) (Exists query ∷ filter_pieces (out-Query query).keeps) reads)
     ⊎ Pairs (InSingle (IsTableKey tables)) (pieces_in condition) reads
 
 -- ---- the laws
@@ -222,7 +222,7 @@ ReadsWhole tables condition reads =
 -- a WHERE over the rows of one table reads under the key of its text
 abbrev pub WhereReads : Type 0
 WhereReads = (scope : Scope) (condition : Option Condition) (made : Cond) → row_filter scope condition ≡ Ok made
-    → (table : ℕ) → where_key table scope.layout.key made ≡ written_key table scope condition
+    → (table : ℕ) → filter_key table scope.layout.key made ≡ written_key table scope condition
 
 -- a SELECT that is taken reads under the key of its text, in a read-only transaction too, and a DELETE and an UPDATE,
 -- in one that is not, before what their checks read
@@ -236,7 +236,8 @@ SelectReads = (declared : Declared) (read_only : Bool) (start : State) (now : St
     → (columns : Which) (name : List ℕ) (condition : Option Condition) (select : Select)
     → select_of declared.tables columns name condition ≡ Ok select
     → (read : LockKey) × IsWrittenKey declared.tables name condition read
-    × ((stepped declared start now (resolved declared read_only (statement.Select columns name condition))).reads
+    × ((step_alone declared start now
+    (resolution_of declared read_only (statement.Select columns name condition))).reads
     ≡ read ∷ [])
 
 -- a DELETE that is taken, where the transaction may write, reads under the key of its text before its checks
@@ -245,7 +246,7 @@ DeleteReads = (declared : Declared) (start : State) (now : Standing)
     → (name : List ℕ) (condition : Option Condition) (delete : Delete)
     → delete_of declared.tables name condition ≡ Ok delete
     → StepReads declared.tables name condition
-    (stepped declared start now (resolved declared false (statement.Delete name condition)))
+    (step_alone declared start now (resolution_of declared false (statement.Delete name condition)))
 
 -- an UPDATE that is taken, where the transaction may write, reads under the key of its text before its checks
 abbrev pub UpdateReads : Type 0
@@ -253,7 +254,7 @@ UpdateReads = (declared : Declared) (start : State) (now : Standing)
     → (name : List ℕ) (sets : List Assignment) (condition : Option Condition) (update : Update)
     → update_of declared.tables name sets condition ≡ Ok update
     → StepReads declared.tables name condition
-    (stepped declared start now (resolved declared false (statement.Update name sets condition)))
+    (step_alone declared start now (resolution_of declared false (statement.Update name sets condition)))
 
 -- a check reads under the keys of the assertion's text, at a root and to find its candidates, and VERDICT the tables
 -- of its text

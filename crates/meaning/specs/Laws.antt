@@ -17,8 +17,8 @@ use Rattle.syntax.specs.declared.trees.Condition.{Condition, out-Condition}
 use Rattle.syntax.specs.Grammar.{and_layer}
 use Rattle.syntax.specs.declared.trees.Expression.{Expression}
 use Rattle.syntax.specs.declared.definitions.Attributes.{Attributes}
-use Rattle.syntax.specs.declared.statements.Assigned.{Assigned}
-use Rattle.syntax.specs.declared.statements.Assigned.TheVariants.{Null, To}
+use Rattle.syntax.specs.declared.statements.UpdateSource.{UpdateSource}
+use Rattle.syntax.specs.declared.statements.UpdateSource.TheVariants.{Null, To}
 use Rattle.syntax.specs.declared.statements.Assignment.{Assignment}
 use Rattle.syntax.specs.declared.statements.Which.{Which}
 use Rattle.syntax.specs.declared.statements.Which.TheVariants.{All, Names}
@@ -32,16 +32,16 @@ use Rattle.assertcheck.specs.declared.deletes.Delete.{Delete}
 use Rattle.assertcheck.specs.declared.selects.Select.{Select}
 use Rattle.assertcheck.specs.declared.updates.Setting.{Setting}
 use Rattle.assertcheck.specs.declared.updates.Update.{Update}
-use Rattle.assertcheck.specs.Assertions.{are_at_odds, attributes_of, checked}
+use Rattle.assertcheck.specs.Assertions.{are_at_odds, attributes_of, checked_assertion}
 use Rattle.assertcheck.specs.Statements.{delete_of, places_from, select_of}
 use Rattle.assertcheck.specs.Updates.{update_of}
 use Rattle.meaning.specs.Class.{Each, IsInClass, IsLinkedWhere, IsOverBoth, JoinsRow}
-use Rattle.meaning.specs.Meaning.{Reference, References, truth, valued, passes, with_rows, table_of}
+use Rattle.meaning.specs.Meaning.{Reference, References, truth, evaluation_of, passes, with_rows, table_of}
 use Rattle.meaning.specs.Meaning.{written_truth, written_bad_roots, written_least}
 
 -- a table as names see it, with rows at hand
-abbrev pub seen : Scope → List RowValues → Reference
-seen scope rows = record { table = scope; rows = rows }
+abbrev pub reference_to : Scope → List RowValues → Reference
+reference_to scope rows = record { table = scope; rows = rows }
 
 -- ---- rows
 
@@ -50,13 +50,14 @@ seen scope rows = record { table = scope; rows = rows }
 abbrev pub KeepsRows : Type 0
 KeepsRows = (scope : Scope) (condition : Condition) (made : Cond) → row_condition scope condition ≡ Ok made
     → (tables : Tables) (state : State) (row : RowValues) (outer : References)
-    → truth tables state condition (seen scope (row ∷ []) ∷ outer) ≡ resolved.truth row [] made
+    → truth tables state condition (reference_to scope (row ∷ []) ∷ outer) ≡ resolved.truth row [] made
 
 -- an expression over the rows of one table has on each row the value of its resolved expression
 abbrev pub GivesValues : Type 0
 GivesValues = (scope : Scope) (expression : Expression) (made : Expr) → row_expression scope expression ≡ Ok made
     → (tables : Tables) (state : State) (row : RowValues) (outer : References)
-    → (valued tables state expression).value (seen scope (row ∷ []) ∷ outer) ≡ resolved.answer row [] made
+    → (evaluation_of tables state expression).value (reference_to scope (row ∷ []) ∷ outer)
+    ≡ resolved.answer row [] made
 
 -- ---- forms
 
@@ -123,13 +124,13 @@ pub record IsWritten (tables : Tables) (name : List ℕ) (condition : Condition)
 -- an assertion that is taken is the one that is written
 abbrev pub TakesWritten : Type 0
 TakesWritten = (tables : Tables) (name : List ℕ) (condition : Condition) (attributes : Attributes)
-    → (assertion : Assertion) → checked tables name condition attributes ≡ Ok assertion
+    → (assertion : Assertion) → checked_assertion tables name condition attributes ≡ Ok assertion
     → IsWritten tables name condition attributes assertion
 
 -- and it stays that where more tables are created after it
 abbrev pub StaysWritten : Type 0
 StaysWritten = (tables more : Tables) (name : List ℕ) (condition : Condition) (attributes : Attributes)
-    → (assertion : Assertion) → checked tables name condition attributes ≡ Ok assertion
+    → (assertion : Assertion) → checked_assertion tables name condition attributes ≡ Ok assertion
     → IsWritten (tables ++ more) name condition attributes assertion
 
 -- what may be taken: attributes without contradiction, known names, a condition of the class, and in its form values of
@@ -144,14 +145,14 @@ pub record MayBeTaken (tables : Tables) (condition : Condition) (attributes : At
 -- exactly that is taken
 abbrev pub TakesExactly : Type 0
 TakesExactly = (tables : Tables) (name : List ℕ) (condition : Condition) (attributes : Attributes)
-    → ((assertion : Assertion) × (checked tables name condition attributes ≡ Ok assertion))
+    → ((assertion : Assertion) × (checked_assertion tables name condition attributes ≡ Ok assertion))
     ↔ MayBeTaken tables condition attributes
 
 -- ---- statements
 
 -- the rows of a table for which a WHERE is true, as it is written
-abbrev pub where_rows : Tables → State → List ℕ → Option Condition → List RowValues
-where_rows tables state name condition =
+abbrev pub rows_by_filter : Tables → State → List ℕ → Option Condition → List RowValues
+rows_by_filter tables state name condition =
     let table = table_of tables state name None in
     filter (λ row. passes (option_map (truth tables state) condition) (with_rows table (row ∷ []) [])) table.rows
 
@@ -160,14 +161,14 @@ abbrev pub DeletesRows : Type 0
 DeletesRows = (tables : Tables) (name : List ℕ) (condition : Option Condition) (delete : Delete)
     → delete_of tables name condition ≡ Ok delete
     → (state : State)
-    → where_rows tables state name condition ≡ filtered_rows delete.filter (rows_of delete.table state)
+    → rows_by_filter tables state name condition ≡ filtered_rows delete.filter (rows_of delete.table state)
 
 -- a SELECT lists the rows that its WHERE says
 abbrev pub SelectsRows : Type 0
 SelectsRows = (tables : Tables) (columns : Which) (name : List ℕ) (condition : Option Condition) (select : Select)
     → select_of tables columns name condition ≡ Ok select
     → (state : State)
-    → where_rows tables state name condition ≡ filtered_rows select.filter (rows_of select.table state)
+    → rows_by_filter tables state name condition ≡ filtered_rows select.filter (rows_of select.table state)
 
 -- an UPDATE changes the rows that its WHERE says
 abbrev pub UpdatesRows : Type 0
@@ -175,7 +176,7 @@ UpdatesRows = (tables : Tables) (name : List ℕ) (sets : List Assignment) (cond
     → (update : Update)
     → update_of tables name sets condition ≡ Ok update
     → (state : State)
-    → where_rows tables state name condition ≡ filtered_rows update.filter (rows_of update.table state)
+    → rows_by_filter tables state name condition ≡ filtered_rows update.filter (rows_of update.table state)
 
 -- two lists are as long as each other, and so is each pair of them
 abbrev pub Pairs : {X Y : Type 0} → (X → Y → Type 0) → List X → List Y → Type 0
@@ -200,10 +201,10 @@ ListsColumns = (tables : Tables) (columns : Which) (name : List ℕ) (condition 
     → (state : State) → IsListOf (table_of tables state name None).table columns select.columns
 
 -- the value that an UPDATE writes for a column of a row, over the row as it was (13.10)
-abbrev pub written_value : Tables → State → Reference → Assigned → RowValues → Value
+abbrev pub written_value : Tables → State → Reference → UpdateSource → RowValues → Value
 written_value tables state table Null row = value.Null
 written_value tables state table (To expression) row =
-    (valued tables state expression).value (with_rows table (row ∷ []) [])
+    (evaluation_of tables state expression).value (with_rows table (row ∷ []) [])
 
 -- the value that it gives
 abbrev pub given_value : Option Expr → RowValues → Value

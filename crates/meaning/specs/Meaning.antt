@@ -12,10 +12,10 @@ use Rattle.value.specs.ValueOrder.{value_cmp, root_cmp}
 use Rattle.value.specs.Ordered.{least}
 use Rattle.value.specs.declared.truths.Truth.{Truth}
 use Rattle.value.specs.declared.truths.Truth.TheVariants.{True, False}
-use Rattle.value.specs.Truths.{and_of, not_of, is_of, known}
+use Rattle.value.specs.Truths.{and_of, not_of, is_of, truth_of_bool}
 use Rattle.table.specs.Rows.{RowValues, Layout, Tables, value_in, layout_of, position_of}
 use Rattle.table.specs.Aggregates.{is_there, sum_answer}
-use Rattle.table.specs.Values.{negated, total, compared, is_null, all_of, any_of}
+use Rattle.table.specs.Values.{negative_of, total, comparison_truth, is_null, all_of, any_of}
 use Rattle.syntax.specs.declared.trees.Aggregate.{Aggregate}
 use Rattle.syntax.specs.declared.trees.Aggregate.TheVariants.{Count, Sum, Min, Max}
 use Rattle.syntax.specs.declared.trees.ColumnName.{ColumnName}
@@ -76,7 +76,7 @@ set_function Max values = unwrap_or (least (λ v w. value_cmp w v) values) Null
 -- ---- what the parts of a tree mean, seen from the tables around them
 
 -- an expression: whether a set function stands in it outside its queries, and its value
-pub record Valued : Type 0 where
+pub record Evaluation : Type 0 where
   pub sets : Bool
   pub value : References → Value
 
@@ -87,33 +87,33 @@ pub record Answer : Type 0 where
 
 -- a layer of each kind of tree, with what each part means in its place
 abbrev pub MeantCondition : Type 0
-MeantCondition = Condition-F (References → Truth) Valued Valued (References → List Answer)
+MeantCondition = Condition-F (References → Truth) Evaluation Evaluation (References → List Answer)
 
 -- an expression with what its parts mean
 abbrev pub MeantExpression : Type 0
-MeantExpression = Expression-F (References → Truth) Valued Valued (References → List Answer)
+MeantExpression = Expression-F (References → Truth) Evaluation Evaluation (References → List Answer)
 
 -- a select list with what its part means
 abbrev pub MeantSelectList : Type 0
-MeantSelectList = SelectList-F (References → Truth) Valued Valued (References → List Answer)
+MeantSelectList = SelectList-F (References → Truth) Evaluation Evaluation (References → List Answer)
 
 -- a query with what its clauses mean
 abbrev pub MeantQuery : Type 0
-MeantQuery = Query-F (References → Truth) Valued Valued (References → List Answer)
+MeantQuery = Query-F (References → Truth) Evaluation Evaluation (References → List Answer)
 
 -- ---- expressions (6.11, 6.12): exact, and NULL where a part is NULL
 
 -- an expression in which no set function stands outside its queries
-abbrev pub simple : (References → Value) → Valued
+abbrev pub simple : (References → Value) → Evaluation
 simple value = record { sets = false; value = value }
 
 -- whether a set function stands in one of some parts
-abbrev pub any_sets : List Valued → Bool
+abbrev pub any_sets : List Evaluation → Bool
 any_sets [] = false
 any_sets (part ∷ parts) = part.sets || any_sets parts
 
 -- the values of some parts, from the left
-abbrev pub values : List Valued → References → List Value
+abbrev pub values : List Evaluation → References → List Value
 values parts around = map (λ part. part.value around) parts
 
 -- a query that stands for its one value is NULL where it gives no row (7.11)
@@ -122,16 +122,16 @@ only_value [] = Null
 only_value (answer ∷ rest) = answer.value
 
 -- the value of a part with the other sign
-abbrev pub turned : Valued → References → Value
-turned part around = negated (part.value around)
+abbrev pub value_of_negation : Evaluation → References → Value
+value_of_negation part around = negative_of (part.value around)
 
 -- the sum of some parts; that of none is 0
-abbrev pub added : List Valued → References → Value
-added parts around = total (λ m n. m +ℤ n) (Int (pos 0)) (values parts around)
+abbrev pub value_of_sum : List Evaluation → References → Value
+value_of_sum parts around = total (λ m n. m +ℤ n) (Int (pos 0)) (values parts around)
 
 -- the product of some parts; that of none is 1
-abbrev pub multiplied : List Valued → References → Value
-multiplied parts around = total (λ m n. m *ℤ n) (Int (pos 1)) (values parts around)
+abbrev pub value_of_product : List Evaluation → References → Value
+value_of_product parts around = total (λ m n. m *ℤ n) (Int (pos 1)) (values parts around)
 
 -- COUNT(*), and a set function of a column
 abbrev pub rows_counted : References → Value
@@ -142,26 +142,26 @@ abbrev pub set_of_column : Aggregate → ColumnName → References → Value
 set_of_column function column around = set_function function (filter is_there (column_values column around))
 
 -- an expression by what its parts mean
-abbrev pub expression_step : MeantExpression → Valued
+abbrev pub expression_step : MeantExpression → Evaluation
 expression_step (Expression-F.Number n) = simple (λ around. Int n)
 expression_step (Expression-F.Text t) = simple (λ around. Text t)
 expression_step (Expression-F.Column column) = simple (λ around. first_value (column_values column around))
 expression_step Expression-F.CountRows = record { sets = true; value = rows_counted }
 expression_step (Expression-F.Aggregate function column) = record { sets = true; value = set_of_column function column }
 expression_step (Expression-F.Subquery query) = simple (λ around. only_value (query around))
-expression_step (Expression-F.Negation part) = record { sets = part.sets; value = turned part }
-expression_step (Expression-F.Sum parts) = record { sets = any_sets parts; value = added parts }
-expression_step (Expression-F.Product parts) = record { sets = any_sets parts; value = multiplied parts }
+expression_step (Expression-F.Negation part) = record { sets = part.sets; value = value_of_negation part }
+expression_step (Expression-F.Sum parts) = record { sets = any_sets parts; value = value_of_sum parts }
+expression_step (Expression-F.Product parts) = record { sets = any_sets parts; value = value_of_product parts }
 
 -- ---- predicates: comparison (8.2), BETWEEN (8.3), IN (8.4), IS NULL (8.6), EXISTS (8.8); search conditions (8.12)
 
 -- x BETWEEN low AND high: x >= low AND x <= high
 abbrev pub is_between : Value → Value → Value → Truth
-is_between x low high = and_of (compared AtLeast x low) (compared AtMost x high)
+is_between x low high = and_of (comparison_truth AtLeast x low) (comparison_truth AtMost x high)
 
 -- x IN a list: x = one of its values, joined by OR
 abbrev pub is_in : Value → List Value → Truth
-is_in x list = any_of (map (compared Equal x) list)
+is_in x list = any_of (map (comparison_truth Equal x) list)
 
 -- whether a query gives a row, which EXISTS asks
 abbrev pub is_any : List Answer → Bool
@@ -173,10 +173,10 @@ abbrev pub condition_step : MeantCondition → References → Truth
 condition_step (Condition-F.Or parts) around = any_of (map (λ part. part around) parts)
 condition_step (Condition-F.And parts) around = all_of (map (λ part. part around) parts)
 condition_step (Condition-F.Not part) around = not_of (part around)
-condition_step (Condition-F.Is part wanted) around = known (is_of (part around) wanted)
-condition_step (Condition-F.Exists query) around = known (is_any (query around))
+condition_step (Condition-F.Is part wanted) around = truth_of_bool (is_of (part around) wanted)
+condition_step (Condition-F.Exists query) around = truth_of_bool (is_any (query around))
 condition_step (Condition-F.Compare left comparison right) around =
-    compared comparison (left.value around) (right.value around)
+    comparison_truth comparison (left.value around) (right.value around)
 condition_step (Condition-F.IsNull part) around = is_null (part.value around)
 condition_step (Condition-F.Between x low high) around =
     is_between (x.value around) (low.value around) (high.value around)
@@ -204,26 +204,27 @@ rows_with value rows v = filter (λ row. eq_by_cmp value_cmp v (value row)) rows
 
 -- GROUP BY makes a group of the rows of each value of its column (7.7); with HAVING or a set function alone all rows
 -- are one group, and else each row is on its own (7.9)
-abbrev pub grouped : Option (RowValues → Value) → Bool → List RowValues → List (List RowValues)
-grouped (Some value) sets rows = map (rows_with value rows) (distinct (map value rows))
-grouped None true rows = rows ∷ []
-grouped None false rows = map (λ row. row ∷ []) rows
+abbrev pub groups_of_rows : Option (RowValues → Value) → Bool → List RowValues → List (List RowValues)
+groups_of_rows (Some value) sets rows = map (rows_with value rows) (distinct (map value rows))
+groups_of_rows None true rows = rows ∷ []
+groups_of_rows None false rows = map (λ row. row ∷ []) rows
 
 -- the value of the column of GROUP BY in a row
-abbrev pub grouping : Option ColumnName → Reference → References → Option (RowValues → Value)
-grouping None table outer = None
-grouping (Some column) table outer = Some (λ row. first_value (column_values column (with_rows table (row ∷ []) outer)))
+abbrev pub group_value : Option ColumnName → Reference → References → Option (RowValues → Value)
+group_value None table outer = None
+group_value (Some column) table outer = Some (λ row.
+    first_value (column_values column (with_rows table (row ∷ []) outer)))
 
 -- FROM, WHERE, GROUP BY, HAVING and the select list, one after the other
 abbrev pub answers_over : Reference → MeantQuery → References → List Answer
 answers_over table query outer =
     map (λ rows. record { rows = rows; value = query.select_list.value (with_rows table rows outer) }) (
     filter (λ rows. passes query.having (with_rows table rows outer)) (
-    grouped (grouping query.group table outer) (is_some query.having || query.select_list.sets) (
+    groups_of_rows (group_value query.group table outer) (is_some query.having || query.select_list.sets) (
     filter (λ row. passes query.keeps (with_rows table (row ∷ []) outer)) table.rows)))
 
 -- what a select list gives; the one column of *
-abbrev pub select_list_step : MeantSelectList → Valued
+abbrev pub select_list_step : MeantSelectList → Evaluation
 select_list_step SelectList-F.Star = simple (λ around. first_value (map (value_in 0) (rows_at_hand around)))
 select_list_step (SelectList-F.One part) = part
 
@@ -255,25 +256,25 @@ query_step tables state query = answers_over (table_of tables state query.table 
 -- the truth of a condition, seen from the tables around it
 abbrev pub truth : Tables → State → Condition → References → Truth
 truth tables state =
-    fold-Condition (References → Truth) Valued Valued (References → List Answer)
+    fold-Condition (References → Truth) Evaluation Evaluation (References → List Answer)
     condition_step expression_step select_list_step (query_step tables state)
 
 -- the value of an expression, seen from the tables around it, and whether a set function stands in it
-abbrev pub valued : Tables → State → Expression → Valued
-valued tables state =
-    fold-Expression (References → Truth) Valued Valued (References → List Answer)
+abbrev pub evaluation_of : Tables → State → Expression → Evaluation
+evaluation_of tables state =
+    fold-Expression (References → Truth) Evaluation Evaluation (References → List Answer)
     condition_step expression_step select_list_step (query_step tables state)
 
 -- the value of what a select list lists, and whether a set function stands in it
-abbrev pub select_list : Tables → State → SelectList → Valued
+abbrev pub select_list : Tables → State → SelectList → Evaluation
 select_list tables state =
-    fold-SelectList (References → Truth) Valued Valued (References → List Answer)
+    fold-SelectList (References → Truth) Evaluation Evaluation (References → List Answer)
     condition_step expression_step select_list_step (query_step tables state)
 
 -- the rows that a query gives, seen from the tables around it
 abbrev pub answers : Tables → State → Query → References → List Answer
 answers tables state =
-    fold-Query (References → Truth) Valued Valued (References → List Answer)
+    fold-Query (References → Truth) Evaluation Evaluation (References → List Answer)
     condition_step expression_step select_list_step (query_step tables state)
 
 -- ---- assertions (11.34)
@@ -289,7 +290,7 @@ root_of (Some value) key answer = Of (first_value (map value answer.rows))
 
 -- what the answers of a query are named by
 abbrev pub roots_of_answers : Option ColumnName → Reference → List Answer → List Root
-roots_of_answers group table given = map (root_of (grouping group table []) table.table.layout.key) given
+roots_of_answers group table given = map (root_of (group_value group table []) table.table.layout.key) given
 
 -- the roots of what the outermost query gives
 abbrev pub query_roots : Tables → State → Query → Query-F Condition Expression SelectList Query → List Root

@@ -7,13 +7,13 @@ use Rattle.syntax.specs.declared.statements.Statement.TheVariants as statement
 use Rattle.syntax.specs.declared.statements.Event.{Event}
 use Rattle.syntax.specs.declared.statements.Event.TheVariants as event
 use Rattle.syntax.specs.declared.statements.Step.{Step}
-use Rattle.answer.specs.declared.answers.Reply.{Reply}
-use Rattle.answer.specs.declared.answers.Reply.TheVariants as reply
-use Rattle.answer.specs.declared.answers.Answer.{Answer}
-use Rattle.answer.specs.declared.answers.Answer.TheVariants as answer
+use Rattle.alone.specs.declared.answers.Reply.{Reply}
+use Rattle.alone.specs.declared.answers.Reply.TheVariants as reply
+use Rattle.alone.specs.declared.answers.Answer.{Answer}
+use Rattle.alone.specs.declared.answers.Answer.TheVariants as answer
 use Rattle.report.specs.Report.{answer_line, is_commit, refusal_line}
-use Rattle.layout.specs.Refusals.{refusal_parts}
-use Rattle.layout.specs.Spelling.{columns, names, number, rows, text, truth}
+use Rattle.messages.specs.Refusals.{refusal_parts}
+use Rattle.messages.specs.Spelling.{columns, names, number, rows, text, truth}
 use Rattle.messages.specs.declared.responses.Misuse.{Misuse}
 use Rattle.messages.specs.declared.responses.Misuse.TheVariants as misuse
 use Rattle.messages.specs.declared.responses.Source.{Source}
@@ -22,8 +22,8 @@ use Rattle.messages.specs.declared.responses.Response.{Response}
 use Rattle.messages.specs.declared.responses.Response.TheVariants as response
 
 -- a reply with one number: its kind, and the number
-abbrev pub numbered : (kind : ℕ) → ℕ → List ℕ
-numbered kind n = kind ∷ number n
+abbrev pub number_reply : (kind : ℕ) → ℕ → List ℕ
+number_reply kind n = kind ∷ number n
 
 -- a reply with a text
 abbrev pub text_reply : List ℕ → List ℕ
@@ -31,12 +31,12 @@ text_reply bytes = 14 ∷ text bytes
 
 -- its number, and how many values it takes
 abbrev pub statement_reply : ℕ → ℕ → List ℕ
-statement_reply n parameters = numbered 3 n ++ number parameters
+statement_reply n parameters = number_reply 3 n ++ number parameters
 
 -- how many values are wanted, or which parameter it is; nothing where the status says all
 abbrev pub misuse_reply : Misuse → List ℕ
-misuse_reply (misuse.WrongCount wanted) = numbered 16 wanted
-misuse_reply (misuse.BadValue parameter) = numbered 16 parameter
+misuse_reply (misuse.WrongCount wanted) = number_reply 16 wanted
+misuse_reply (misuse.BadValue parameter) = number_reply 16 parameter
 misuse_reply other = 0 ∷ []
 
 -- the columns that a SELECT names; those of its table, where it lists all
@@ -46,9 +46,9 @@ listed_columns all other = columns all
 
 -- the reply of a statement that was not refused
 abbrev pub reply_bytes : List Column → Event → Reply → List ℕ
-reply_bytes all event reply.Inserted = numbered 8 1
-reply_bytes all event (reply.Updated n) = numbered 9 n
-reply_bytes all event (reply.Deleted n) = numbered 10 n
+reply_bytes all event reply.Inserted = number_reply 8 1
+reply_bytes all event (reply.Updated n) = number_reply 9 n
+reply_bytes all event (reply.Deleted n) = number_reply 10 n
 reply_bytes all event (reply.Rows rs) = 11 ∷ (listed_columns all event ++ rows rs)
 reply_bytes all event reply.ModesSet = 12 ∷ []
 reply_bytes all event (reply.Verdict t) = 13 ∷ truth t
@@ -59,9 +59,9 @@ refused_reply at_commit refusal line = 15 ∷ (refusal_parts at_commit refusal +
 
 -- the reply of an event's answer; a refusal has its line at the end
 abbrev pub answer_bytes : List Column → Step → Answer → (line : List ℕ) → List ℕ
-answer_bytes all step (answer.Begun n) line = numbered 5 n
+answer_bytes all step (answer.Begun n) line = number_reply 5 n
 answer_bytes all step (answer.Replied reply) line = reply_bytes all step.event reply
-answer_bytes all step (answer.Committed n) line = numbered 6 n
+answer_bytes all step (answer.Committed n) line = number_reply 6 n
 answer_bytes all step answer.RolledBack line = 7 ∷ []
 answer_bytes all step (answer.Refused refusal) line = refused_reply (is_commit step.event) refusal line
 
@@ -91,8 +91,8 @@ is_refusal other = false
 
 -- with this line in a refusal
 abbrev pub response_with : List Column → Response → (line : List ℕ) → List ℕ
-response_with all response.Opened line = numbered 1 1
-response_with all (response.Session n) line = numbered 2 n
+response_with all response.Opened line = number_reply 1 1
+response_with all (response.Session n) line = number_reply 2 n
 response_with all (response.Prepared n parameters) line = statement_reply n parameters
 response_with all response.SessionClosed line = 4 ∷ []
 response_with all response.Forgotten line = 4 ∷ []

@@ -1,7 +1,7 @@
 -- What stands in the requests of several fields.
 use Rattle.std.specs.Prelude.{ℕ, ◌==◌, List, length, Option, Some, None, if◌then◌else◌}
 use Rattle.value.specs.declared.values.Value.{Value}
-use Rattle.layout.specs.Reading.{◌>>=◌, number_at, text_at, values_at}
+use Rattle.messages.specs.Reading.{◌>>=◌, number_at, text_at, values_at}
 use Rattle.messages.specs.declared.requests.RunRequest.{RunRequest}
 
 -- the number that is all of a request

@@ -2,8 +2,8 @@
 use Rattle.std.specs.Prelude.{ℤ, pos}
 use Rattle.value.specs.declared.refusals.Refusal.{Refusal}
 use Rattle.value.specs.declared.refusals.Refusal.TheVariants as refusal
-use Rattle.answer.specs.declared.answers.Answer.{Answer}
-use Rattle.answer.specs.declared.answers.Answer.TheVariants as answer
+use Rattle.alone.specs.declared.answers.Answer.{Answer}
+use Rattle.alone.specs.declared.answers.Answer.TheVariants as answer
 use Rattle.messages.specs.declared.responses.Misuse.{Misuse}
 use Rattle.messages.specs.declared.responses.Misuse.TheVariants as misuse
 use Rattle.messages.specs.declared.responses.Response.{Response}

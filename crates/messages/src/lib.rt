@@ -1,22 +1,37 @@
-//! What a C program asks, and what it is answered: operations, requests and responses, and the bytes of a reply.
+//! What a C program asks, and what it is answered: operations, requests and responses, and the bytes of both.
 //!
-//! An [`Operation`] is named by a number. Its request is read by the crate `layout`, and what it asks for is in
-//! `specs/Requests`. A [`Response`] is what a call answers; [`status_of`] is what the call returns then, and
-//! [`response_bytes`] are the bytes of its reply, by their kind in front (`specs/Replies`). An answer or a refusal has
-//! a line in the report too ([`line_bytes`]).
+//! An [`Operation`] is named by a number. What its request asks for is in `specs/Requests`. A [`Response`] is what a
+//! call answers; [`status_of`] is what the call returns then, and [`response_bytes`] are the bytes of its reply, by
+//! their kind in front (`specs/Replies`). An answer or a refusal has a line in the report too ([`line_bytes`]).
+//!
+//! The bytes. A number is eight bytes, the lowest first, and a negative one stands in two's complement. A text is the
+//! number of its bytes, and these. A value is one byte for its kind, and then what it holds: 0 for NULL, 1 and a
+//! number, 2 and a text. Lists stand behind the number of their items. A root is a value, or the byte 3, where an
+//! assertion is false as a whole; 4 stands where a refusal names neither root nor key.
+//!
+//! [`Bytes`] grows by one field after the other, as `specs/Spelling` and `specs/Refusals` have them. [`read_number`],
+//! [`read_text`] and [`read_values`] take fields from the front of any bytes. What they answer is a function of the
+//! bytes alone, or want of memory (`specs/Reading`): so no bytes make them fail otherwise.
 #![tactic(auto)]
 
+mod faults;
 mod lines;
 mod names;
 mod operations;
+mod parts;
+mod reading;
 mod replies;
 mod requests;
 mod responses;
+mod writing;
 
+pub use faults::FieldFault;
 pub use names::{is_name, read_name};
 pub use operations::{Operation, operation_of};
+pub use reading::{read_number, read_text, read_values};
 pub use replies::{line_bytes, response_bytes};
 pub use requests::{RunRequest, read_checkpoint, read_only_number, read_run};
 pub use responses::{
     Misuse, Response, Source, Status, status_number, status_of, status_without_reply,
 };
+pub use writing::Bytes;

@@ -6,8 +6,8 @@ ghost use Rattle.messages.specs.Replies as spec;
 
 use crate::lines::line_of;
 use crate::responses::{Misuse, Response};
-use answer::{Answer, Reply};
-use layout::Bytes;
+use crate::writing::Bytes;
+use alone::{Answer, Reply};
 use std::alloc::{AllocError, Global};
 use syntax::{Event, Statement, Step, Which};
 use table::Column;
@@ -61,7 +61,7 @@ fn is_commit(event: &Event) -> bool
 }
 
 fn add_numbered(bytes: &mut Bytes, kind: u8, number: u64) -> Result<(), AllocError>
-    ensures { OnOk result (bytes.new ≡ bytes.old ++ spec.numbered kind number) }
+    ensures { OnOk result (bytes.new ≡ bytes.old ++ spec.number_reply kind number) }
 {
     bytes.add_byte(kind)?;
     bytes.add_number(number)

@@ -1,10 +1,11 @@
 //! The requests of several fields.
 
 ghost use Rattle.std.specs.Prelude.{◌≡◌};
-ghost use Rattle.layout.specs.Reading.{Gives};
+ghost use Rattle.messages.specs.Reading.{Gives};
 ghost use Rattle.messages.specs.Requests as spec;
 
-use layout::{FieldFault, read_number, read_text, read_values};
+use crate::faults::FieldFault;
+use crate::reading::{read_number, read_text, read_values};
 use std::alloc::Global;
 use value::Value;
 

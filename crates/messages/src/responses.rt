@@ -3,7 +3,7 @@
 ghost use Rattle.std.specs.Prelude.{◌≡◌};
 ghost use Rattle.messages.specs.Statuses as spec;
 
-use answer::Answer;
+use alone::Answer;
 use syntax::Step;
 use value::{Refusal, Text};
 

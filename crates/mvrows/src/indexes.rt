@@ -64,8 +64,7 @@ impl Indexes {
         None
     }
 
-    /// The indexes after the row under a key becomes another. These stay as they are, also where the answer is
-    /// NoMemory.
+    /// The indexes after the row under a key becomes another. These stay as they are, also where memory runs out.
     pub fn with(
         &self,
         key: &Value,

@@ -213,7 +213,7 @@ impl Rows {
     /// A version equal to this one, in which rows are found by their value in a column without a look at the others. It
     /// takes one pass over the rows, and none where they are found so already, or where the key stands in another
     /// column than that of this version. Only memory can fail.
-    pub fn indexed(&self, key_column: usize, column: usize) -> Result<Rows, AllocError>
+    pub fn with_index(&self, key_column: usize, column: usize) -> Result<Rows, AllocError>
         ensures equal { IfOk result (λ rows. rows ≡ self.now) }
         ensures short { IfOk result (λ rows. length rows < 2 ^ 63) }
     {

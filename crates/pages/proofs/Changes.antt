@@ -1,6 +1,6 @@
 -- A node that is changed where it stands.
 use Rattle.std.proofs.lemmas.List.{length-append, length-map}
-use Rattle.std.proofs.Common.{◌≡◌, ℕ, zero, suc, ◌+◌, ◌<◌, ◌≤◌, ◌⊎◌, inl, inr, List, [], ◌∷◌, ◌++◌, take, drop, length, map, Bool, true, Option, Some, None, Result, Ok, Err, refl, sym, ◌∙◌, ap, arith, slice_index_or, set, subst, Global}
+use Rattle.std.proofs.Common.{◌≡◌, ℕ, zero, suc, ◌+◌, ◌<◌, ◌≤◌, ◌⊎◌, inl, inr, List, [], ◌∷◌, ◌++◌, take, drop, length, map, Bool, true, false, Option, Some, None, Result, Ok, Err, refl, sym, ◌∙◌, ap, arith, slice_index_or, set, subst, Global}
 use Rattle.std.specs.Prelude.{option_to_list, is_some, OnErr}
 use Rattle.std.proofs.lemmas.Bool.{false≢true}
 use Rattle.std.specs.Arc.{arc_value}
@@ -12,7 +12,7 @@ use Rattle.value.specs.Ordered.{by_order, put, HasKey}
 use Rattle.value.proofs.ValueOrders.{value_cmp_total}
 use Rattle.value.proofs.OrderedLists.{IsAscending-put}
 use Rattle.std.specs.List.{insert}
-use Rattle.pages.specs.Reach.{key_of, AreInOrder}
+use Rattle.pages.specs.Reach.{key_of, entry_of, AreInOrder}
 use Rattle.pages.specs.Levels.{Tree, entries_of, entries_at, highest, HaveHeight, HaveEntries, IsSoAt, IsNarrow}
 use Rattle.pages.specs.Parts.{Leads, AreBelow, AreFilled, AreFilledBut, AreSame}
 use Rattle.pages.specs.Shapes.{HasRoom}
@@ -57,7 +57,30 @@ module _ {V : Type 0} where
     | Greater ↦ omega (arith, length_put k new xs)
   ]
 
-  set_there : (r : ℕ) (ts : List (Tree V)) (t : Tree V) → r < length ts → entries_at (set ts r t) r ≡ t.1
+  -- and takes at most one away
+  pub put_length : (k : Value) (new : Option (Value × V)) (xs : List (Value × V)) → length xs ≤ length (put value_cmp key_of k new xs) + 1
+  put_length k new [] = omega arith
+  put_length k new (x ∷ xs) = elim (value_cmp k (key_of x)) as (λ c. length (x ∷ xs) ≤ length (by_order c (option_to_list new ++ x ∷ xs) (option_to_list new ++ xs) (x ∷ put value_cmp key_of k new xs)) + 1) [
+    | Less ↦ omega (arith, length-append (option_to_list new) (x ∷ xs))
+    | Equal ↦ omega (arith, length-append (option_to_list new) xs)
+    | Greater ↦ omega (arith, put_length k new xs)
+  ]
+
+  -- what is put in stands there
+  put_some : (k : Value) (w : Value × V) (xs : List (Value × V)) → 0 < length (put value_cmp key_of k (Some w) xs)
+  put_some k w [] = omega arith
+  put_some k w (x ∷ xs) = elim (value_cmp k (key_of x)) as (λ c. 0 < length (by_order c (w ∷ x ∷ xs) (w ∷ xs) (x ∷ put value_cmp key_of k (Some w) xs))) [
+    | Less ↦ omega arith
+    | Equal ↦ omega arith
+    | Greater ↦ omega arith
+  ]
+
+  -- where no entry is left, one at most was there, and none was to come
+  pub none_left : (k : Value) (new : Option V) (grows : Bool) (xs ys : List (Value × V)) → grows ≡ is_some new → ys ≡ put value_cmp key_of k (entry_of k new) xs → ys ≡ [] → (grows ≡ false) × (length xs ≤ 1)
+  none_left k None grows xs ys e p n = (e, omega (arith, put_length k None xs, ap length (sym p ∙ n)))
+  none_left k (Some v) grows xs ys e p n = absurd (omega (arith, put_some k (k, v) xs, ap length (sym p ∙ n)))
+
+  pub set_there : (r : ℕ) (ts : List (Tree V)) (t : Tree V) → r < length ts → entries_at (set ts r t) r ≡ t.1
   set_there r [] t h = absurd (omega (arith, h))
   set_there zero (u ∷ ts) t h = refl
   set_there (suc r) (u ∷ ts) t h = set_there r ts t (omega (arith, h))
@@ -135,7 +158,7 @@ module _ {V : Type 0} where
       ap (map arc_value) (m ∙ ap (λ xs. insert (set xs r y) (r + 1) b) q) ∙ map_insert arc_value (set nodes r y) (r + 1) b ∙ ap (λ vs. insert vs (r + 1) (arc_value b)) (map_set arc_value nodes r y)
       ∙ ap (λ (i : ℕ). insert (set (map arc_value nodes) r (arc_value y)) i (arc_value b)) one
 
-  pub cut_there : (seps mids newer : List Value) (nodes mid made : List (Arc (Tree V) Global)) (r : ℕ) (key : Value) (x y b : Arc (Tree V) Global) → mids ≡ seps → mid ≡ nodes → r < length nodes → length (map arc_value nodes) < 32 → x ≡ slice_index_or mid r x
+  pub cut_there : (seps mids newer : List Value) (nodes mid made : List (Arc (Tree V) Global)) (r : ℕ) (key : Value) (x y b : Arc (Tree V) Global) → mids ≡ seps → mid ≡ nodes → r < length nodes → length (map arc_value nodes) < 15 → x ≡ slice_index_or mid r x
       → AreHalves (arc_value x) (arc_value y) key (arc_value b) → newer ≡ insert mids r key → made ≡ insert (set mid r y) (r + 1) b → AreBelow seps (map arc_value nodes) → AreFilled (map arc_value nodes) → AreSame seps newer (map arc_value nodes) (map arc_value made)
   cut_there seps mids newer nodes mid made r key x y b p q h l is c n m below filled =
       let ts = map arc_value nodes in

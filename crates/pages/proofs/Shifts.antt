@@ -1,6 +1,6 @@
 -- Nodes that are cut, put in and taken out.
 use Rattle.std.proofs.lemmas.List.{append-nil, take-append-drop, length-drop, length-append}
-use Rattle.std.proofs.Common.{◌≡◌, ℕ, zero, suc, ◌+◌, ◌-◌, ◌<◌, ◌≤◌, false, List, [], ◌∷◌, ◌++◌, take, drop, length, refl, sym, ◌∙◌, ap, arith, append_assoc, slice_index_or, set, subst, map}
+use Rattle.std.proofs.Common.{◌≡◌, ℕ, zero, suc, ◌+◌, ◌-◌, ◌<◌, ◌≤◌, ◌⊎◌, inl, inr, min, false, List, [], ◌∷◌, ◌++◌, take, drop, length, refl, sym, ◌∙◌, ap, arith, append_assoc, slice_index_or, set, subst, map}
 use Rattle.std.specs.List.{insert, remove}
 use Rattle.std.specs.Ordering.{is_gt, ordering_reverse}
 use Rattle.std.specs.declared.cmp.Ordering.{Ordering}
@@ -11,7 +11,7 @@ use Rattle.value.specs.Ordered.{AreAbove}
 use Rattle.value.proofs.ValueOrders.{value_cmp_total}
 use Rattle.pages.specs.Reach.{key_of, reaches, AreInOrder}
 use Rattle.pages.specs.Levels.{Tree, entries_of, entries_at, highest, HaveHeight, HaveEntries, IsSoAt}
-use Rattle.pages.specs.Parts.{AreFrom, AreRising, Parted, AreBelow, AreFilled, AreFilledBut, AreSame}
+use Rattle.pages.specs.Parts.{AreFrom, AreRising, Parted, AreBelow, AreFilled, AreFilledBut, AreSame, AreWithout}
 use Rattle.pages.specs.Shapes.{tree_over}
 use Rattle.pages.specs.Cuts.{AreHalves}
 use Rattle.pages.proofs.Orders.{order_front, order_behind, last_reaches, passed_first, length-take_le, long_take}
@@ -224,7 +224,7 @@ module _ {V : Type 0} where
   all_filled (suc r) (t ∷ []) h n f = absurd (omega (arith, h))
   all_filled r (t ∷ u ∷ ts) h n f = f (omega arith)
 
-  pub cut_same : (r : ℕ) (seps newer : List Value) (ts us : List (Tree V)) (key : Value) (old new half : Tree V) → r < length ts → length ts < 32 → AreHalves old new key half → old.1 ≡ entries_at ts r → old.0.0 ≡ highest ts
+  pub cut_same : (r : ℕ) (seps newer : List Value) (ts us : List (Tree V)) (key : Value) (old new half : Tree V) → r < length ts → length ts < 15 → AreHalves old new key half → old.1 ≡ entries_at ts r → old.0.0 ≡ highest ts
       → newer ≡ insert seps r key → us ≡ insert (set ts r new) (suc r) half → AreBelow seps ts → AreFilled ts → AreSame seps newer ts us
   cut_same r seps newer ts us key old new half h l c e f a b below filled =
       let items : entries_of us ≡ entries_of ts = ap entries_of b ∙ entries_cut r ts new half h (c.items ∙ e) in
@@ -322,6 +322,29 @@ module _ {V : Type 0} where
   out_last r m seps newer ts us q h e a b below filled =
       out r seps newer ts us e b (omega (arith, h)) below filled (subst (λ ss. Parted ss (remove ts r)) (sym a) (subst (λ (i : ℕ). Parted (remove seps m) (remove ts i)) (sym q)
       (parted_out_last m seps ts h (subst (λ (i : ℕ). entries_at ts i ≡ []) q e) below.parted))) (subst AreRising (sym a) (rising_remove m seps below.rising))
+
+last_or : (r n : ℕ) → r < n + 1 → (r < n) ⊎ (r ≡ n)
+last_or zero zero h = inr refl
+last_or zero (suc n) h = inl (omega arith)
+last_or (suc r) zero h = absurd (omega (arith, h))
+last_or (suc r) (suc n) h = next (last_or r n (omega (arith, h)))
+  where
+    next : (r < n) ⊎ (r ≡ n) → (suc r < suc n) ⊎ (suc r ≡ suc n)
+    next (inl w) = inl (omega (arith, w))
+    next (inr e) = inr (ap suc e)
+
+module _ {V : Type 0} where
+  pub out_without : (r : ℕ) (seps newer : List Value) (ts us : List (Tree V)) → r < length ts → entries_at ts r ≡ [] → AreWithout r seps newer → us ≡ remove ts r → AreBelow seps ts → AreFilledBut r ts → AreSame seps newer ts us
+  out_without r seps newer ts us h e a b below filled = by (last_or r (length seps) (omega (arith, h, parted_length seps ts below.parted)))
+    where
+      by : (r < length seps) ⊎ (r ≡ length seps) → AreSame seps newer ts us
+      by (inl w) =
+          let here : min r (length seps - 1) ≡ r = omega (arith, w) in
+          out_within r seps newer ts us w e (a.items ∙ ap (remove seps) here) b below filled
+      by (inr q) =
+          let here : min r (length seps - 1) ≡ length seps - 1 = omega (arith, q) in
+          let last : r ≡ suc (length seps - 1) = omega (arith, q, a.several) in
+          out_last r (length seps - 1) seps newer ts us last (omega (arith, a.several)) e (a.items ∙ ap (remove seps) here) b below filled
 
 pub map_set : {X Y : Type 0} (f : X → Y) (xs : List X) (i : ℕ) (y : X) → map f (set xs i y) ≡ set (map f xs) i (f y)
 map_set f [] i y = refl

@@ -11,8 +11,8 @@ pub record AreHalves {V : Type 0} (old new : Tree V) (key : Value) (half : Tree 
   pub items : new.1 ++ half.1 ≡ old.1
   pub first_height : new.0.0 ≡ old.0.0
   pub second_height : half.0.0 ≡ old.0.0
-  pub first_room : new.0.1 < 32
-  pub second_room : half.0.1 < 32
+  pub first_room : new.0.1 < 15
+  pub second_room : half.0.1 < 15
   pub first_some : 0 < length new.1
   pub second_some : 0 < length half.1
   pub below : reaches key new.1 ≡ false

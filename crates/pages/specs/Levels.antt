@@ -50,4 +50,4 @@ module _ {V : Type 0} where
   IsWide node = 1 < node.0.1
 
   abbrev pub IsNarrow : Tree V → Type 0
-  IsNarrow node = node.0.1 < 32
+  IsNarrow node = node.0.1 < 15

@@ -1,5 +1,6 @@
 -- How separators part the nodes below a node, and which of them a key belongs to.
-use Rattle.std.specs.Prelude.{◌≡◌, ◌<◌, ◌≤◌, ℕ, zero, suc, false, List, [], ◌∷◌, length}
+use Rattle.std.specs.Prelude.{◌≡◌, ◌<◌, ◌≤◌, ◌-◌, ℕ, zero, suc, min, false, List, [], ◌∷◌, length}
+use Rattle.std.specs.List.{remove}
 use Rattle.std.specs.Ordering.{is_lt, is_gt}
 use Rattle.std.specs.declared.cmp.Ordering.TheVariants.{Less}
 use Rattle.value.specs.declared.values.Value.{Value}
@@ -22,6 +23,11 @@ Leads k [] at = at ≡ 0
 Leads k (s ∷ seps) zero = value_cmp k s ≡ Less
 Leads k (s ∷ seps) (suc at) = (is_lt (value_cmp k s) ≡ false) × Leads k seps at
 
+-- what is left of the separators without that behind the node at a place, or before it where it is the last of several
+pub record AreWithout (at : ℕ) (seps left : List Value) : Type 0 where
+  pub several : 0 < length seps
+  pub items : left ≡ remove seps (min at (length seps - 1))
+
 module _ {V : Type 0} where
   -- no entry is below the key
   abbrev pub AreFrom : Value → List (Value × V) → Type 0
@@ -36,9 +42,9 @@ module _ {V : Type 0} where
   Parted (s ∷ seps) [] = ⊥
   Parted (s ∷ seps) (t ∷ ts) = (reaches s t.1 ≡ false) × (AreFrom s (entries_of ts) × Parted seps ts)
 
-  -- nodes below a node: at most 32, of one height, in order, and parted by separators that go up
+  -- nodes below a node: at most 15, of one height, in order, and parted by separators that go up
   pub record AreBelow (seps : List Value) (ts : List (Tree V)) : Type 0 where
-    pub most : length ts ≤ 32
+    pub most : length ts ≤ 15
     pub level : HaveHeight (highest ts) ts
     pub order : AreInOrder (entries_of ts)
     pub rising : AreRising seps

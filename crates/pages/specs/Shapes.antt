@@ -23,9 +23,9 @@ module _ {V : Type 0} where
   seen (Leaf page) = page_tree page.items
   seen (Inner count seps nodes) = tree_over (map arc_value nodes.items)
 
-  -- a page has at most 32 entries, and they ascend
+  -- a page has at most 15 entries, and they ascend
   pub record IsPage (page : List (Value × V)) : Type 0 where
-    pub most : length page ≤ 32
+    pub most : length page ≤ 15
     pub order : AreInOrder page
 
   -- an inner node knows how many entries there are below it, and has no empty node beside another
@@ -36,12 +36,12 @@ module _ {V : Type 0} where
 
   abbrev pub IsWhole : Shape V → Type 0
   IsWhole (Leaf page) = IsPage page.items
-  IsWhole (Inner count seps nodes) = IsOver count seps.items (map arc_value nodes.items)
+  IsWhole (Inner count seps nodes) = IsOver count (arc_value seps).items (map arc_value nodes.items)
 
   -- a node takes what is to come: something only where it has room
   abbrev pub HasRoom : Option V → Tree V → Type 0
   HasRoom None t = Unit {0}
-  HasRoom (Some v) t = t.0.1 < 32
+  HasRoom (Some v) t = t.0.1 < 15
 
   -- the entries below a root, if there is one
   abbrev pub entries_in : Option (Arc (Tree V) Global) → List (Value × V)

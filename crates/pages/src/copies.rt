@@ -1,8 +1,9 @@
 //! Copies of what a node holds, which share all that can be shared.
 
-ghost use Rattle.std.specs.Prelude.{◌≡◌, ◌≤◌, drop, length, IfOk, map};
+ghost use Rattle.std.specs.Prelude.{◌≡◌, ◌≤◌, drop, take, length, IfOk, map};
 ghost use Rattle.std.specs.Arc.{arc_value};
 
+use crate::nodes::MOST;
 use std::alloc::{AllocError, Global};
 use std::sync::Arc;
 use value::{Copied, Value};
@@ -14,7 +15,8 @@ pub fn copy_page<V: Copied>(
 ) -> Result<Vec<(Value, V)>, AllocError>
     ensures { IfOk result (λ copy. copy.items ≡ page.now) }
 {
-    let mut made = Vec::with_capacity(alloc, page.len().saturating_add(1))?;
+    // (a full page is cut before an entry comes to it)
+    let mut made = Vec::with_capacity(alloc, page.len().saturating_add(1).min(MOST))?;
     for entry in page {
         let key = entry.0.copy()?;
         let value = entry.1.copied()?;
@@ -43,6 +45,14 @@ pub fn share<T: Drop>(alloc: Global, items: &[Arc<T>]) -> Result<Vec<Arc<T>>, Al
         made.push(Arc::try_clone(item)?)?;
     }
     Ok(made)
+}
+
+/// The keys before a place once more.
+pub fn keys_before(alloc: Global, keys: &[Value], end: usize) -> Result<Vec<Value>, AllocError>
+    requires { end ≤ length keys.now }
+    ensures { IfOk result (λ copy. copy.items ≡ take end keys.now) }
+{
+    copy_keys(alloc, &keys[..end])
 }
 
 /// The keys from a place on once more.

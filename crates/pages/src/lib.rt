@@ -23,11 +23,12 @@
 //! so values are `value::Copied`, best by a count.
 //!
 //! Inside it is a B+-tree (Bayer and McCreight, "Organization and Maintenance of Large Ordered Indexes", 1972; Comer,
-//! "The Ubiquitous B-Tree", 1979) with path copying. Its leaves are *pages* of at most 32 entries, which stand in them
-//! by value, and its inner nodes have at most 32 nodes below them. Between two nodes an inner node keeps a separator,
+//! "The Ubiquitous B-Tree", 1979) with path copying. Its leaves are *pages* of at most 15 entries, which stand in them
+//! by value, and its inner nodes have at most 15 nodes below them. Between two nodes an inner node keeps a separator,
 //! which is above all keys before it and above none behind it: it need not be a key itself, and no change of an entry
-//! moves it. All leaves are equally deep, entries and separators ascend, and no node without entries stands beside
-//! another: the type keeps all of this, so that a search goes by halves, in a page as among separators.
+//! moves it, so versions share the separators of a node until one below it is cut or goes. All leaves are equally deep,
+//! entries and separators ascend, and no node without entries stands beside another: the type keeps all of this, so
+//! that a search goes by halves, in a page as among separators.
 //!
 //! A node that is full on the way to a new entry is cut in two on the way down (Guibas and Sedgewick, "A Dichromatic
 //! Framework for Balanced Trees", 1978): in the middle, or before its end where the new key is above all that it has,

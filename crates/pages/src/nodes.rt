@@ -10,16 +10,17 @@ ghost use Rattle.pages.specs.Cuts.{AreHalves};
 ghost use Rattle.value.specs.Ordered.{at as item_at, put};
 ghost use Rattle.value.specs.ValueOrder.{value_cmp};
 
-use crate::copies::{copy_keys, copy_page, keys_from, share, share_from};
-use crate::parts::{make_way, put_page, settle};
+use crate::copies::{copy_page, keys_before, keys_from, share, share_from};
+use crate::parts::{make_way, put_page, seps_left, settle};
 use crate::search::{find, node_at, nodes_half, page_half, route};
 use std::alloc::{AllocError, Global};
 use std::marker::Model;
 use std::sync::Arc;
 use value::{Copied, Value};
 
-/// The most entries of a page, and the most nodes below a node.
-pub const MOST: usize = 32;
+/// The most entries of a page, and the most nodes below a node: a copied page of totals, whose entries have 64 bytes,
+/// is then a block that `malloc` still takes from a list of its size.
+pub const MOST: usize = 15;
 
 /// A node.
 #[cycle(pages)]
@@ -28,12 +29,13 @@ pub struct Node<V> {
     shape: Shape<V>,
 }
 
-/// A page of entries; or how many entries there are, the keys that part the nodes below, and those nodes.
+/// A page of entries; or how many entries there are, the keys that part the nodes below, and those nodes. Versions
+/// share the keys until a node below is cut or goes.
 #[cycle(pages)]
 #[derive(Drop)]
 pub enum Shape<V> {
     Leaf(Vec<(Value, V)>),
-    Inner(usize, Vec<Value>, Vec<Arc<Node<V>>>),
+    Inner(usize, Arc<Vec<Value>>, Vec<Arc<Node<V>>>),
 }
 
 impl<V> Model for Node<V> {
@@ -69,7 +71,7 @@ impl<V> Node<V> {
     /// How many entries, or nodes, it holds.
     pub fn width(&self) -> usize
         ensures width { result ≡ self.now.0.1 }
-        ensures most { result ≤ 32 }
+        ensures most { result ≤ 15 }
     {
         match &self.shape {
             Shape::Leaf(page) => page.len(),
@@ -130,7 +132,7 @@ impl<V: Copied> Node<V> {
                 })
             }
             Shape::Inner(count, seps, nodes) => {
-                let seps = copy_keys(alloc, seps)?;
+                let seps = Arc::try_clone(seps)?;
                 let nodes = share(alloc, nodes)?;
                 Ok(Node {
                     shape: Shape::Inner(*count, seps, nodes),
@@ -154,11 +156,12 @@ impl<V: Copied> Node<V> {
             Shape::Inner(count, seps, nodes) => {
                 let at = make_way(alloc, seps, nodes, key, new.is_some())?;
                 let before = nodes[at].count();
+                let left = seps_left(alloc, seps, at, before, new.is_some())?;
                 match Arc::get_mut(&mut nodes[at]) {
                     Some(node) => node.put(alloc, key, new)?,
                     None => return Err(AllocError),
                 }
-                settle(count, seps, nodes, at, before);
+                settle(count, seps, nodes, at, before, left);
                 Ok(())
             }
         }
@@ -206,23 +209,26 @@ fn cut_page<V: Copied>(
 fn cut_nodes<V: Copied>(
     alloc: Global,
     count: &mut usize,
-    seps: &mut Vec<Value>,
+    seps: &mut Arc<Vec<Value>>,
     nodes: &mut Vec<Arc<Node<V>>>,
     next: &Value,
 ) -> Result<(Value, Node<V>), AllocError>
     requires wide { 1 < length (map arc_value nodes.old.items) }
-    requires whole { IsOver count.old seps.old.items (map arc_value nodes.old.items) }
+    requires whole { IsOver count.old (arc_value seps.old).items (map arc_value nodes.old.items) }
     ensures cut { IfOk result (λ half. AreHalves
         (tree_over (map arc_value nodes.old.items)) (tree_over (map arc_value nodes.new.items)) half.0 half.1) }
-    ensures whole { IsOver count.new seps.new.items (map arc_value nodes.new.items) }
+    ensures whole { IsOver count.new (arc_value seps.new).items (map arc_value nodes.new.items) }
     ensures same { OnErr result (map arc_value nodes.new.items ≡ map arc_value nodes.old.items) }
 {
     let at = nodes_half(seps, next);
     let key = seps[at].copy()?;
-    let seps_behind = keys_from(alloc, seps, at + 1)?;
+    let front = keys_before(alloc, seps, at)?;
+    let seps_before = Arc::new(alloc, front)?;
+    let rear = keys_from(alloc, seps, at + 1)?;
+    let seps_behind = Arc::new(alloc, rear)?;
     let nodes_behind = share_from(alloc, nodes, at + 1)?;
     let behind = count_of(&nodes_behind)?;
-    seps.truncate(at);
+    *seps = seps_before;
     nodes.truncate(at + 1);
     *count -= behind;
     Ok((
@@ -288,7 +294,8 @@ pub fn over<V: Copied>(alloc: Global, node: &Arc<Node<V>>) -> Result<Node<V>, Al
     let mut nodes = Vec::new(alloc);
     let below = Arc::try_clone(node)?;
     nodes.push(below)?;
+    let seps = Arc::new(alloc, Vec::new(alloc))?;
     Ok(Node {
-        shape: Shape::Inner(count, Vec::new(alloc), nodes),
+        shape: Shape::Inner(count, seps, nodes),
     })
 }

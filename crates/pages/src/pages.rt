@@ -140,8 +140,8 @@ impl<V> Pages<V> {
 }
 
 impl<V: Copied> Pages<V> {
-    /// Changes the map: at the key stands this value from now on, or none. Copies see nothing of it. Where the answer is
-    /// NoMemory, the map is as it was.
+    /// Changes the map: at the key stands this value from now on, or none. Copies see nothing of it. Where memory runs
+    /// out, the map is as it was.
     pub fn put(&mut self, key: &Value, value: Option<V>) -> Result<(), AllocError>
         ensures changed { OnOk result (self.new ≡ put value_cmp key_of key.now (entry_of key.now value) self.old) }
         ensures same { OnErr result (self.new ≡ self.old) }
@@ -165,8 +165,8 @@ impl<V: Copied> Pages<V> {
         }
     }
 
-    /// The map after a change: at the key stands this value, or none. This map stays as it is, also where the answer is
-    /// NoMemory.
+    /// The map after a change: at the key stands this value, or none. This map stays as it is, also where
+    /// memory runs out.
     pub fn with(&self, key: &Value, value: Option<V>) -> Result<Pages<V>, AllocError>
         ensures changed { IfOk result (λ pages.
             pages ≡ put value_cmp key_of key.now (entry_of key.now value) self.now) }
@@ -188,7 +188,8 @@ fn put_root<V: Copied>(
 ) -> Result<(), AllocError>
     requires order { AreInOrder (entries_in root.old) }
     requires short { length (entries_in root.old) < 2 ^ 63 }
-    ensures changed { OnOk result (entries_in root.new ≡ put value_cmp key_of key.now (entry_of key.now value) (entries_in root.old)) }
+    ensures changed { OnOk result (entries_in root.new
+        ≡ put value_cmp key_of key.now (entry_of key.now value) (entries_in root.old)) }
     ensures same { OnErr result (entries_in root.new ≡ entries_in root.old) }
     ensures order { AreInOrder (entries_in root.new) }
     ensures short { length (entries_in root.new) < 2 ^ 63 }
@@ -206,7 +207,8 @@ fn put_either<V: Copied>(
     value: Option<V>,
 ) -> Result<(), AllocError>
     requires { length (entries_in root.old) < 2 ^ 63 }
-    ensures changed { OnOk result (entries_in root.new ≡ put value_cmp key_of key.now (entry_of key.now value) (entries_in root.old)) }
+    ensures changed { OnOk result (entries_in root.new
+        ≡ put value_cmp key_of key.now (entry_of key.now value) (entries_in root.old)) }
     ensures same { OnErr result (entries_in root.new ≡ entries_in root.old) }
     ensures short { length (entries_in root.new) < 2 ^ 63 }
 {
@@ -278,7 +280,8 @@ fn put_below<V: Copied>(
     value: Option<V>,
 ) -> Result<(), AllocError>
     requires { length (arc_value node.old).1 < 2 ^ 63 }
-    ensures changed { OnOk result ((arc_value node.new).1 ≡ put value_cmp key_of key.now (entry_of key.now value) (arc_value node.old).1) }
+    ensures changed { OnOk result ((arc_value node.new).1
+        ≡ put value_cmp key_of key.now (entry_of key.now value) (arc_value node.old).1) }
     ensures same { OnErr result ((arc_value node.new).1 ≡ (arc_value node.old).1) }
     ensures short { length (arc_value node.new).1 < 2 ^ 63 }
 {

@@ -15,11 +15,11 @@ most_open = 64
 
 -- A refusal names the first token that no text of the language has after the tokens before it, or the first
 -- parenthesis too many.
-abbrev pub Refused : {A : Type 0} → Language A → ℕ → Lexemes → ℕ → Refusal → Type 0
-Refused L most ts end refusal.NoMemory = Unit {0}
-Refused L most ts end (refusal.Syntax at) = (rest : Lexemes) × IsWrong L most ts rest × (at ≡ place end rest)
-Refused L most ts end (refusal.TooDeep at) = (rest : Lexemes) × IsTooDeep L most ts rest × (at ≡ place end rest)
-Refused L most ts end _ = ⊥
+abbrev pub IsRefusalOf : {A : Type 0} → Language A → ℕ → Lexemes → ℕ → Refusal → Type 0
+IsRefusalOf L most ts end refusal.NoMemory = Unit {0}
+IsRefusalOf L most ts end (refusal.Syntax at) = (rest : Lexemes) × IsWrong L most ts rest × (at ≡ place end rest)
+IsRefusalOf L most ts end (refusal.TooDeep at) = (rest : Lexemes) × IsTooDeep L most ts rest × (at ≡ place end rest)
+IsRefusalOf L most ts end _ = ⊥
 
 -- this tree, unless memory ran out
 abbrev pub Gave : {A : Type 0} → A → Result A Refusal → Type 0
@@ -34,9 +34,9 @@ refusal_of at stop.Syntax = refusal.Syntax at
 refusal_of at stop.Depth = refusal.TooDeep at
 
 -- the outcome of a reader, told as an answer
-abbrev pub Told : {A : Type 0} → Outcome A → ℕ → Result A Refusal → Type 0
-Told outcome end (Ok a) = (rest : Lexemes) × (outcome ≡ (Done a, rest))
-Told outcome end (Err refusal.NoMemory) = Unit {0}
-Told outcome end (Err (refusal.Syntax at)) = (rest : Lexemes) × (outcome ≡ (Fail, rest)) × (at ≡ place end rest)
-Told outcome end (Err (refusal.TooDeep at)) = (rest : Lexemes) × (outcome ≡ (Deep, rest)) × (at ≡ place end rest)
-Told outcome end (Err _) = ⊥
+abbrev pub IsOutcomeAs : {A : Type 0} → Outcome A → ℕ → Result A Refusal → Type 0
+IsOutcomeAs outcome end (Ok a) = (rest : Lexemes) × (outcome ≡ (Done a, rest))
+IsOutcomeAs outcome end (Err refusal.NoMemory) = Unit {0}
+IsOutcomeAs outcome end (Err (refusal.Syntax at)) = (rest : Lexemes) × (outcome ≡ (Fail, rest)) × (at ≡ place end rest)
+IsOutcomeAs outcome end (Err (refusal.TooDeep at)) = (rest : Lexemes) × (outcome ≡ (Deep, rest)) × (at ≡ place end rest)
+IsOutcomeAs outcome end (Err _) = ⊥

@@ -8,7 +8,7 @@ ghost use Rattle.syntax.specs.StatementGrammar.{IsEvent};
 ghost use Rattle.syntax.specs.SchemaGrammar.{IsSchema, IsScript};
 ghost use Rattle.syntax.specs.Answer.{Fits};
 ghost use Rattle.syntax.specs.Lexemes.{lexemes};
-ghost use Rattle.parse.specs.Told.{most_open, Refused, Gave};
+ghost use Rattle.parse.specs.Told.{most_open, IsRefusalOf, Gave};
 
 use crate::wholes::{event_of, schema_of, script_of};
 use sqlite_items::Items;
@@ -31,7 +31,7 @@ pub fn parse_schema(alloc: Global, text: &[u8]) -> Result<Items<Definition>, Ref
     ensures only { (d : List Definition) → IsSchema (lexemes text.now) d → Fits most_open (lexemes text.now)
         → Gave d result }
     // A refusal names the first wrong token, or the first parenthesis too many.
-    ensures refused { IfErr result (Refused IsSchema most_open (lexemes text.now) (length text.now)) }
+    ensures refused { IfErr result (IsRefusalOf IsSchema most_open (lexemes text.now) (length text.now)) }
 {
     let tokens = read_tokens(alloc, text)?;
     schema_of(alloc, text, &tokens, MOST_OPEN)
@@ -46,7 +46,7 @@ pub fn parse_statement(alloc: Global, text: &[u8]) -> Result<Event, Refusal>
     // There it is given, unless memory runs out.
     ensures only { (e : Event) → IsEvent (lexemes text.now) e → Fits most_open (lexemes text.now) → Gave e result }
     // A refusal names the first wrong token, or the first parenthesis too many.
-    ensures refused { IfErr result (Refused IsEvent most_open (lexemes text.now) (length text.now)) }
+    ensures refused { IfErr result (IsRefusalOf IsEvent most_open (lexemes text.now) (length text.now)) }
 {
     let tokens = read_tokens(alloc, text)?;
     event_of(alloc, text, &tokens, MOST_OPEN)
@@ -61,7 +61,7 @@ pub fn parse_script(alloc: Global, text: &[u8]) -> Result<Items<Step>, Refusal>
     // There it is given, unless memory runs out.
     ensures only { (s : List Step) → IsScript (lexemes text.now) s → Fits most_open (lexemes text.now) → Gave s result }
     // A refusal names the first wrong token, or the first parenthesis too many.
-    ensures refused { IfErr result (Refused IsScript most_open (lexemes text.now) (length text.now)) }
+    ensures refused { IfErr result (IsRefusalOf IsScript most_open (lexemes text.now) (length text.now)) }
 {
     let tokens = read_tokens(alloc, text)?;
     script_of(alloc, text, &tokens, MOST_OPEN)

@@ -82,7 +82,7 @@ fn parse_column_type(cursor: &mut Cursor<'_>, depth: usize) -> Result<ColType, S
 /// `[PRIMARY KEY]`, behind NOT NULL.
 fn parse_marks_after_null(cursor: &mut Cursor<'_>) -> Result<Marks, Stop>
     ensures { Reads
-        (rd.◌<$>◌ (λ key. grammar.marks_of true (grammar.written key)) (rd.optional k.Primary reader.primary_key)
+        (rd.◌<$>◌ (λ key. grammar.marks_of true (grammar.is_present key)) (rd.optional k.Primary reader.primary_key)
         cursor.old) result cursor.new }
 {
     if !cursor.is(Kind::Primary) {
@@ -102,7 +102,7 @@ fn parse_marks_after_null(cursor: &mut Cursor<'_>) -> Result<Marks, Stop>
 /// `[NOT NULL]`, behind PRIMARY KEY.
 fn parse_marks_after_key(cursor: &mut Cursor<'_>) -> Result<Marks, Stop>
     ensures { Reads
-        (rd.◌<$>◌ (λ other. grammar.marks_of (grammar.written other) true) (rd.optional k.Not reader.not_null)
+        (rd.◌<$>◌ (λ other. grammar.marks_of (grammar.is_present other) true) (rd.optional k.Not reader.not_null)
         cursor.old) result cursor.new }
 {
     if !cursor.is(Kind::Not) {

@@ -11,7 +11,8 @@ use crate::columns::parse_parens_columns;
 use crate::inserts::parse_insert;
 use condition_parser::parse_condition;
 use leaf_parser::{
-    Cursor, Part, Repeated, Stop, drop_and_stop, expect_after, parse_many, parse_name, parse_parens,
+    Cursor, Part, RepeatedPart, Stop, drop_and_stop, expect_after, parse_many, parse_name,
+    parse_parens,
 };
 use sqlite_items::{Boxed, Items};
 use std::alloc::Global;
@@ -31,12 +32,12 @@ fn parse_table(alloc: Global, cursor: &mut Cursor<'_>, depth: usize) -> Result<D
 
 /// A condition, where so many parentheses may be opened.
 #[derive(Drop)]
-struct Checked {
+struct CheckedCondition {
     alloc: Global,
     depth: usize,
 }
 
-impl Part for Checked {
+impl Part for CheckedCondition {
     ghost use Rattle.syntax.specs.Readers as condition;
 
     type Tree = Boxed<Condition>;
@@ -58,7 +59,7 @@ fn parse_parens_condition(
 ) -> Result<Boxed<Condition>, Stop>
     ensures { Reads (rd.parens depth (condition.cond_at (depth - 1)) cursor.old) result cursor.new }
 {
-    let checked = Checked {
+    let checked = CheckedCondition {
         alloc,
         depth: depth.saturating_sub(1),
     };
@@ -137,7 +138,7 @@ impl Part for EndedDefinition {
     }
 }
 
-impl Repeated for EndedDefinition {
+impl RepeatedPart for EndedDefinition {
     ghost use Rattle.syntax.specs.SchemaReaders as reader;
 
     ghost begins = { reader.starts_definition };

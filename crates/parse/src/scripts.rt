@@ -4,7 +4,7 @@ ghost use Rattle.syntax.specs.SchemaReaders as reader;
 ghost use Rattle.leaf_parser.specs.Reads.{Reads};
 
 use crate::events::parse_event;
-use leaf_parser::{Cursor, Part, Repeated, Stop, expect_after, parse_many, parse_name};
+use leaf_parser::{Cursor, Part, RepeatedPart, Stop, expect_after, parse_many, parse_name};
 use sqlite_items::Items;
 use std::alloc::Global;
 use syntax::Step;
@@ -35,7 +35,7 @@ impl Part for StepPart {
     }
 }
 
-impl Repeated for StepPart {
+impl RepeatedPart for StepPart {
     ghost use Rattle.syntax.specs.SchemaReaders as reader;
 
     ghost begins = { reader.starts_step };

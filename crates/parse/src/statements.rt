@@ -8,7 +8,7 @@ use condition_parser::{parse_condition, parse_expression};
 use leaf_parser::{Cursor, NamePart, Part, Stop, drop_and_stop, parse_list, parse_name};
 use sqlite_items::Boxed;
 use std::alloc::Global;
-use syntax::{Assigned, Assignment, Condition, Mode, Statement, Which};
+use syntax::{Assignment, Condition, Mode, Statement, UpdateSource, Which};
 use token::Kind;
 
 /// `DEFERRED | IMMEDIATE`
@@ -97,26 +97,30 @@ fn parse_where(
 
 /// `NULL | expr`
 #[tactic(auto, unfolding(syntax::specs::StatementReaders::assigned))]
-fn parse_assigned(alloc: Global, cursor: &mut Cursor<'_>, depth: usize) -> Result<Assigned, Stop>
+fn parse_assigned(
+    alloc: Global,
+    cursor: &mut Cursor<'_>,
+    depth: usize,
+) -> Result<UpdateSource, Stop>
     ensures { Reads (reader.assigned depth cursor.old) result cursor.new }
 {
     match cursor.peek() {
         Kind::Null => {
             cursor.take(Kind::Null);
-            Ok(Assigned::Null)
+            Ok(UpdateSource::Null)
         }
-        _ => Ok(Assigned::To(parse_expression(alloc, cursor, depth)?)),
+        _ => Ok(UpdateSource::To(parse_expression(alloc, cursor, depth)?)),
     }
 }
 
 /// `name "=" (NULL | expr)`, where so many parentheses may be opened.
 #[derive(Drop)]
-struct Assigning {
+struct SetClause {
     alloc: Global,
     depth: usize,
 }
 
-impl Part for Assigning {
+impl Part for SetClause {
     ghost use Rattle.syntax.specs.StatementReaders as reader;
 
     type Tree = Assignment;
@@ -142,7 +146,7 @@ fn parse_update(alloc: Global, cursor: &mut Cursor<'_>, depth: usize) -> Result<
     cursor.expect(Kind::Update)?;
     let table = parse_name(alloc, cursor)?;
     cursor.expect(Kind::Set)?;
-    let sets = match parse_list(alloc, &Assigning { alloc, depth }, cursor) {
+    let sets = match parse_list(alloc, &SetClause { alloc, depth }, cursor) {
         Ok(sets) => sets,
         Err(stop) => return Err(drop_and_stop(stop, table)),
     };

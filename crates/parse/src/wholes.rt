@@ -6,7 +6,7 @@ ghost use Rattle.syntax.specs.SchemaReaders as schema;
 ghost use Rattle.syntax.specs.Reading as rd;
 ghost use Rattle.syntax.specs.Lexemes.{lexeme, place};
 ghost use Rattle.leaf_parser.specs.Reads.{Reads};
-ghost use Rattle.parse.specs.Told.{Told};
+ghost use Rattle.parse.specs.Told.{IsOutcomeAs};
 ghost use Rattle.parse.specs.Told as spec;
 
 use crate::events::parse_event;
@@ -33,7 +33,7 @@ fn refusal_of(stop: Stop, cursor: &Cursor<'_>, end: usize) -> Refusal
 
 /// What was found, if nothing is left.
 fn expect_end<T: Drop>(cursor: &mut Cursor<'_>, found: T) -> Result<T, Stop>
-    ensures { Reads (rd.ended found cursor.old) result cursor.new }
+    ensures { Reads (rd.at_end found cursor.old) result cursor.new }
 {
     if cursor.is_empty() {
         Ok(found)
@@ -79,7 +79,8 @@ pub fn event_of(
     tokens: &[Token],
     depth: usize,
 ) -> Result<Event, Refusal>
-    ensures { Told (rd.whole (event.one_event depth) (map (lexeme text.now) tokens.now)) (length text.now) result }
+    ensures { IsOutcomeAs (rd.whole (event.one_event depth) (map (lexeme text.now) tokens.now))
+        (length text.now) result }
 {
     let mut cursor = Cursor::new(text, tokens);
     match parse_whole_event(alloc, &mut cursor, depth) {
@@ -96,7 +97,8 @@ pub fn schema_of(
     tokens: &[Token],
     depth: usize,
 ) -> Result<Items<Definition>, Refusal>
-    ensures { Told (rd.whole (schema.definitions depth) (map (lexeme text.now) tokens.now)) (length text.now) result }
+    ensures { IsOutcomeAs (rd.whole (schema.definitions depth) (map (lexeme text.now) tokens.now))
+        (length text.now) result }
 {
     let mut cursor = Cursor::new(text, tokens);
     match parse_whole_schema(alloc, &mut cursor, depth) {
@@ -113,7 +115,7 @@ pub fn script_of(
     tokens: &[Token],
     depth: usize,
 ) -> Result<Items<Step>, Refusal>
-    ensures { Told (rd.whole (schema.script depth) (map (lexeme text.now) tokens.now)) (length text.now) result }
+    ensures { IsOutcomeAs (rd.whole (schema.script depth) (map (lexeme text.now) tokens.now)) (length text.now) result }
 {
     let mut cursor = Cursor::new(text, tokens);
     match parse_whole_script(alloc, &mut cursor, depth) {

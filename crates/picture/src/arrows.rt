@@ -1,7 +1,7 @@
 //! Which arrows are drawn.
 
 use crate::layouts::Layout;
-use answer::Answer;
+use alone::Answer;
 use history::{End, History, Read, Transaction, are_apart, conflict_between};
 use std::alloc::{AllocError, Global};
 use value::{Party, Refusal};

@@ -4,7 +4,7 @@ use crate::colours::{CODE, COMMITTED, INK, PALE, RED_INK, REFUSED, ROUND, SMALL,
 use crate::scenes::Scene;
 use crate::svg::{Anchor, Area, Point, add_area, add_cut, add_text, add_title};
 use crate::words::{add_ending, add_event, add_last_event, add_place, add_summary};
-use answer::Answer;
+use alone::Answer;
 use history::{End, Transaction};
 use std::alloc::{AllocError, Global};
 

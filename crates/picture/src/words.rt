@@ -1,7 +1,7 @@
 //! Transactions, events and conflicts in words.
 
 use crate::arrows::Arrow;
-use answer::Answer;
+use alone::Answer;
 use history::{End, History, Source, Transaction, add_key};
 use std::alloc::{AllocError, Global};
 use value::Refusal;

@@ -15,19 +15,19 @@ use std::alloc::AllocError;
 
 /// The changed rows of a statement: all of them, and each beside what it adds to a count, as `sign`.
 #[derive(Clone, Copy)]
-struct Changed {
+struct ChangedRows {
     rows: &'static str,
     signed: &'static str,
 }
 
 /// What an INSERT puts in, or a DELETE takes out.
-const ONCE: Changed = Changed {
+const ONCE: ChangedRows = ChangedRows {
     rows: "skewguard_changed",
     signed: "(SELECT CASE TG_OP WHEN 'DELETE' THEN -1 ELSE 1 END AS sign, t.* FROM skewguard_changed AS t)",
 };
 
 /// What an UPDATE changes, as it was and as it is.
-const TWICE: Changed = Changed {
+const TWICE: ChangedRows = ChangedRows {
     rows: "(TABLE skewguard_old UNION ALL TABLE skewguard_new)",
     signed: "(SELECT -1 AS sign, t.* FROM skewguard_old AS t UNION ALL SELECT 1, t.* FROM skewguard_new AS t)",
 };
@@ -117,7 +117,7 @@ fn add_function(
     view: &View,
     table: usize,
     name: &str,
-    changed: Changed,
+    changed: ChangedRows,
 ) -> Result<(), AllocError> {
     let place = table.saturating_add(1);
     write!(
@@ -151,7 +151,7 @@ fn add_total_changes(
     sql: &mut String,
     view: &View,
     table: usize,
-    changed: Changed,
+    changed: ChangedRows,
 ) -> Result<(), AllocError> {
     for (place, assertion) in view.assertions().iter().enumerate() {
         if let Form::Single { queries, .. } = &assertion.form {
@@ -169,7 +169,7 @@ fn add_checks(
     sql: &mut String,
     view: &View,
     table: usize,
-    changed: Changed,
+    changed: ChangedRows,
 ) -> Result<(), AllocError> {
     for (place, assertion) in view.assertions().iter().enumerate() {
         if is_over(&assertion.form, table) {
@@ -193,7 +193,7 @@ fn add_note(
     table: usize,
     rule: usize,
     form: &Form,
-    changed: Changed,
+    changed: ChangedRows,
 ) -> Result<(), AllocError> {
     let column = root_kind(view, form).column();
     write!(sql, "    IF NOT EXISTS (\n        ")?;
@@ -220,7 +220,7 @@ fn add_check(
     table: usize,
     rule: usize,
     assertion: &Assertion,
-    changed: Changed,
+    changed: ChangedRows,
 ) -> Result<(), AllocError> {
     let kind: RootKind = root_kind(view, &assertion.form);
     let variable = kind.variable();

@@ -46,7 +46,7 @@ impl fmt::Display for Constant<'_> {
             Value::Int(number) if *number < 0 => write!(f, "({number})"),
             Value::Int(number) => write!(f, "{number}"),
             Value::Text(text) => {
-                let quoted = Quoted(text);
+                let quoted = QuotedText(text);
                 write!(f, "({quoted} COLLATE \"C\")")
             }
         }
@@ -56,9 +56,9 @@ impl fmt::Display for Constant<'_> {
 /// A text in quotes. In an escape string a backslash means itself whatever standard_conforming_strings is, and a text
 /// with a dollar sign ends no body that stands between dollar signs.
 #[derive(Clone, Copy)]
-pub struct Quoted<'a>(pub &'a Text);
+pub struct QuotedText<'a>(pub &'a Text);
 
-impl fmt::Display for Quoted<'_> {
+impl fmt::Display for QuotedText<'_> {
     fn fmt<W: fmt::Write>(&self, f: &mut fmt::Formatter<W>) -> fmt::Result {
         write!(f, "E'")?;
         for byte in self.0.as_bytes() {

@@ -3,17 +3,17 @@ use Rattle.std.proofs.Common.{◌≡◌, Bool, true, false, [], ◌∷◌, ◌++
 use Rattle.token.specs.declared.kinds.Kind.TheVariants as k
 use Rattle.value.specs.declared.values.Value.TheVariants as v
 use Rattle.syntax.specs.Grammar as grammar
-use Rattle.syntax.specs.declared.statements.Assigned.TheVariants as to
+use Rattle.syntax.specs.declared.statements.UpdateSource.TheVariants as to
 use Rattle.syntax.specs.declared.statements.Which.TheVariants as which
 use Rattle.syntax.specs.declared.statements.Mode.TheVariants as mode
 use Rattle.syntax.specs.declared.statements.Statement.TheVariants as s
 use Rattle.syntax.specs.declared.statements.Event.{Event}
 use Rattle.syntax.specs.declared.statements.Event.TheVariants as event
 use Rattle.syntax.specs.StatementGrammar as g
-use Rattle.syntax.specs.declared.wants.Found.{Found}
+use Rattle.syntax.specs.declared.wants.PartInParentheses.{PartInParentheses}
 use Rattle.syntax.specs.Language.{Lexeme, Lexemes, Language}
 use Rattle.syntax.specs.Language as lang
-use Rattle.prepared.specs.Numerals.{numerals, joined, condition_numerals, expression_numerals, value_numerals, insert_numerals, assigned_numerals, assignment_numerals, where_numerals, statement_numerals, event_numerals}
+use Rattle.prepared.specs.Numerals.{numerals, numerals_of_parts, condition_numerals, expression_numerals, value_numerals, insert_numerals, assigned_numerals, assignment_numerals, filter_numerals, statement_numerals, event_numerals}
 use Rattle.prepared.proofs.Yields.{Adds, Silent, yields_token, yields_number, yields_map, yields_then, yields_list, silent_pure, silent_or, silent_seq, silent_map, silent_optional, silent_parens, silent_list, adds_pure, adds_or, adds_seq, adds_parens, adds_map, adds_none, adds_behind}
 use Rattle.prepared.proofs.Rules.{abs_signed, silent_name, found_numerals, inner_expr, inner_cond, nested}
 
@@ -79,17 +79,17 @@ adds_insert =
     adds_seq k.Insert _ insert_numerals refl (adds_seq k.Into _ insert_numerals refl
     (adds_behind grammar.name _ insert_numerals silent_name (λ table. adds_behind g.columns _ insert_numerals silent_columns
     (λ columns. adds_seq k.Values _ insert_numerals refl
-    (adds_map (g.insert_of table columns) (lang.parens (lang.list g.constant)) (λ xs. joined (map value_numerals xs)) insert_numerals (λ xs. refl)
-    (adds_parens _ (λ xs. joined (map value_numerals xs)) (yields_list g.constant value_numerals adds_constant)))))))
+    (adds_map (g.insert_of table columns) (lang.parens (lang.list g.constant)) (λ xs. numerals_of_parts (map value_numerals xs)) insert_numerals (λ xs. refl)
+    (adds_parens _ (λ xs. numerals_of_parts (map value_numerals xs)) (yields_list g.constant value_numerals adds_constant)))))))
 
 -- ---- what may have parentheses in it
 
-module _ (inner : Language Found) (adds : Adds inner found_numerals) where
-  where_clause : Adds (g.where_clause inner) where_numerals
+module _ (inner : Language PartInParentheses) (adds : Adds inner found_numerals) where
+  where_clause : Adds (g.where_clause inner) filter_numerals
   unfolding g.where_clause
   where_clause =
-      adds_or _ _ where_numerals (adds_pure None where_numerals refl)
-      (adds_map Some _ condition_numerals where_numerals (λ c. refl) (adds_seq k.Where _ condition_numerals refl (inner_cond inner adds)))
+      adds_or _ _ filter_numerals (adds_pure None filter_numerals refl)
+      (adds_map Some _ condition_numerals filter_numerals (λ c. refl) (adds_seq k.Where _ condition_numerals refl (inner_cond inner adds)))
 
   assigned : Adds (g.assigned inner) assigned_numerals
   unfolding g.assigned
@@ -108,24 +108,24 @@ module _ (inner : Language Found) (adds : Adds inner found_numerals) where
   update =
       adds_seq k.Update _ statement_numerals refl (adds_behind grammar.name _ statement_numerals silent_name
       (λ table. adds_seq k.Set _ statement_numerals refl (λ before.
-      yields_then (lang.list (g.assignment inner)) _ before (λ sets. before ++ joined (map assignment_numerals sets)) (λ x. before ++ statement_numerals x)
+      yields_then (lang.list (g.assignment inner)) _ before (λ sets. before ++ numerals_of_parts (map assignment_numerals sets)) (λ x. before ++ statement_numerals x)
       (yields_list (g.assignment inner) assignment_numerals assignment before)
-      (λ sets. yields_map (s.Update table sets) (g.where_clause inner) (before ++ joined (map assignment_numerals sets)) (λ keeps. (before ++ joined (map assignment_numerals sets)) ++ where_numerals keeps) (λ x. before ++ statement_numerals x)
-      (where_clause (before ++ joined (map assignment_numerals sets)))
-      (λ keeps. sym (append_assoc before (joined (map assignment_numerals sets)) (where_numerals keeps)))))))
+      (λ sets. yields_map (s.Update table sets) (g.where_clause inner) (before ++ numerals_of_parts (map assignment_numerals sets)) (λ keeps. (before ++ numerals_of_parts (map assignment_numerals sets)) ++ filter_numerals keeps) (λ x. before ++ statement_numerals x)
+      (where_clause (before ++ numerals_of_parts (map assignment_numerals sets)))
+      (λ keeps. sym (append_assoc before (numerals_of_parts (map assignment_numerals sets)) (filter_numerals keeps)))))))
 
   delete : Adds (g.delete inner) statement_numerals
   unfolding g.delete
   delete =
       adds_seq k.Delete _ statement_numerals refl (adds_seq k.From _ statement_numerals refl (adds_behind grammar.name _ statement_numerals silent_name
-      (λ table. adds_map (s.Delete table) (g.where_clause inner) where_numerals statement_numerals (λ keeps. refl) where_clause)))
+      (λ table. adds_map (s.Delete table) (g.where_clause inner) filter_numerals statement_numerals (λ keeps. refl) where_clause)))
 
   select : Adds (g.select inner) statement_numerals
   unfolding g.select
   select =
       adds_seq k.Select _ statement_numerals refl (adds_behind g.selected _ statement_numerals silent_selected
       (λ which. adds_seq k.From _ statement_numerals refl (adds_behind grammar.name _ statement_numerals silent_name
-      (λ table. adds_map (s.Select which table) (g.where_clause inner) where_numerals statement_numerals (λ keeps. refl) where_clause))))
+      (λ table. adds_map (s.Select which table) (g.where_clause inner) filter_numerals statement_numerals (λ keeps. refl) where_clause))))
 
   statement : Adds (g.statement inner) statement_numerals
   unfolding g.statement

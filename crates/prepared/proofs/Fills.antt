@@ -18,19 +18,19 @@ use Rattle.syntax.specs.declared.trees.SelectList.TheVariants as which
 use Rattle.syntax.specs.declared.trees.Query.{Query}
 use Rattle.syntax.specs.Grammar as g
 use Rattle.prepared.specs.declared.faults.FillFault.{FillFault}
-use Rattle.prepared.specs.Constants.{Given, Constants, Filled, taken, and_then, then_made, both, all, next, next_by, constant_of, expression_by, expression_of}
+use Rattle.prepared.specs.Constants.{Argument, Constants, Filling, first_and_rest, and_then, then_made, both, all, next, next_by, constant_of, expression_by, expression_of}
 use Rattle.prepared.specs.Conditions.{expression_step, condition_step, select_list_step, query_step, filled_expression, filled_condition, filled_select_list, filled_query}
 use Rattle.prepared.proofs.Keeps.{some_result}
 
 -- ---- each kind of tree
 
 pub expression_rolled : (layer : Expression-F Condition Expression SelectList Query) (now : Constants)
-    → filled_expression (roll-Expression layer) now ≡ expression_step (map-Expression Condition Expression SelectList Query (Filled Condition) (Filled Expression) (Filled SelectList) (Filled Query) filled_condition filled_expression filled_select_list filled_query layer) now
-expression_rolled layer now = ap (λ f. f now) (fold-roll-Expression (Filled Condition) (Filled Expression) (Filled SelectList) (Filled Query) condition_step expression_step select_list_step query_step layer)
+    → filled_expression (roll-Expression layer) now ≡ expression_step (map-Expression Condition Expression SelectList Query (Filling Condition) (Filling Expression) (Filling SelectList) (Filling Query) filled_condition filled_expression filled_select_list filled_query layer) now
+expression_rolled layer now = ap (λ f. f now) (fold-roll-Expression (Filling Condition) (Filling Expression) (Filling SelectList) (Filling Query) condition_step expression_step select_list_step query_step layer)
 
 condition_rolled : (layer : Condition-F Condition Expression SelectList Query) (now : Constants)
-    → filled_condition (roll-Condition layer) now ≡ condition_step (map-Condition Condition Expression SelectList Query (Filled Condition) (Filled Expression) (Filled SelectList) (Filled Query) filled_condition filled_expression filled_select_list filled_query layer) now
-condition_rolled layer now = ap (λ f. f now) (fold-roll-Condition (Filled Condition) (Filled Expression) (Filled SelectList) (Filled Query) condition_step expression_step select_list_step query_step layer)
+    → filled_condition (roll-Condition layer) now ≡ condition_step (map-Condition Condition Expression SelectList Query (Filling Condition) (Filling Expression) (Filling SelectList) (Filling Query) filled_condition filled_expression filled_select_list filled_query layer) now
+condition_rolled layer now = ap (λ f. f now) (fold-roll-Condition (Filling Condition) (Filling Expression) (Filling SelectList) (Filling Query) condition_step expression_step select_list_step query_step layer)
 
 pub of_number : (n : ℤ) (now : Constants) → filled_expression (e.Number n) now ≡ next expression_of (e.Number n) now
 of_number n now = ap (λ x. filled_expression x now) (sym (e.rolls-Number n)) ∙ expression_rolled (Expression-F.Number n) now
@@ -89,19 +89,19 @@ of_in subject values now = ap (λ x. filled_condition x now) (sym (b.rolls-In su
 pub of_star : (now : Constants) → filled_select_list which.Star now ≡ Ok (which.Star, now)
 of_star now =
     ap (λ x. filled_select_list x now) (sym which.rolls-Star)
-    ∙ ap (λ f. f now) (fold-roll-SelectList (Filled Condition) (Filled Expression) (Filled SelectList) (Filled Query) condition_step expression_step select_list_step query_step SelectList-F.Star)
+    ∙ ap (λ f. f now) (fold-roll-SelectList (Filling Condition) (Filling Expression) (Filling SelectList) (Filling Query) condition_step expression_step select_list_step query_step SelectList-F.Star)
 
 pub of_one : (part : Expression) (now : Constants) → filled_select_list (which.One part) now ≡ then_made which.One (filled_expression part now)
 of_one part now =
     ap (λ x. filled_select_list x now) (sym (which.rolls-One part))
-    ∙ ap (λ f. f now) (fold-roll-SelectList (Filled Condition) (Filled Expression) (Filled SelectList) (Filled Query) condition_step expression_step select_list_step query_step (SelectList-F.One part))
+    ∙ ap (λ f. f now) (fold-roll-SelectList (Filling Condition) (Filling Expression) (Filling SelectList) (Filling Query) condition_step expression_step select_list_step query_step (SelectList-F.One part))
 
 -- a clause that may be missing
-abbrev pub clause : Option Condition → Filled (Option Condition)
+abbrev pub clause : Option Condition → Filling (Option Condition)
 clause part now = some_result (λ c. filled_condition c now) now part
 
 -- a query's parts, from the left
-abbrev pub query_parts : SelectList → List ℕ → Option (List ℕ) → Option Condition → Option ColumnName → Option Condition → Filled Query
+abbrev pub query_parts : SelectList → List ℕ → Option (List ℕ) → Option Condition → Option ColumnName → Option Condition → Filling Query
 query_parts list table name keeps group having now =
     and_then (filled_select_list list now) (λ l. and_then (clause keeps l.1) (λ k. then_made (λ h. g.query_of l.0 table name k.0 group h) (clause having k.1)))
 
@@ -111,10 +111,10 @@ query_layer list table name keeps group having = record { select_list = list; ta
 pub of_query : (list : SelectList) (table : List ℕ) (name : Option (List ℕ)) (keeps : Option Condition) (group : Option ColumnName) (having : Option Condition) (now : Constants)
     → filled_query (g.query_of list table name keeps group having) now ≡ query_parts list table name keeps group having now
 unfolding query_layer
-of_query list table name None group None now = ap (λ f. f now) (fold-roll-Query (Filled Condition) (Filled Expression) (Filled SelectList) (Filled Query) condition_step expression_step select_list_step query_step (query_layer list table name (None) group (None)))
-of_query list table name None group (Some h) now = ap (λ f. f now) (fold-roll-Query (Filled Condition) (Filled Expression) (Filled SelectList) (Filled Query) condition_step expression_step select_list_step query_step (query_layer list table name (None) group (Some h)))
-of_query list table name (Some k) group None now = ap (λ f. f now) (fold-roll-Query (Filled Condition) (Filled Expression) (Filled SelectList) (Filled Query) condition_step expression_step select_list_step query_step (query_layer list table name (Some k) group (None)))
-of_query list table name (Some k) group (Some h) now = ap (λ f. f now) (fold-roll-Query (Filled Condition) (Filled Expression) (Filled SelectList) (Filled Query) condition_step expression_step select_list_step query_step (query_layer list table name (Some k) group (Some h)))
+of_query list table name None group None now = ap (λ f. f now) (fold-roll-Query (Filling Condition) (Filling Expression) (Filling SelectList) (Filling Query) condition_step expression_step select_list_step query_step (query_layer list table name (None) group (None)))
+of_query list table name None group (Some h) now = ap (λ f. f now) (fold-roll-Query (Filling Condition) (Filling Expression) (Filling SelectList) (Filling Query) condition_step expression_step select_list_step query_step (query_layer list table name (None) group (Some h)))
+of_query list table name (Some k) group None now = ap (λ f. f now) (fold-roll-Query (Filling Condition) (Filling Expression) (Filling SelectList) (Filling Query) condition_step expression_step select_list_step query_step (query_layer list table name (Some k) group (None)))
+of_query list table name (Some k) group (Some h) now = ap (λ f. f now) (fold-roll-Query (Filling Condition) (Filling Expression) (Filling SelectList) (Filling Query) condition_step expression_step select_list_step query_step (query_layer list table name (Some k) group (Some h)))
 
 -- ---- what an answer was made of
 
@@ -156,7 +156,7 @@ made_of make (Ok m) x rest h = record {
 made_of make (Err fault) x rest h = absurd (no_answer fault x rest h)
 
 -- a list was made of its first and the others
-pub record MadeOfAll {A B : Type 0} (fill : A → Filled B) (x : A) (xs : List A) (now : Constants) (made : List B) (rest : Constants) : Type 0 where
+pub record MadeOfAll {A B : Type 0} (fill : A → Filling B) (x : A) (xs : List A) (now : Constants) (made : List B) (rest : Constants) : Type 0 where
   pub first : B
   pub between : Constants
   pub others : List B
@@ -164,23 +164,23 @@ pub record MadeOfAll {A B : Type 0} (fill : A → Filled B) (x : A) (xs : List A
   pub others_are : all (map fill xs) between ≡ Ok (others, rest)
   pub are : made ≡ first ∷ others
 
-made_of_first : {A B : Type 0} (fill : A → Filled B) (x : A) (xs : List A) (now : Constants) (made : List B) (rest : Constants) (r : Result (B × Constants) FillFault) → fill x now ≡ r
+made_of_first : {A B : Type 0} (fill : A → Filling B) (x : A) (xs : List A) (now : Constants) (made : List B) (rest : Constants) (r : Result (B × Constants) FillFault) → fill x now ≡ r
     → and_then r (λ first. then_made (λ others. first.0 ∷ others) (all (map fill xs) first.1)) ≡ Ok (made, rest) → MadeOfAll fill x xs now made rest
 made_of_first fill x xs now made rest (Ok m) is h =
     let others = made_of (λ others. m.0 ∷ others) (all (map fill xs) m.1) made rest h in
     record { first = m.0; between = m.1; others = others.part; first_is = is; others_are = others.part_is; are = others.is }
 made_of_first fill x xs now made rest (Err fault) is h = absurd (no_answer fault made rest h)
 
-pub made_of_all : {A B : Type 0} (fill : A → Filled B) (x : A) (xs : List A) (now : Constants) (made : List B) (rest : Constants)
+pub made_of_all : {A B : Type 0} (fill : A → Filling B) (x : A) (xs : List A) (now : Constants) (made : List B) (rest : Constants)
     → all (map fill (x ∷ xs)) now ≡ Ok (made, rest) → MadeOfAll fill x xs now made rest
 made_of_all fill x xs now made rest h = made_of_first fill x xs now made rest (fill x now) refl h
 
-pub all_cons : {A B : Type 0} (fill : A → Filled B) (x : A) (xs : List A) (now between rest : Constants) (y : B) (ys : List B)
+pub all_cons : {A B : Type 0} (fill : A → Filling B) (x : A) (xs : List A) (now between rest : Constants) (y : B) (ys : List B)
     → fill x now ≡ Ok (y, between) → all (map fill xs) between ≡ Ok (ys, rest) → all (map fill (x ∷ xs)) now ≡ Ok (y ∷ ys, rest)
 all_cons fill x xs now between rest y ys e f =
     ap (λ r. and_then r (λ first. then_made (λ others. first.0 ∷ others) (all (map fill xs) first.1))) e ∙ ap (then_made (λ others. y ∷ others)) f
 
-all_append : {A B : Type 0} (fill : A → Filled B) (u w : List A) (now between rest : Constants) (x y : List B)
+all_append : {A B : Type 0} (fill : A → Filling B) (u w : List A) (now between rest : Constants) (x y : List B)
     → all (map fill u) now ≡ Ok (x, between) → all (map fill w) between ≡ Ok (y, rest) → all (map fill (u ++ w)) now ≡ Ok (x ++ y, rest)
 all_append fill [] w now between rest x y e f =
     ap (λ z. all (map fill w) z) (rest_same [] x now between e) ∙ f ∙ ap (λ z. Ok (z ++ y, rest)) (first_same [] x now between e)
@@ -191,7 +191,7 @@ all_append fill (a ∷ u) w now between rest x y e f =
 
 -- ---- lists of parts, with those of the same kind merged into them
 
-module _ {A : Type 0} (parts : A → List A) (join : List A → A) (fill : A → Filled A)
+module _ {A : Type 0} (parts : A → List A) (join : List A → A) (fill : A → Filling A)
     (merged : (x y : A) (now rest : Constants) → fill x now ≡ Ok (y, rest) → all (map fill (parts x)) now ≡ Ok (parts y, rest))
     (joins : (xs ys : List A) (now rest : Constants) → all (map fill xs) now ≡ Ok (ys, rest) → fill (join xs) now ≡ Ok (join ys, rest)) where
   flat_filled : (xs ys : List A) (now rest : Constants) → all (map fill xs) now ≡ Ok (ys, rest) → all (map fill (flat_map parts xs)) now ≡ Ok (flat_map parts ys, rest)
@@ -215,7 +215,7 @@ module _ {A : Type 0} (parts : A → List A) (join : List A → A) (fill : A →
       joins (flat_map parts (x ∷ y ∷ xs)) (flat_map parts ys) now rest (flat_filled (x ∷ y ∷ xs) ys now rest h)
       ∙ ap (λ z. Ok (join (flat_map parts z), rest)) are ∙ ap (λ z. Ok (g.alone_or parts join z, rest)) (sym are)
 
-alone_part : {A : Type 0} (parts : A → List A) (fill : A → Filled A) (x y : A) (now rest : Constants) → fill x now ≡ Ok (y, rest) → parts x ≡ x ∷ [] → parts y ≡ y ∷ [] → all (map fill (parts x)) now ≡ Ok (parts y, rest)
+alone_part : {A : Type 0} (parts : A → List A) (fill : A → Filling A) (x y : A) (now rest : Constants) → fill x now ≡ Ok (y, rest) → parts x ≡ x ∷ [] → parts y ≡ y ∷ [] → all (map fill (parts x)) now ≡ Ok (parts y, rest)
 alone_part parts fill x y now rest h e f =
     ap (λ z. all (map fill z) now) e ∙ all_cons fill x [] now rest rest y [] h refl ∙ ap (λ z. Ok (z, rest)) (sym f)
 
@@ -266,14 +266,14 @@ literal_by parameter (Ok (v.Int n)) rest now y h = literal_same (e.Number n) y (
 literal_by parameter (Ok (v.Text t)) rest now y h = literal_same (e.Text t) y (first_same (e.Text t) y rest now h) (literal_text t)
 literal_by parameter (Err fault) rest now y h = absurd (no_answer fault y now h)
 
-literal_next : (n : ℤ) (given : Option Given) (rest now : Constants) (y : Expression) → next_by expression_of (e.Number n) given rest ≡ Ok (y, now) → IsLiteral y
+literal_next : (n : ℤ) (given : Option Argument) (rest now : Constants) (y : Expression) → next_by expression_of (e.Number n) given rest ≡ Ok (y, now) → IsLiteral y
 literal_next n None rest now y h = literal_same (e.Number n) y (first_same (e.Number n) y rest now h) (literal_number n)
 literal_next n (Some given) rest now y h = literal_by given.parameter (constant_of given) rest now y h
 
 product_merged_by : (x y : Expression) (now rest : Constants) (layer : Expression-F Condition Expression SelectList Query) → roll-Expression layer ≡ x → filled_expression x now ≡ Ok (y, rest)
     → all (map filled_expression (g.product_parts x)) now ≡ Ok (g.product_parts y, rest)
 product_merged_by x y now rest (Expression-F.Number n) r h =
-    let l = literal_next n (taken now).0 (taken now).1 rest y (sym (expression_rolled (Expression-F.Number n) now) ∙ ap (λ z. filled_expression z now) r ∙ h) in
+    let l = literal_next n (first_and_rest now).0 (first_and_rest now).1 rest y (sym (expression_rolled (Expression-F.Number n) now) ∙ ap (λ z. filled_expression z now) r ∙ h) in
     alone_part g.product_parts filled_expression x y now rest h (product_by x (Expression-F.Number n) r) (product_by y l.layer l.rolled ∙ l.product)
 product_merged_by x y now rest (Expression-F.Text t) r h =
     let is : roll-Expression (Expression-F.Text t) ≡ y = e.rolls-Text t ∙ first_same (e.Text t) y now rest (sym (expression_rolled (Expression-F.Text t) now) ∙ ap (λ z. filled_expression z now) r ∙ h) in
@@ -304,7 +304,7 @@ product_merged_by x y now rest Expression-F.CountRows r h =
 sum_merged_by : (x y : Expression) (now rest : Constants) (layer : Expression-F Condition Expression SelectList Query) → roll-Expression layer ≡ x → filled_expression x now ≡ Ok (y, rest)
     → all (map filled_expression (g.sum_parts x)) now ≡ Ok (g.sum_parts y, rest)
 sum_merged_by x y now rest (Expression-F.Number n) r h =
-    let l = literal_next n (taken now).0 (taken now).1 rest y (sym (expression_rolled (Expression-F.Number n) now) ∙ ap (λ z. filled_expression z now) r ∙ h) in
+    let l = literal_next n (first_and_rest now).0 (first_and_rest now).1 rest y (sym (expression_rolled (Expression-F.Number n) now) ∙ ap (λ z. filled_expression z now) r ∙ h) in
     alone_part g.sum_parts filled_expression x y now rest h (sum_by x (Expression-F.Number n) r) (sum_by y l.layer l.rolled ∙ l.sum)
 sum_merged_by x y now rest (Expression-F.Text t) r h =
     let is : roll-Expression (Expression-F.Text t) ≡ y = e.rolls-Text t ∙ first_same (e.Text t) y now rest (sym (expression_rolled (Expression-F.Text t) now) ∙ ap (λ z. filled_expression z now) r ∙ h) in
@@ -333,18 +333,18 @@ sum_merged_by x y now rest Expression-F.CountRows r h =
     alone_part g.sum_parts filled_expression x y now rest h (sum_by x Expression-F.CountRows r) (sum_by y Expression-F.CountRows is)
 
 -- two parts, of which both were made
-pub record MadeOfBoth {A B C : Type 0} (make : A → B → C) (left : Filled A) (right : Filled B) (now : Constants) (made : C) (rest : Constants) : Type 0 where
+pub record MadeOfBoth {A B C : Type 0} (make : A → B → C) (left : Filling A) (right : Filling B) (now : Constants) (made : C) (rest : Constants) : Type 0 where
   pub first : A
   pub second : B
   pub is : made ≡ make first second
 
-made_of_both_by : {A B C : Type 0} (make : A → B → C) (left : Filled A) (right : Filled B) (now : Constants) (made : C) (rest : Constants) (r : Result (A × Constants) FillFault)
+made_of_both_by : {A B C : Type 0} (make : A → B → C) (left : Filling A) (right : Filling B) (now : Constants) (made : C) (rest : Constants) (r : Result (A × Constants) FillFault)
     → and_then r (λ l. then_made (make l.0) (right l.1)) ≡ Ok (made, rest) → MadeOfBoth make left right now made rest
 made_of_both_by make left right now made rest (Ok m) h =
     let second = made_of (make m.0) (right m.1) made rest h in record { first = m.0; second = second.part; is = second.is }
 made_of_both_by make left right now made rest (Err fault) h = absurd (no_answer fault made rest h)
 
-pub made_of_both : {A B C : Type 0} (make : A → B → C) (left : Filled A) (right : Filled B) (now : Constants) (made : C) (rest : Constants)
+pub made_of_both : {A B C : Type 0} (make : A → B → C) (left : Filling A) (right : Filling B) (now : Constants) (made : C) (rest : Constants)
     → both make left right now ≡ Ok (made, rest) → MadeOfBoth make left right now made rest
 made_of_both make left right now made rest h = made_of_both_by make left right now made rest (left now) h
 
@@ -354,7 +354,7 @@ pub record MadeOfThree {A B C D : Type 0} (make : A → B → C → D) (made : D
   pub third : C
   pub is : made ≡ make first second third
 
-made_of_three : {A B C D : Type 0} (make : A → B → C → D) (middle : Filled B) (last : Filled C) (made : D) (rest : Constants) (r : Result (A × Constants) FillFault)
+made_of_three : {A B C D : Type 0} (make : A → B → C → D) (middle : Filling B) (last : Filling C) (made : D) (rest : Constants) (r : Result (A × Constants) FillFault)
     → and_then r (λ s. both (make s.0) middle last s.1) ≡ Ok (made, rest) → MadeOfThree make made
 made_of_three make middle last made rest (Ok m) h =
     let others = made_of_both (make m.0) middle last m.1 made rest h in record { first = m.0; second = others.first; third = others.second; is = others.is }

@@ -8,8 +8,8 @@ use Rattle.syntax.specs.Language.{Lexeme, Lexemes, Language, Then, Each, Behind}
 use Rattle.syntax.specs.Language as lang
 use Rattle.prepared.specs.declared.faults.FillFault.{FillFault}
 use Rattle.prepared.specs.Numbers.{is_number, is_sign, ends_operand}
-use Rattle.prepared.specs.Constants.{Given, Constants, and_then, then_made, all, Filled}
-use Rattle.prepared.specs.Written.{for_token, behind_token, written_token, written}
+use Rattle.prepared.specs.Constants.{Argument, Constants, and_then, then_made, all, Filling}
+use Rattle.prepared.specs.Written.{for_token, behind_token, written_token, tokens_with_constants}
 
 -- ---- what stands before a token
 
@@ -43,7 +43,7 @@ NotSign Sign = ⊥
 NotSign _ = Unit {0}
 
 -- a parameter stands behind no such sign, and its value may stand there
-abbrev pub ClearAt : (Value → Type 0) → Prior → Option Given → Type 0
+abbrev pub ClearAt : (Value → Type 0) → Prior → Option Argument → Type 0
 ClearAt ok p None = Unit {0}
 ClearAt ok p (Some given) = NotSign p × ok given.value
 
@@ -74,11 +74,11 @@ pub clear_back : (ok : Value → Type 0) (p : Prior) (u w : Lexemes) (now : Cons
 clear_back ok p [] w now c = c
 clear_back ok p (x ∷ u) w now c = clear_back ok (step p x.kind) u w (behind_token (is_number x.kind) now) c.1
 
-pub written_append : (write : Given → Lexemes) (u w : Lexemes) (now : Constants) → written write (u ++ w) now ≡ written write u now ++ written write w (left u now)
+pub written_append : (write : Argument → Lexemes) (u w : Lexemes) (now : Constants) → tokens_with_constants write (u ++ w) now ≡ tokens_with_constants write u now ++ tokens_with_constants write w (left u now)
 written_append write [] w now = refl
 written_append write (x ∷ u) w now =
     ap (λ z. written_token write x (for_token (is_number x.kind) now) ++ z) (written_append write u w (behind_token (is_number x.kind) now))
-    ∙ sym (append_assoc (written_token write x (for_token (is_number x.kind) now)) (written write u (behind_token (is_number x.kind) now)) (written write w (left u (behind_token (is_number x.kind) now))))
+    ∙ sym (append_assoc (written_token write x (for_token (is_number x.kind) now)) (tokens_with_constants write u (behind_token (is_number x.kind) now)) (tokens_with_constants write w (left u (behind_token (is_number x.kind) now))))
 
 -- ---- what is kept
 
@@ -94,11 +94,11 @@ some_result result now None = Ok (None, now)
 some_result result now (Some a) = then_made Some (result a)
 
 -- how the constants of a written text are spelled, and which values may stand there
-module _ (write : Given → Lexemes) (ok : Value → Type 0) where
+module _ (write : Argument → Lexemes) (ok : Value → Type 0) where
   -- Texts of the first language that stand behind such a token: with the constants written they are of the second, with
   -- the trees that they are filled to.
   pub record Keeps {A B : Type 0} (L : Language A) (M : Language B) (now : Constants) (result : A → Result (B × Constants) FillFault) (p : Prior) (Q : Prior → Type 0) : Type 0 where
-    pub keeps : (w : Lexemes) (a : A) → L w a → Clear ok p w now → Kept M (written write w now) (result a) (left w now) × Q (after p w)
+    pub keeps : (w : Lexemes) (a : A) → L w a → Clear ok p w now → Kept M (tokens_with_constants write w now) (result a) (left w now) × Q (after p w)
 
   module _ {A B : Type 0} where
     pub keeps_pure : (a : A) (b : B) (now : Constants) (result : A → Result (B × Constants) FillFault) (p : Prior) (Q : Prior → Type 0)
@@ -108,7 +108,7 @@ module _ (write : Given → Lexemes) (ok : Value → Type 0) where
         record {
           tree = b;
           is = ap result h.1 ∙ e ∙ ap (λ z. Ok (b, left z now)) (sym h.0);
-          reads = (ap (λ z. written write z now) h.0, refl);
+          reads = (ap (λ z. tokens_with_constants write z now) h.0, refl);
         },
         subst (λ z. Q (after p z)) (sym h.0) q,
       );
@@ -118,7 +118,7 @@ module _ (write : Given → Lexemes) (ok : Value → Type 0) where
         → Keeps L N now result p Q → Keeps M O now result p Q → Keeps (lang.◌∪◌ L M) (lang.◌∪◌ N O) now result p Q
     keeps_or L M N O now result p Q l m = record { keeps = go }
       where
-        go : (w : Lexemes) (a : A) → L w a ⊎ M w a → Clear ok p w now → Kept (lang.◌∪◌ N O) (written write w now) (result a) (left w now) × Q (after p w)
+        go : (w : Lexemes) (a : A) → L w a ⊎ M w a → Clear ok p w now → Kept (lang.◌∪◌ N O) (tokens_with_constants write w now) (result a) (left w now) × Q (after p w)
         go w a (inl h) clear = let k = l.keeps w a h clear in (record { tree = k.0.tree; is = k.0.is; reads = inl k.0.reads }, k.1)
         go w a (inr h) clear = let k = m.keeps w a h clear in (record { tree = k.0.tree; is = k.0.is; reads = inr k.0.reads }, k.1)
 
@@ -127,7 +127,7 @@ module _ (write : Given → Lexemes) (ok : Value → Type 0) where
         → Keeps L N now result p Q → Keeps M N now result p Q → Keeps (lang.◌∪◌ L M) N now result p Q
     keeps_either L M N now result p Q l m = record { keeps = go }
       where
-        go : (w : Lexemes) (a : A) → L w a ⊎ M w a → Clear ok p w now → Kept N (written write w now) (result a) (left w now) × Q (after p w)
+        go : (w : Lexemes) (a : A) → L w a ⊎ M w a → Clear ok p w now → Kept N (tokens_with_constants write w now) (result a) (left w now) × Q (after p w)
         go w a (inl h) clear = l.keeps w a h clear
         go w a (inr h) clear = m.keeps w a h clear
 
@@ -156,7 +156,7 @@ module _ (write : Given → Lexemes) (ok : Value → Type 0) where
       (first : A → Result (B × Constants) FillFault) (result : C → Result (D × Constants) FillFault) (p : Prior) (Q R : Prior → Type 0) where
     then_go : Keeps L M now first p Q → ((a : A) (b : B) (rest : Constants) (q : Prior) → Q q → first a ≡ Ok (b, rest) → Keeps (N a) (O b) rest result q R)
         → (w front back : Lexemes) (a : A) (c : C) → w ≡ front ++ back → L front a → N a back c → Clear ok p w now
-        → Kept (lang.◌>>=◌ M O) (written write w now) (result c) (left w now) × R (after p w)
+        → Kept (lang.◌>>=◌ M O) (tokens_with_constants write w now) (result c) (left w now) × R (after p w)
     then_go l n w front back a c cut h g clear =
         let both : Clear ok p (front ++ back) now = subst (λ z. Clear ok p z now) cut clear in
         let one = l.keeps front a h (clear_front ok p front back now both) in
@@ -167,9 +167,9 @@ module _ (write : Given → Lexemes) (ok : Value → Type 0) where
             reads = record {
               tree = one.0.tree;
               split = record {
-                front = written write front now;
-                back = written write back (left front now);
-                cut = ap (λ z. written write z now) cut ∙ written_append write front back now;
+                front = tokens_with_constants write front now;
+                back = tokens_with_constants write back (left front now);
+                cut = ap (λ z. tokens_with_constants write z now) cut ∙ written_append write front back now;
                 first = one.0.reads;
                 second = two.0.reads;
               };
@@ -192,7 +192,7 @@ module _ (write : Given → Lexemes) (ok : Value → Type 0) where
 
   -- ---- tokens that are no numbers
 
-  plain_token : (x : Lexeme) (now : Constants) → is_number x.kind ≡ false → written write (x ∷ []) now ≡ x ∷ []
+  plain_token : (x : Lexeme) (now : Constants) → is_number x.kind ≡ false → tokens_with_constants write (x ∷ []) now ≡ x ∷ []
   plain_token x now e = ap (λ b. written_token write x (for_token b now) ++ []) e
 
   pub keeps_token : (kind : Kind) (now : Constants) (p : Prior) → is_number kind ≡ false
@@ -202,7 +202,7 @@ module _ (write : Given → Lexemes) (ok : Value → Type 0) where
       record {
         tree = x;
         is = ap (λ z. Ok (x, z)) (sym (ap (λ z. left z now) h.0 ∙ ap (λ b. behind_token b now) (ap is_number h.1 ∙ e)));
-        reads = (ap (λ z. written write z now) h.0 ∙ plain_token x now (ap is_number h.1 ∙ e), h.1);
+        reads = (ap (λ z. tokens_with_constants write z now) h.0 ∙ plain_token x now (ap is_number h.1 ∙ e), h.1);
       },
       ap (after p) h.0 ∙ ap (step p) h.1,
     );
@@ -261,7 +261,7 @@ module _ (write : Given → Lexemes) (ok : Value → Type 0) where
     quiet_map make L p Q l now = keeps_map make make L L now (λ a. Ok (a, now)) (λ b. Ok (b, now)) p Q (l now) (λ a b rest e. ap (then_made make) e)
 
     -- a part without a number, as it is filled
-    pub keeps_quiet : (make : A → B) (L : Language A) (fill : B → Filled B) (p : Prior) (Q : Prior → Type 0) → ((a : A) (now : Constants) → fill (make a) now ≡ Ok (make a, now))
+    pub keeps_quiet : (make : A → B) (L : Language A) (fill : B → Filling B) (p : Prior) (Q : Prior → Type 0) → ((a : A) (now : Constants) → fill (make a) now ≡ Ok (make a, now))
         → Quiet L p Q → (now : Constants) → Keeps (lang.◌<$>◌ make L) (lang.◌<$>◌ make L) now (λ b. fill b now) p Q
     keeps_quiet make L fill p Q e l now = keeps_map make make L L now (λ a. Ok (a, now)) (λ b. fill b now) p Q (l now) (λ a b rest is. e a now ∙ ap (then_made make) is)
 
@@ -286,17 +286,17 @@ module _ (write : Given → Lexemes) (ok : Value → Type 0) where
         (keeps_map Some Some L M now result (some_result result now) p Q l (λ a b rest is. ap (then_made Some) is))
 
     -- items, each of which may stand behind the one before
-    abbrev pub Items : Language A → Language B → (A → Filled B) → (Prior → Type 0) → Type 0
+    abbrev pub Items : Language A → Language B → (A → Filling B) → (Prior → Type 0) → Type 0
     Items L M fill Q = (p : Prior) → Q p → (now : Constants) → Keeps L M now (λ a. fill a now) p Q
 
-    each_keeps : (L : Language A) (M : Language B) (fill : A → Filled B) (Q : Prior → Type 0) → Items L M fill Q
+    each_keeps : (L : Language A) (M : Language B) (fill : A → Filling B) (Q : Prior → Type 0) → Items L M fill Q
         → (w : Lexemes) (xs : List A) (now : Constants) (p : Prior) → Q p → Each L w xs → Clear ok p w now
-        → Kept (Each M) (written write w now) (all (map fill xs) now) (left w now) × Q (after p w)
+        → Kept (Each M) (tokens_with_constants write w now) (all (map fill xs) now) (left w now) × Q (after p w)
     each_keeps L M fill Q l w [] now p q h clear = (
       record {
         tree = [];
         is = ap (λ z. Ok ([], left z now)) (sym h);
-        reads = ap (λ z. written write z now) h;
+        reads = ap (λ z. tokens_with_constants write z now) h;
       },
       subst (λ z. Q (after p z)) (sym h) q,
     )
@@ -311,9 +311,9 @@ module _ (write : Given → Lexemes) (ok : Value → Type 0) where
                 ∙ ap (then_made (λ others. one.0.tree ∷ others)) two.0.is
                 ∙ ap (λ z. Ok (one.0.tree ∷ two.0.tree, z)) (sym (left_append h.front h.back now) ∙ ap (λ z. left z now) (sym h.cut));
             reads = record {
-              front = written write h.front now;
-              back = written write h.back (left h.front now);
-              cut = ap (λ z. written write z now) h.cut ∙ written_append write h.front h.back now;
+              front = tokens_with_constants write h.front now;
+              back = tokens_with_constants write h.back (left h.front now);
+              cut = ap (λ z. tokens_with_constants write z now) h.cut ∙ written_append write h.front h.back now;
               first = one.0.reads;
               second = two.0.reads;
             };
@@ -322,7 +322,7 @@ module _ (write : Given → Lexemes) (ok : Value → Type 0) where
         )
 
     -- items behind a first
-    pub keeps_more : (x : A) (y : B) (L : Language A) (M : Language B) (fill : A → Filled B) (start now : Constants) (p : Prior) (Q : Prior → Type 0)
+    pub keeps_more : (x : A) (y : B) (L : Language A) (M : Language B) (fill : A → Filling B) (start now : Constants) (p : Prior) (Q : Prior → Type 0)
         → fill x start ≡ Ok (y, now) → Q p → Items L M fill Q → Keeps (Behind (x ∷ []) L) (Behind (y ∷ []) M) now (λ xs. all (map fill xs) start) p Q
     keeps_more x y L M fill start now p Q is q l = record {
       keeps = λ w xs h clear.
@@ -340,7 +340,7 @@ module _ (write : Given → Lexemes) (ok : Value → Type 0) where
     }
 
     -- a list
-    pub keeps_list : (L : Language A) (M : Language B) (fill : A → Filled B) (Q : Prior → Type 0)
+    pub keeps_list : (L : Language A) (M : Language B) (fill : A → Filling B) (Q : Prior → Type 0)
         → ((now : Constants) → Keeps L M now (λ a. fill a now) Other Q) → (now : Constants) → Keeps (lang.list L) (lang.list M) now (λ xs. all (map fill xs) now) Other Q
     keeps_list L M fill Q l now =
         keeps_then L M _ _ now (λ a. fill a now) (λ xs. all (map fill xs) now) Other Q Q (l now)

@@ -16,7 +16,7 @@ use Rattle.syntax.specs.declared.trees.SelectList.{SelectList, roll-SelectList}
 use Rattle.syntax.specs.declared.trees.SelectList.TheVariants as which
 use Rattle.syntax.specs.declared.trees.Query.{Query, roll-Query}
 use Rattle.syntax.specs.Grammar as g
-use Rattle.prepared.specs.Numerals.{Numerals, joined, condition_step, expression_step, select_list_step, query_step, condition_numerals, expression_numerals, select_list_numerals, query_numerals}
+use Rattle.prepared.specs.Numerals.{Numerals, numerals_of_parts, condition_step, expression_step, select_list_step, query_step, condition_numerals, expression_numerals, select_list_numerals, query_numerals}
 use Rattle.prepared.proofs.Yields.{joined_append, some_numerals}
 
 -- ---- the numbers of each kind of tree
@@ -62,16 +62,16 @@ of_subquery query = ap expression_numerals (sym (e.rolls-Subquery query)) ∙ ex
 pub of_negation : (part : Expression) → expression_numerals (e.Negation part) ≡ expression_numerals part
 of_negation part = ap expression_numerals (sym (e.rolls-Negation part)) ∙ expression_rolled (Expression-F.Negation part)
 
-sum_layer : (parts : List Expression) → expression_numerals (e.Sum parts) ≡ joined (map expression_numerals parts)
+sum_layer : (parts : List Expression) → expression_numerals (e.Sum parts) ≡ numerals_of_parts (map expression_numerals parts)
 sum_layer parts = ap expression_numerals (sym (e.rolls-Sum parts)) ∙ expression_rolled (Expression-F.Sum parts)
 
-product_layer : (parts : List Expression) → expression_numerals (e.Product parts) ≡ joined (map expression_numerals parts)
+product_layer : (parts : List Expression) → expression_numerals (e.Product parts) ≡ numerals_of_parts (map expression_numerals parts)
 product_layer parts = ap expression_numerals (sym (e.rolls-Product parts)) ∙ expression_rolled (Expression-F.Product parts)
 
-or_layer : (parts : List Condition) → condition_numerals (b.Or parts) ≡ joined (map condition_numerals parts)
+or_layer : (parts : List Condition) → condition_numerals (b.Or parts) ≡ numerals_of_parts (map condition_numerals parts)
 or_layer parts = ap condition_numerals (sym (b.rolls-Or parts)) ∙ condition_rolled (Condition-F.Or parts)
 
-and_layer : (parts : List Condition) → condition_numerals (b.And parts) ≡ joined (map condition_numerals parts)
+and_layer : (parts : List Condition) → condition_numerals (b.And parts) ≡ numerals_of_parts (map condition_numerals parts)
 and_layer parts = ap condition_numerals (sym (b.rolls-And parts)) ∙ condition_rolled (Condition-F.And parts)
 
 pub of_not : (part : Condition) → condition_numerals (b.Not part) ≡ condition_numerals part
@@ -92,7 +92,7 @@ of_isnull part = ap condition_numerals (sym (b.rolls-IsNull part)) ∙ condition
 pub of_between : (subject low high : Expression) → condition_numerals (b.Between subject low high) ≡ expression_numerals subject ++ (expression_numerals low ++ expression_numerals high)
 of_between subject low high = ap condition_numerals (sym (b.rolls-Between subject low high)) ∙ condition_rolled (Condition-F.Between subject low high)
 
-pub of_in : (subject : Expression) (values : List Expression) → condition_numerals (b.In subject values) ≡ expression_numerals subject ++ joined (map expression_numerals values)
+pub of_in : (subject : Expression) (values : List Expression) → condition_numerals (b.In subject values) ≡ expression_numerals subject ++ numerals_of_parts (map expression_numerals values)
 of_in subject values = ap condition_numerals (sym (b.rolls-In subject values)) ∙ condition_rolled (Condition-F.In subject values)
 
 pub of_star : select_list_numerals which.Star ≡ []
@@ -124,46 +124,46 @@ ExpressionStep x layer = expression_numerals x ≡ expression_step (map-Expressi
 abbrev ConditionStep : Condition → Condition-F Condition Expression SelectList Query → Type 0
 ConditionStep x layer = condition_numerals x ≡ condition_step (map-Condition Condition Expression SelectList Query Numerals Numerals Numerals Numerals condition_numerals expression_numerals select_list_numerals query_numerals layer)
 
-product_merged : (x : Expression) (layer : Expression-F Condition Expression SelectList Query) → ExpressionStep x layer → joined (map expression_numerals (g.product_layer x layer)) ≡ expression_numerals x
+product_merged : (x : Expression) (layer : Expression-F Condition Expression SelectList Query) → ExpressionStep x layer → numerals_of_parts (map expression_numerals (g.product_layer x layer)) ≡ expression_numerals x
 product_merged x (Expression-F.Product parts) is = sym is
 product_merged x _ is = append-nil (expression_numerals x)
 
-sum_merged : (x : Expression) (layer : Expression-F Condition Expression SelectList Query) → ExpressionStep x layer → joined (map expression_numerals (g.sum_layer x layer)) ≡ expression_numerals x
+sum_merged : (x : Expression) (layer : Expression-F Condition Expression SelectList Query) → ExpressionStep x layer → numerals_of_parts (map expression_numerals (g.sum_layer x layer)) ≡ expression_numerals x
 sum_merged x (Expression-F.Sum parts) is = sym is
 sum_merged x _ is = append-nil (expression_numerals x)
 
-and_merged : (x : Condition) (layer : Condition-F Condition Expression SelectList Query) → ConditionStep x layer → joined (map condition_numerals (g.and_layer x layer)) ≡ condition_numerals x
+and_merged : (x : Condition) (layer : Condition-F Condition Expression SelectList Query) → ConditionStep x layer → numerals_of_parts (map condition_numerals (g.and_layer x layer)) ≡ condition_numerals x
 and_merged x (Condition-F.And parts) is = sym is
 and_merged x _ is = append-nil (condition_numerals x)
 
-or_merged : (x : Condition) (layer : Condition-F Condition Expression SelectList Query) → ConditionStep x layer → joined (map condition_numerals (g.or_layer x layer)) ≡ condition_numerals x
+or_merged : (x : Condition) (layer : Condition-F Condition Expression SelectList Query) → ConditionStep x layer → numerals_of_parts (map condition_numerals (g.or_layer x layer)) ≡ condition_numerals x
 or_merged x (Condition-F.Or parts) is = sym is
 or_merged x _ is = append-nil (condition_numerals x)
 
 -- lists of parts that are merged have the same numbers
-all_merged : {A : Type 0} (parts : A → List A) (of : A → Numerals) → ((x : A) → joined (map of (parts x)) ≡ of x) → (xs : List A) → joined (map of (flat_map parts xs)) ≡ joined (map of xs)
+all_merged : {A : Type 0} (parts : A → List A) (of : A → Numerals) → ((x : A) → numerals_of_parts (map of (parts x)) ≡ of x) → (xs : List A) → numerals_of_parts (map of (flat_map parts xs)) ≡ numerals_of_parts (map of xs)
 all_merged parts of e [] = refl
 all_merged parts of e (x ∷ xs) =
-    joined_append of (parts x) (flat_map parts xs) ∙ ap (λ z. z ++ joined (map of (flat_map parts xs))) (e x) ∙ ap (λ z. of x ++ z) (all_merged parts of e xs)
+    joined_append of (parts x) (flat_map parts xs) ∙ ap (λ z. z ++ numerals_of_parts (map of (flat_map parts xs))) (e x) ∙ ap (λ z. of x ++ z) (all_merged parts of e xs)
 
-alone_merged : {A : Type 0} (parts : A → List A) (join : List A → A) (of : A → Numerals) → ((x : A) → joined (map of (parts x)) ≡ of x) → ((xs : List A) → of (join xs) ≡ joined (map of xs))
-    → (xs : List A) → of (g.alone_or parts join xs) ≡ joined (map of xs)
+alone_merged : {A : Type 0} (parts : A → List A) (join : List A → A) (of : A → Numerals) → ((x : A) → numerals_of_parts (map of (parts x)) ≡ of x) → ((xs : List A) → of (join xs) ≡ numerals_of_parts (map of xs))
+    → (xs : List A) → of (g.alone_or parts join xs) ≡ numerals_of_parts (map of xs)
 alone_merged parts join of merged joins [] = joins []
 alone_merged parts join of merged joins (x ∷ []) = sym (append-nil (of x))
 alone_merged parts join of merged joins (x ∷ y ∷ xs) = joins (flat_map parts (x ∷ y ∷ xs)) ∙ all_merged parts of merged (x ∷ y ∷ xs)
 
-pub of_product : (xs : List Expression) → expression_numerals (g.product_of xs) ≡ joined (map expression_numerals xs)
+pub of_product : (xs : List Expression) → expression_numerals (g.product_of xs) ≡ numerals_of_parts (map expression_numerals xs)
 unfolding g.product_of g.product_parts
 of_product xs = alone_merged g.product_parts e.Product expression_numerals (λ x. product_merged x (out-Expression x) (expression_out x)) product_layer xs
 
-pub of_sum : (xs : List Expression) → expression_numerals (g.sum_of xs) ≡ joined (map expression_numerals xs)
+pub of_sum : (xs : List Expression) → expression_numerals (g.sum_of xs) ≡ numerals_of_parts (map expression_numerals xs)
 unfolding g.sum_of g.sum_parts
 of_sum xs = alone_merged g.sum_parts e.Sum expression_numerals (λ x. sum_merged x (out-Expression x) (expression_out x)) sum_layer xs
 
-pub of_and : (xs : List Condition) → condition_numerals (g.and_of xs) ≡ joined (map condition_numerals xs)
+pub of_and : (xs : List Condition) → condition_numerals (g.and_of xs) ≡ numerals_of_parts (map condition_numerals xs)
 unfolding g.and_of g.and_parts
 of_and xs = alone_merged g.and_parts b.And condition_numerals (λ x. and_merged x (out-Condition x) (condition_out x)) and_layer xs
 
-pub of_or : (xs : List Condition) → condition_numerals (g.or_of xs) ≡ joined (map condition_numerals xs)
+pub of_or : (xs : List Condition) → condition_numerals (g.or_of xs) ≡ numerals_of_parts (map condition_numerals xs)
 unfolding g.or_of g.or_parts
 of_or xs = alone_merged g.or_parts b.Or condition_numerals (λ x. or_merged x (out-Condition x) (condition_out x)) or_layer xs

@@ -12,12 +12,12 @@ use Rattle.syntax.specs.declared.trees.Expression.{Expression}
 use Rattle.syntax.specs.declared.trees.Expression.TheVariants as e
 use Rattle.syntax.specs.declared.trees.SelectList.{SelectList}
 use Rattle.syntax.specs.declared.trees.SelectList.TheVariants as which
-use Rattle.syntax.specs.declared.wants.Found.{Found}
-use Rattle.syntax.specs.declared.wants.Found.TheVariants as part
+use Rattle.syntax.specs.declared.wants.PartInParentheses.{PartInParentheses}
+use Rattle.syntax.specs.declared.wants.PartInParentheses.TheVariants as part
 use Rattle.syntax.specs.Grammar as g
 use Rattle.syntax.specs.Language.{Lexeme, Lexemes, Language}
 use Rattle.syntax.specs.Language as lang
-use Rattle.prepared.specs.Numerals.{Numerals, numerals, joined, condition_numerals, expression_numerals, select_list_numerals, query_numerals}
+use Rattle.prepared.specs.Numerals.{Numerals, numerals, numerals_of_parts, condition_numerals, expression_numerals, select_list_numerals, query_numerals}
 use Rattle.prepared.proofs.Yields.{Yields, Adds, Silent, some_numerals, yields_token, yields_number, yields_or, yields_pure, yields_map, yields_seq, yields_then, yields_more, yields_list, silent_pure, silent_or, silent_seq, silent_then, silent_map, silent_optional, silent_parens, adds_pure, adds_or, adds_seq, adds_parens, adds_map, adds_none, adds_optional}
 use Rattle.prepared.proofs.Numerals.{of_number, of_text, of_column, of_countrows, of_aggregate, of_subquery, of_negation, of_not, of_is, of_exists, of_compare, of_isnull, of_between, of_in, of_star, of_one, of_query, of_product, of_sum, of_and, of_or}
 
@@ -60,7 +60,7 @@ silent_group_by = silent_optional _ (silent_seq k.Group _ refl (silent_seq k.By 
 
 -- ---- what has no parentheses in it
 
-pub abs_signed : (is_negative : Bool) (n : ℕ) → unsigned_abs (g.signed is_negative n) ≡ n
+pub abs_signed : (is_negative : Bool) (n : ℕ) → unsigned_abs (g.signed_number is_negative n) ≡ n
 abs_signed false n = refl
 abs_signed true zero = refl
 abs_signed true (suc n) = refl
@@ -68,7 +68,7 @@ abs_signed true (suc n) = refl
 pub adds_number : (is_negative : Bool) → Adds (lang.◌<$>◌ (g.number_of is_negative) (lang.token k.Number)) expression_numerals
 adds_number is_negative before =
     yields_map (g.number_of is_negative) (lang.token k.Number) before (λ x. before ++ g.digits_value x ∷ []) (λ x. before ++ expression_numerals x) (yields_number before)
-    (λ x. ap (λ z. before ++ z) (of_number (g.signed is_negative (g.digits_value x)) ∙ ap (λ n. n ∷ []) (abs_signed is_negative (g.digits_value x))))
+    (λ x. ap (λ z. before ++ z) (of_number (g.signed_number is_negative (g.digits_value x)) ∙ ap (λ n. n ∷ []) (abs_signed is_negative (g.digits_value x))))
 
 adds_text : Adds g.text expression_numerals
 adds_text = adds_none (λ x. e.Text (g.quoted x)) (lang.token k.Text) expression_numerals (λ x. of_text (g.quoted x)) (λ before. yields_token k.Text before refl)
@@ -88,12 +88,12 @@ adds_aggregate =
 
 -- ---- what may have parentheses in it
 
-pub found_numerals : Found → Numerals
+pub found_numerals : PartInParentheses → Numerals
 found_numerals (part.Condition x) = condition_numerals x
 found_numerals (part.Expression x) = expression_numerals x
 found_numerals (part.Query x) = query_numerals x
 
-module _ (inner : Language Found) (adds : Adds inner found_numerals) where
+module _ (inner : Language PartInParentheses) (adds : Adds inner found_numerals) where
   pub inner_expr : Adds (g.inner_expr inner) expression_numerals
   unfolding found_numerals
   inner_expr before = record { gives = λ w x h. (adds before).gives w (part.Expression x) h }
@@ -130,7 +130,7 @@ module _ (inner : Language Found) (adds : Adds inner found_numerals) where
   product_after : (first : Expression) (before : Numerals) → Yields (g.product_after inner first) (before ++ expression_numerals first) (λ x. before ++ expression_numerals x)
   unfolding g.product_after
   product_after first before =
-      yields_map g.product_of _ (before ++ expression_numerals first) (λ xs. before ++ joined (map expression_numerals xs)) (λ x. before ++ expression_numerals x)
+      yields_map g.product_of _ (before ++ expression_numerals first) (λ xs. before ++ numerals_of_parts (map expression_numerals xs)) (λ x. before ++ expression_numerals x)
       (yields_more first _ before expression_numerals (adds_seq k.Star _ expression_numerals refl factor)) (λ xs. ap (λ z. before ++ z) (of_product xs))
 
   term : Adds (g.term inner) expression_numerals
@@ -145,7 +145,7 @@ module _ (inner : Language Found) (adds : Adds inner found_numerals) where
   sum_after : (first : Expression) (before : Numerals) → Yields (g.sum_after inner first) (before ++ expression_numerals first) (λ x. before ++ expression_numerals x)
   unfolding g.sum_after
   sum_after first before =
-      yields_map g.sum_of _ (before ++ expression_numerals first) (λ xs. before ++ joined (map expression_numerals xs)) (λ x. before ++ expression_numerals x)
+      yields_map g.sum_of _ (before ++ expression_numerals first) (λ xs. before ++ numerals_of_parts (map expression_numerals xs)) (λ x. before ++ expression_numerals x)
       (yields_more first _ before expression_numerals sum_item) (λ xs. ap (λ z. before ++ z) (of_sum xs))
 
   pub expr : Adds (g.expr inner) expression_numerals
@@ -165,9 +165,9 @@ module _ (inner : Language Found) (adds : Adds inner found_numerals) where
       (yields_map (b.Between left low) (g.expr inner) (behind ++ expression_numerals low) (λ high. (behind ++ expression_numerals low) ++ expression_numerals high) (λ x. before ++ condition_numerals x) (expr (behind ++ expression_numerals low))
       (λ high. ap (λ z. before ++ z) (of_between left low high) ∙ sym (append_assoc before (expression_numerals left) (expression_numerals low ++ expression_numerals high)) ∙ sym (append_assoc behind (expression_numerals low) (expression_numerals high)))))))
       (yields_seq k.In _ behind (λ x. before ++ condition_numerals x) refl
-      (yields_map (b.In left) _ behind (λ xs. behind ++ joined (map expression_numerals xs)) (λ x. before ++ condition_numerals x)
-      (adds_parens _ (λ xs. joined (map expression_numerals xs)) (yields_list (g.inner_expr inner) expression_numerals inner_expr) behind)
-      (λ xs. ap (λ z. before ++ z) (of_in left xs) ∙ sym (append_assoc before (expression_numerals left) (joined (map expression_numerals xs))))))
+      (yields_map (b.In left) _ behind (λ xs. behind ++ numerals_of_parts (map expression_numerals xs)) (λ x. before ++ condition_numerals x)
+      (adds_parens _ (λ xs. numerals_of_parts (map expression_numerals xs)) (yields_list (g.inner_expr inner) expression_numerals inner_expr) behind)
+      (λ xs. ap (λ z. before ++ z) (of_in left xs) ∙ sym (append_assoc before (expression_numerals left) (numerals_of_parts (map expression_numerals xs))))))
 
   null : (left : Expression) (before : Numerals) → Yields (g.null inner left) (before ++ expression_numerals left) (λ x. before ++ condition_numerals x)
   unfolding g.null
@@ -225,7 +225,7 @@ module _ (inner : Language Found) (adds : Adds inner found_numerals) where
   and_after : (first : Condition) (before : Numerals) → Yields (g.and_after inner first) (before ++ condition_numerals first) (λ x. before ++ condition_numerals x)
   unfolding g.and_after
   and_after first before =
-      yields_map g.and_of _ (before ++ condition_numerals first) (λ xs. before ++ joined (map condition_numerals xs)) (λ x. before ++ condition_numerals x)
+      yields_map g.and_of _ (before ++ condition_numerals first) (λ xs. before ++ numerals_of_parts (map condition_numerals xs)) (λ x. before ++ condition_numerals x)
       (yields_more first _ before condition_numerals (adds_seq k.And _ condition_numerals refl bfact)) (λ xs. ap (λ z. before ++ z) (of_and xs))
 
   bterm : Adds (g.bterm inner) condition_numerals
@@ -235,7 +235,7 @@ module _ (inner : Language Found) (adds : Adds inner found_numerals) where
   or_after : (first : Condition) (before : Numerals) → Yields (g.or_after inner first) (before ++ condition_numerals first) (λ x. before ++ condition_numerals x)
   unfolding g.or_after
   or_after first before =
-      yields_map g.or_of _ (before ++ condition_numerals first) (λ xs. before ++ joined (map condition_numerals xs)) (λ x. before ++ condition_numerals x)
+      yields_map g.or_of _ (before ++ condition_numerals first) (λ xs. before ++ numerals_of_parts (map condition_numerals xs)) (λ x. before ++ condition_numerals x)
       (yields_more first _ before condition_numerals (adds_seq k.Or _ condition_numerals refl bterm)) (λ xs. ap (λ z. before ++ z) (of_or xs))
 
   pub cond : Adds (g.cond inner) condition_numerals
@@ -288,13 +288,13 @@ module _ (inner : Language Found) (adds : Adds inner found_numerals) where
   unfolding found_numerals
   found before = record { gives = go }
     where
-      go : (w : Lexemes) (x : Found) → g.found inner w x → before ++ found_numerals x ≡ before ++ numerals w
+      go : (w : Lexemes) (x : PartInParentheses) → g.found inner w x → before ++ found_numerals x ≡ before ++ numerals w
       go w (part.Condition x) h = (cond before).gives w x h
       go w (part.Expression x) h = (expr before).gives w x h
       go w (part.Query x) h = (query before).gives w x h
 
 -- however deep parentheses nest
-nested_gives : (n : ℕ) (before : Numerals) (w : Lexemes) (x : Found) → g.nested n w x → before ++ found_numerals x ≡ before ++ numerals w
+nested_gives : (n : ℕ) (before : Numerals) (w : Lexemes) (x : PartInParentheses) → g.nested n w x → before ++ found_numerals x ≡ before ++ numerals w
 unfolding g.nested
 nested_gives zero before w x h = absurd h
 nested_gives (suc n) before w x h = (found (g.nested n) (λ b. record { gives = nested_gives n b }) before).gives w x h

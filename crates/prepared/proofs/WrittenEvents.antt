@@ -11,8 +11,8 @@ use Rattle.syntax.specs.declared.trees.Expression.TheVariants as e
 use Rattle.syntax.specs.declared.trees.SelectList.{SelectList}
 use Rattle.syntax.specs.declared.trees.Query.{Query}
 use Rattle.syntax.specs.Grammar as grammar
-use Rattle.syntax.specs.declared.statements.Assigned.{Assigned}
-use Rattle.syntax.specs.declared.statements.Assigned.TheVariants as to
+use Rattle.syntax.specs.declared.statements.UpdateSource.{UpdateSource}
+use Rattle.syntax.specs.declared.statements.UpdateSource.TheVariants as to
 use Rattle.syntax.specs.declared.statements.Insert.{Insert}
 use Rattle.syntax.specs.declared.statements.Which.TheVariants as which
 use Rattle.syntax.specs.declared.statements.Mode.TheVariants as mode
@@ -21,16 +21,16 @@ use Rattle.syntax.specs.declared.statements.Statement.TheVariants as s
 use Rattle.syntax.specs.declared.statements.Event.{Event}
 use Rattle.syntax.specs.declared.statements.Event.TheVariants as event
 use Rattle.syntax.specs.StatementGrammar as g
-use Rattle.syntax.specs.declared.wants.Found.{Found}
+use Rattle.syntax.specs.declared.wants.PartInParentheses.{PartInParentheses}
 use Rattle.syntax.specs.Language.{Lexeme, Lexemes, Language}
 use Rattle.syntax.specs.Language as lang
 use Rattle.prepared.specs.declared.faults.FillFault.{FillFault}
 use Rattle.prepared.specs.declared.faults.FillFault.TheVariants.{NumberOutOfRange, TextNotPlain}
 use Rattle.prepared.specs.Numbers.{is_number}
-use Rattle.prepared.specs.Constants.{Given, Constants, taken, and_then, then_made, next_by, constant_by, constant_of, expression_by, expression_of, assigned_by, assigned_of}
+use Rattle.prepared.specs.Constants.{Argument, Constants, first_and_rest, and_then, then_made, next_by, constant_by, constant_of, expression_by, expression_of, assigned_by, assigned_of}
 use Rattle.prepared.specs.Conditions.{filled_expression, filled_condition}
-use Rattle.prepared.specs.Statements.{filled_value, filled_values, filled_insert, assigned_layer, filled_assigned, filled_assignment, filled_assignments, filled_where, filled_statement, filled_event}
-use Rattle.prepared.specs.Written.{IsConstant, IsValue, Writes, for_token, behind_token, written_token, written}
+use Rattle.prepared.specs.Statements.{filled_value, filled_values, filled_insert, assigned_layer, filled_assigned, filled_assignment, filled_assignments, filled_filter, filled_statement, filled_event}
+use Rattle.prepared.specs.Written.{IsConstant, IsValue, Writes, for_token, behind_token, written_token, tokens_with_constants}
 use Rattle.prepared.proofs.Keeps.{Prior, Sign, Other, Ends, Any, Clear, ClearAt, left, Kept, Keeps, Quiet, some_result, keeps_pure, keeps_or, keeps_either, keeps_into, keeps_less, keeps_as, keeps_then, keeps_map, keeps_seq, keeps_parens, keeps_behind, keeps_quiet, keeps_optional, keeps_list, quiet_pure, quiet_or, quiet_seq, quiet_less, quiet_parens, quiet_token, quiet_map, quiet_list, quiet_optional}
 use Rattle.prepared.proofs.Fills.{expression_rolled, no_answer}
 use Rattle.prepared.proofs.WrittenRules.{Inner, map_reads, seq_reads, of_token, quiet_name, nested}
@@ -39,13 +39,13 @@ use Rattle.prepared.proofs.WrittenRules.{Inner, map_reads, seq_reads, of_token, 
 
 constant_assigned : (parameter : ℕ) (r : Result Value FillFault) (rest now : Constants) (y : Expression)
     → and_then {B = Expression × Constants} (and_then r (expression_by parameter)) (λ made. Ok (made, rest)) ≡ Ok (y, now)
-    → and_then {B = Assigned × Constants} (and_then r (λ value. Ok (assigned_by value))) (λ made. Ok (made, rest)) ≡ Ok (to.To y, now)
+    → and_then {B = UpdateSource × Constants} (and_then r (λ value. Ok (assigned_by value))) (λ made. Ok (made, rest)) ≡ Ok (to.To y, now)
 constant_assigned parameter (Ok v.Null) rest now y h = absurd (no_answer _ y now h)
 constant_assigned parameter (Ok (v.Int n)) rest now y h = ap (then_made to.To) h
 constant_assigned parameter (Ok (v.Text t)) rest now y h = ap (then_made to.To) h
 constant_assigned parameter (Err fault) rest now y h = absurd (no_answer fault y now h)
 
-number_assigned : (n : ℤ) (given : Option Given) (rest now : Constants) (y : Expression)
+number_assigned : (n : ℤ) (given : Option Argument) (rest now : Constants) (y : Expression)
     → next_by expression_of (e.Number n) given rest ≡ Ok (y, now) → next_by assigned_of (to.To (e.Number n)) given rest ≡ Ok (to.To y, now)
 number_assigned n None rest now y h = ap (then_made to.To) h
 number_assigned n (Some given) rest now y h = constant_assigned given.parameter (constant_of given) rest now y h
@@ -53,13 +53,13 @@ number_assigned n (Some given) rest now y h = constant_assigned given.parameter 
 layer_assigned : (x y : Expression) (now rest : Constants) (layer : Expression-F Condition Expression SelectList Query) → roll-Expression layer ≡ x
     → filled_expression x now ≡ Ok (y, rest) → assigned_layer x layer now ≡ Ok (to.To y, rest)
 layer_assigned x y now rest (Expression-F.Number n) r h =
-    number_assigned n (taken now).0 (taken now).1 rest y (sym (expression_rolled (Expression-F.Number n) now) ∙ ap (λ z. filled_expression z now) r ∙ h)
+    number_assigned n (first_and_rest now).0 (first_and_rest now).1 rest y (sym (expression_rolled (Expression-F.Number n) now) ∙ ap (λ z. filled_expression z now) r ∙ h)
 layer_assigned x y now rest _ r h = ap (then_made to.To) h
 
 expression_assigned : (x y : Expression) (now rest : Constants) → filled_expression x now ≡ Ok (y, rest) → filled_assigned (to.To x) now ≡ Ok (to.To y, rest)
 expression_assigned x y now rest h = layer_assigned x y now rest (out-Expression x) (roll-out-Expression x) h
 
-where_is : (z : Option Condition) (now : Constants) → some_result (λ c. filled_condition c now) now z ≡ filled_where z now
+where_is : (z : Option Condition) (now : Constants) → some_result (λ c. filled_condition c now) now z ≡ filled_filter z now
 where_is None now = refl
 where_is (Some z) now = refl
 
@@ -68,7 +68,7 @@ begins None now = refl
 begins (Some x) now = refl
 
 -- how the constants of a written text are spelled
-module _ (write : Given → Lexemes) (ok : Value → Type 0) where
+module _ (write : Argument → Lexemes) (ok : Value → Type 0) where
   -- ---- parts without a number
 
   names : Quiet write ok (lang.list grammar.name) Other Ends
@@ -120,7 +120,7 @@ module _ (write : Given → Lexemes) (ok : Value → Type 0) where
       (quiet_seq write ok k.Read (lang.token k.Only) Other Other Any refl refl (quiet_less write ok (lang.token k.Only) Other (λ q. q ≡ Other) Any (λ q is. tt) (quiet_token write ok k.Only Other refl)))) now
 
   -- the constants are written as they are spelled
-  module _ (writes : (given : Given) → ok given.value → Writes given.value (write given)) (loose : (value : Value) → ok value → IsValue value) where
+  module _ (writes : (given : Argument) → ok given.value → Writes given.value (write given)) (loose : (value : Value) → ok value → IsValue value) where
     -- ---- INSERT
 
     positive_reads : (n : ℕ) (x : Lexeme) → x.kind ≡ k.Number → grammar.digits_value x ≡ n → g.constant (x ∷ []) (v.Int (pos n))
@@ -132,7 +132,7 @@ module _ (write : Given → Lexemes) (ok : Value → Type 0) where
     unfolding g.constant
     negative_reads n m x minus is_of d =
         inr (seq_reads k.Minus _ m (x ∷ []) (v.Int (negsuc n)) minus
-        (subst (λ z. lang.◌<$>◌ (g.number_of true) (lang.token k.Number) (x ∷ []) (v.Int (grammar.signed true z))) d (map_reads (g.number_of true) (lang.token k.Number) (x ∷ []) x (refl, is_of))))
+        (subst (λ z. lang.◌<$>◌ (g.number_of true) (lang.token k.Number) (x ∷ []) (v.Int (grammar.signed_number true z))) d (map_reads (g.number_of true) (lang.token k.Number) (x ∷ []) x (refl, is_of))))
 
     text_reads : (t : List ℕ) (x : Lexeme) → x.kind ≡ k.Text → grammar.quoted x ≡ t → g.constant (x ∷ []) (v.Text t)
     unfolding g.constant
@@ -164,32 +164,32 @@ module _ (write : Given → Lexemes) (ok : Value → Type 0) where
       reads = subst (λ z. g.constant (z ++ []) (v.Text t)) (sym w.are) (text_reads t w.text w.kind w.inside);
     }
 
-    fresh_kept : (given : Option Given) (rest : Constants) (y : Lexeme) (x : Value) → ClearAt ok Other given → g.constant (y ∷ []) x
+    fresh_kept : (given : Option Argument) (rest : Constants) (y : Lexeme) (x : Value) → ClearAt ok Other given → g.constant (y ∷ []) x
         → Kept g.constant (written_token write y given ++ []) (next_by constant_of x given rest) rest
     fresh_kept None rest y x clear h = record { tree = x; is = refl; reads = h }
     fresh_kept (Some given) rest y x clear h = value_kept given.parameter given.value (write given) rest (loose given.value clear.1) (writes given clear.1)
 
-    sign_kept : (given : Option Given) (rest : Constants) (y : Lexeme) (x : Value) (L : Language Value) → ClearAt ok Sign given → L (y ∷ []) x
+    sign_kept : (given : Option Argument) (rest : Constants) (y : Lexeme) (x : Value) (L : Language Value) → ClearAt ok Sign given → L (y ∷ []) x
         → Kept L (written_token write y given ++ []) (next_by constant_of x given rest) rest
     sign_kept None rest y x L clear h = record { tree = x; is = refl; reads = h }
     sign_kept (Some given) rest y x L clear h = absurd clear.0
 
     number_by : (L : Language Value) (p : Prior) (is_negative : Bool) (now : Constants)
-        → ((y : Lexeme) (n : ℤ) → y.kind ≡ k.Number → n ≡ grammar.signed is_negative (grammar.digits_value y) → ClearAt ok p (taken now).0
-        → Kept L (written_token write y (taken now).0 ++ []) (next_by constant_of (v.Int n) (taken now).0 (taken now).1) (taken now).1)
+        → ((y : Lexeme) (n : ℤ) → y.kind ≡ k.Number → n ≡ grammar.signed_number is_negative (grammar.digits_value y) → ClearAt ok p (first_and_rest now).0
+        → Kept L (written_token write y (first_and_rest now).0 ++ []) (next_by constant_of (v.Int n) (first_and_rest now).0 (first_and_rest now).1) (first_and_rest now).1)
         → Keeps write ok (lang.◌<$>◌ (g.number_of is_negative) (lang.token k.Number)) L now (λ x. filled_value x now) p Any
     number_by L p is_negative now kept = record {
       keeps = λ w x h clear.
           let y = of_token k.Number (g.number_of is_negative) w x h in
           let number : is_number y.token.kind ≡ true = ap is_number y.is_of in
-          let at : ClearAt ok p (taken now).0 = subst (λ z. ClearAt ok p (for_token z now)) number (subst (λ z. Clear ok p z now) y.are clear).0 in
-          let one = kept y.token (grammar.signed is_negative (grammar.digits_value y.token)) y.is_of refl at in (
+          let at : ClearAt ok p (first_and_rest now).0 = subst (λ z. ClearAt ok p (for_token z now)) number (subst (λ z. Clear ok p z now) y.are clear).0 in
+          let one = kept y.token (grammar.signed_number is_negative (grammar.digits_value y.token)) y.is_of refl at in (
             record {
               tree = one.tree;
               is =
                   ap (λ z. filled_value z now) y.is ∙ one.is
                   ∙ ap (λ z. Ok (one.tree, z)) (sym (ap (λ z. left z now) y.are ∙ ap (λ z. behind_token z now) number));
-              reads = subst (λ z. L z one.tree) (sym (ap (λ z. written write z now) y.are ∙ ap (λ z. written_token write y.token (for_token z now) ++ []) number)) one.reads;
+              reads = subst (λ z. L z one.tree) (sym (ap (λ z. tokens_with_constants write z now) y.are ∙ ap (λ z. written_token write y.token (for_token z now) ++ []) number)) one.reads;
             },
             tt,
           );
@@ -198,13 +198,13 @@ module _ (write : Given → Lexemes) (ok : Value → Type 0) where
     number_fresh : (now : Constants) → Keeps write ok (lang.◌<$>◌ (g.number_of false) (lang.token k.Number)) g.constant now (λ x. filled_value x now) Other Any
     number_fresh now =
         number_by g.constant Other false now
-        (λ y n is_of is clear. fresh_kept (taken now).0 (taken now).1 y (v.Int n) clear (subst (λ z. g.constant (y ∷ []) (v.Int z)) (sym is) (positive_reads (grammar.digits_value y) y is_of refl)))
+        (λ y n is_of is clear. fresh_kept (first_and_rest now).0 (first_and_rest now).1 y (v.Int n) clear (subst (λ z. g.constant (y ∷ []) (v.Int z)) (sym is) (positive_reads (grammar.digits_value y) y is_of refl)))
 
     number_sign : (is_negative : Bool) (now : Constants)
         → Keeps write ok (lang.◌<$>◌ (g.number_of is_negative) (lang.token k.Number)) (lang.◌<$>◌ (g.number_of is_negative) (lang.token k.Number)) now (λ x. filled_value x now) Sign Any
     number_sign is_negative now =
         number_by (lang.◌<$>◌ (g.number_of is_negative) (lang.token k.Number)) Sign is_negative now
-        (λ y n is_of is clear. sign_kept (taken now).0 (taken now).1 y (v.Int n) (lang.◌<$>◌ (g.number_of is_negative) (lang.token k.Number)) clear
+        (λ y n is_of is clear. sign_kept (first_and_rest now).0 (first_and_rest now).1 y (v.Int n) (lang.◌<$>◌ (g.number_of is_negative) (lang.token k.Number)) clear
         (subst (λ z. lang.◌<$>◌ (g.number_of is_negative) (lang.token k.Number) (y ∷ []) (v.Int z)) (sym is) (map_reads (g.number_of is_negative) (lang.token k.Number) (y ∷ []) y (refl, is_of))))
 
     constant : (now : Constants) → Keeps write ok g.constant g.constant now (λ x. filled_value x now) Other Any
@@ -234,18 +234,18 @@ module _ (write : Given → Lexemes) (ok : Value → Type 0) where
 
     -- ---- what may have parentheses in it
 
-    module _ (inner : Language Found) (i : Inner write ok inner) where
-      where_clause : (p : Prior) (now : Constants) → Keeps write ok (g.where_clause inner) (g.where_clause inner) now (λ z. filled_where z now) p Any
+    module _ (inner : Language PartInParentheses) (i : Inner write ok inner) where
+      where_clause : (p : Prior) (now : Constants) → Keeps write ok (g.where_clause inner) (g.where_clause inner) now (λ z. filled_filter z now) p Any
       unfolding g.where_clause
       where_clause p now =
-          keeps_as write ok _ _ now (some_result (λ z. filled_condition z now) now) (λ z. filled_where z now) p Any (λ z y rest is. sym (where_is z now) ∙ is)
+          keeps_as write ok _ _ now (some_result (λ z. filled_condition z now) now) (λ z. filled_filter z now) p Any (λ z y rest is. sym (where_is z now) ∙ is)
           (keeps_optional write ok _ _ now (λ z. filled_condition z now) p Any tt
           (keeps_seq write ok k.Where (grammar.inner_cond inner) (grammar.inner_cond inner) now (λ z. filled_condition z now) p Other Any refl refl (i.cond now)))
 
       assigned : (now : Constants) → Keeps write ok (g.assigned inner) (g.assigned inner) now (λ z. filled_assigned z now) Other Any
       unfolding g.assigned
       assigned now =
-          let fill = λ (z : Assigned). filled_assigned z now in
+          let fill = λ (z : UpdateSource). filled_assigned z now in
           keeps_or write ok _ _ _ _ now fill Other Any (keeps_seq write ok k.Null _ _ now fill Other Other Any refl refl (keeps_pure write ok to.Null to.Null now fill Other Any refl tt))
           (keeps_map write ok to.To to.To (grammar.inner_expr inner) (grammar.inner_expr inner) now (λ z. filled_expression z now) fill Other Any
           (keeps_less write ok (grammar.inner_expr inner) (grammar.inner_expr inner) now (λ z. filled_expression z now) Other Ends Any (λ q ends. tt) (i.expr now))
@@ -268,8 +268,8 @@ module _ (write : Given → Lexemes) (ok : Value → Type 0) where
           (λ table p ends. keeps_seq write ok k.Set _ _ now fill p Other Any refl refl
           (keeps_then write ok (lang.list (g.assignment inner)) (lang.list (g.assignment inner)) _ _ now (λ z. filled_assignments z now) fill Other Any Any
           (keeps_list write ok (g.assignment inner) (g.assignment inner) filled_assignment Any assignment now)
-          (λ sets sets' between q any sets_are. keeps_map write ok (s.Update table sets) (s.Update table sets') (g.where_clause inner) (g.where_clause inner) between (λ z. filled_where z between) fill q Any (where_clause q between)
-          (λ keeps keeps' rest is. ap (λ r. and_then r (λ l. then_made (s.Update table l.0) (filled_where keeps l.1))) sets_are ∙ ap (then_made (s.Update table sets')) is)))))
+          (λ sets sets' between q any sets_are. keeps_map write ok (s.Update table sets) (s.Update table sets') (g.where_clause inner) (g.where_clause inner) between (λ z. filled_filter z between) fill q Any (where_clause q between)
+          (λ keeps keeps' rest is. ap (λ r. and_then r (λ l. then_made (s.Update table l.0) (filled_filter keeps l.1))) sets_are ∙ ap (then_made (s.Update table sets')) is)))))
 
       delete : (now : Constants) → Keeps write ok (g.delete inner) (g.delete inner) now (λ z. filled_statement z now) Other Any
       unfolding g.delete
@@ -277,7 +277,7 @@ module _ (write : Given → Lexemes) (ok : Value → Type 0) where
           let fill = λ (z : Statement). filled_statement z now in
           keeps_seq write ok k.Delete _ _ now fill Other Other Any refl refl (keeps_seq write ok k.From _ _ now fill Other Other Any refl refl
           (keeps_behind write ok grammar.name _ _ now fill Other Ends Any (quiet_name write ok Other)
-          (λ table p ends. keeps_map write ok (s.Delete table) (s.Delete table) (g.where_clause inner) (g.where_clause inner) now (λ z. filled_where z now) fill p Any (where_clause p now)
+          (λ table p ends. keeps_map write ok (s.Delete table) (s.Delete table) (g.where_clause inner) (g.where_clause inner) now (λ z. filled_filter z now) fill p Any (where_clause p now)
           (λ keeps keeps' rest is. ap (then_made (s.Delete table)) is))))
 
       select : (now : Constants) → Keeps write ok (g.select inner) (g.select inner) now (λ z. filled_statement z now) Other Any
@@ -288,7 +288,7 @@ module _ (write : Given → Lexemes) (ok : Value → Type 0) where
           (keeps_behind write ok g.selected _ _ now fill Other Any Any quiet_selected
           (λ which p any. keeps_seq write ok k.From _ _ now fill p Other Any refl refl
           (keeps_behind write ok grammar.name _ _ now fill Other Ends Any (quiet_name write ok Other)
-          (λ table q ends. keeps_map write ok (s.Select which table) (s.Select which table) (g.where_clause inner) (g.where_clause inner) now (λ z. filled_where z now) fill q Any (where_clause q now)
+          (λ table q ends. keeps_map write ok (s.Select which table) (s.Select which table) (g.where_clause inner) (g.where_clause inner) now (λ z. filled_filter z now) fill q Any (where_clause q now)
           (λ keeps keeps' rest is. ap (then_made (s.Select which table)) is)))))
 
       statement : (now : Constants) → Keeps write ok (g.statement inner) (g.statement inner) now (λ z. filled_statement z now) Other Any

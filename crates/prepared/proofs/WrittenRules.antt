@@ -15,15 +15,15 @@ use Rattle.syntax.specs.declared.trees.Expression.{Expression}
 use Rattle.syntax.specs.declared.trees.Expression.TheVariants as e
 use Rattle.syntax.specs.declared.trees.SelectList.{SelectList}
 use Rattle.syntax.specs.declared.trees.SelectList.TheVariants as which
-use Rattle.syntax.specs.declared.wants.Found.{Found}
+use Rattle.syntax.specs.declared.wants.PartInParentheses.{PartInParentheses}
 use Rattle.syntax.specs.Grammar as g
 use Rattle.syntax.specs.Language.{Lexeme, Lexemes, Language, Then, Behind}
 use Rattle.syntax.specs.Language as lang
 use Rattle.prepared.specs.declared.faults.FillFault.TheVariants.{NumberOutOfRange, TextNotPlain}
 use Rattle.prepared.specs.Numbers.{is_number}
-use Rattle.prepared.specs.Constants.{Given, Constants, taken, and_then, then_made, both, all, next_by, constant_by, expression_by, expression_of}
+use Rattle.prepared.specs.Constants.{Argument, Constants, first_and_rest, and_then, then_made, both, all, next_by, constant_by, expression_by, expression_of}
 use Rattle.prepared.specs.Conditions.{filled_expression, filled_condition, filled_select_list, filled_query}
-use Rattle.prepared.specs.Written.{IsConstant, Writes, for_token, behind_token, written_token, written}
+use Rattle.prepared.specs.Written.{IsConstant, Writes, for_token, behind_token, written_token, tokens_with_constants}
 use Rattle.prepared.proofs.Keeps.{Prior, Operand, Sign, Other, step, after, Ends, Any, Clear, ClearAt, left, Kept, Keeps, Quiet, keeps_pure, keeps_or, keeps_either, keeps_into, keeps_less, keeps_then, keeps_map, keeps_seq, keeps_parens, keeps_behind, keeps_quiet, keeps_optional, keeps_more, keeps_list, quiet_pure, quiet_or, quiet_seq, quiet_less, quiet_parens, quiet_token, quiet_map, quiet_then, quiet_optional}
 use Rattle.prepared.proofs.Fills.{clause, of_number, of_text, of_column, of_countrows, of_aggregate, of_subquery, of_negation, of_not, of_is, of_exists, of_compare, of_isnull, of_between, of_in, of_star, of_one, of_query, product_filled, sum_filled, and_filled, or_filled}
 
@@ -51,7 +51,7 @@ of_token kind make w x h = record {
 }
 
 -- how the constants of a written text are spelled
-module _ (write : Given → Lexemes) (ok : Value → Type 0) where
+module _ (write : Argument → Lexemes) (ok : Value → Type 0) where
   -- ---- parts without a number
 
   pub quiet_name : (p : Prior) → Quiet write ok g.name p Ends
@@ -120,17 +120,17 @@ module _ (write : Given → Lexemes) (ok : Value → Type 0) where
       (keeps_seq write ok k.Max _ _ now fill p Other Ends refl refl (keeps_of a.Max Other now))
 
   -- what stands in parentheses
-  pub record Inner (inner : Language Found) : Type 0 where
+  pub record Inner (inner : Language PartInParentheses) : Type 0 where
     pub expr : (now : Constants) → Keeps write ok (g.inner_expr inner) (g.inner_expr inner) now (λ x. filled_expression x now) Other Ends
     pub cond : (now : Constants) → Keeps write ok (g.inner_cond inner) (g.inner_cond inner) now (λ x. filled_condition x now) Other Any
     pub query : (now : Constants) → Keeps write ok (g.inner_query inner) (g.inner_query inner) now (λ x. filled_query x now) Other Any
 
   -- the constants are written as they are spelled
-  module _ (writes : (given : Given) → ok given.value → Writes given.value (write given)) (strict : (value : Value) → ok value → IsConstant value) (inner : Language Found) (i : Inner inner) where
+  module _ (writes : (given : Argument) → ok given.value → Writes given.value (write given)) (strict : (value : Value) → ok value → IsConstant value) (inner : Language PartInParentheses) (i : Inner inner) where
     -- ---- numbers
 
     -- a number behind a sign is no parameter
-    sign_kept : (given : Option Given) (rest : Constants) (y : Lexeme) (x : Expression) (L : Language Expression) → ClearAt ok Sign given → L (y ∷ []) x
+    sign_kept : (given : Option Argument) (rest : Constants) (y : Lexeme) (x : Expression) (L : Language Expression) → ClearAt ok Sign given → L (y ∷ []) x
         → Kept L (written_token write y given ++ []) (next_by expression_of x given rest) rest
     sign_kept None rest y x L clear h = record { tree = x; is = refl; reads = h }
     sign_kept (Some given) rest y x L clear h = absurd clear.0
@@ -145,7 +145,7 @@ module _ (write : Given → Lexemes) (ok : Value → Type 0) where
     unfolding g.factor g.prim
     negative_reads n m x minus is_of d =
         inl (inr (seq_reads k.Minus _ m (x ∷ []) (e.Number (negsuc n)) minus
-        (subst (λ z. lang.◌<$>◌ (g.number_of true) (lang.token k.Number) (x ∷ []) (e.Number (g.signed true z))) d (map_reads (g.number_of true) (lang.token k.Number) (x ∷ []) x (refl, is_of)))))
+        (subst (λ z. lang.◌<$>◌ (g.number_of true) (lang.token k.Number) (x ∷ []) (e.Number (g.signed_number true z))) d (map_reads (g.number_of true) (lang.token k.Number) (x ∷ []) x (refl, is_of)))))
 
     text_reads : (s : List ℕ) (x : Lexeme) → x.kind ≡ k.Text → g.quoted x ≡ s → g.factor inner (x ∷ []) (e.Text s)
     unfolding g.factor g.prim g.other_prim
@@ -173,28 +173,28 @@ module _ (write : Given → Lexemes) (ok : Value → Type 0) where
     }
 
     -- a number, or the value in its place
-    fresh_kept : (given : Option Given) (rest : Constants) (y : Lexeme) (x : Expression) → ClearAt ok Other given → g.factor inner (y ∷ []) x
+    fresh_kept : (given : Option Argument) (rest : Constants) (y : Lexeme) (x : Expression) → ClearAt ok Other given → g.factor inner (y ∷ []) x
         → Kept (g.factor inner) (written_token write y given ++ []) (next_by expression_of x given rest) rest
     fresh_kept None rest y x clear h = record { tree = x; is = refl; reads = h }
     fresh_kept (Some given) rest y x clear h = value_kept given.parameter given.value (write given) rest (strict given.value clear.1) (writes given clear.1)
 
     -- the token of a number, by what stands for it
     number_by : (L : Language Expression) (p : Prior) (is_negative : Bool) (now : Constants)
-        → ((y : Lexeme) (n : ℤ) → y.kind ≡ k.Number → n ≡ g.signed is_negative (g.digits_value y) → ClearAt ok p (taken now).0
-        → Kept L (written_token write y (taken now).0 ++ []) (next_by expression_of (e.Number n) (taken now).0 (taken now).1) (taken now).1)
+        → ((y : Lexeme) (n : ℤ) → y.kind ≡ k.Number → n ≡ g.signed_number is_negative (g.digits_value y) → ClearAt ok p (first_and_rest now).0
+        → Kept L (written_token write y (first_and_rest now).0 ++ []) (next_by expression_of (e.Number n) (first_and_rest now).0 (first_and_rest now).1) (first_and_rest now).1)
         → Keeps write ok (lang.◌<$>◌ (g.number_of is_negative) (lang.token k.Number)) L now (λ x. filled_expression x now) p Ends
     number_by L p is_negative now kept = record {
       keeps = λ w x h clear.
           let y = of_token k.Number (g.number_of is_negative) w x h in
           let number : is_number y.token.kind ≡ true = ap is_number y.is_of in
-          let at : ClearAt ok p (taken now).0 = subst (λ z. ClearAt ok p (for_token z now)) number (subst (λ z. Clear ok p z now) y.are clear).0 in
-          let one = kept y.token (g.signed is_negative (g.digits_value y.token)) y.is_of refl at in (
+          let at : ClearAt ok p (first_and_rest now).0 = subst (λ z. ClearAt ok p (for_token z now)) number (subst (λ z. Clear ok p z now) y.are clear).0 in
+          let one = kept y.token (g.signed_number is_negative (g.digits_value y.token)) y.is_of refl at in (
             record {
               tree = one.tree;
               is =
-                  ap (λ z. filled_expression z now) y.is ∙ of_number (g.signed is_negative (g.digits_value y.token)) now ∙ one.is
+                  ap (λ z. filled_expression z now) y.is ∙ of_number (g.signed_number is_negative (g.digits_value y.token)) now ∙ one.is
                   ∙ ap (λ z. Ok (one.tree, z)) (sym (ap (λ z. left z now) y.are ∙ ap (λ z. behind_token z now) number));
-              reads = subst (λ z. L z one.tree) (sym (ap (λ z. written write z now) y.are ∙ ap (λ z. written_token write y.token (for_token z now) ++ []) number)) one.reads;
+              reads = subst (λ z. L z one.tree) (sym (ap (λ z. tokens_with_constants write z now) y.are ∙ ap (λ z. written_token write y.token (for_token z now) ++ []) number)) one.reads;
             },
             ap (after p) y.are ∙ ap (step p) y.is_of,
           );
@@ -204,13 +204,13 @@ module _ (write : Given → Lexemes) (ok : Value → Type 0) where
         → Keeps write ok (lang.◌<$>◌ (g.number_of is_negative) (lang.token k.Number)) (lang.◌<$>◌ (g.number_of is_negative) (lang.token k.Number)) now (λ x. filled_expression x now) Sign Ends
     number_sign is_negative now =
         number_by (lang.◌<$>◌ (g.number_of is_negative) (lang.token k.Number)) Sign is_negative now
-        (λ y n is_of is clear. sign_kept (taken now).0 (taken now).1 y (e.Number n) (lang.◌<$>◌ (g.number_of is_negative) (lang.token k.Number)) clear
+        (λ y n is_of is clear. sign_kept (first_and_rest now).0 (first_and_rest now).1 y (e.Number n) (lang.◌<$>◌ (g.number_of is_negative) (lang.token k.Number)) clear
         (subst (λ z. lang.◌<$>◌ (g.number_of is_negative) (lang.token k.Number) (y ∷ []) (e.Number z)) (sym is) (map_reads (g.number_of is_negative) (lang.token k.Number) (y ∷ []) y (refl, is_of))))
 
     number_fresh : (now : Constants) → Keeps write ok g.number (g.factor inner) now (λ x. filled_expression x now) Other Ends
     number_fresh now =
         number_by (g.factor inner) Other false now
-        (λ y n is_of is clear. fresh_kept (taken now).0 (taken now).1 y (e.Number n) clear (subst (λ z. g.factor inner (y ∷ []) (e.Number z)) (sym is) (positive_reads (g.digits_value y) y is_of refl)))
+        (λ y n is_of is clear. fresh_kept (first_and_rest now).0 (first_and_rest now).1 y (e.Number n) clear (subst (λ z. g.factor inner (y ∷ []) (e.Number z)) (sym is) (positive_reads (g.digits_value y) y is_of refl)))
 
     -- ---- expressions
 
@@ -473,7 +473,7 @@ module _ (write : Given → Lexemes) (ok : Value → Type 0) where
     }
 
   -- however deep parentheses nest
-  module _ (writes : (given : Given) → ok given.value → Writes given.value (write given)) (strict : (value : Value) → ok value → IsConstant value) where
+  module _ (writes : (given : Argument) → ok given.value → Writes given.value (write given)) (strict : (value : Value) → ok value → IsConstant value) where
     pub nested : (n : ℕ) → Inner (g.nested n)
     unfolding g.nested
     nested zero = record {

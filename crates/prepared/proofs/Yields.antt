@@ -7,7 +7,7 @@ use Rattle.syntax.specs.Grammar.{digits_value}
 use Rattle.syntax.specs.Language.{Lexeme, Lexemes, Language, Then, Each, Behind}
 use Rattle.syntax.specs.Language as lang
 use Rattle.prepared.specs.Numbers.{is_number}
-use Rattle.prepared.specs.Numerals.{Numerals, numeral, numerals, joined}
+use Rattle.prepared.specs.Numerals.{Numerals, numeral, numerals, numerals_of_parts}
 
 pub numerals_append : (u w : Lexemes) → numerals (u ++ w) ≡ numerals u ++ numerals w
 numerals_append [] w = refl
@@ -76,35 +76,35 @@ module _ {A : Type 0} where
       yields_seq k.Open _ before of refl
       (yields_then L _ before of of l (λ x. yields_seq k.Close _ (of x) of refl (yields_pure x (of x) of refl)))
 
-  pub joined_append : (of : A → Numerals) (xs ys : List A) → joined (map of (xs ++ ys)) ≡ joined (map of xs) ++ joined (map of ys)
+  pub joined_append : (of : A → Numerals) (xs ys : List A) → numerals_of_parts (map of (xs ++ ys)) ≡ numerals_of_parts (map of xs) ++ numerals_of_parts (map of ys)
   joined_append of [] ys = refl
-  joined_append of (x ∷ xs) ys = ap (λ z. of x ++ z) (joined_append of xs ys) ∙ sym (append_assoc (of x) (joined (map of xs)) (joined (map of ys)))
+  joined_append of (x ∷ xs) ys = ap (λ z. of x ++ z) (joined_append of xs ys) ∙ sym (append_assoc (of x) (numerals_of_parts (map of xs)) (numerals_of_parts (map of ys)))
 
-  pub each_yields : (L : Language A) (of : A → Numerals) → Adds L of → (w : Lexemes) (xs : List A) → Each L w xs → joined (map of xs) ≡ numerals w
+  pub each_yields : (L : Language A) (of : A → Numerals) → Adds L of → (w : Lexemes) (xs : List A) → Each L w xs → numerals_of_parts (map of xs) ≡ numerals w
   each_yields L of l w [] h = sym (ap numerals h)
   each_yields L of l w (x ∷ xs) h =
-      ap (λ z. z ++ joined (map of xs)) ((l []).gives h.front x h.first)
+      ap (λ z. z ++ numerals_of_parts (map of xs)) ((l []).gives h.front x h.first)
       ∙ ap (λ z. numerals h.front ++ z) (each_yields L of l h.back xs h.second)
       ∙ sym (numerals_append h.front h.back) ∙ ap numerals (sym h.cut)
 
   -- items behind those found before
   pub yields_behind : (found : List A) (L : Language A) (before : Numerals) (of : A → Numerals) → Adds L of
-      → Yields (Behind found L) (before ++ joined (map of found)) (λ xs. before ++ joined (map of xs))
+      → Yields (Behind found L) (before ++ numerals_of_parts (map of found)) (λ xs. before ++ numerals_of_parts (map of xs))
   yields_behind found L before of l = record {
     gives = λ w xs h.
-        ap (λ z. before ++ joined (map of z)) h.1
-        ∙ ap (λ z. before ++ z) (joined_append of found h.0 ∙ ap (λ z. joined (map of found) ++ z) (each_yields L of l w h.0 h.2))
-        ∙ sym (append_assoc before (joined (map of found)) (numerals w));
+        ap (λ z. before ++ numerals_of_parts (map of z)) h.1
+        ∙ ap (λ z. before ++ z) (joined_append of found h.0 ∙ ap (λ z. numerals_of_parts (map of found) ++ z) (each_yields L of l w h.0 h.2))
+        ∙ sym (append_assoc before (numerals_of_parts (map of found)) (numerals w));
   }
 
-  alone : (before : Numerals) (of : A → Numerals) (x : A) → before ++ joined (map of (x ∷ [])) ≡ before ++ of x
+  alone : (before : Numerals) (of : A → Numerals) (x : A) → before ++ numerals_of_parts (map of (x ∷ [])) ≡ before ++ of x
   alone before of x = ap (λ z. before ++ z) (append-nil (of x))
 
   pub yields_more : (x : A) (L : Language A) (before : Numerals) (of : A → Numerals) → Adds L of
-      → Yields (Behind (x ∷ []) L) (before ++ of x) (λ xs. before ++ joined (map of xs))
-  yields_more x L before of l = subst (λ z. Yields (Behind (x ∷ []) L) z (λ xs. before ++ joined (map of xs))) (alone before of x) (yields_behind (x ∷ []) L before of l)
+      → Yields (Behind (x ∷ []) L) (before ++ of x) (λ xs. before ++ numerals_of_parts (map of xs))
+  yields_more x L before of l = subst (λ z. Yields (Behind (x ∷ []) L) z (λ xs. before ++ numerals_of_parts (map of xs))) (alone before of x) (yields_behind (x ∷ []) L before of l)
 
-  pub yields_list : (L : Language A) (of : A → Numerals) → Adds L of → Adds (lang.list L) (λ xs. joined (map of xs))
+  pub yields_list : (L : Language A) (of : A → Numerals) → Adds L of → Adds (lang.list L) (λ xs. numerals_of_parts (map of xs))
   yields_list L of l before =
       yields_then L _ before (λ x. before ++ of x) _ (l before)
       (λ x. yields_more x _ before of (λ b. yields_seq k.Comma L b (λ a. b ++ of a) refl (l b)))
@@ -173,12 +173,12 @@ module _ {A : Type 0} where
   pub silent_parens : (L : Language A) → Silent L → Silent (lang.parens L)
   silent_parens L l before = yields_parens L before (λ _. before) (l before)
 
-  none_joined : (xs : List A) → joined (map (λ _. []) xs) ≡ []
+  none_joined : (xs : List A) → numerals_of_parts (map (λ _. []) xs) ≡ []
   none_joined [] = refl
   none_joined (x ∷ xs) = none_joined xs
 
   pub silent_list : (L : Language A) → Silent L → Silent (lang.list L)
   silent_list L l before =
-      yields_as (lang.list L) before (λ xs. before ++ joined (map (λ _. []) xs)) (λ _. before)
+      yields_as (lang.list L) before (λ xs. before ++ numerals_of_parts (map (λ _. []) xs)) (λ _. before)
       (λ xs. sym (ap (λ z. before ++ z) (none_joined xs) ∙ append-nil before))
       (yields_list L (λ _. []) (λ b. yields_as L b (λ _. b) (λ _. b ++ []) (λ _. append-nil b) (l b)) before)

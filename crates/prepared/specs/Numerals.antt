@@ -11,8 +11,8 @@ use Rattle.syntax.specs.declared.trees.SelectList.{SelectList}
 use Rattle.syntax.specs.declared.trees.Query.{Query}
 use Rattle.syntax.specs.Grammar.{digits_value}
 use Rattle.syntax.specs.declared.statements.Insert.{Insert}
-use Rattle.syntax.specs.declared.statements.Assigned.{Assigned}
-use Rattle.syntax.specs.declared.statements.Assigned.TheVariants as to
+use Rattle.syntax.specs.declared.statements.UpdateSource.{UpdateSource}
+use Rattle.syntax.specs.declared.statements.UpdateSource.TheVariants as to
 use Rattle.syntax.specs.declared.statements.Assignment.{Assignment}
 use Rattle.syntax.specs.declared.statements.Statement.{Statement}
 use Rattle.syntax.specs.declared.statements.Statement.TheVariants as s
@@ -34,9 +34,9 @@ abbrev pub numerals : Lexemes → Numerals
 numerals tokens = flat_map numeral tokens
 
 -- those of several parts, from the left
-abbrev pub joined : List Numerals → Numerals
-joined [] = []
-joined (part ∷ rest) = part ++ joined rest
+abbrev pub numerals_of_parts : List Numerals → Numerals
+numerals_of_parts [] = []
+numerals_of_parts (part ∷ rest) = part ++ numerals_of_parts rest
 
 -- those of a part that may be missing
 abbrev pub of_optional : Option Numerals → Numerals
@@ -52,20 +52,20 @@ expression_step Expression-F.CountRows = []
 expression_step (Expression-F.Aggregate function column) = []
 expression_step (Expression-F.Subquery query) = query
 expression_step (Expression-F.Negation part) = part
-expression_step (Expression-F.Sum parts) = joined parts
-expression_step (Expression-F.Product parts) = joined parts
+expression_step (Expression-F.Sum parts) = numerals_of_parts parts
+expression_step (Expression-F.Product parts) = numerals_of_parts parts
 
 -- those of a condition, likewise
 abbrev pub condition_step : Condition-F Numerals Numerals Numerals Numerals → Numerals
-condition_step (Condition-F.Or parts) = joined parts
-condition_step (Condition-F.And parts) = joined parts
+condition_step (Condition-F.Or parts) = numerals_of_parts parts
+condition_step (Condition-F.And parts) = numerals_of_parts parts
 condition_step (Condition-F.Not part) = part
 condition_step (Condition-F.Is part truth) = part
 condition_step (Condition-F.Exists query) = query
 condition_step (Condition-F.Compare left comparison right) = left ++ right
 condition_step (Condition-F.IsNull part) = part
 condition_step (Condition-F.Between subject low high) = subject ++ (low ++ high)
-condition_step (Condition-F.In subject values) = subject ++ joined values
+condition_step (Condition-F.In subject values) = subject ++ numerals_of_parts values
 
 -- those of what a query lists
 abbrev pub select_list_step : SelectList-F Numerals Numerals Numerals Numerals → Numerals
@@ -103,10 +103,10 @@ value_numerals _ = []
 
 -- those of the values of an INSERT
 abbrev pub insert_numerals : Insert → Numerals
-insert_numerals insert = joined (map value_numerals insert.values)
+insert_numerals insert = numerals_of_parts (map value_numerals insert.values)
 
 -- those of what a column is given
-abbrev pub assigned_numerals : Assigned → Numerals
+abbrev pub assigned_numerals : UpdateSource → Numerals
 assigned_numerals to.Null = []
 assigned_numerals (to.To x) = expression_numerals x
 
@@ -115,16 +115,17 @@ abbrev pub assignment_numerals : Assignment → Numerals
 assignment_numerals set = assigned_numerals set.value
 
 -- those of a WHERE, if there is one
-abbrev pub where_numerals : Option Condition → Numerals
-where_numerals None = []
-where_numerals (Some condition) = condition_numerals condition
+abbrev pub filter_numerals : Option Condition → Numerals
+filter_numerals None = []
+filter_numerals (Some condition) = condition_numerals condition
 
 -- those of a statement, in the order in which it is written
 abbrev pub statement_numerals : Statement → Numerals
 statement_numerals (s.Insert insert) = insert_numerals insert
-statement_numerals (s.Update table sets keeps) = joined (map assignment_numerals sets) ++ where_numerals keeps
-statement_numerals (s.Delete table keeps) = where_numerals keeps
-statement_numerals (s.Select which table keeps) = where_numerals keeps
+statement_numerals (s.Update table sets keeps) = numerals_of_parts (map assignment_numerals sets)
+    ++ filter_numerals keeps
+statement_numerals (s.Delete table keeps) = filter_numerals keeps
+statement_numerals (s.Select which table keeps) = filter_numerals keeps
 statement_numerals _ = []
 
 -- those of an event

@@ -7,7 +7,7 @@ use Rattle.token.specs.Bytes.{Text}
 use Rattle.token.specs.Lexer.{tokens_of}
 use Rattle.syntax.specs.Lexemes.{lexemes}
 use Rattle.syntax.specs.Answer.{Fits}
-use Rattle.parse.specs.Told.{most_open, Refused}
+use Rattle.parse.specs.Told.{most_open, IsRefusalOf}
 use Rattle.syntax.specs.declared.statements.Event.{Event}
 use Rattle.syntax.specs.StatementGrammar.{IsEvent}
 use Rattle.prepared.specs.declared.faults.FillFault.{FillFault}
@@ -46,12 +46,12 @@ pub record IsStray (text : Text) (at : ℕ) : Type 0 where
 -- The mask of the text is refused so, or its first parameter where none may stand.
 abbrev pub RefusedText : Text → Refusal → Type 0
 RefusedText text (Syntax at) =
-    Refused IsEvent most_open (lexemes (mask text)) (length text) (Syntax at) ⊎ IsStray text at
-RefusedText text refusal = Refused IsEvent most_open (lexemes (mask text)) (length text) refusal
+    IsRefusalOf IsEvent most_open (lexemes (mask text)) (length text) (Syntax at) ⊎ IsStray text at
+RefusedText text refusal = IsRefusalOf IsEvent most_open (lexemes (mask text)) (length text) refusal
 
 -- the event with these values in the places of its parameters, or the first fault
-abbrev pub filled : Prepared → List Value → Result Event FillFault
-filled prepared values =
+abbrev pub event_with_values : Prepared → List Value → Result Event FillFault
+event_with_values prepared values =
     if nat_eq (length values) (parameter_count prepared.numbers) then
     and_then (filled_event prepared.event (constants_of prepared.numbers values)) (λ made. Ok made.0)
     else Err (WrongCount (parameter_count prepared.numbers) (length values))

@@ -15,8 +15,8 @@ use Rattle.syntax.specs.Lexemes.{lexemes}
 use Rattle.prepared.specs.declared.prepared.Prepared.{Prepared}
 use Rattle.prepared.specs.Masks.{mask}
 use Rattle.prepared.specs.Numbers.{is_number, parameter_count}
-use Rattle.prepared.specs.Constants.{Given, Constants, constants_of, taken, largest_number}
-use Rattle.prepared.specs.Prepared.{IsPrepared, filled}
+use Rattle.prepared.specs.Constants.{Argument, Constants, constants_of, first_and_rest, largest_number}
+use Rattle.prepared.specs.Prepared.{IsPrepared, event_with_values}
 
 -- these tokens write a number: its digits, behind a minus where it is negative
 pub record WritesNumber (n : ℕ) (x : Lexeme) : Type 0 where
@@ -84,38 +84,39 @@ AreAll ok [] = Unit {0}
 AreAll ok (value ∷ rest) = ok value × AreAll ok rest
 
 -- what stands for a token, where it is a number; and for those behind it
-abbrev pub for_token : Bool → Constants → Option Given
-for_token true constants = (taken constants).0
+abbrev pub for_token : Bool → Constants → Option Argument
+for_token true constants = (first_and_rest constants).0
 for_token false constants = None
 
 -- the constants that are left behind a token: a number takes one
 abbrev pub behind_token : Bool → Constants → Constants
-behind_token true constants = (taken constants).1
+behind_token true constants = (first_and_rest constants).1
 behind_token false constants = constants
 
 -- the tokens that are written for one
-abbrev pub written_token : (Given → Lexemes) → Lexeme → Option Given → Lexemes
+abbrev pub written_token : (Argument → Lexemes) → Lexeme → Option Argument → Lexemes
 written_token write x None = x ∷ []
 written_token write x (Some given) = write given
 
 -- tokens with the constants written in the places of the parameters
-abbrev pub written : (Given → Lexemes) → Lexemes → Constants → Lexemes
-written write [] constants = []
-written write (x ∷ tokens) constants =
+abbrev pub tokens_with_constants : (Argument → Lexemes) → Lexemes → Constants → Lexemes
+tokens_with_constants write [] constants = []
+tokens_with_constants write (x ∷ tokens) constants =
     written_token write x (for_token (is_number x.kind) constants)
-    ++ written write tokens (behind_token (is_number x.kind) constants)
+    ++ tokens_with_constants write tokens (behind_token (is_number x.kind) constants)
 
 -- Values that may stand there, filled in, give the event of each text that has them written in the places of its
 -- parameters, however they are spelled.
-pub record IsWritten (text : Text) (prepared : Prepared) (values : List Value) (write : Given → Lexemes) : Type 0 where
+pub record IsWritten (text : Text) (prepared : Prepared) (values : List Value)
+    (write : Argument → Lexemes) : Type 0 where
   pub event : Event
-  pub fills : filled prepared values ≡ Ok event
-  pub reads : IsEvent (written write (lexemes (mask text)) (constants_of prepared.numbers values)) event
+  pub fills : event_with_values prepared values ≡ Ok event
+  pub reads : IsEvent (tokens_with_constants write (lexemes (mask text)) (constants_of prepared.numbers values)) event
 
 -- the law: values that may stand there, filled in, make the event of each text that has them written
 abbrev pub FilledIsWritten : Type 0
 FilledIsWritten =
-    (text : Text) (prepared : Prepared) (values : List Value) (write : Given → Lexemes) → IsPrepared text prepared
+    (text : Text) (prepared : Prepared) (values : List Value) (write : Argument → Lexemes) → IsPrepared text prepared
     → length values ≡ parameter_count prepared.numbers → AreAll (MayStand prepared.event) values
-    → ((given : Given) → IsValue given.value → Writes given.value (write given))
+    → ((given : Argument) → IsValue given.value → Writes given.value (write given))
     → IsWritten text prepared values write

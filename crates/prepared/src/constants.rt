@@ -2,14 +2,14 @@
 
 ghost use Rattle.std.specs.Prelude.{◌≡◌, ◌≢◌, IfOk, IfErr, Ok, Err};
 ghost use Rattle.prepared.specs.declared.faults.FillFault.TheVariants.{NoMemory};
-ghost use Rattle.syntax.specs.declared.statements.Assigned.TheVariants as to;
+ghost use Rattle.syntax.specs.declared.statements.UpdateSource.TheVariants as to;
 ghost use Rattle.syntax.specs.declared.trees.Expression.TheVariants as e;
 ghost use Rattle.value.specs.declared.values.Value.TheVariants as v;
 ghost use Rattle.prepared.specs.Constants as spec;
 
 use crate::faults::FillFault;
 use std::marker::Model;
-use syntax::{Assigned, Expression};
+use syntax::{Expression, UpdateSource};
 use value::Value;
 
 /// The largest number of the language.
@@ -17,20 +17,20 @@ const LARGEST_NUMBER: u64 = 1_000_000_000_000_000;
 
 /// A value for a parameter, which is counted from 1.
 #[derive(Drop)]
-struct Given<'a> {
+struct Argument<'a> {
     parameter: usize,
     value: &'a Value,
 }
 
-impl<'a> Model for Given<'a> {
-    ghost use Rattle.prepared.specs.Constants.{Given};
+impl<'a> Model for Argument<'a> {
+    ghost use Rattle.prepared.specs.Constants.{Argument};
 
-    ghost Value = { Given };
+    ghost Value = { Argument };
 
     ghost view = { λ g. record { parameter = g.parameter; value = g.value.now } };
 }
 
-impl<'a> Given<'a> {
+impl<'a> Argument<'a> {
     /// A copy of the value, if a constant may be so.
     fn constant(&self) -> Result<Value, FillFault>
         ensures made { IfOk result (λ made. spec.constant_of self.now ≡ Ok made) }
@@ -69,25 +69,25 @@ impl<'a> Given<'a> {
     }
 
     /// The value as what an UPDATE gives to a column.
-    fn assigned(&self) -> Result<Assigned, FillFault>
+    fn assigned(&self) -> Result<UpdateSource, FillFault>
         ensures made { IfOk result (λ made. spec.assigned_of self.now ≡ Ok made) }
         ensures refused { IfErr result (λ fault. fault ≢ NoMemory → spec.assigned_of self.now ≡ Err fault) }
     {
         match self.constant()? {
-            Value::Null => Ok(Assigned::Null),
-            Value::Int(number) => Ok(Assigned::To(Expression::Number(number))),
-            Value::Text(text) => Ok(Assigned::To(Expression::Text(text))),
+            Value::Null => Ok(UpdateSource::Null),
+            Value::Int(number) => Ok(UpdateSource::To(Expression::Number(number))),
+            Value::Text(text) => Ok(UpdateSource::To(Expression::Text(text))),
         }
     }
 }
 
 /// The value of a parameter.
-fn find_value<'a>(parameter: Option<usize>, values: &'a [Value]) -> Option<Given<'a>>
+fn find_value<'a>(parameter: Option<usize>, values: &'a [Value]) -> Option<Argument<'a>>
     ensures { result ≡ spec.value_of values.now parameter }
 {
     let at = parameter?;
     let value = values.get(at)?;
-    Some(Given {
+    Some(Argument {
         parameter: at + 1,
         value,
     })
@@ -117,8 +117,8 @@ impl<'a> Constants<'a> {
     }
 
     /// What stands in the place of the next number, which is passed.
-    fn take(&mut self) -> Option<Given<'a>>
-        ensures { spec.taken self.old ≡ (result, self.new) }
+    fn take(&mut self) -> Option<Argument<'a>>
+        ensures { spec.first_and_rest self.old ≡ (result, self.new) }
     {
         let Some((first, rest)) = self.numbers.split_first() else {
             return None;
@@ -145,14 +145,14 @@ impl<'a> Constants<'a> {
     }
 
     /// What the next number is where it is all that an UPDATE gives to a column, with the errors of an expression.
-    pub fn assigned(&mut self, number: i64) -> Result<Assigned, FillFault>
+    pub fn assigned(&mut self, number: i64) -> Result<UpdateSource, FillFault>
         ensures made { IfOk result (λ made.
             spec.next spec.assigned_of (to.To (e.Number number)) self.old ≡ Ok (made, self.new)) }
         ensures refused { IfErr result (λ fault. fault ≢ NoMemory
             → spec.next spec.assigned_of (to.To (e.Number number)) self.old ≡ Err fault) }
     {
         match self.take() {
-            None => Ok(Assigned::To(Expression::Number(number))),
+            None => Ok(UpdateSource::To(Expression::Number(number))),
             Some(given) => given.assigned(),
         }
     }

@@ -87,8 +87,9 @@ impl Prepared {
     /// parameter whose value may not stand in its place, which is `NullNotAllowed`, `NumberOutOfRange` or
     /// `TextNotPlain`. `NoMemory` where memory runs out before. Nothing has changed then.
     pub fn fill(&self, alloc: Global, values: &[Value]) -> Result<Event, FillFault>
-        ensures made { IfOk result (λ event. spec.filled self.now values.now ≡ Ok event) }
-        ensures refused { IfErr result (λ fault. fault ≢ NoMemory → spec.filled self.now values.now ≡ Err fault) }
+        ensures made { IfOk result (λ event. spec.event_with_values self.now values.now ≡ Ok event) }
+        ensures refused { IfErr result (λ fault.
+            fault ≢ NoMemory → spec.event_with_values self.now values.now ≡ Err fault) }
     {
         let wanted = self.parameter_count();
         if values.len() != wanted {

@@ -11,7 +11,7 @@ use crate::copies::{copy_columns, copy_which, drop_and_fail, put_behind};
 use crate::faults::FillFault;
 use sqlite_items::{Boxed, Items};
 use std::alloc::Global;
-use syntax::{Assigned, Assignment, Condition, Event, Expression, Insert, Statement};
+use syntax::{Assignment, Condition, Event, Expression, Insert, Statement, UpdateSource};
 use value::{Text, Value};
 
 /// A value of an INSERT.
@@ -67,18 +67,18 @@ fn fill_insert(
 /// What an UPDATE gives to a column. A parameter that is all of it may be NULL.
 fn fill_assigned(
     alloc: Global,
-    assigned: &Assigned,
+    assigned: &UpdateSource,
     constants: &mut Constants,
-) -> Result<Assigned, FillFault>
+) -> Result<UpdateSource, FillFault>
     ensures made { IfOk result (λ made. spec.filled_assigned assigned.now constants.old ≡ Ok (made, constants.new)) }
     ensures refused { IfErr result (λ fault. fault ≢ NoMemory
         → spec.filled_assigned assigned.now constants.old ≡ Err fault) }
 {
     match assigned {
-        Assigned::Null => Ok(Assigned::Null),
-        Assigned::To(Expression::Number(number)) => constants.assigned(*number),
-        Assigned::To(expression) => {
-            Ok(Assigned::To(fill_expression(alloc, expression, constants)?))
+        UpdateSource::Null => Ok(UpdateSource::Null),
+        UpdateSource::To(Expression::Number(number)) => constants.assigned(*number),
+        UpdateSource::To(expression) => {
+            Ok(UpdateSource::To(fill_expression(alloc, expression, constants)?))
         }
     }
 }
@@ -127,8 +127,9 @@ fn fill_where(
     keeps: &Option<Boxed<Condition>>,
     constants: &mut Constants,
 ) -> Result<Option<Boxed<Condition>>, FillFault>
-    ensures made { IfOk result (λ made. spec.filled_where keeps.now constants.old ≡ Ok (made, constants.new)) }
-    ensures refused { IfErr result (λ fault. fault ≢ NoMemory → spec.filled_where keeps.now constants.old ≡ Err fault) }
+    ensures made { IfOk result (λ made. spec.filled_filter keeps.now constants.old ≡ Ok (made, constants.new)) }
+    ensures refused { IfErr result (λ fault.
+        fault ≢ NoMemory → spec.filled_filter keeps.now constants.old ≡ Err fault) }
 {
     match keeps {
         None => Ok(None),

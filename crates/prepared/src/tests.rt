@@ -9,8 +9,8 @@ use std::alloc::{AllocError, Global};
 use std::process::Abort;
 use std::test::Fail;
 use syntax::{
-    Assigned, Assignment, ColumnName, Condition, Event, Expression, Insert, Query, SelectList,
-    Statement, Which,
+    Assignment, ColumnName, Condition, Event, Expression, Insert, Query, SelectList, Statement,
+    UpdateSource, Which,
 };
 use value::{Text, Truth, Value};
 
@@ -179,8 +179,8 @@ fn show_insert(out: &mut String, insert: &Insert) -> Result<(), AllocError> {
 fn show_assignment(out: &mut String, assignment: &Assignment) -> Result<(), AllocError> {
     show_name(out, &assignment.column)?;
     match &assignment.value {
-        Assigned::Null => out.push_str(" to NULL"),
-        Assigned::To(expression) => show_expression(out, expression),
+        UpdateSource::Null => out.push_str(" to NULL"),
+        UpdateSource::To(expression) => show_expression(out, expression),
     }
 }
 

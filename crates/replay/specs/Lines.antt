@@ -1,12 +1,12 @@
 -- The lines that a script prints.
 use Rattle.std.specs.Prelude.{ℕ, List, [], ◌∷◌, ◌++◌, Option, Some, None}
 use Rattle.syntax.specs.declared.statements.Step.{Step}
-use Rattle.answer.specs.declared.answers.Answer.{Answer}
+use Rattle.alone.specs.declared.answers.Answer.{Answer}
 use Rattle.commit.specs.Transactions.{OpenTransaction}
 use Rattle.commit.specs.declared.seats.Seat.{Seat}
 use Rattle.commit.specs.Events.{EngineState}
 use Rattle.report.specs.Report.{left_open_line}
-use Rattle.replay.specs.Reports.{closing, lines}
+use Rattle.replay.specs.Reports.{closing_part_of, lines}
 
 -- the line of a session whose transaction is open in the end
 abbrev pub left_line : List ℕ → Option OpenTransaction → List ℕ
@@ -20,7 +20,7 @@ left_lines (seat ∷ seats) = left_line seat.session seat.txn ++ left_lines seat
 
 -- what stands behind the answers
 abbrev pub ending : EngineState → List ℕ
-ending left = left_lines left.seats ++ closing left.core
+ending left = left_lines left.seats ++ closing_part_of left.core
 
 -- the whole report: what the steps were answered, and what they leave
 abbrev pub report : List Step → List Answer → EngineState → List ℕ

@@ -2,8 +2,8 @@
 use Rattle.std.specs.Prelude.{◌≡◌, ℕ, List, Option}
 use Rattle.std.specs.Io.KnownBytes.{Appends}
 use Rattle.syntax.specs.declared.statements.Step.{Step}
-use Rattle.delta.specs.Views.{Shown}
-use Rattle.answer.specs.declared.answers.Answer.{Answer}
+use Rattle.delta.specs.Views.{ViewState}
+use Rattle.alone.specs.declared.answers.Answer.{Answer}
 use Rattle.commit.specs.Alone.{IsSound}
 use Rattle.commit.specs.Cores.{IsSerializable}
 use Rattle.commit.specs.Events.{EngineState}
@@ -15,7 +15,7 @@ use Rattle.replay.specs.Writing.{PrintsBeginning}
 
 -- the engine before the first event of the script
 pub record IsBeginning (defs script : List ℕ) (limit : ℕ) (engine : EngineState) (steps : List Step) : Type 0 where
-  pub shown : Shown
+  pub shown : ViewState
   pub ready : AreReady defs script shown steps
   pub sound : IsSound shown.declared shown.state
   pub is : engine ≡ beginning limit shown steps
@@ -24,7 +24,7 @@ pub record IsBeginning (defs script : List ℕ) (limit : ℕ) (engine : EngineSt
 -- and of what they leave. The commits that it tells of are serializable, in the order that it names, and each committed
 -- transaction was told what it answers alone.
 pub record IsReport (defs script : List ℕ) (limit : ℕ) (bytes : List ℕ) : Type 0 where
-  pub shown : Shown
+  pub shown : ViewState
   pub steps : List Step
   pub answers : List Answer
   pub ready : AreReady defs script shown steps
@@ -41,7 +41,7 @@ pub record WritesReport (defs script : List ℕ) (limit : ℕ) (old new : Option
 
 -- the writer gained the lines of some answers to the first events of the script, each after those before it
 pub record WritesBeginning (defs script : List ℕ) (limit : ℕ) (old new : Option (List ℕ)) : Type 0 where
-  pub shown : Shown
+  pub shown : ViewState
   pub steps : List Step
   pub ready : AreReady defs script shown steps
   pub prints : PrintsBeginning (beginning limit shown steps) steps old new

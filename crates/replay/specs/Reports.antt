@@ -5,8 +5,8 @@ use Rattle.assertion.specs.declared.assertions.Assertion.{Assertion}
 use Rattle.assertion.specs.Declarations.{layouts_in}
 use Rattle.assertion.specs.Meaning.{verdict_of}
 use Rattle.syntax.specs.declared.statements.Step.{Step}
-use Rattle.answer.specs.declared.answers.Answer.{Answer}
-use Rattle.delta.specs.Views.{Shown}
+use Rattle.alone.specs.declared.answers.Answer.{Answer}
+use Rattle.delta.specs.Views.{ViewState}
 use Rattle.commit.specs.Cores.{CoreState, newest_tables, order_of}
 use Rattle.report.specs.Report.{answer_line}
 use Rattle.report.specs.Closing.{closing_part}
@@ -18,11 +18,11 @@ lines (step ∷ rest) [] = []
 lines (step ∷ rest) (answer ∷ more) = answer_line step answer ++ lines rest more
 
 -- the truth of each assertion on some tables
-abbrev pub truths : Shown → List Truth
+abbrev pub truths : ViewState → List Truth
 truths shown =
     map (λ (a : Assertion). verdict_of (layouts_in shown.declared) a.form shown.state) shown.declared.assertions
 
 -- the closing part, of the commits and of what they lead to
-abbrev pub closing : CoreState → List ℕ
-closing core =
+abbrev pub closing_part_of : CoreState → List ℕ
+closing_part_of core =
     closing_part core.records (order_of core) core.refused core.declared.assertions (truths (newest_tables core))

@@ -8,11 +8,11 @@ use Rattle.parse.specs.Answer.{Fits}
 use Rattle.syntax.specs.declared.definitions.Definition.{Definition}
 use Rattle.syntax.specs.declared.statements.Step.{Step}
 use Rattle.syntax.specs.SchemaGrammar.{IsSchema, IsScript}
-use Rattle.parse.specs.Told.{Refused, most_open}
-use Rattle.delta.specs.Views.{Shown}
+use Rattle.parse.specs.Told.{IsRefusalOf, most_open}
+use Rattle.delta.specs.Views.{ViewState}
 use Rattle.commit.specs.Written.{AreWritten}
-use Rattle.commit.specs.Admission.{admitted}
-use Rattle.commit.specs.Runs.{all_seated}
+use Rattle.commit.specs.Admission.{admission_of}
+use Rattle.commit.specs.Runs.{seats_with_all}
 use Rattle.replay.specs.declared.faults.ProgramFault.{ProgramFault}
 use Rattle.replay.specs.declared.faults.ProgramFault.TheVariants.{Defs, Script, Stopped, Output, NoThread}
 
@@ -23,7 +23,7 @@ pub record IsRead {A : Type 0} (L : Language A) (text : List ℕ) (tree : A) : T
 
 -- a text has none, for the reason that the refusal gives
 abbrev pub IsUnread : {A : Type 0} → Language A → List ℕ → Refusal → Type 0
-IsUnread L text refusal = Refused L most_open (lexemes text) (length text) refusal
+IsUnread L text refusal = IsRefusalOf L most_open (lexemes text) (length text) refusal
 
 -- both texts are read
 pub record AreRead (defs script : List ℕ) (definitions : List Definition) (steps : List Step) : Type 0 where
@@ -31,10 +31,10 @@ pub record AreRead (defs script : List ℕ) (definitions : List Definition) (ste
   pub script_read : IsRead IsScript script steps
 
 -- both texts are read, and the definitions are admitted; each assertion means what they write
-pub record AreAdmitted (defs script : List ℕ) (shown : Shown) (steps : List Step) : Type 0 where
+pub record AreAdmitted (defs script : List ℕ) (shown : ViewState) (steps : List Step) : Type 0 where
   pub definitions : List Definition
   pub read : AreRead defs script definitions steps
-  pub admits : admitted definitions ≡ Ok shown
+  pub admits : admission_of definitions ≡ Ok shown
   pub written : AreWritten definitions shown.declared
 
 -- how many sessions a script may have, and how many are too many
@@ -43,14 +43,14 @@ most_sessions = 256
 
 -- a script has no more sessions than it may have
 abbrev pub HasFewSessions : List Step → Type 0
-HasFewSessions steps = length (all_seated [] steps) ≤ most_sessions
+HasFewSessions steps = length (seats_with_all [] steps) ≤ most_sessions
 
 -- a script has more sessions than it may have
 abbrev pub HasManySessions : List Step → Type 0
-HasManySessions steps = most_sessions < length (all_seated [] steps)
+HasManySessions steps = most_sessions < length (seats_with_all [] steps)
 
 -- both texts are read, the definitions are admitted, and the script has few sessions
-pub record AreReady (defs script : List ℕ) (shown : Shown) (steps : List Step) : Type 0 where
+pub record AreReady (defs script : List ℕ) (shown : ViewState) (steps : List Step) : Type 0 where
   pub admitted : AreAdmitted defs script shown steps
   pub few : HasFewSessions steps
 
@@ -59,7 +59,7 @@ pub record AreRefused (defs script : List ℕ) (refusal : Refusal) : Type 0 wher
   pub definitions : List Definition
   pub steps : List Step
   pub read : AreRead defs script definitions steps
-  pub refused : admitted definitions ≡ Err refusal
+  pub refused : admission_of definitions ≡ Err refusal
 
 -- the definitions are read, and the script is no text of its grammar
 pub record IsNoScript (defs script : List ℕ) (refusal : Refusal) : Type 0 where
@@ -69,7 +69,7 @@ pub record IsNoScript (defs script : List ℕ) (refusal : Refusal) : Type 0 wher
 
 -- the definitions are admitted, and the script has too many sessions
 pub record HasTooManySessions (defs script : List ℕ) (refusal : Refusal) : Type 0 where
-  pub shown : Shown
+  pub shown : ViewState
   pub steps : List Step
   pub taken : AreAdmitted defs script shown steps
   pub many : HasManySessions steps
@@ -77,7 +77,7 @@ pub record HasTooManySessions (defs script : List ℕ) (refusal : Refusal) : Typ
 
 -- the script is run
 pub record IsRun (defs script : List ℕ) : Type 0 where
-  pub shown : Shown
+  pub shown : ViewState
   pub steps : List Step
   pub ready : AreReady defs script shown steps
 

@@ -2,7 +2,7 @@
 use Rattle.std.specs.Prelude.{◌≡◌, ◌++◌, ℕ, List, Option}
 use Rattle.std.specs.Io.KnownBytes.{Appends}
 use Rattle.syntax.specs.declared.statements.Step.{Step}
-use Rattle.answer.specs.declared.answers.Answer.{Answer}
+use Rattle.alone.specs.declared.answers.Answer.{Answer}
 use Rattle.commit.specs.Events.{EngineState, IsAnswered, after}
 use Rattle.commit.specs.Runs.{AreAnswers, led_to}
 use Rattle.report.specs.Report.{answer_line}

@@ -1,7 +1,7 @@
 //! The closing part.
 
 ghost use Rattle.std.specs.Prelude.{◌≡◌, ◌++◌, IfOk, OnErr, OnOk};
-ghost use Rattle.replay.specs.Reports.{closing, truths};
+ghost use Rattle.replay.specs.Reports.{closing_part_of, truths};
 
 use commit::Core;
 use delta::View;
@@ -15,7 +15,7 @@ use value::Truth;
 ///
 /// `AllocError` where no memory is left, and then the report is as it was.
 pub fn add_closing_part(alloc: Global, core: &Core, lines: &mut Report) -> Result<(), AllocError>
-    ensures closed { OnOk result (lines.new ≡ lines.old ++ closing core.now) }
+    ensures closed { OnOk result (lines.new ≡ lines.old ++ closing_part_of core.now) }
     ensures same { OnErr result (lines.new ≡ lines.old) }
 {
     let newest = core.newest();

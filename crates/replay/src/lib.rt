@@ -46,7 +46,7 @@ ghost use Rattle.replay.specs.declared.faults.ProgramFault.TheVariants.{Output, 
 ghost use Rattle.replay.specs.Replay.{IsBeginning, WritesBeginning, WritesReport};
 ghost use Rattle.replay.specs.Writing.{PrintsAnswer, PrintsAnswers, PrintsBeginning, PrintsRun};
 
-use answer::Answer;
+use alone::Answer;
 pub use closing::add_closing_part;
 use commit::{Engine, Seat, admit, answers_lead_to_a_serial_order, has_few_sessions};
 use delta::View;

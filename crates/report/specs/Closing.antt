@@ -3,8 +3,8 @@ use Rattle.std.specs.Prelude.{ℕ, true, List, [], ◌∷◌, ◌++◌, length, 
 use Rattle.value.specs.declared.truths.Truth.{Truth}
 use Rattle.value.specs.Truths.{name_of}
 use Rattle.assertion.specs.declared.assertions.Assertion.{Assertion}
-use Rattle.serial.specs.declared.records.Record.{Record}
-use Rattle.answer.specs.declared.answers.RefusedCommit.{RefusedCommit}
+use Rattle.alone.specs.declared.records.Record.{Record}
+use Rattle.alone.specs.declared.answers.RefusedCommit.{RefusedCommit}
 use Rattle.report.specs.Report.{fault_text}
 
 -- a word and how many lines follow it
@@ -28,13 +28,13 @@ abbrev pub commits_part : List Record → List ℕ
 commits_part commits = count_line (codes "COMMITS ") (length commits) ++ commit_lines commits
 
 -- numbers, each behind a space
-abbrev pub spaced : List ℕ → List ℕ
-spaced [] = []
-spaced (number ∷ numbers) = (codes " " ++ decimal number) ++ spaced numbers
+abbrev pub numbers_behind_spaces : List ℕ → List ℕ
+numbers_behind_spaces [] = []
+numbers_behind_spaces (number ∷ numbers) = (codes " " ++ decimal number) ++ numbers_behind_spaces numbers
 
 -- the serial order, by the numbers of the commits
 abbrev pub serial_line : List ℕ → List ℕ
-serial_line order = codes "SERIAL" ++ spaced order ++ codes "\n"
+serial_line order = codes "SERIAL" ++ numbers_behind_spaces order ++ codes "\n"
 
 -- a refused COMMIT: its session, and why
 abbrev pub refused_line : RefusedCommit → List ℕ

@@ -13,10 +13,10 @@ use Rattle.value.specs.declared.refusals.Refusal.{Refusal}
 use Rattle.value.specs.declared.refusals.Refusal.TheVariants as refusal
 use Rattle.value.specs.Truths.{name_of}
 use Rattle.table.specs.Rows.{RowValues}
-use Rattle.answer.specs.declared.answers.Reply.{Reply}
-use Rattle.answer.specs.declared.answers.Reply.TheVariants.{Inserted, Updated, Deleted, Rows, ModesSet, Verdict}
-use Rattle.answer.specs.declared.answers.Answer.{Answer}
-use Rattle.answer.specs.declared.answers.Answer.TheVariants.{Begun, Replied, Committed, RolledBack, Refused}
+use Rattle.alone.specs.declared.answers.Reply.{Reply}
+use Rattle.alone.specs.declared.answers.Reply.TheVariants.{Inserted, Updated, Deleted, Rows, ModesSet, Verdict}
+use Rattle.alone.specs.declared.answers.Answer.{Answer}
+use Rattle.alone.specs.declared.answers.Answer.TheVariants.{Begun, Replied, Committed, RolledBack, Refused}
 use Rattle.syntax.specs.declared.statements.Statement.TheVariants as statement
 use Rattle.syntax.specs.declared.statements.Event.{Event}
 use Rattle.syntax.specs.declared.statements.Event.TheVariants as event
@@ -27,15 +27,15 @@ abbrev pub quoted_byte : ℕ → List ℕ
 quoted_byte b = if b == 39 then b ∷ b ∷ [] else b ∷ []
 
 -- a text with each quote in it twice
-abbrev pub doubled : List ℕ → List ℕ
-doubled [] = []
-doubled (b ∷ bytes) = quoted_byte b ++ doubled bytes
+abbrev pub with_doubled_quotes : List ℕ → List ℕ
+with_doubled_quotes [] = []
+with_doubled_quotes (b ∷ bytes) = quoted_byte b ++ with_doubled_quotes bytes
 
 -- a value as a literal of the language
 abbrev pub value_text : Value → List ℕ
 value_text Null = codes "NULL"
 value_text (Int n) = signed_decimal n
-value_text (Text bytes) = codes "'" ++ doubled bytes ++ codes "'"
+value_text (Text bytes) = codes "'" ++ with_doubled_quotes bytes ++ codes "'"
 
 -- a root: the value of a row's key or of a group, or ALL
 abbrev pub root_text : Root → List ℕ

@@ -3,13 +3,12 @@
 ghost use Rattle.std.specs.Prelude.{◌≡◌, ◌++◌, OnOk};
 ghost use Rattle.report.specs.Fronts.{KeepsFront};
 ghost use Rattle.report.specs.Closing.{closing_part, commit_line, commit_lines, commits_part, count_line, refused_line};
-ghost use Rattle.report.specs.Closing.{refused_lines, refused_part, serial_line, spaced, verdict_line, verdict_lines};
+ghost use Rattle.report.specs.Closing.{refused_lines, refused_part, serial_line, numbers_behind_spaces, verdict_line, verdict_lines};
 ghost use Rattle.report.specs.Closing.{verdicts_part};
 
 use crate::lines::Lines;
-use answer::RefusedCommit;
+use alone::{Record, RefusedCommit};
 use assertion::Assertion;
-use serial::Record;
 use std::alloc::AllocError;
 use value::{Text, Truth};
 
@@ -76,7 +75,7 @@ impl Lines {
 
     /// Numbers, each behind a space.
     fn add_spaced(&mut self, numbers: &[u64]) -> Result<(), AllocError>
-        ensures grown { OnOk result (self.new ≡ self.old ++ spaced numbers.now) }
+        ensures grown { OnOk result (self.new ≡ self.old ++ numbers_behind_spaces numbers.now) }
         ensures front { KeepsFront self.old self.new }
     {
         for number in numbers {

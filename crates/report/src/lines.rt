@@ -2,12 +2,12 @@
 
 ghost use Rattle.std.specs.Prelude.{◌≡◌, ◌++◌, [], OnOk, codes, decimal, length, take};
 ghost use Rattle.report.specs.Fronts.{KeepsFront};
-ghost use Rattle.report.specs.Report.{answer_line, answer_text, asked_name, doubled, excess_text};
+ghost use Rattle.report.specs.Report.{answer_line, answer_text, asked_name, with_doubled_quotes, excess_text};
 ghost use Rattle.report.specs.Report.{fault_text, further_values, left_open_line, party_text, quoted_byte};
 ghost use Rattle.report.specs.Report.{refusal_line, reply_text, root_text, row_lines, row_text, value_text};
 ghost use Rattle.report.specs.Report.{violated_text};
 
-use answer::{Answer, Reply};
+use alone::{Answer, Reply};
 use itoa::Buffer;
 use std::alloc::{AllocError, Global};
 use std::marker::Model;
@@ -364,7 +364,7 @@ impl Lines {
 
     /// The text with each quote in it written twice.
     fn add_quoted(&mut self, text: &Text) -> Result<(), AllocError>
-        ensures grown { OnOk result (self.new ≡ self.old ++ doubled text.now) }
+        ensures grown { OnOk result (self.new ≡ self.old ++ with_doubled_quotes text.now) }
         ensures front { KeepsFront self.old self.new }
     {
         for byte in text.as_bytes() {

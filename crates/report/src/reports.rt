@@ -7,9 +7,8 @@ ghost use Rattle.report.specs.Fronts.{KeepsFront};
 ghost use Rattle.report.specs.Report.{answer_line, left_open_line, refusal_line};
 
 use crate::lines::Lines;
-use answer::{Answer, RefusedCommit};
+use alone::{Answer, Record, RefusedCommit};
 use assertion::Assertion;
-use serial::Record;
 use std::alloc::{AllocError, Global};
 use std::marker::Model;
 use syntax::Step;

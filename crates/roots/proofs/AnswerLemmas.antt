@@ -14,7 +14,7 @@ use Rattle.assertion.specs.declared.forms.Form.{Form}
 use Rattle.assertion.specs.declared.forms.Form.TheVariants.{ByRow, ByGroup, Single}
 use Rattle.groups.specs.Totals.{Entries}
 use Rattle.roots.specs.Answers.{kinds_in}
-use Rattle.roots.specs.Bad.{answers, given}
+use Rattle.roots.specs.Bad.{answers, query_value}
 use Rattle.roots.specs.declared.grouped.Grouping.{Grouping}
 use Rattle.roots.specs.Summaries.{summed_up, group_query, queries_of, summaries_of}
 use Rattle.roots.proofs.MaintainedLemmas.{totals-at}
@@ -66,10 +66,10 @@ module _ (layouts : List Layout) (form : Form) (i : ℕ) (s : Query Grouping) (h
       ∙ sym (ap kinds_in (take_more queries i s h) ∙ map-append (λ (q : Query Grouping). kind_of_aggregate q.aggregate) (take i queries) (get_or queries i s ∷ []))
 
   -- the values of the slots, with one more
-  pub values-more : (state : State) (row : RowValues) (v : SlotValue) (slots more : SlotValues) → value_of v ≡ given state row s
+  pub values-more : (state : State) (row : RowValues) (v : SlotValue) (slots more : SlotValues) → value_of v ≡ query_value state row s
       → more ≡ slots ++ v ∷ [] → values_of slots ≡ answers state (take i (queries_of layouts form)) row → values_of more ≡ answers state (take (i + 1) (queries_of layouts form)) row
   values-more state row v slots more e g so_far =
       let queries : List (Query Grouping) = queries_of layouts form in
       ap values_of g ∙ map-append value_of slots (v ∷ []) ∙ ap (λ vs. vs ++ value_of v ∷ []) so_far
-      ∙ ap (λ x. answers state (take i queries) row ++ x ∷ []) (e ∙ ap (given state row) (slot-query layouts form i s h is))
-      ∙ sym (ap (λ qs. answers state qs row) (take_more queries i s h) ∙ map-append (given state row) (take i queries) (get_or queries i s ∷ []))
+      ∙ ap (λ x. answers state (take i queries) row ++ x ∷ []) (e ∙ ap (query_value state row) (slot-query layouts form i s h is))
+      ∙ sym (ap (λ qs. answers state qs row) (take_more queries i s h) ∙ map-append (query_value state row) (take i queries) (get_or queries i s ∷ []))

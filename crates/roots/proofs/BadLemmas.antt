@@ -32,11 +32,11 @@ use Rattle.assertion.proofs.KeptTruth.{links-there}
 use Rattle.assertion.proofs.ListLemmas.{at-key, filter-filter}
 use Rattle.groups.specs.Answers.{value_for}
 use Rattle.groups.specs.Members.{is_placed}
-use Rattle.roots.specs.Bad.{IsRowOf, answers, given, row_passes, group_passes, whole_truth}
+use Rattle.roots.specs.Bad.{IsRowOf, answers, query_value, row_passes, group_passes, whole_truth}
 use Rattle.roots.specs.declared.grouped.Around.{Around}
 use Rattle.roots.specs.declared.grouped.Grouping.{Grouping}
 use Rattle.roots.specs.declared.grouped.Grouping.TheVariants.{Linked, ByKey, PerRow}
-use Rattle.roots.specs.Summaries.{place, regrouped, rows_beside_one, group_rows, linked_query, whole_query, group_query, summed_up, members, queries_of, summaries_of}
+use Rattle.roots.specs.Summaries.{place, query_with_grouping, rows_beside_one, group_rows, linked_query, whole_query, group_query, summed_up, members, queries_of, summaries_of}
 use Rattle.roots.proofs.AnswerLemmas.{summed-some}
 
 linked_by : (k t : Bool) (v w : Value) → is_placed v (if k then (if t then Some w else None) else None) ≡ (t && eq_by_cmp value_cmp v w) && k
@@ -51,7 +51,7 @@ IsStanding table key state row = row_at key (value_in key row) (rows_of table st
 
 -- a linked query gives what its meaning says: where its filter has no slots, the totals' rows are the linked ones; else
 -- the rows are those beside the row
-linked_given : (layouts : List Layout) (table : ℕ) (state : State) (row : RowValues) → IsStanding table (key_of table layouts) state row → (q : Query Link) → given state row (linked_query layouts table q) ≡ linked_answer state row q
+linked_given : (layouts : List Layout) (table : ℕ) (state : State) (row : RowValues) → IsStanding table (key_of table layouts) state row → (q : Query Link) → query_value state row (linked_query layouts table q) ≡ linked_answer state row q
 linked_given layouts table state row stands q = case (has_slots q.filter) refl
   where
     v : Value
@@ -73,13 +73,13 @@ linked_given layouts table state row stands q = case (has_slots q.filter) refl
     beside : (o : Option RowValues) → o ≡ Some row → aggregate q.aggregate (rows_beside_one q.grouping q.filter (rows_of q.table state) o) ≡ linked_answer state row q
     beside o e = rw e refl
 
-    joint : (b : Bool) → (q.grouping.inner == key_of q.table layouts) ≡ b → given state row (regrouped (if q.grouping.inner == key_of q.table layouts then ByKey q.grouping else PerRow around) q) ≡ linked_answer state row q
+    joint : (b : Bool) → (q.grouping.inner == key_of q.table layouts) ≡ b → query_value state row (query_with_grouping (if q.grouping.inner == key_of q.table layouts then ByKey q.grouping else PerRow around) q) ≡ linked_answer state row q
     joint true e = rw e refl
     joint false e = rw e (beside (row_at (key_of table layouts) (value_in (key_of table layouts) row) (rows_of table state)) stands)
 
-    case : (b : Bool) → has_slots q.filter ≡ b → given state row (linked_query layouts table q) ≡ linked_answer state row q
+    case : (b : Bool) → has_slots q.filter ≡ b → query_value state row (linked_query layouts table q) ≡ linked_answer state row q
     case true e = rw e (joint (q.grouping.inner == key_of q.table layouts) refl)
-    case false e = rw e (ap (aggregate q.aggregate) (filter_agree (λ linked. is_placed v (place (regrouped (Linked q.grouping) q) linked)) (λ linked. links q.grouping row linked && keeps linked row q.filter) (same e) (rows_of q.table state)))
+    case false e = rw e (ap (aggregate q.aggregate) (filter_agree (λ linked. is_placed v (place (query_with_grouping (Linked q.grouping) q) linked)) (λ linked. links q.grouping row linked && keeps linked row q.filter) (same e) (rows_of q.table state)))
 
 linked_are : (layouts : List Layout) (table : ℕ) (state : State) (row : RowValues) → IsStanding table (key_of table layouts) state row → (qs : List (Query Link)) → answers state (map (linked_query layouts table) qs) row ≡ map (linked_answer state row) qs
 linked_are layouts table state row stands [] = refl

@@ -20,7 +20,7 @@ use Rattle.assertion.specs.declared.queries.Link.{Link}
 use Rattle.assertion.specs.declared.queries.Whole.{Whole as AnyWhole}
 use Rattle.assertion.specs.declared.forms.Form.{Form}
 use Rattle.assertion.specs.declared.forms.Form.TheVariants.{ByRow, ByGroup, Single}
-use Rattle.assertion.specs.Candidates.{candidates, query_candidates, linked_roots, linked_values, group_candidates, touched, is_named}
+use Rattle.assertion.specs.Candidates.{candidates, query_candidates, linked_roots, linked_values, group_candidates, rows_of_change, is_named}
 use Rattle.assertion.specs.Meaning.{State, key_of, rows_of, verdict_of}
 use Rattle.assertion.specs.Roots.{AreBad, IsOrdered, IsChangeOf, state_after}
 use Rattle.assertion.proofs.KeptTruth.{kept_truth, plain-same, rows-same, unequal_of}
@@ -42,7 +42,7 @@ linked-none : (key : ℕ) (rows : List RowValues) (change : Change) (qs : List (
 linked-none key rows change [] h = refl
 linked-none key rows change (q ∷ qs) h =
     let parts : ((q.table == change.table) ≡ false) × (is_named change.table qs ≡ false) = or_parts (q.table == change.table) (is_named change.table qs) h in
-    ap (λ b. (if b then flat_map (linked_roots key q.grouping rows) (linked_values q.grouping (touched change)) else []) ++ flat_map (query_candidates key rows change) qs) parts.0
+    ap (λ b. (if b then flat_map (linked_roots key q.grouping rows) (linked_values q.grouping (rows_of_change change)) else []) ++ flat_map (query_candidates key rows change) qs) parts.0
     ∙ linked-none key rows change qs parts.1
 
 pub no-candidates : (layouts : List Layout) (after : State) (change : Change) (form : Form) → is_over change.table form ≡ false → candidates layouts after change form ≡ []
@@ -50,7 +50,7 @@ no-candidates layouts after change (ByRow table c queries) h =
     let parts : ((table == change.table) ≡ false) × (is_named change.table queries ≡ false) = or_parts (table == change.table) (is_named change.table queries) h in
     ap (λ b. (if b then Of change.key ∷ [] else []) ++ flat_map (query_candidates (key_of table layouts) (rows_of table after) change) queries) parts.0
     ∙ linked-none (key_of table layouts) (rows_of table after) change queries parts.1
-no-candidates layouts after change (ByGroup table restriction group having aggregates) h = ap (λ b. if b then group_candidates group (touched change) else []) h
+no-candidates layouts after change (ByGroup table restriction group having aggregates) h = ap (λ b. if b then group_candidates group (rows_of_change change) else []) h
 no-candidates layouts after change (Single c queries) h = rw h refl
 
 -- no summary is of the table, nor are its rows around

@@ -18,7 +18,7 @@ use Rattle.table.specs.Bounds.{IsSmallRow}
 use Rattle.table.specs.Slots.{magnitude}
 use Rattle.assertion.specs.declared.forms.Form.{Form}
 use Rattle.assertion.specs.declared.forms.Form.TheVariants.{ByRow, ByGroup, Single}
-use Rattle.assertion.specs.Candidates.{candidates, group_candidates, touched}
+use Rattle.assertion.specs.Candidates.{candidates, group_candidates, rows_of_change}
 use Rattle.assertion.specs.Meaning.{State}
 use Rattle.assertion.specs.Roots.{is_bad_root, is_among, AreBad, IsOrdered, IsChangeOf, state_after}
 use Rattle.assertion.proofs.KeptTruth.{kept_truth}
@@ -135,8 +135,8 @@ pub candidates_small : (layouts : List Layout) (after : State) (change : Change)
 candidates_small layouts after change (ByRow table c queries) old new = λ k d h. tt
 candidates_small layouts after change (Single c queries) old new = λ k d h. tt
 candidates_small layouts after change (ByGroup table restriction group having aggregates) old new =
-    elim (table == change.table) as (λ b. All (IsSmallRoot (ByGroup table restriction group having aggregates)) (if b then group_candidates group (touched change) else [])) [
-      | true ↦ groups_small group (ByGroup table restriction group having aggregates) (touched change) (λ row h. column_small row group h) (touched_small change.old change.new old new)
+    elim (table == change.table) as (λ b. All (IsSmallRoot (ByGroup table restriction group having aggregates)) (if b then group_candidates group (rows_of_change change) else [])) [
+      | true ↦ groups_small group (ByGroup table restriction group having aggregates) (rows_of_change change) (λ row h. column_small row group h) (touched_small change.old change.new old new)
       | false ↦ All-nil (IsSmallRoot (ByGroup table restriction group having aggregates))
     ]
 

@@ -6,7 +6,7 @@ use Rattle.value.specs.declared.comparisons.Comparison.TheVariants.{Equal}
 use Rattle.value.specs.declared.truths.Truth.TheVariants.{True}
 use Rattle.value.specs.Truths.{is_of}
 use Rattle.table.specs.Rows.{RowValues, value_in, row_at}
-use Rattle.table.specs.Values.{compared}
+use Rattle.table.specs.Values.{comparison_truth}
 use Rattle.table.specs.Eval.{keeps}
 use Rattle.table.specs.declared.conds.Cond.{Cond}
 use Rattle.assertion.specs.declared.queries.Query.{Query}
@@ -19,7 +19,7 @@ use Rattle.roots.specs.Summaries.{rows_beside, rows_beside_one}
 
 -- whether an equality of two values is true
 abbrev pub is_equal : Value → Value → Bool
-is_equal v w = is_of (compared Equal v w) True
+is_equal v w = is_of (comparison_truth Equal v w) True
 
 -- what a row, if there is one, has in a column; NULL if there is none
 abbrev pub value_in_one : ℕ → Option RowValues → Value

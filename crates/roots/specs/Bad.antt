@@ -34,26 +34,26 @@ IsRowOf layouts (Single condition queries) state root row = Unit {0}
 
 -- the group that a query is asked for by the row that its condition sees: what the row has in the column of the link;
 -- where that row is a group's value alone, the group; and where the rows around are the groups, its key
-abbrev pub asked : Grouping → RowValues → Value
-asked Whole row = Null
-asked (By column) row = value_in 0 row
-asked (Linked link) row = value_in link.outer row
-asked (ByKey link) row = Null
-asked (PerRow around) row = value_in around.key row
+abbrev pub group_for_row : Grouping → RowValues → Value
+group_for_row Whole row = Null
+group_for_row (By column) row = value_in 0 row
+group_for_row (Linked link) row = value_in link.outer row
+group_for_row (ByKey link) row = Null
+group_for_row (PerRow around) row = value_in around.key row
 
 -- what a query gives for the row that its condition sees
 abbrev pub given_by : Option Link → State → RowValues → Query Grouping → Value
 given_by (Some link) state row q =
     aggregate q.aggregate (rows_beside link q.filter (rows_of q.table state) row)
-given_by None state row q = query_answer state (asked q.grouping row) q
+given_by None state row q = query_answer state (group_for_row q.grouping row) q
 
 -- what a query gives for the row that its condition sees, by how its rows are grouped
-abbrev pub given : State → RowValues → Query Grouping → Value
-given state row q = given_by (key_link q.grouping) state row q
+abbrev pub query_value : State → RowValues → Query Grouping → Value
+query_value state row q = given_by (key_link q.grouping) state row q
 
 -- what each query of a condition gives for the row that the condition sees, slot by slot
 abbrev pub answers : State → List (Query Grouping) → RowValues → List Value
-answers state queries row = map (given state row) queries
+answers state queries row = map (query_value state row) queries
 
 -- whether a condition is true of a row, if there is one
 abbrev pub row_passes : State → List (Query Grouping) → Cond → Option RowValues → Bool

@@ -4,8 +4,8 @@ use Rattle.roots.specs.declared.grouped.Grouping.{Grouping}
 use Rattle.roots.specs.declared.grouped.Summary.{Summary}
 
 -- a summary whose filter is lent, as the query that it is of
-abbrev pub shown : Summary → Query Grouping
-shown summary =
+abbrev pub lent_query : Summary → Query Grouping
+lent_query summary =
     record {
       table = summary.table;
       filter = summary.filter.now;

@@ -81,8 +81,9 @@ abbrev pub members : State → Query Grouping → Members
 members state q = λ v. map (value_for q.aggregate) (group_rows state q v)
 
 -- a query with groups of this kind
-abbrev pub regrouped : {G : Type 0} → Grouping → Query G → Query Grouping
-regrouped grouping q = record { table = q.table; filter = q.filter; grouping = grouping; aggregate = q.aggregate }
+abbrev pub query_with_grouping : {G : Type 0} → Grouping → Query G → Query Grouping
+query_with_grouping grouping q =
+    record { table = q.table; filter = q.filter; grouping = grouping; aggregate = q.aggregate }
 
 -- how the rows of a subquery of a table's rows are grouped: by what its link compares; where its filter asks what the
 -- row around holds, by the rows around, and not at all where its link names one row by its key
@@ -95,11 +96,11 @@ linked_grouping layouts table q =
 
 -- a subquery of a table's rows, with its rows grouped so
 abbrev pub linked_query : List Layout → ℕ → Query Link → Query Grouping
-linked_query layouts table q = regrouped (linked_grouping layouts table q) q
+linked_query layouts table q = query_with_grouping (linked_grouping layouts table q) q
 
 -- a query of a single condition, all rows of which are one group
 abbrev pub whole_query : Query AnyWhole → Query Grouping
-whole_query q = regrouped Whole q
+whole_query q = query_with_grouping Whole q
 
 -- a set function of HAVING, as a query of which each group has its own total
 abbrev pub group_query : ℕ → Cond → ℕ → Aggregate → Query Grouping

@@ -9,9 +9,9 @@ ghost use Rattle.table.specs.Slots.{IsWithinKind, kind_of, kinds_of, value_of, v
 ghost use Rattle.assertion.specs.Bounded.{IsBounded, IsBoundedOver};
 ghost use Rattle.groups.specs.Totals.{Members, AreTotalsOf};
 ghost use Rattle.roots.specs.Answers.{kinds_in};
-ghost use Rattle.roots.specs.Bad.{answers as answers_of, asked, given};
+ghost use Rattle.roots.specs.Bad.{answers as answers_of, group_for_row, query_value};
 ghost use Rattle.roots.specs.Maintained.{AreMaintained, AreTotalsFor, IsSmallState};
-ghost use Rattle.roots.specs.Shown.{shown};
+ghost use Rattle.roots.specs.Shown.{lent_query};
 ghost use Rattle.roots.specs.Summaries.{queries_of};
 
 use crate::around::total_beside;
@@ -63,9 +63,10 @@ fn answer(
     requires bounded { IsBoundedOver [] summary.filter.now }
     requires small { IsSmallState tables.now }
     requires row_small { IsSmallRow row.now }
-    requires totals { AreTotalsFor tables.now (shown summary) totals.now }
+    requires totals { AreTotalsFor tables.now (lent_query summary) totals.now }
     ensures kind { IfOk result (λ answer. kind_of answer ≡ kind_of_aggregate summary.entry.aggregate) }
-    ensures value { IfOk result (λ answer. value_of answer ≡ given tables.now row.now (shown summary.entry)) }
+    ensures value { IfOk result (λ answer.
+        value_of answer ≡ query_value tables.now row.now (lent_query summary.entry)) }
     ensures within { IfOk result IsWithinKind }
 {
     match link_to_key(summary.grouping) {
@@ -84,7 +85,7 @@ fn answer(
 /// The group that a query is asked for by the row that its condition sees.
 fn asked_group<'a>(grouping: Grouping, row: &'a Row, null: &'a Value) -> &'a Value
     requires { null.now ≡ Null }
-    ensures { result.now ≡ asked grouping row.now }
+    ensures { result.now ≡ group_for_row grouping row.now }
 {
     match grouping {
         Grouping::Whole | Grouping::ByKey(_) => null,
@@ -96,7 +97,7 @@ fn asked_group<'a>(grouping: Grouping, row: &'a Row, null: &'a Value) -> &'a Val
 
 /// How many rows a group has.
 pub fn count_of(totals: &Totals, group: &Value) -> u64
-    ensures { (asked : Aggregate) (members : Members) → AreTotalsOf asked members totals.now
+    ensures { (group_for_row : Aggregate) (members : Members) → AreTotalsOf group_for_row members totals.now
         → result ≡ length (members group.now) }
 {
     match totals.get(group) {

@@ -19,7 +19,7 @@ ghost use Rattle.groups.specs.Members.{member_of};
 ghost use Rattle.groups.specs.Totals.{AreTotalsOf, AreWithin, IsTotalOf, IsWithin, Members};
 ghost use Rattle.roots.specs.Around.{IsTurn, around_members, is_equal as is_equal_of, kept_values, place_beside, value_in_one, values_beside};
 ghost use Rattle.roots.specs.Maintained.{AreTotalsFor, IsKeyed, IsSmallState, IsStepOf};
-ghost use Rattle.roots.specs.Shown.{shown};
+ghost use Rattle.roots.specs.Shown.{lent_query};
 ghost use Rattle.roots.specs.Summaries.{around_of, rows_beside};
 
 use crate::columns::{key_column, value_at, value_or};
@@ -44,8 +44,8 @@ pub fn totals_around(
     requires small { IsSmallState tables.now }
     requires in_order { IsOrdered schemas.now tables.now }
     requires around { around_of summary.grouping ≡ Some around }
-    requires keyed { IsKeyed schemas.now (shown summary) }
-    ensures { IfOk result (AreTotalsFor tables.now (shown summary.entry)) }
+    requires keyed { IsKeyed schemas.now (lent_query summary) }
+    ensures { IfOk result (AreTotalsFor tables.now (lent_query summary.entry)) }
 {
     match tables.get(around.table) {
         Some(outer) => totals_for_rows(alloc, schemas, tables, summary, around, outer),
@@ -66,7 +66,7 @@ fn totals_for_rows(
     requires small { IsSmallState tables.now }
     requires outer_small { All IsSmallRow outer.now }
     requires in_order { IsAscending value_cmp (value_in around.key) outer.now }
-    ensures { IfOk result (AreTotalsOf summary.entry.aggregate (around_members around (shown summary.entry)
+    ensures { IfOk result (AreTotalsOf summary.entry.aggregate (around_members around (lent_query summary.entry)
         outer.now (rows_of summary.entry.table tables.now))) }
 {
     let mut made = Totals::new(alloc);
@@ -91,7 +91,7 @@ fn with_row(
     requires row_small { IsSmallRow row.now }
     ensures { IfOk result (λ made. (before after : Members)
         → after (value_in around.key row.now)
-        ≡ values_beside around (shown summary.entry) (rows_of summary.entry.table tables.now) row.now
+        ≡ values_beside around (lent_query summary.entry) (rows_of summary.entry.table tables.now) row.now
         → ((v : values) → eq_by_cmp value_cmp v (value_in around.key row.now) ≡ false → after v ≡ before v)
         → AreTotalsOf summary.entry.aggregate before totals
         → AreTotalsOf summary.entry.aggregate after made) }
@@ -115,7 +115,7 @@ pub fn total_beside(
     requires small { IsSmallState tables.now }
     requires row_small { IsSmallRow row.now }
     ensures { IfOk result (IsTotalOf summary.entry.aggregate (map (value_for summary.entry.aggregate)
-        (rows_beside link (shown summary.entry).filter (rows_of summary.entry.table tables.now) row.now))) }
+        (rows_beside link (lent_query summary.entry).filter (rows_of summary.entry.table tables.now) row.now))) }
 {
     let slots = Slots::of_row(alloc, row)?;
     let linked = linked_rows(alloc, schemas, tables, summary.table, link, row)?;
@@ -175,7 +175,7 @@ fn total_of_kept(
     requires small { All IsSmallRow (map (λ row. row.now) rows.now) }
     requires short { length (map (λ row. row.now) rows.now) < 2 ^ 63 }
     ensures { IfOk result (IsTotalOf summary.entry.aggregate
-        (kept_values (shown summary.entry) (values_of slots.now) (map (λ row. row.now) rows.now))) }
+        (kept_values (lent_query summary.entry) (values_of slots.now) (map (λ row. row.now) rows.now))) }
 {
     let mut total = Total::new(alloc);
     for row in rows {
@@ -194,10 +194,10 @@ fn counted_if_kept(
     requires bounded { IsBoundedOver (kinds_of slots.now) summary.filter.now }
     requires small { IsSmallRow row.now }
     ensures { IfOk result (λ made. (rows : List RowValues)
-        → IsTotalOf summary.entry.aggregate (kept_values (shown summary.entry) (values_of slots.now) rows) total
-        → IsWithin (kept_values (shown summary.entry) (values_of slots.now) (rows ++ row.now ∷ []))
+        → IsTotalOf summary.entry.aggregate (kept_values (lent_query summary.entry) (values_of slots.now) rows) total
+        → IsWithin (kept_values (lent_query summary.entry) (values_of slots.now) (rows ++ row.now ∷ []))
         → IsTotalOf summary.entry.aggregate
-        (kept_values (shown summary.entry) (values_of slots.now) (rows ++ row.now ∷ [])) made) }
+        (kept_values (lent_query summary.entry) (values_of slots.now) (rows ++ row.now ∷ [])) made) }
 {
     if !keeps(summary.filter, row, slots) {
         return Ok(total);
@@ -221,9 +221,9 @@ pub fn around_after(
     requires bounded { IsBoundedOver [] summary.filter.now }
     requires step { IsStepOf schemas.now change.now before.now after.now }
     requires around { around_of summary.grouping ≡ Some around }
-    requires keyed { IsKeyed schemas.now (shown summary) }
-    requires totals { AreTotalsFor before.now (shown summary) totals.now }
-    ensures { IfOk result (AreTotalsFor after.now (shown summary.entry)) }
+    requires keyed { IsKeyed schemas.now (lent_query summary) }
+    requires totals { AreTotalsFor before.now (lent_query summary) totals.now }
+    ensures { IfOk result (AreTotalsFor after.now (lent_query summary.entry)) }
 {
     let same = totals.copy()?;
     let made = outer_after(alloc, schemas, before, after, summary, around, same, change)?;
@@ -250,9 +250,9 @@ fn outer_after(
     requires bounded { IsBoundedOver [] summary.filter.now }
     requires step { IsStepOf schemas.now change.now before.now _after.now }
     requires around { around_of summary.grouping ≡ Some around }
-    requires keyed { IsKeyed schemas.now (shown summary) }
-    requires totals { AreTotalsFor before.now (shown summary) totals }
-    ensures { IfOk result (AreTotalsOf summary.entry.aggregate (around_members around (shown summary.entry)
+    requires keyed { IsKeyed schemas.now (lent_query summary) }
+    requires totals { AreTotalsFor before.now (lent_query summary) totals }
+    ensures { IfOk result (AreTotalsOf summary.entry.aggregate (around_members around (lent_query summary.entry)
         (rows_of around.table _after.now) (rows_of summary.entry.table before.now))) }
 {
     if around.table != change.table {
@@ -280,11 +280,11 @@ fn linked_after(
     requires in_order { IsAscending value_cmp (value_in around.key) outer.now }
     ensures { IfOk result (λ made. (key : ℕ) (rows : List RowValues)
         → row_at key change.now.key rows ≡ change.now.old
-        → AreWithin (around_members around (shown summary.entry) outer.now rows)
-        → AreWithin (around_members around (shown summary.entry) outer.now
+        → AreWithin (around_members around (lent_query summary.entry) outer.now rows)
+        → AreWithin (around_members around (lent_query summary.entry) outer.now
         (put_row key change.now.key change.now.new rows))
-        → AreTotalsOf summary.entry.aggregate (around_members around (shown summary.entry) outer.now rows) totals
-        → AreTotalsOf summary.entry.aggregate (around_members around (shown summary.entry) outer.now
+        → AreTotalsOf summary.entry.aggregate (around_members around (lent_query summary.entry) outer.now rows) totals
+        → AreTotalsOf summary.entry.aggregate (around_members around (lent_query summary.entry) outer.now
         (put_row key change.now.key change.now.new rows)) made) }
 {
     let null = Value::Null;
@@ -327,7 +327,7 @@ fn linked_to(
     requires in_order { IsAscending value_cmp (value_in around.key) outer.now }
     ensures { IfOk result (λ made. (key : ℕ) (rows : List RowValues) (before after : Members)
         → row_at key change.now.key rows ≡ change.now.old
-        → IsTurn around (shown summary.entry) outer.now value.now rows
+        → IsTurn around (lent_query summary.entry) outer.now value.now rows
         (put_row key change.now.key change.now.new rows) before after
         → AreTotalsOf summary.entry.aggregate before totals
         → AreTotalsOf summary.entry.aggregate after made) }
@@ -355,9 +355,9 @@ fn beside_one(
     requires row_small { IsSmallRow row.now }
     ensures { IfOk result (λ made. (key : ℕ) (rows : List RowValues) (before after : Members)
         → row_at key change.now.key rows ≡ change.now.old
-        → before (value_in around.key row.now) ≡ values_beside around (shown summary.entry) rows row.now
+        → before (value_in around.key row.now) ≡ values_beside around (lent_query summary.entry) rows row.now
         → after (value_in around.key row.now)
-        ≡ values_beside around (shown summary.entry) (put_row key change.now.key change.now.new rows) row.now
+        ≡ values_beside around (lent_query summary.entry) (put_row key change.now.key change.now.new rows) row.now
         → ((v : values) → eq_by_cmp value_cmp v (value_in around.key row.now) ≡ false → after v ≡ before v)
         → AreWithin after
         → AreTotalsOf summary.entry.aggregate before totals
@@ -381,7 +381,7 @@ fn member_beside(
     requires slots { values_of slots.now ≡ row.now }
     requires small { HoldsOf IsSmallRow linked.now }
     ensures { IfOk result (λ member. member
-        ≡ member_of (place_beside around (shown summary.entry).filter row.now) (value_for summary.entry.aggregate)
+        ≡ member_of (place_beside around (lent_query summary.entry).filter row.now) (value_for summary.entry.aggregate)
         linked.now) }
 {
     match linked {
@@ -403,7 +403,8 @@ fn is_beside(summary: Summary, link: Link, linked: &Row, row: &Row, slots: &Slot
     requires bounded { IsBoundedOver (kinds_of slots.now) summary.filter.now }
     requires slots { values_of slots.now ≡ row.now }
     requires small { IsSmallRow linked.now }
-    ensures { result ≡ (links link row.now linked.now && keeps_of linked.now row.now (shown summary.entry).filter) }
+    ensures { result ≡ (links link row.now linked.now
+        && keeps_of linked.now row.now (lent_query summary.entry).filter) }
 {
     let null = Value::Null;
     let outer = value_or(row, link.outer, &null);

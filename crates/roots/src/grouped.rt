@@ -6,7 +6,7 @@ ghost use Rattle.table.specs.Bounds.{IsSmallRow};
 ghost use Rattle.assertion.specs.Bounded.{IsBoundedOver};
 ghost use Rattle.groups.specs.Members.{member_of};
 ghost use Rattle.groups.specs.Answers.{value_for};
-ghost use Rattle.roots.specs.Shown.{shown};
+ghost use Rattle.roots.specs.Shown.{lent_query};
 ghost use Rattle.roots.specs.Summaries.{around_of, group_of, key_link, place as place_of};
 
 use crate::columns::value_at;
@@ -59,7 +59,7 @@ pub fn member(
     requires bounded { IsBoundedOver [] summary.filter.now }
     requires small { HoldsOf IsSmallRow row.now }
     ensures { IfOk result (λ member. member
-        ≡ member_of (place_of (shown summary.entry)) (value_for summary.entry.aggregate) row.now) }
+        ≡ member_of (place_of (lent_query summary.entry)) (value_for summary.entry.aggregate) row.now) }
 {
     match row {
         None => Ok(None),
@@ -76,7 +76,7 @@ pub fn member_of_row(
     requires bounded { IsBoundedOver [] summary.filter.now }
     requires small { IsSmallRow row.now }
     ensures { IfOk result (λ member. member
-        ≡ member_of (place_of (shown summary.entry)) (value_for summary.entry.aggregate) (Some row.now)) }
+        ≡ member_of (place_of (lent_query summary.entry)) (value_for summary.entry.aggregate) (Some row.now)) }
 {
     match place(alloc, summary, row)? {
         None => Ok(None),
@@ -104,7 +104,7 @@ pub fn counted_by(row: &Row, aggregate: Aggregate) -> Result<Value, AllocError>
 fn place(alloc: Global, summary: Summary, row: &Row) -> Result<Option<Value>, AllocError>
     requires bounded { IsBoundedOver [] summary.filter.now }
     requires small { IsSmallRow row.now }
-    ensures { IfOk result (λ placed. placed ≡ place_of (shown summary.entry) row.now) }
+    ensures { IfOk result (λ placed. placed ≡ place_of (lent_query summary.entry) row.now) }
 {
     if !passes(alloc, summary.filter, row) {
         return Ok(None);

@@ -35,9 +35,9 @@
 //!   what a row has in a column, for whoever makes changes.
 //!
 //! What the layer above may rest on: each of these is what `assertion`'s definitions say from scratch of the tables
-//! that the maintained totals are of; NoMemory is the only error, and it changes nothing, since the calls only read
-//! what they are handed. What it owes: the form's expressions are bounded; the rows of the tables and of a change are
-//! within the bounds of a column, and fewer than 2^63 in a table; the maintained totals are those of some tables.
+//! that the maintained totals are of; calls fail only where memory runs out, and that changes nothing, since they only
+//! read what they are handed. What it owes: the form's expressions are bounded; the rows of the tables and of a change
+//! are within the bounds of a column, and fewer than 2^63 in a table; the maintained totals are those of some tables.
 //!
 //! The definitions are in `specs/`: `Summaries` (the queries of the slots, and those whose totals are maintained),
 //! `Around` (groups that are rows around), `Maintained` (maintained totals of tables, and bounds), `Answers` (what the

@@ -9,7 +9,7 @@ ghost use Rattle.assertion.specs.Meaning.{State, rows_of};
 ghost use Rattle.assertion.specs.Roots.{IsChangeOf, IsOrdered, state_after};
 ghost use Rattle.groups.specs.Totals.{AreTotalsOf, AreWithin};
 ghost use Rattle.roots.specs.Maintained.{AreMaintained, AreTotalsFor, IsKeyed, IsSmallState, IsStepOf};
-ghost use Rattle.roots.specs.Shown.{shown};
+ghost use Rattle.roots.specs.Shown.{lent_query};
 ghost use Rattle.roots.specs.Summaries.{row_members};
 
 use crate::around::{around_after, totals_around};
@@ -52,8 +52,8 @@ fn total_of(
     requires bounded { IsBoundedOver [] summary.filter.now }
     requires small { IsSmallState tables.now }
     requires in_order { IsOrdered schemas.now tables.now }
-    requires keyed { IsKeyed schemas.now (shown summary) }
-    ensures { IfOk result (AreTotalsFor tables.now (shown summary.entry)) }
+    requires keyed { IsKeyed schemas.now (lent_query summary) }
+    ensures { IfOk result (AreTotalsFor tables.now (lent_query summary.entry)) }
 {
     match rows_around(summary.grouping) {
         Some(around) => totals_around(alloc, schemas, tables, summary, around),
@@ -66,7 +66,7 @@ fn total_of_table(alloc: Global, summary: Summary, tables: &[Rows]) -> Result<To
     requires bounded { IsBoundedOver [] summary.filter.now }
     requires small { IsSmallState tables.now }
     ensures { IfOk result (AreTotalsOf summary.entry.aggregate
-        (row_members (shown summary.entry) (rows_of summary.entry.table tables.now))) }
+        (row_members (lent_query summary.entry) (rows_of summary.entry.table tables.now))) }
 {
     match tables.get(summary.table) {
         Some(rows) => total_of_rows(alloc, summary, rows),
@@ -80,7 +80,7 @@ fn total_of_rows(alloc: Global, summary: Summary, rows: &Rows) -> Result<Totals,
     requires small { All IsSmallRow rows.now }
     requires short { length rows.now < 2 ^ 63 }
     ensures { IfOk result
-        (AreTotalsOf summary.entry.aggregate (row_members (shown summary.entry) rows.now)) }
+        (AreTotalsOf summary.entry.aggregate (row_members (lent_query summary.entry) rows.now)) }
 {
     let mut made = Totals::new(alloc);
     for row in rows.iter() {
@@ -99,9 +99,9 @@ fn total_with(
     requires bounded { IsBoundedOver [] summary.filter.now }
     requires small { IsSmallRow row.now }
     ensures { IfOk result (λ made. (rows : List RowValues)
-        → AreWithin (row_members (shown summary.entry) (rows ++ row.now ∷ []))
-        → AreTotalsOf summary.entry.aggregate (row_members (shown summary.entry) rows) totals
-        → AreTotalsOf summary.entry.aggregate (row_members (shown summary.entry) (rows ++ row.now ∷ [])) made) }
+        → AreWithin (row_members (lent_query summary.entry) (rows ++ row.now ∷ []))
+        → AreTotalsOf summary.entry.aggregate (row_members (lent_query summary.entry) rows) totals
+        → AreTotalsOf summary.entry.aggregate (row_members (lent_query summary.entry) (rows ++ row.now ∷ [])) made) }
 {
     let add = member_of_row(alloc, summary, row)?;
     totals.with(summary.aggregate, &add, &None)
@@ -143,9 +143,9 @@ fn total_after(
 ) -> Result<Totals, AllocError>
     requires bounded { IsBoundedOver [] summary.filter.now }
     requires step { IsStepOf schemas.now change.now before.now after.now }
-    requires keyed { IsKeyed schemas.now (shown summary) }
-    requires totals { AreTotalsFor before.now (shown summary) totals.now }
-    ensures { IfOk result (AreTotalsFor after.now (shown summary.entry)) }
+    requires keyed { IsKeyed schemas.now (lent_query summary) }
+    requires totals { AreTotalsFor before.now (lent_query summary) totals.now }
+    ensures { IfOk result (AreTotalsFor after.now (lent_query summary.entry)) }
 {
     match rows_around(summary.grouping) {
         Some(around) => around_after(
@@ -167,9 +167,10 @@ fn total_with_change(
     requires new_small { HoldsOf IsSmallRow change.now.new }
     ensures { IfOk result (λ made. (layouts : List Layout) (state : State)
         → IsChangeOf layouts change.now state → IsSmallState (state_after layouts change.now state)
-        → AreTotalsOf summary.entry.aggregate (row_members (shown summary.entry) (rows_of summary.entry.table state))
+        → AreTotalsOf summary.entry.aggregate
+        (row_members (lent_query summary.entry) (rows_of summary.entry.table state))
         totals.now
-        → AreTotalsOf summary.entry.aggregate (row_members (shown summary.entry)
+        → AreTotalsOf summary.entry.aggregate (row_members (lent_query summary.entry)
         (rows_of summary.entry.table (state_after layouts change.now state))) made) }
 {
     let same = totals.copy()?;

@@ -4,8 +4,8 @@ ghost use Rattle.std.specs.Prelude.{◌≡◌, ◌<◌, List, length, slice_inde
 ghost use Rattle.table.specs.declared.aggregates.Aggregate.TheVariants as functions;
 ghost use Rattle.table.specs.Rows.{Layout};
 ghost use Rattle.roots.specs.Maintained.{IsKeyed};
-ghost use Rattle.roots.specs.Shown.{shown};
-ghost use Rattle.roots.specs.Summaries.{linked_grouping as linked_grouping_of, queries_of, regrouped as regrouped_of, summaries_of};
+ghost use Rattle.roots.specs.Shown.{lent_query};
+ghost use Rattle.roots.specs.Summaries.{linked_grouping as linked_grouping_of, queries_of, query_with_grouping as regrouped_of, summaries_of};
 
 use crate::columns::key_column;
 use crate::grouped::{Around, Grouping, Summary};
@@ -37,13 +37,13 @@ pub fn summary_count(form: &Form) -> usize
 /// The summary at an index.
 pub fn summary_of<'a>(schemas: &[Schema], form: &'a Form, index: usize) -> Summary<'a>
     requires within { index < length (summaries_of schemas.now form.now) }
-    ensures summary { shown result ≡ slice_index_or (summaries_of schemas.now form.now) index (shown result) }
-    ensures keyed { IsKeyed schemas.now (shown result) }
+    ensures summary { lent_query result ≡ slice_index_or (summaries_of schemas.now form.now) index (lent_query result) }
+    ensures keyed { IsKeyed schemas.now (lent_query result) }
 {
     match form {
         Form::ByRow { table, queries, .. } => {
             let query = &queries.as_slice()[index];
-            regrouped(query, linked_grouping(schemas, *table, query))
+            query_with_grouping(query, linked_grouping(schemas, *table, query))
         }
         Form::ByGroup {
             table,
@@ -57,7 +57,10 @@ pub fn summary_of<'a>(schemas: &[Schema], form: &'a Form, index: usize) -> Summa
             grouping: Grouping::By(*group),
             aggregate: function_at(aggregates.as_slice(), index),
         },
-        Form::Single { queries, .. } => regrouped(&queries.as_slice()[index], Grouping::Whole),
+        Form::Single { queries, .. } => query_with_grouping(
+            &queries.as_slice()[index],
+            Grouping::Whole,
+        ),
     }
 }
 
@@ -77,8 +80,8 @@ fn linked_grouping(schemas: &[Schema], table: usize, query: &Query<Link>) -> Gro
 }
 
 /// A query with groups of this kind.
-fn regrouped<'a, G>(query: &'a Query<G>, grouping: Grouping) -> Summary<'a>
-    ensures { shown result ≡ regrouped_of grouping query.now }
+fn query_with_grouping<'a, G>(query: &'a Query<G>, grouping: Grouping) -> Summary<'a>
+    ensures { lent_query result ≡ regrouped_of grouping query.now }
 {
     Summary {
         table: query.table,

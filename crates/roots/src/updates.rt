@@ -42,7 +42,7 @@ pub fn bad_of(
 {
     let named = named_roots(alloc, schemas, tables, form)?;
     let none = BadRoots::new(alloc);
-    updated(alloc, schemas, tables, form, totals, &none, &named)
+    roots_after_update(alloc, schemas, tables, form, totals, &none, &named)
 }
 
 /// The roots that rows name, and the whole of a single condition.
@@ -117,11 +117,11 @@ pub fn bad_after(
 {
     let mut touched = Vec::new(alloc);
     push_candidates(&mut touched, schemas, tables, form, change)?;
-    updated(alloc, schemas, tables, form, totals, bad, &touched)
+    roots_after_update(alloc, schemas, tables, form, totals, bad, &touched)
 }
 
 /// The roots with each of the touched ones put in where it is bad and taken out where it isn't.
-fn updated(
+fn roots_after_update(
     alloc: Global,
     schemas: &[Schema],
     tables: &[Rows],
@@ -143,13 +143,13 @@ fn updated(
         if is_repeated(touched, index) {
             continue;
         }
-        made = judged(alloc, schemas, tables, form, totals, &touched[index], made)?;
+        made = roots_after_verdict(alloc, schemas, tables, form, totals, &touched[index], made)?;
     }
     Ok(made)
 }
 
 /// The roots with this one put in where it is bad and taken out where it isn't.
-fn judged(
+fn roots_after_verdict(
     alloc: Global,
     schemas: &[Schema],
     tables: &[Rows],

@@ -1,6 +1,6 @@
 //! A doctor's wish to go off call, and who is on call.
 
-use answer::Reply;
+use alone::Reply;
 use session::{Manager, Named, Receipt, Session, release, release_refused};
 use std::sync::Wait;
 use syntax::Statement;

@@ -4,11 +4,11 @@ use Rattle.std.specs.Prelude.{◌==◌, IfOk}
 use Rattle.boxcar.specs.Table.{Shelves}
 use Rattle.value.specs.Ordered.{HoldsOf}
 use Rattle.value.specs.declared.refusals.Refusal.{Refusal}
-use Rattle.serial.specs.Commits.{IsLog}
+use Rattle.alone.specs.Commits.{IsLog}
 use Rattle.txn.specs.Transactions.{OpenTransaction, outcome_of}
 use Rattle.commit.specs.Cores.{CoreState, IsCommitAnswer, IsDecided, IsUncommitted, log_of, record_of}
 use Rattle.session.specs.Limits.{LimitsState}
-use Rattle.session.specs.Books.{BookState, IsBook, IsTicketed, ReceiptState, Ticketed}
+use Rattle.session.specs.Books.{BookState, IsBook, IsTicketed, ReceiptState, TicketedTransaction}
 use Rattle.session.specs.Answers.{record_of as record_with, IsNotCommitted, IsReason, IsUnbegun, only, shown_for, shown_unless, with_ticket}
 use Rattle.session.proofs.Reasons.{reasons}
 use Rattle.session.proofs.Tokens.{book_refused}
@@ -23,12 +23,12 @@ next_number c session t number h = go (outcome_of t).refused (length c.records =
     go None false h = h.0
 
 -- the transaction that a refused COMMIT gives back is the one that was closed
-pub back_ticketed : (c after : CoreState) (session : List ℕ) (t : Ticketed) (refusal : Refusal) (back : Option OpenTransaction) → IsTicketed t
+pub back_ticketed : (c after : CoreState) (session : List ℕ) (t : TicketedTransaction) (refusal : Refusal) (back : Option OpenTransaction) → IsTicketed t
     → IsUncommitted c session t.inner refusal back after → HoldsOf (λ u. IsTicketed (record { inner = u; ticket = t.ticket })) back
 back_ticketed c after session t refusal None h u = tt
 back_ticketed c after session t refusal (Some back) h u = subst (λ (v : OpenTransaction). IsTicketed (record { inner = v; ticket = t.ticket })) (sym u.1) h
 
-module _ (shelf : Shelves) (limits : LimitsState) (b : BookState) (book : IsBook shelf limits b) (log : IsLog (log_of b.core)) (session : List ℕ) (t : Ticketed) (declared : t.inner.declared ≡ b.core.declared) where
+module _ (shelf : Shelves) (limits : LimitsState) (b : BookState) (book : IsBook shelf limits b) (log : IsLog (log_of b.core)) (session : List ℕ) (t : TicketedTransaction) (declared : t.inner.declared ≡ b.core.declared) where
   -- a refused COMMIT leaves the Book as it was, or with one refused commit more
   pub refused_answer : (refusal : Refusal) (back : Option OpenTransaction) (after : CoreState) → IsUncommitted b.core session t.inner refusal back after
       → IsNotCommitted b true session t refusal (with_ticket t.ticket back) (shown_unless back (shown_for b refusal)) (record b { core = after })
@@ -54,14 +54,14 @@ module _ (shelf : Shelves) (limits : LimitsState) (b : BookState) (book : IsBook
 
   -- the same, as the Book, the transaction and the answer are named by the caller
   pub refused_told : (refusal : Refusal) (back : Option OpenTransaction) (after : CoreState) → IsUncommitted b.core session t.inner refusal back after
-      → (b' : BookState) → b ≡ b' → (t' : Ticketed) → t ≡ t' → (refusal' : Refusal) → refusal' ≡ refusal → (txn : Option Ticketed) → txn ≡ with_ticket t.ticket back
+      → (b' : BookState) → b ≡ b' → (t' : TicketedTransaction) → t ≡ t' → (refusal' : Refusal) → refusal' ≡ refusal → (txn : Option TicketedTransaction) → txn ≡ with_ticket t.ticket back
       → (shown : List (Option ReceiptState)) → shown ≡ shown_unless back (shown_for b refusal) → (d : BookState) → d ≡ record b { core = after }
       → IsNotCommitted b' true session t' refusal' txn shown d
   refused_told refusal back after u b' eb t' et refusal' er txn ex shown es d ed =
       subst (λ (x : BookState). IsNotCommitted x true session t' refusal' txn shown d) eb
-      (subst (λ (x : Ticketed). IsNotCommitted b true session x refusal' txn shown d) et
+      (subst (λ (x : TicketedTransaction). IsNotCommitted b true session x refusal' txn shown d) et
       (subst (λ (x : Refusal). IsNotCommitted b true session t x txn shown d) (sym er)
-      (subst (λ (x : Option Ticketed). IsNotCommitted b true session t refusal x shown d) (sym ex)
+      (subst (λ (x : Option TicketedTransaction). IsNotCommitted b true session t refusal x shown d) (sym ex)
       (subst (λ (x : List (Option ReceiptState)). IsNotCommitted b true session t refusal (with_ticket t.ticket back) x d) (sym es)
       (subst (λ (x : BookState). IsNotCommitted b true session t refusal (with_ticket t.ticket back) (shown_unless back (shown_for b refusal)) x) (sym ed)
       (refused_answer refusal back after u))))))

@@ -1,7 +1,7 @@
 -- Which types may cross threads, from the inside out: each lemma spares the next search what it shows.
 use denote.RattleType.{RattleType}
 use denote.Param.Send.{IsSend, IsSync, sendable}
-use Rattle.alone.specs.contracts.statements.Resolved as Resolved
+use Rattle.alone.specs.contracts.statements.ResolvedStatement as ResolvedStatement
 use Rattle.assertion.specs.contracts.assertions.Assertion as Assertion
 use Rattle.assertion.specs.contracts.forms.Form as Form
 use Rattle.commit.specs.contracts.cores.Core as Core
@@ -10,11 +10,11 @@ use Rattle.assertcheck.specs.contracts.selects.Select as Select
 use Rattle.assertcheck.specs.contracts.updates.Setting as Setting
 use Rattle.assertcheck.specs.contracts.updates.Update as Update
 use Rattle.commit.specs.contracts.prepared.Prepared as Prepared
-use Rattle.txn.specs.contracts.closed.Closed as Closed
+use Rattle.txn.specs.contracts.closed.ClosedTransaction as ClosedTransaction
 use Rattle.value.proofs.texts.Text.TheSendSync as Text
 use Rattle.siread.proofs.keys.LockKey.TheSendSync as LockKey
 use Rattle.siread.proofs.locks.LockTable.TheSendSync as LockTable
-use Rattle.changes.proofs.touched.Touched.TheSendSync as Touched
+use Rattle.changes.proofs.touched.TouchedPlaces.TheSendSync as Touched
 use Rattle.boxcar.proofs.slot.OnceSlot.TheSendSync as OnceSlot
 use Rattle.boxcar.proofs.table.Placed.TheSendSync as Placed
 use Rattle.boxcar.proofs.tag.Tag.TheSendSync as Tag
@@ -23,9 +23,9 @@ use Rattle.session.specs.contracts.shelf.Shelf as Shelf
 use Rattle.session.specs.contracts.manager.Manager as Manager
 use Rattle.value.proofs.refusals.Refusal.TheSendSync as Refusal
 use Rattle.table.proofs.rows.Change.TheSendSync as Change
-use Rattle.modes.proofs.modes.Modes.TheSendSync as Modes
-use Rattle.answer.proofs.answers.RefusedCommit.TheSendSync as RefusedCommit
-use Rattle.live.proofs.snapshots.Live.TheSendSync as Live
+use Rattle.alone.proofs.modes.Modes.TheSendSync as Modes
+use Rattle.alone.proofs.answers.RefusedCommit.TheSendSync as RefusedCommit
+use Rattle.conflict.proofs.open_snapshots.Live.TheSendSync as Live
 use Rattle.table.proofs.conds.Cond.TheLaws.TheKnot as conds
 use Rattle.table.proofs.exprs.Expr.TheLaws.TheKnot as exprs
 use Rattle.table.specs.contracts.conds.Cond as Cond
@@ -37,7 +37,7 @@ use Rattle.mvrows.specs.contracts.rows.Rows as Rows
 use Rattle.delta.specs.contracts.watches.Watch as Watch
 use Rattle.pages.proofs.nodes.Node.TheLaws.TheKnot as nodes
 use Rattle.pages.specs.contracts.pages.Pages as Pages
-use Rattle.serial.specs.contracts.records.Record as Record
+use Rattle.alone.specs.contracts.records.Record as Record
 use Rattle.std.proofs.Crossing.{crosses}
 use Rattle.table.proofs.catalogs.Catalog.TheSendSync as Catalog
 use Rattle.table.proofs.schemas.Schema.TheSendSync as Schema
@@ -130,10 +130,10 @@ Select-send = search (Cond-send, crosses, sendable) depth 60 fits 20000
 Select-sync : IsSync Select.the_field.row
 Select-sync = search (Cond-sync, crosses, sendable) depth 60 fits 20000
 
-Resolved-send : IsSend Resolved.the_row
+Resolved-send : IsSend ResolvedStatement.the_row
 Resolved-send = search (Update-send, Delete-send, Select-send, Text.the_send, crosses, sendable) depth 60 fits 20000
 
-Resolved-sync : IsSync Resolved.the_row
+Resolved-sync : IsSync ResolvedStatement.the_row
 Resolved-sync = search (Update-sync, Delete-sync, Select-sync, Text.the_sync, crosses, sendable) depth 60 fits 20000
 
 pub Record-send : IsSend Record.the_row
@@ -148,7 +148,7 @@ Item-send = search (Record-send, View-send, crosses, sendable) depth 60 fits 200
 pub Item-sync : IsSync Item.the_row
 Item-sync = search (Record-sync, View-sync, crosses, sendable) depth 60 fits 20000
 
-Closed-send : IsSend Closed.the_row
+Closed-send : IsSend ClosedTransaction.the_row
 Closed-send = search (Resolved-send, View-send, LockKey.the_send, Touched.the_send, Modes.the_send, Change.the_send, Refusal.the_send, crosses, sendable) depth 60 fits 20000
 
 Prepared-send : IsSend Prepared.the_field.row

@@ -25,11 +25,11 @@ use Rattle.alone.specs.Alone.{run_on}
 use Rattle.alone.specs.Checks.{refusal_at, violation}
 use Rattle.alone.proofs.Lists.{each_at}
 use Rattle.alone.proofs.Members.{in_map, in_right}
-use Rattle.serial.specs.declared.records.Record.{Record}
-use Rattle.serial.specs.Answer.{IsFirstConflict, IsPivotNamed, IsReaderNamed}
-use Rattle.serial.specs.Commits.{IsLog, share_row}
-use Rattle.serial.proofs.Judging.{any_met}
-use Rattle.serial.proofs.Ranks.{numbers_below}
+use Rattle.alone.specs.declared.records.Record.{Record}
+use Rattle.alone.specs.Answer.{IsFirstConflict, IsPivotNamed, IsReaderNamed}
+use Rattle.alone.specs.Commits.{IsLog, share_row}
+use Rattle.alone.proofs.Judging.{any_met}
+use Rattle.alone.proofs.Ranks.{numbers_below}
 use Rattle.txn.specs.Transactions.{OpenTransaction, outcome_of}
 use Rattle.commit.specs.Cores.{CoreState, IsCommitAnswer, IsConflictNamed, IsDangerNamed, IsDecided, IsJudged, log_of, record_of}
 use Rattle.session.specs.declared.items.Item.{Item}

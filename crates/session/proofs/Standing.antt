@@ -16,10 +16,10 @@ use Rattle.assertion.specs.Declarations.{Declared, layouts_in}
 use Rattle.assertion.specs.Meaning.{State, bad_roots, least_bad_of, single_truth, truth_of_roots, verdict_of}
 use Rattle.alone.specs.Checks.{violation}
 use Rattle.alone.proofs.Checks.{none_first}
-use Rattle.modes.specs.Modes.{assertion_of}
+use Rattle.alone.specs.Modes.{assertion_of}
 use Rattle.txn.specs.Transactions.{truth_of}
-use Rattle.serial.specs.Commits.{IsLog}
-use Rattle.serial.specs.Epoch.{newest}
+use Rattle.alone.specs.Commits.{IsLog}
+use Rattle.alone.specs.Epoch.{newest}
 use Rattle.commit.specs.Cores.{CoreState, IsSerializable, log_of, newest_tables}
 use Rattle.session.specs.Answers.{IsStanding, IsUpheld}
 use Rattle.session.proofs.Tokens.{newest_at}

@@ -6,20 +6,20 @@ use Rattle.boxcar.specs.Table.{Shelves, Shows}
 use Rattle.assertion.specs.Declarations.{Declared}
 use Rattle.assertion.specs.Meaning.{State}
 use Rattle.alone.proofs.Lists.{Each, each_weaker}
-use Rattle.serial.specs.declared.records.Record.{Record}
-use Rattle.serial.specs.Commits.{IsLog}
-use Rattle.serial.specs.Epoch.{newest, put_in, state_of}
-use Rattle.serial.specs.Replay.{held, state_after}
-use Rattle.serial.proofs.Ranks.{numbers_below}
-use Rattle.serial.proofs.Replays.{held_all, held_same}
-use Rattle.delta.specs.Views.{Shown}
-use Rattle.txn.specs.Transactions.{OpenTransaction, begun}
+use Rattle.alone.specs.declared.records.Record.{Record}
+use Rattle.alone.specs.Commits.{IsLog}
+use Rattle.alone.specs.Epoch.{newest, put_in, state_of}
+use Rattle.alone.specs.Replay.{commits_in_snapshot, state_after}
+use Rattle.alone.proofs.Ranks.{numbers_below}
+use Rattle.alone.proofs.Replays.{held_all, held_same}
+use Rattle.delta.specs.Views.{ViewState}
+use Rattle.txn.specs.Transactions.{OpenTransaction, transaction_at_begin}
 use Rattle.value.specs.declared.refusals.Refusal.{Refusal}
-use Rattle.commit.specs.Cores.{committed, log_of, record_of}
+use Rattle.commit.specs.Cores.{core_after_commit, log_of, record_of}
 use Rattle.session.specs.declared.items.Item.{Item}
 use Rattle.session.specs.Limits.{LimitsState}
 use Rattle.session.specs.Answers.{after_refusal}
-use Rattle.session.specs.Books.{AreReceipts, AreTokens, BookState, IsBook, IsFresh, IsOver, IsToken, Ticketed, Token, after_commit, item_after, item_at, record_at}
+use Rattle.session.specs.Books.{AreReceipts, AreTokens, BookState, IsBook, IsFresh, IsOver, IsToken, TicketedTransaction, Token, after_commit, item_after, item_at, record_at}
 
 -- what stands at a place of a list with one more at its end
 get_snoc : {X : Type 0} (xs : List X) (y : X) (i : ℕ) (e : X) → slice_get (xs ++ y ∷ []) i ≡ Some e
@@ -97,7 +97,7 @@ tokens_snoc shelf epoch declared start records tokens c w number log old shown i
 
 -- the Book after a commit
 pub book_committed : (shelf : Shelves) (limits : LimitsState) (b : BookState) (session : List ℕ) (t : OpenTransaction) (w : Token) → IsBook shelf limits b
-    → IsLog (log_of (committed b.core session t)) → Shows shelf w → w.value ≡ item_after b.epoch b.core session t
+    → IsLog (log_of (core_after_commit b.core session t)) → Shows shelf w → w.value ≡ item_after b.epoch b.core session t
     → IsBook shelf limits (after_commit b session t w)
 book_committed shelf limits b session t w book log shown is = record {
   commits = book.commits;
@@ -121,7 +121,7 @@ receipts_of shelf limits b book = record {
 }
 
 -- no commit is among the first none
-none_held : (log : List Record) → IsLog log → held 0 log ≡ []
+none_held : (log : List Record) → IsLog log → commits_in_snapshot 0 log ≡ []
 none_held [] log = refl
 none_held (c ∷ earlier) log = held_same 0 c earlier (omega (arith, log.0.numbered)) ∙ none_held earlier log.1
 
@@ -134,17 +134,17 @@ pub begun_over : (shelf : Shelves) (limits : LimitsState) (b : BookState) (mine 
     → IsOver b.core loaded.value.view limits.commits
 begun_over shelf limits b mine loaded book log within is same =
     let view = ap (λ (i : Item). i.view) (sym is.item ∙ same) in record {
-      declared_is = ap (λ (v : Shown). v.declared) view;
-      start_is = sym (start_at b.core.declared b.core.start b.core.records log) ∙ ap (λ (v : Shown). v.state) view;
+      declared_is = ap (λ (v : ViewState). v.declared) view;
+      start_is = sym (start_at b.core.declared b.core.start b.core.records log) ∙ ap (λ (v : ViewState). v.state) view;
       limit_is = book.commits;
       within = subst (λ n. length b.core.records ≤ n) book.commits within;
     }
 
 -- a transaction that begins on some tables, with their token
-pub begun_fresh : (shelf : Shelves) (id epoch number snapshot : ℕ) (read_only : Bool) (tables : Shown) (token : Token) (t : Ticketed)
-    → t ≡ record { inner = begun number snapshot read_only tables; ticket = record { id = id; epoch = epoch; token = token } }
+pub begun_fresh : (shelf : Shelves) (id epoch number snapshot : ℕ) (read_only : Bool) (tables : ViewState) (token : Token) (t : TicketedTransaction)
+    → t ≡ record { inner = transaction_at_begin number snapshot read_only tables; ticket = record { id = id; epoch = epoch; token = token } }
     → Shows shelf token → token.value.epoch ≡ epoch → token.value.number ≡ snapshot → token.value.view ≡ tables → IsFresh shelf id epoch read_only t
 begun_fresh shelf id epoch number snapshot read_only tables token t is shown item_epoch item_number view =
-    let made : IsFresh shelf id epoch read_only (record { inner = begun number snapshot read_only tables; ticket = record { id = id; epoch = epoch; token = token } }) =
+    let made : IsFresh shelf id epoch read_only (record { inner = transaction_at_begin number snapshot read_only tables; ticket = record { id = id; epoch = epoch; token = token } }) =
     record { read_only_is = refl; empty = refl; id_is = refl; epoch_is = refl; shown = shown; epoch_of_item = item_epoch; number_of_item = item_number; view_of_item = view } in
     subst (IsFresh shelf id epoch read_only) (sym is) made

@@ -1,11 +1,9 @@
 -- What is answered where something is refused, and which receipts show why.
-use Rattle.std.specs.Prelude.{◌≡◌, ◌≢◌, ◌<◌, ℕ, Bool, true, false, List, [], ◌∷◌, length, map, slice_get, Option}
-use Rattle.std.specs.Prelude.{Some, None, Err, Contains, IfSome, ⊤}
+use Rattle.std.specs.Prelude.{◌≡◌, ◌≢◌, ◌<◌, ℕ, Bool, true, false, List, [], ◌∷◌, length, map, slice_get, Option, Some, None, Err, Contains, IfSome, ⊤}
 use Rattle.value.specs.declared.refusals.Party.{Party}
 use Rattle.value.specs.declared.refusals.Party.TheVariants.{This, Number as Numbered}
 use Rattle.value.specs.declared.refusals.Refusal.{Refusal}
-use Rattle.value.specs.declared.refusals.Refusal.TheVariants.{NoMemory, Stranger, EpochFull, Violated, WriteConflict}
-use Rattle.value.specs.declared.refusals.Refusal.TheVariants.{Dangerous}
+use Rattle.value.specs.declared.refusals.Refusal.TheVariants.{NoMemory, Stranger, EpochFull, Violated, WriteConflict, Dangerous}
 use Rattle.value.specs.declared.values.Value.{Value}
 use Rattle.value.specs.declared.truths.Truth.{Truth}
 use Rattle.value.specs.declared.truths.Truth.TheVariants.{True, False}
@@ -14,16 +12,16 @@ use Rattle.assertion.specs.declared.forms.Form.{Form}
 use Rattle.assertion.specs.declared.forms.Form.TheVariants.{ByRow, ByGroup, Single}
 use Rattle.table.specs.Rows.{names_of}
 use Rattle.assertion.specs.Declarations.{layouts_in}
-use Rattle.delta.specs.Views.{Shown}
+use Rattle.delta.specs.Views.{ViewState}
 use Rattle.alone.specs.Checks.{violation}
 use Rattle.siread.specs.Keys.{place_of}
-use Rattle.serial.specs.declared.records.Record.{Record}
-use Rattle.serial.specs.Commits.{IsDangerous}
+use Rattle.alone.specs.declared.records.Record.{Record}
+use Rattle.alone.specs.Commits.{IsDangerous}
 use Rattle.txn.specs.Transactions.{OpenTransaction, keys_of, outcome_of}
 use Rattle.definitions.specs.declared.redeclaration.NewAssertion.{NewAssertion}
-use Rattle.commit.specs.Cores.{IsCommitAnswer, ended, refused_to}
+use Rattle.commit.specs.Cores.{IsCommitAnswer, core_after_end, refused_to}
 use Rattle.commit.specs.Epochs.{next_start}
-use Rattle.session.specs.Books.{BookState, ReceiptState, TicketState, Ticketed, Token}
+use Rattle.session.specs.Books.{BookState, ReceiptState, TicketState, TicketedTransaction, Token}
 
 -- a begin is refused a session that is not known; or there was no memory
 abbrev pub IsUnbegun : (known : Bool) → Refusal → Type 0
@@ -99,10 +97,10 @@ after_refusal b session t refusal = record b { core = refused_to b.core session 
 
 -- the Book after a rollback
 abbrev pub after_rollback : BookState → OpenTransaction → BookState
-after_rollback b t = record b { core = ended b.core t }
+after_rollback b t = record b { core = core_after_end b.core t }
 
 -- a transaction that is given back, with its ticket; receipts are shown where it is not
-abbrev pub with_ticket : TicketState → Option OpenTransaction → Option Ticketed
+abbrev pub with_ticket : TicketState → Option OpenTransaction → Option TicketedTransaction
 with_ticket ticket None = None
 with_ticket ticket (Some t) = Some (record { inner = t; ticket = ticket })
 
@@ -113,8 +111,8 @@ shown_unless (Some t) shown = only None
 
 -- A commit that was not made. Its transaction is given back, and all is as it was; or it is ended, as the commits
 -- before it decide.
-abbrev pub IsNotCommitted : BookState → (own : Bool) → (session : List ℕ) → Ticketed → Refusal
-    → (back : Option Ticketed) → (shown : List (Option ReceiptState)) → (after : BookState) → Type 0
+abbrev pub IsNotCommitted : BookState → (own : Bool) → (session : List ℕ) → TicketedTransaction → Refusal
+    → (back : Option TicketedTransaction) → (shown : List (Option ReceiptState)) → (after : BookState) → Type 0
 IsNotCommitted b own session t refusal (Some back) shown after =
     IsUnbegun own refusal × (back ≡ t) × (shown ≡ only None) × (after ≡ b)
 IsNotCommitted b own session t refusal None shown after =
@@ -122,7 +120,7 @@ IsNotCommitted b own session t refusal None shown after =
     × (shown ≡ shown_for b refusal) × (after ≡ after_refusal b session t.inner refusal)
 
 -- the same, as far as it is known without the commits
-abbrev pub IsRefused : Ticketed → Refusal → (back : Option Ticketed) → Type 0
+abbrev pub IsRefused : TicketedTransaction → Refusal → (back : Option TicketedTransaction) → Type 0
 IsRefused t refusal (Some back) = IsGivenBack refusal × (back ≡ t)
 IsRefused t refusal None = IsEnding refusal
 
@@ -203,7 +201,7 @@ IsReason limit session t (Dangerous reader pivot writer) shown = ShowsTriple ses
 IsReason limit session t refusal shown = ⊤
 
 -- no assertion is false on these tables
-abbrev pub IsSatisfied : Shown → Type 0
+abbrev pub IsSatisfied : ViewState → Type 0
 IsSatisfied view = violation (layouts_in view.declared) view.declared.assertions view.state ≡ None
 
 -- an assertion of a form that knows no unknown is true, and one of the other form is not false
@@ -219,8 +217,9 @@ IsStanding None answer = answer ≡ None
 IsStanding (Some a) answer = IsUpheld a.form answer
 
 -- a checkpoint was refused on committed tables of an epoch that began on these: under what is declared in it
-pub record IsRefusedOver (loaded : Shown) (dropped : List (List ℕ)) (created : List NewAssertion) (refusal : Refusal) :
+pub record IsRefusedOver (loaded : ViewState) (dropped : List (List ℕ)) (created : List NewAssertion)
+    (refusal : Refusal) :
     Type 0 where
-  pub newest : Shown
+  pub newest : ViewState
   pub declared_is : newest.declared ≡ loaded.declared
   pub refused : next_start dropped created newest ≡ Err refusal

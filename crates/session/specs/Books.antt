@@ -1,16 +1,15 @@
 -- What lies under a manager's lock, and which sessions, transactions and receipts are its own.
-use Rattle.std.specs.Prelude.{◌≡◌, ◌<◌, ◌≤◌, ◌+◌, ◌==◌, ◌&&◌, ◌++◌, zero, suc, ℕ, Bool, false, nat_le, nat_lt, List}
-use Rattle.std.specs.Prelude.{[], ◌∷◌, length, reverse, slice_get, Option, Some, None, Contains}
+use Rattle.std.specs.Prelude.{◌≡◌, ◌<◌, ◌≤◌, ◌+◌, ◌==◌, ◌&&◌, ◌++◌, zero, suc, ℕ, Bool, false, nat_le, nat_lt, List, [], ◌∷◌, length, reverse, slice_get, Option, Some, None, Contains}
 use Rattle.boxcar.specs.Table.{Where, Shelves, Shows}
 use Rattle.assertion.specs.Declarations.{Declared}
 use Rattle.assertion.specs.Meaning.{State}
-use Rattle.delta.specs.Views.{Shown}
-use Rattle.live.specs.declared.snapshots.LiveSnapshot.{LiveSnapshot}
-use Rattle.live.specs.Held.{is_held}
-use Rattle.serial.specs.declared.records.Record.{Record}
-use Rattle.serial.specs.Epoch.{state_of}
+use Rattle.delta.specs.Views.{ViewState}
+use Rattle.conflict.specs.declared.open_snapshots.LiveSnapshot.{LiveSnapshot}
+use Rattle.conflict.specs.Held.{is_held}
+use Rattle.alone.specs.declared.records.Record.{Record}
+use Rattle.alone.specs.Epoch.{state_of}
 use Rattle.txn.specs.Transactions.{OpenTransaction, own_view}
-use Rattle.commit.specs.Cores.{CoreState, committed, newest_tables, record_of, with_begun, with_commit}
+use Rattle.commit.specs.Cores.{CoreState, core_after_commit, newest_tables, record_of, with_begun, with_commit}
 use Rattle.session.specs.declared.items.Item.{Item}
 use Rattle.session.specs.Limits.{LimitsState}
 
@@ -76,17 +75,17 @@ pub record TicketState : Type 0 where
   pub token : Token
 
 -- a transaction with its ticket
-pub record Ticketed : Type 0 where
+pub record TicketedTransaction : Type 0 where
   pub inner : OpenTransaction
   pub ticket : TicketState
 
 -- the tables on which the transaction began are those of the ticket's token
-abbrev pub IsTicketed : Ticketed → Type 0
+abbrev pub IsTicketed : TicketedTransaction → Type 0
 IsTicketed t = t.ticket.token.value.view ≡ record { declared = t.inner.declared; state = t.inner.start }
 
 -- A transaction that has just begun, read only or not: it has run no statement, its ticket is of this id and epoch, and
 -- its own view is what stands on this shelf under the number of its snapshot.
-pub record IsFresh (shelf : Shelves) (id epoch : ℕ) (read_only : Bool) (t : Ticketed) : Type 0 where
+pub record IsFresh (shelf : Shelves) (id epoch : ℕ) (read_only : Bool) (t : TicketedTransaction) : Type 0 where
   pub read_only_is : t.inner.read_only ≡ read_only
   pub empty : t.inner.trace ≡ []
   pub id_is : t.ticket.id ≡ id
@@ -163,11 +162,11 @@ abbrev pub live_of : OpenTransaction → LiveSnapshot
 live_of t = record { ticket = t.ticket; snapshot = t.snapshot; read_only = t.read_only }
 
 -- the transaction with its ticket is the Book's own, and has not ended
-abbrev pub owns_txn : BookState → Ticketed → (id epoch : ℕ) → Bool
+abbrev pub owns_txn : BookState → TicketedTransaction → (id epoch : ℕ) → Bool
 owns_txn b t id epoch = owns b t.ticket (live_of t.inner) id epoch
 
 -- the Book knows the session, and the transaction is its own
-abbrev pub is_own : BookState → SessionState → Ticketed → (id epoch : ℕ) → Bool
+abbrev pub is_own : BookState → SessionState → TicketedTransaction → (id epoch : ℕ) → Bool
 is_own b s t id epoch = knows b s id epoch && owns_txn b t id epoch
 
 -- the receipt is of the manager that asks, and its token is the Book's own
@@ -194,7 +193,7 @@ pub record IsFrom (b : BookState) (id epoch index : ℕ) : Type 0 where
   pub token : IsAt b 0 index
 
 -- the commits are over what these tables declare, and over their rows, and are no more than the limit, which is this
-pub record IsOver (c : CoreState) (loaded : Shown) (limit : ℕ) : Type 0 where
+pub record IsOver (c : CoreState) (loaded : ViewState) (limit : ℕ) : Type 0 where
   pub declared_is : c.declared ≡ loaded.declared
   pub start_is : c.start ≡ loaded.state
   pub limit_is : c.limit ≡ limit
@@ -206,7 +205,7 @@ after_begin read_only b = record b { core = with_begun read_only b.core }
 
 -- the Book after a commit: its record, and the token of its item
 abbrev pub after_commit : BookState → (session : List ℕ) → OpenTransaction → Token → BookState
-after_commit b session t token = record b { core = committed b.core session t; tokens = b.tokens ++ token ∷ [] }
+after_commit b session t token = record b { core = core_after_commit b.core session t; tokens = b.tokens ++ token ∷ [] }
 
 -- the item of the next commit
 abbrev pub item_after : (epoch : ℕ) → CoreState → (session : List ℕ) → OpenTransaction → Item

@@ -1,26 +1,20 @@
 //! What lies under the lock.
 
-ghost use Rattle.std.specs.Prelude.{◌≡◌, ◌≢◌, ◌≤◌, ◌<◌, ◌+◌, ◌-◌, ◌∷◌, [], ℕ, length, true, false};
-ghost use Rattle.std.specs.Prelude.{Ok, Err, Some, None, Contains, IfOk, IfErr, IsOkUnless, OnErr, OnOk, slice_get};
+ghost use Rattle.std.specs.Prelude.{◌≡◌, ◌≢◌, ◌≤◌, ◌<◌, ◌+◌, ◌-◌, ◌∷◌, [], ℕ, length, true, false, Ok, Err, Some, None, Contains, IfOk, IfErr, OnErr, OnOk, slice_get};
 ghost use Rattle.value.specs.declared.refusals.Refusal.TheVariants.{NoMemory, Stranger, TooManySessions};
 ghost use Rattle.value.specs.Ordered.{HoldsOf};
 ghost use Rattle.value.specs.Results.{provided};
 ghost use Rattle.boxcar.specs.Table.{Shows};
 ghost use Rattle.alone.specs.Alone.{IsSound};
-ghost use Rattle.modes.specs.Modes.{assertion_of};
-ghost use Rattle.serial.specs.Commits.{IsLog};
-ghost use Rattle.serial.specs.Epoch.{state_of};
-ghost use Rattle.txn.specs.Transactions.{begun, truth_of};
+ghost use Rattle.alone.specs.Modes.{assertion_of};
+ghost use Rattle.alone.specs.Commits.{IsLog};
+ghost use Rattle.alone.specs.Epoch.{state_of};
+ghost use Rattle.txn.specs.Transactions.{transaction_at_begin, truth_of};
 ghost use Rattle.commit.specs.Cores.{IsCommitAnswer, IsLive, IsSerializable, log_of, newest_tables, record_of};
 ghost use Rattle.commit.specs.Epochs.{IsNextEpoch, next_start, start_of};
 ghost use Rattle.commit.specs.Runs.{empty_core};
-ghost use Rattle.session.specs.Books.{AreReceipts, IsBook, IsFresh, IsFrom, IsKept, IsKnown, IsOf, IsOver, IsOwned};
-ghost use Rattle.session.specs.Books.{IsTicketed, IsToken};
-ghost use Rattle.session.specs.Books.{after_begin, after_commit, is_from, is_index, is_kept, is_of, is_own, knows};
-ghost use Rattle.session.specs.Books.{owns, owns_txn};
-ghost use Rattle.session.specs.Answers.{AreShownBy, IsNotCommitted, IsReason, IsRefusedOver, IsSatisfied, IsStanding};
-ghost use Rattle.session.specs.Answers.{IsUnbegun, after_rollback, only, party_receipt, receipt_at, shown_among};
-ghost use Rattle.session.specs.Answers.{shown_unless, with_ticket};
+ghost use Rattle.session.specs.Books.{AreReceipts, IsBook, IsFresh, IsFrom, IsKept, IsKnown, IsOf, IsOver, IsOwned, IsTicketed, IsToken, after_begin, after_commit, is_from, is_index, is_kept, is_of, is_own, knows, owns, owns_txn};
+ghost use Rattle.session.specs.Answers.{AreShownBy, IsNotCommitted, IsReason, IsRefusedOver, IsSatisfied, IsStanding, IsUnbegun, after_rollback, only, party_receipt, receipt_at, shown_among, shown_unless, with_ticket};
 
 use crate::items::Item;
 use crate::making::append;
@@ -28,13 +22,13 @@ use crate::named::Named;
 use crate::receipts::Receipt;
 use crate::sessions::Session;
 use crate::shelf::{Shelf, Token};
-use crate::tickets::{Closed, CommitFault, Ticket, Txn};
-use commit::{Core, Uncommitted, readmit};
+use crate::tickets::{ClosedTransaction, CommitFault, Ticket, Txn};
+use alone::Record;
+use commit::{CommitFailure, Core, readmit};
+use conflict::LiveSnapshot;
 use definitions::NewAssertion;
 use delta::View;
-use live::LiveSnapshot;
-use serial::Record;
-use std::alloc::Global;
+use std::alloc::{AllocError, Global};
 use std::marker::{Model, PhantomData};
 use std::mem;
 use std::sync::Wait;
@@ -85,7 +79,7 @@ impl<N: Named> Model for Book<N> {
 
 impl<N: Named> Book<N> {
     /// No commit yet, over tables on which no assertion is false, with the token of these tables; at most so many
-    /// commits and sessions. NoMemory is the only error.
+    /// commits and sessions.
     pub(crate) fn open<R: Wait>(
         rt: &R,
         alloc: Global,
@@ -95,12 +89,11 @@ impl<N: Named> Book<N> {
         loaded: View,
         commits: u64,
         most: u64,
-    ) -> Result<(Book<N>, Token), Refusal>
+    ) -> Result<(Book<N>, Token), AllocError>
         requires shelf { shelf.now ≡ N.shelf id }
         requires limits { record { commits = commits; sessions = most } ≡ N.limits id }
         requires small { commits ≤ 4294967295 }
         requires sound { IsSound loaded.declared loaded.state }
-        ensures only_memory { IsOkUnless result NoMemory }
         ensures whose { IfOk result (λ opened. (opened.0.id ≡ id) × (opened.0.epoch ≡ epoch)) }
         ensures core { IfOk result (λ opened. opened.0.core ≡ empty_core commits loaded) }
         ensures handed { IfOk result (λ opened. (opened.0.handed ≡ 0) × (opened.0.most ≡ most)) }
@@ -159,7 +152,8 @@ impl<N: Named> Book<N> {
         ensures known { IfOk result (λ _. knows self.old session.old id epoch ≡ true) }
         ensures begun { IfOk result (λ txn.
             txn.inner
-            ≡ begun self.old.core.live.begun (length self.old.core.records) false (newest_tables self.old.core)) }
+            ≡ transaction_at_begin self.old.core.live.begun (length self.old.core.records) false
+            (newest_tables self.old.core)) }
         ensures whose { IfOk result (λ txn. (txn.ticket.id ≡ id) × (txn.ticket.epoch ≡ epoch)) }
         ensures token { IfOk result (λ txn. slice_get self.old.tokens txn.inner.snapshot ≡ Some txn.ticket.token) }
         ensures item { IfOk result (λ txn. txn.ticket.token.value.number ≡ txn.inner.snapshot) }
@@ -187,7 +181,8 @@ impl<N: Named> Book<N> {
         ensures known { IfOk result (λ _. knows self.old session.old id epoch ≡ true) }
         ensures begun { IfOk result (λ txn.
             txn.inner
-            ≡ begun self.old.core.live.begun (length self.old.core.records) true (newest_tables self.old.core)) }
+            ≡ transaction_at_begin self.old.core.live.begun (length self.old.core.records) true
+            (newest_tables self.old.core)) }
         ensures whose { IfOk result (λ txn. (txn.ticket.id ≡ id) × (txn.ticket.epoch ≡ epoch)) }
         ensures token { IfOk result (λ txn. slice_get self.old.tokens txn.inner.snapshot ≡ Some txn.ticket.token) }
         ensures item { IfOk result (λ txn. txn.ticket.token.value.number ≡ txn.inner.snapshot) }
@@ -217,7 +212,7 @@ impl<N: Named> Book<N> {
         id: u64,
         epoch: u64,
         session: &mut Session<N>,
-        closed: Closed<N>,
+        closed: ClosedTransaction<N>,
     ) -> Result<Receipt<N>, CommitFault<N>>
         requires shelf { shelf.now ≡ N.shelf id }
         ensures own { IfOk result (λ _. is_own self.old session.old closed id epoch ≡ true) }
@@ -310,8 +305,8 @@ impl<N: Named> Book<N> {
             return verdict_on(&shelf.item(loaded).view, name);
         }
         self.recall_loaded(shelf, id, epoch, loaded);
-        self.core.is_log();
-        self.core.is_serializable();
+        self.core.recall_log();
+        self.core.recall_serializability();
         self.core.verdict(name)
     }
 
@@ -362,15 +357,15 @@ impl<N: Named> Book<N> {
         ensures book { IsBook (N.shelf self.now.id) (N.limits self.now.id) self.now }
         ensures within { length self.now.core.records ≤ (N.limits self.now.id).commits }
     {
-        self.core.is_within_limit();
+        self.core.recall_limit();
         &self.core
     }
 
     /// The committed transactions have a serial order, and no committed tables make an assertion false.
-    pub fn is_serializable(&self)
+    pub fn recall_serializability(&self)
         ensures { IsSerializable self.now.core }
     {
-        self.core.is_serializable();
+        self.core.recall_serializability();
     }
 }
 
@@ -387,7 +382,8 @@ impl<N: Named> Book<N> {
         ensures known { IfOk result (λ _. knows self.old session.old id epoch ≡ true) }
         ensures begun { IfOk result (λ txn.
             txn.inner
-            ≡ begun self.old.core.live.begun (length self.old.core.records) read_only (newest_tables self.old.core)) }
+            ≡ transaction_at_begin self.old.core.live.begun (length self.old.core.records) read_only
+            (newest_tables self.old.core)) }
         ensures whose { IfOk result (λ txn. (txn.ticket.id ≡ id) × (txn.ticket.epoch ≡ epoch)) }
         ensures token { IfOk result (λ txn. slice_get self.old.tokens txn.inner.snapshot ≡ Some txn.ticket.token) }
         ensures item { IfOk result (λ txn. txn.ticket.token.value.number ≡ txn.inner.snapshot) }
@@ -502,7 +498,7 @@ impl<N: Named> Book<N> {
         let start = self.next_start(shelf, id, epoch, loaded, dropped, created)?;
         let alloc = *self.tokens.allocator();
         let (commits, most) = self.limits();
-        Book::open(rt, alloc, shelf, id, epoch + 1, start, commits, most)
+        Ok(Book::open(rt, alloc, shelf, id, epoch + 1, start, commits, most)?)
     }
 
     /// The tables with which the next epoch begins.
@@ -553,8 +549,8 @@ impl<N: Named> Book<N> {
         ensures within { length self.now.core.records ≤ self.now.core.limit }
         ensures book { IsBook (N.shelf self.now.id) (N.limits self.now.id) self.now }
     {
-        self.core.is_log();
-        self.core.is_within_limit();
+        self.core.recall_log();
+        self.core.recall_limit();
         self.core.records().len() as u64
     }
 
@@ -578,7 +574,7 @@ impl<N: Named> Book<N> {
         ensures view { result.value.view ≡ newest_tables self.now.core }
         ensures idle { self.now.core.prepared ≡ None }
     {
-        self.core.is_log();
+        self.core.recall_log();
         token_at(self.tokens.as_slice(), self.core.records().len())
     }
 
@@ -590,7 +586,7 @@ impl<N: Named> Book<N> {
         id: u64,
         epoch: u64,
         session: &mut Session<N>,
-        closed: Closed<N>,
+        closed: ClosedTransaction<N>,
     ) -> Result<Receipt<N>, CommitFault<N>>
         requires shelf { shelf.now ≡ N.shelf id }
         requires id { self.old.id ≡ id }
@@ -614,7 +610,7 @@ impl<N: Named> Book<N> {
         ensures same { IfErr result (λ _. session.new ≡ session.old) }
     {
         let count = self.count();
-        let Closed { inner, ticket } = closed;
+        let ClosedTransaction { inner, ticket } = closed;
         let made = match append(
             rt,
             shelf,
@@ -759,7 +755,7 @@ fn refuse_commit<N: Named>(
     epoch: u64,
     count: u64,
     ticket: Ticket<N>,
-    fault: Uncommitted,
+    fault: CommitFailure,
 ) -> CommitFault<N>
     requires receipts { AreReceipts (N.shelf id) epoch tokens.now }
     requires ticketed { HoldsOf (λ t. IsTicketed (record { inner = t; ticket = ticket })) fault.txn }
@@ -768,7 +764,7 @@ fn refuse_commit<N: Named>(
     ensures shown { result.shown ≡ shown_unless fault.txn (shown_among tokens.now id epoch count fault.refusal) }
     ensures by { AreShownBy id epoch result.shown }
 {
-    let Uncommitted { refusal, txn } = fault;
+    let CommitFailure { refusal, txn } = fault;
     match txn {
         Some(inner) => give_back(refusal, Txn::new(inner, ticket)),
         None => refuse_and_end(tokens, id, epoch, count, refusal),

@@ -11,8 +11,8 @@ use crate::book::Book;
 use crate::named::Named;
 use crate::receipts::Receipt;
 use crate::shelf::{Shelf, Token};
+use alone::Record;
 use commit::Core;
-use serial::Record;
 use std::sync::Arc;
 use value::Refusal;
 
@@ -101,10 +101,10 @@ impl<N: Named> History<N> {
     }
 
     /// The committed transactions have a serial order, and no committed tables make an assertion false.
-    pub fn is_serializable(&self)
+    pub fn recall_serializability(&self)
         ensures { IsSerializable self.now.book.core }
     {
-        self.book.is_serializable();
+        self.book.recall_serializability();
     }
 
     /// The very record that a receipt was given for, which stands at its number. It takes no memory.

@@ -1,7 +1,7 @@
 //! What stands on the shelf.
 
+use alone::Record;
 use delta::View;
-use serial::Record;
 
 /// What stands on the shelf for a number: the record of that commit, none for 0, and the tables after so many commits.
 #[derive(Drop)]

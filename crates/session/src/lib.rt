@@ -16,8 +16,8 @@
 //! id stays and the epoch's number is one more, so what the old book gave out is not known to the new one.
 //!
 //! What the layer above may rest on: whenever the lock is free, the book's type keeps that its core is serializable
-//! (`commit::Core::is_serializable`) and that its tokens are those of its commits (`specs/Books`); each call of a
-//! [`Book`] is decided by it (`specs/Answers`). Nothing is claimed of who comes first, or that a call that waits
+//! (`commit::Core::recall_serializability`) and that its tokens are those of its commits (`specs/Books`); each call of
+//! a [`Book`] is decided by it (`specs/Answers`). Nothing is claimed of who comes first, or that a call that waits
 //! returns.
 #![tactic(auto)]
 
@@ -44,4 +44,4 @@ pub use receipts::Receipt;
 pub use releases::{release, release_refused};
 pub use sessions::Session;
 pub use shelf::{Shelf, Token};
-pub use tickets::{Closed, CommitFault, Txn, Unclosed};
+pub use tickets::{CloseFailure, ClosedTransaction, CommitFault, Txn};

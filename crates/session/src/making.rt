@@ -1,11 +1,10 @@
 //! Commits that are made.
 
 ghost use Rattle.std.specs.Prelude.{◌≡◌, ◌≢◌, ◌+◌, ◌++◌, ◌∷◌, [], Ok, Some, None, IfOk, IfErr, IfSome};
-ghost use Rattle.std.specs.Prelude.{IsOkUnless};
 ghost use Rattle.value.specs.declared.refusals.Refusal.TheVariants.{NoMemory};
 ghost use Rattle.boxcar.specs.Table.{Shows};
-ghost use Rattle.commit.specs.Cores.{IsCommitAnswer, IsLive, IsUncommitted, committed, log_of, pending_txn, unprepared};
-ghost use Rattle.serial.specs.Commits.{IsLog};
+ghost use Rattle.commit.specs.Cores.{IsCommitAnswer, IsLive, IsUncommitted, core_after_commit, log_of, pending_txn, without_prepared};
+ghost use Rattle.alone.specs.Commits.{IsLog};
 ghost use Rattle.session.specs.Books.{item_after};
 ghost use Rattle.session.specs.Answers.{record_of};
 
@@ -13,17 +12,17 @@ use crate::items::Item;
 use crate::named::Named;
 use crate::sessions::Session;
 use crate::shelf::{Shelf, Token};
-use commit::{Core, Prepared, Uncommitted};
+use alone::Record;
+use commit::{CommitFailure, Core, Prepared};
 use copies::{copy_changes, copy_reads, copy_trace};
-use serial::Record;
-use std::alloc::Global;
+use std::alloc::{AllocError, Global};
 use std::sync::Wait;
-use txn::Closed;
+use txn::ClosedTransaction;
 use value::{Refusal, Text};
 
 /// A commit that was made: its number, and the token of its item.
 #[derive(Drop)]
-pub struct Made {
+pub struct MadeCommit {
     pub number: u64,
     pub token: Token,
 }
@@ -41,22 +40,22 @@ pub fn append<N: Named, R: Wait>(
     tokens: &mut Vec<Token>,
     epoch: u64,
     session: &Session<N>,
-    closed: Closed,
-) -> Result<Made, Uncommitted>
+    closed: ClosedTransaction,
+) -> Result<MadeCommit, CommitFailure>
     requires live { IsLive core.old closed }
     requires idle { core.old.prepared ≡ None }
     ensures number { IfOk result (λ made. IsCommitAnswer core.old session.now.name closed (Ok made.number)) }
     ensures shown { IfOk result (λ made. Shows shelf.now made.token) }
     ensures item { IfOk result (λ made. made.token.value ≡ item_after epoch core.old session.now.name closed) }
     ensures log { IfOk result (λ _. IsLog (log_of core.new)) }
-    ensures after { IfOk result (λ _. core.new ≡ committed core.old session.now.name closed) }
+    ensures after { IfOk result (λ _. core.new ≡ core_after_commit core.old session.now.name closed) }
     ensures tokens { IfOk result (λ made. tokens.new.items ≡ tokens.old.items ++ made.token ∷ []) }
     ensures refused { IfErr result (λ fault.
         IsUncommitted core.old session.now.name closed fault.refusal fault.txn core.new) }
     ensures same { IfErr result (λ _. tokens.new.items ≡ tokens.old.items) }
 {
     if tokens.reserve(1).is_err() {
-        return Err(Uncommitted {
+        return Err(CommitFailure {
             refusal: Refusal::NoMemory,
             txn: Some(closed.reopen()),
         });
@@ -80,15 +79,15 @@ fn make<R: Wait>(
     core: &mut Core,
     epoch: u64,
     session: &Text,
-    closed: Closed,
-) -> Result<Made, Uncommitted>
+    closed: ClosedTransaction,
+) -> Result<MadeCommit, CommitFailure>
     requires live { IsLive core.old closed }
     requires idle { core.old.prepared ≡ None }
     ensures number { IfOk result (λ made. IsCommitAnswer core.old session.now closed (Ok made.number)) }
     ensures shown { IfOk result (λ made. Shows shelf.now made.token) }
     ensures item { IfOk result (λ made. made.token.value ≡ item_after epoch core.old session.now closed) }
     ensures log { IfOk result (λ _. IsLog (log_of core.new)) }
-    ensures after { IfOk result (λ _. core.new ≡ committed core.old session.now closed) }
+    ensures after { IfOk result (λ _. core.new ≡ core_after_commit core.old session.now closed) }
     ensures refused { IfErr result (λ fault.
         IsUncommitted core.old session.now closed fault.refusal fault.txn core.new) }
 {
@@ -96,38 +95,40 @@ fn make<R: Wait>(
     match put_on(rt, alloc, shelf, core, epoch) {
         Ok(token) => {
             core.finish();
-            core.is_log();
-            Ok(Made { number, token })
+            core.recall_log();
+            Ok(MadeCommit { number, token })
         }
-        Err(refusal) => Err(cancel(core, refusal)),
+        Err(_) => Err(cancel(core)),
     }
 }
 
-/// Gives the prepared commit up, and its transaction back.
-fn cancel(core: &mut Core, refusal: Refusal) -> Uncommitted
-    ensures refusal { result.refusal ≡ refusal }
+/// Gives the prepared commit up for want of memory, and its transaction back.
+fn cancel(core: &mut Core) -> CommitFailure
+    ensures refusal { result.refusal ≡ NoMemory }
     ensures txn { result.txn ≡ pending_txn core.old.prepared }
-    ensures after { core.new ≡ unprepared core.old }
+    ensures after { core.new ≡ without_prepared core.old }
 {
     match core.cancel() {
-        Some(closed) => Uncommitted {
-            refusal,
+        Some(closed) => CommitFailure {
+            refusal: Refusal::NoMemory,
             txn: Some(closed.reopen()),
         },
-        None => Uncommitted { refusal, txn: None },
+        None => CommitFailure {
+            refusal: Refusal::NoMemory,
+            txn: None,
+        },
     }
 }
 
-/// Puts the item of the prepared commit on the shelf. NoMemory is the only error.
+/// Puts the item of the prepared commit on the shelf.
 fn put_on<R: Wait>(
     rt: &R,
     alloc: Global,
     shelf: &Shelf,
     core: &Core,
     epoch: u64,
-) -> Result<Token, Refusal>
+) -> Result<Token, AllocError>
     requires prepared { core.now.prepared ≢ None }
-    ensures only_memory { IsOkUnless result NoMemory }
     ensures shown { IfOk result (λ token. Shows shelf.now token) }
     ensures item { IfOk result (λ token.
         IfSome core.now.prepared (λ p. token.value ≡ item_after epoch core.now p.session p.txn)) }
@@ -136,11 +137,10 @@ fn put_on<R: Wait>(
     shelf.put(rt, item)
 }
 
-/// The item of the prepared commit. NoMemory is the only error.
-fn next_item(alloc: Global, core: &Core, epoch: u64) -> Result<Item, Refusal>
+/// The item of the prepared commit.
+fn next_item(alloc: Global, core: &Core, epoch: u64) -> Result<Item, AllocError>
     requires prepared { core.now.prepared ≢ None }
-    ensures only_memory { IsOkUnless result NoMemory }
-    ensures item { IfOk result (λ item.
+    ensures { IfOk result (λ item.
         IfSome core.now.prepared (λ p. item ≡ item_after epoch core.now p.session p.txn)) }
 {
     let number = core.records().len() as u64 + 1;
@@ -151,9 +151,8 @@ fn next_item(alloc: Global, core: &Core, epoch: u64) -> Result<Item, Refusal>
 }
 
 /// The item of a commit that has this number.
-fn item_of(alloc: Global, prepared: &Prepared, epoch: u64, number: u64) -> Result<Item, Refusal>
-    ensures only_memory { IsOkUnless result NoMemory }
-    ensures item { IfOk result (λ item.
+fn item_of(alloc: Global, prepared: &Prepared, epoch: u64, number: u64) -> Result<Item, AllocError>
+    ensures { IfOk result (λ item.
         item ≡ record {
           epoch = epoch;
           number = number;
@@ -172,9 +171,8 @@ fn item_of(alloc: Global, prepared: &Prepared, epoch: u64, number: u64) -> Resul
 }
 
 /// The record of a commit that has this number.
-fn record_of(alloc: Global, prepared: &Prepared, number: u64) -> Result<Record, Refusal>
-    ensures only_memory { IsOkUnless result NoMemory }
-    ensures commit { IfOk result (λ commit. commit ≡ record_of number prepared.now.session prepared.now.closed) }
+fn record_of(alloc: Global, prepared: &Prepared, number: u64) -> Result<Record, AllocError>
+    ensures { IfOk result (λ commit. commit ≡ record_of number prepared.now.session prepared.now.closed) }
 {
     let closed = &prepared.closed;
     let session = prepared.session.copy()?;

@@ -4,13 +4,12 @@ ghost use Rattle.std.specs.Prelude.{◌≡◌, ◌≢◌, ◌≤◌, ◌<◌, �
 ghost use Rattle.std.specs.Arc.{arc_value};
 ghost use Rattle.value.specs.declared.refusals.Refusal.TheVariants.{EpochFull, NoMemory, Stranger, TooManySessions};
 ghost use Rattle.boxcar.specs.Table.{Shows};
-ghost use Rattle.modes.specs.Modes.{assertion_of};
-ghost use Rattle.commit.specs.Admission.{satisfied};
+ghost use Rattle.alone.specs.Modes.{assertion_of};
+ghost use Rattle.commit.specs.Admission.{tables_if_satisfied};
 ghost use Rattle.commit.specs.Cores.{newest_tables};
 ghost use Rattle.commit.specs.Epochs.{next_start};
 ghost use Rattle.session.specs.Books.{IsFresh, IsTicketed};
-ghost use Rattle.session.specs.Answers.{AreShownBy, IsReason, IsRefused, IsRefusedOver, IsSatisfied, IsStanding};
-ghost use Rattle.session.specs.Answers.{record_of};
+ghost use Rattle.session.specs.Answers.{AreShownBy, IsReason, IsRefused, IsRefusedOver, IsSatisfied, IsStanding, record_of};
 
 use crate::book::Book;
 use crate::history::History;
@@ -19,7 +18,7 @@ use crate::named::Named;
 use crate::receipts::Receipt;
 use crate::sessions::Session;
 use crate::shelf::{Shelf, Token};
-use crate::tickets::{CommitFault, Txn, Unclosed};
+use crate::tickets::{CloseFailure, CommitFault, Txn};
 use commit::require_satisfied;
 use definitions::{Definitions, NewAssertion};
 use std::alloc::Global;
@@ -59,10 +58,10 @@ impl<N: Named> Manager<N> {
     ) -> Result<Manager<N>, Refusal>
         requires shelf { shelf ≡ N.shelf id }
         requires limits { limits ≡ N.limits id }
-        ensures admitted { IfOk result (λ _. satisfied definitions ≡ Ok definitions) }
+        ensures admitted { IfOk result (λ _. tables_if_satisfied definitions ≡ Ok definitions) }
         ensures opened { IfOk result (λ manager.
             (manager.id ≡ id) × (manager.epoch ≡ 0) × (manager.loaded.value.view ≡ definitions)) }
-        ensures refused { IfErr result (λ refusal. refusal ≢ NoMemory → satisfied definitions ≡ Err refusal) }
+        ensures refused { IfErr result (λ refusal. refusal ≢ NoMemory → tables_if_satisfied definitions ≡ Err refusal) }
     {
         let view = definitions.load(alloc)?;
         let view = require_satisfied(view)?;
@@ -166,7 +165,7 @@ impl<N: Named> Manager<N> {
                 .book
                 .lock(rt)
                 .commit(rt, &self.shelf, self.id, self.epoch, session, closed),
-            Err(Unclosed { refusal, txn }) => Err(CommitFault {
+            Err(CloseFailure { refusal, txn }) => Err(CommitFault {
                 refusal,
                 txn: Some(txn),
                 shown: [None, None, None],

@@ -5,7 +5,7 @@ ghost use Rattle.value.specs.declared.refusals.Refusal.TheVariants.{NoMemory};
 ghost use Rattle.boxcar.specs.Table.{Shows};
 
 use crate::items::Item;
-use std::alloc::Global;
+use std::alloc::{AllocError, Global};
 use std::marker::Model;
 use std::sync::Wait;
 use value::Refusal;
@@ -20,6 +20,7 @@ pub struct Shelf {
 }
 
 impl Model for Shelf {
+    ghost use Rattle.value.specs.declared.refusals.Refusal.TheVariants.{NoMemory};
     ghost use Rattle.boxcar.specs.Table.{Shelves, shelves_coded};
 
     ghost Value = { Shelves };
@@ -41,14 +42,13 @@ impl Shelf {
     }
 
     /// Puts an item on the shelf.
-    pub(crate) fn put<R: Wait>(&self, rt: &R, item: Item) -> Result<Token, Refusal>
-        ensures only_memory { IsOkUnless result NoMemory }
+    pub(crate) fn put<R: Wait>(&self, rt: &R, item: Item) -> Result<Token, AllocError>
         ensures shown { IfOk result (λ token. Shows self.now token) }
         ensures value { IfOk result (λ token. token.value ≡ item) }
     {
         match self.items.push_shown(rt, item) {
             Ok(token) => Ok(token),
-            Err(_) => Err(Refusal::NoMemory),
+            Err(_) => Err(AllocError),
         }
     }
 

@@ -4,18 +4,16 @@ ghost use Rattle.std.specs.Prelude.{◌≡◌, ◌≢◌, IfOk, IfErr, IsOkUnles
 ghost use Rattle.std.specs.Option.{option_copied};
 ghost use Rattle.value.specs.declared.refusals.Refusal.TheVariants.{NoMemory};
 ghost use Rattle.boxcar.specs.Table.{Shows};
-ghost use Rattle.modes.specs.Modes.{assertion_of};
-ghost use Rattle.alone.specs.Resolve.{resolved};
-ghost use Rattle.txn.specs.Transactions.{false_names, keys_of, outcome_of, own_view, run_of, step_of, truth_of};
-ghost use Rattle.txn.specs.Transactions.{with_statement};
+ghost use Rattle.alone.specs.Modes.{assertion_of};
+ghost use Rattle.alone.specs.Resolve.{resolution_of};
+ghost use Rattle.txn.specs.Transactions.{false_names, keys_of, outcome_of, own_view, run_of, step_of, truth_of, with_statement};
 ghost use Rattle.session.specs.Books.{IsTicketed};
 ghost use Rattle.session.specs.Answers.{is_retryable};
 
 use crate::named::Named;
 use crate::receipts::Receipt;
 use crate::shelf::Token;
-use alone::Resolved;
-use answer::Reply;
+use alone::{Reply, ResolvedStatement};
 use delta::View;
 use siread::LockKey;
 use std::marker::{Model, PhantomData};
@@ -73,9 +71,9 @@ impl<N: Named> Model for Txn<N> {
     ghost use Rattle.table.specs.contracts.conds.Cond as cond_type;
     ghost use Rattle.table.specs.contracts.exprs.Expr as expr_type;
     ghost use Rattle.std.specs.Coded.{codes};
-    ghost use Rattle.session.specs.Books.{IsTicketed, Ticketed};
+    ghost use Rattle.session.specs.Books.{IsTicketed, TicketedTransaction};
 
-    ghost Value = { Ticketed };
+    ghost Value = { TicketedTransaction };
 
     ghost coded = { Prim.hlevel (codes, cond_type.the_row.coded, expr_type.the_row.coded) };
 
@@ -85,18 +83,18 @@ impl<N: Named> Model for Txn<N> {
 }
 
 /// A transaction that goes to COMMIT. It must be spent.
-pub struct Closed<N: Named> {
-    pub(crate) inner: txn::Closed,
+pub struct ClosedTransaction<N: Named> {
+    pub(crate) inner: txn::ClosedTransaction,
     pub(crate) ticket: Ticket<N>,
 }
 
-impl<N: Named> Model for Closed<N> {
+impl<N: Named> Model for ClosedTransaction<N> {
     ghost use Rattle.table.specs.contracts.conds.Cond as cond_type;
     ghost use Rattle.table.specs.contracts.exprs.Expr as expr_type;
     ghost use Rattle.std.specs.Coded.{codes};
-    ghost use Rattle.session.specs.Books.{IsTicketed, Ticketed};
+    ghost use Rattle.session.specs.Books.{IsTicketed, TicketedTransaction};
 
-    ghost Value = { Ticketed };
+    ghost Value = { TicketedTransaction };
 
     ghost coded = { Prim.hlevel (codes, cond_type.the_row.coded, expr_type.the_row.coded) };
 
@@ -106,7 +104,7 @@ impl<N: Named> Model for Closed<N> {
 }
 
 /// Why a transaction could not be closed, and the transaction.
-pub struct Unclosed<N: Named> {
+pub struct CloseFailure<N: Named> {
     pub refusal: Refusal,
     pub txn: Txn<N>,
 }
@@ -163,7 +161,7 @@ impl<N: Named> Txn<N> {
     }
 
     /// Its statements so far, with their names found, refused ones too. It takes no memory.
-    pub fn trace(&self) -> &[Resolved]
+    pub fn trace(&self) -> &[ResolvedStatement]
         ensures { result.now ≡ self.now.inner.trace }
     {
         self.inner.trace()
@@ -185,21 +183,21 @@ impl<N: Named> Txn<N> {
     pub fn execute(&mut self, statement: &Statement) -> Result<Reply, Refusal>
         ensures replied { IfOk result (λ reply.
             (step_of self.old.inner
-            (resolved self.old.inner.declared self.old.inner.read_only statement.now)).reply ≡ Ok reply) }
+            (resolution_of self.old.inner.declared self.old.inner.read_only statement.now)).reply ≡ Ok reply) }
         ensures run { IfOk result (λ _.
             self.new ≡ record self.old {
               inner = with_statement self.old.inner
-                  (resolved self.old.inner.declared self.old.inner.read_only statement.now);
+                  (resolution_of self.old.inner.declared self.old.inner.read_only statement.now);
             }) }
         ensures refused { IfErr result (λ refusal.
             refusal ≢ NoMemory
             → (step_of self.old.inner
-            (resolved self.old.inner.declared self.old.inner.read_only statement.now)).reply ≡ Err refusal) }
+            (resolution_of self.old.inner.declared self.old.inner.read_only statement.now)).reply ≡ Err refusal) }
         ensures noted { IfErr result (λ refusal.
             refusal ≢ NoMemory
             → self.new ≡ record self.old {
               inner = with_statement self.old.inner
-                  (resolved self.old.inner.declared self.old.inner.read_only statement.now);
+                  (resolution_of self.old.inner.declared self.old.inner.read_only statement.now);
             }) }
         ensures same { IfErr result (λ refusal. refusal ≡ NoMemory → self.new ≡ self.old) }
     {
@@ -226,21 +224,16 @@ impl<N: Named> Txn<N> {
 
     /// Takes the transaction to COMMIT: its net change, and the check of all assertions on its own view. NoMemory is
     /// the only error, and gives the transaction back as it was.
-    pub fn close_check(self) -> Result<Closed<N>, Unclosed<N>>
+    pub fn close_check(self) -> Result<ClosedTransaction<N>, CloseFailure<N>>
         ensures closed { IfOk result (λ closed. closed ≡ self) }
         ensures only_memory { IfErr result (λ fault. fault.refusal ≡ NoMemory) }
         ensures back { IfErr result (λ fault. fault.txn ≡ self) }
     {
         let Txn { inner, ticket } = self;
         match inner.close_check() {
-            Ok(inner) => Ok(Closed { inner, ticket }),
-            Err(
-                txn::Unclosed {
-                    refusal,
-                    txn: inner,
-                },
-            ) => Err(Unclosed {
-                refusal,
+            Ok(inner) => Ok(ClosedTransaction { inner, ticket }),
+            Err(txn::CloseFailure { txn: inner }) => Err(CloseFailure {
+                refusal: Refusal::NoMemory,
                 txn: Txn { inner, ticket },
             }),
         }
@@ -255,7 +248,7 @@ impl<N: Named> Txn<N> {
     }
 }
 
-impl<N: Named> Closed<N> {
+impl<N: Named> ClosedTransaction<N> {
     /// How many commits its snapshot holds. It takes no memory.
     pub fn snapshot(&self) -> u64
         ensures { result ≡ self.now.inner.snapshot }
@@ -302,7 +295,7 @@ impl<N: Named> Closed<N> {
     pub fn reopen(self) -> Txn<N>
         ensures { result ≡ self }
     {
-        let Closed { inner, ticket } = self;
+        let ClosedTransaction { inner, ticket } = self;
         Txn {
             inner: inner.reopen(),
             ticket,

@@ -7,7 +7,7 @@ use Rattle.std.proofs.lemmas.List.{length-append}
 use Rattle.std.proofs.Math.Seq.{take-append_seam}
 use Rattle.shell.specs.declared.cutting.Place.{Place}
 use Rattle.shell.specs.declared.cutting.Place.TheVariants.{Plain, Dash, Comment, Quote, End}
-use Rattle.shell.specs.Cuts.{Piece, Rest, after, behind, ended, forward, pieces_of, rest_of, scan, whole_of, with_byte}
+use Rattle.shell.specs.Cuts.{Piece, Rest, after, behind, piece_at_end, forward, pieces_of, rest_of, scan, whole_of, with_byte}
 
 abbrev pub piece_at : ℕ → List ℕ → Piece
 piece_at at bytes = record { at = at; bytes = bytes }
@@ -26,8 +26,8 @@ same_rests r s same_at same_bytes same_place =
 pub pieces_append : (rest : Rest) (xs ys : List ℕ) → pieces_of rest (xs ++ ys) ≡ pieces_of rest xs ++ pieces_of (rest_of rest xs) ys
 pieces_append rest [] ys = refl
 pieces_append rest (x ∷ xs) ys =
-    ap (λ l. ended (after rest.place x) rest ++ l) (pieces_append (with_byte (after rest.place x) rest x) xs ys)
-    ∙ sym (append_assoc (ended (after rest.place x) rest) (pieces_of (with_byte (after rest.place x) rest x) xs) (pieces_of (rest_of (with_byte (after rest.place x) rest x) xs) ys))
+    ap (λ l. piece_at_end (after rest.place x) rest ++ l) (pieces_append (with_byte (after rest.place x) rest x) xs ys)
+    ∙ sym (append_assoc (piece_at_end (after rest.place x) rest) (pieces_of (with_byte (after rest.place x) rest x) xs) (pieces_of (rest_of (with_byte (after rest.place x) rest x) xs) ys))
 
 pub rest_append : (rest : Rest) (xs ys : List ℕ) → rest_of rest (xs ++ ys) ≡ rest_of (rest_of rest xs) ys
 rest_append rest [] ys = refl
@@ -71,7 +71,7 @@ after_end Quote b h = go (b == 39) h
 abbrev pub longer : Place → Rest → List ℕ → Rest
 longer place rest bytes = rest_at rest.at (rest.bytes ++ bytes) place
 
-none_ended : (place : Place) (rest : Rest) → (place ≡ End → ⊥) → ended place rest ≡ []
+none_ended : (place : Place) (rest : Rest) → (place ≡ End → ⊥) → piece_at_end place rest ≡ []
 none_ended Plain rest h = refl
 none_ended Dash rest h = refl
 none_ended Comment rest h = refl
@@ -158,12 +158,12 @@ module _ (rest : Rest) (front : List ℕ) (last : ℕ) (quiet : AreQuiet front) 
   place_is : after (scan rest.place front) last ≡ place
   place_is = sym (scan_append rest.place front (last ∷ []))
 
-  pieces_are : pieces_of rest bytes ≡ ended place before
+  pieces_are : pieces_of rest bytes ≡ piece_at_end place before
   pieces_are =
       pieces_append rest front (last ∷ []) ∙ ap (λ l. l ++ pieces_of (rest_of rest front) (last ∷ [])) (quiet_pieces rest front quiet)
       ∙ ap (λ r. pieces_of r (last ∷ [])) (quiet_rest rest front quiet)
-      ∙ append-nil (ended (after (scan rest.place front) last) (longer (scan rest.place front) rest front))
-      ∙ ap (λ p. ended p (longer (scan rest.place front) rest front)) place_is
+      ∙ append-nil (piece_at_end (after (scan rest.place front) last) (longer (scan rest.place front) rest front))
+      ∙ ap (λ p. piece_at_end p (longer (scan rest.place front) rest front)) place_is
 
   rest_is : rest_of rest bytes ≡ with_byte place before last
   rest_is =
@@ -183,7 +183,7 @@ module _ (rest : Rest) (front : List ℕ) (last : ℕ) (quiet : AreQuiet front) 
 
   ends_pieces : place ≡ End → pieces_of rest bytes ≡ piece_at rest.at (take (length now.bytes - 1) now.bytes) ∷ []
   ends_pieces e =
-      pieces_are ∙ ap (λ p. ended p (longer (scan rest.place front) rest front)) e
+      pieces_are ∙ ap (λ p. piece_at_end p (longer (scan rest.place front) rest front)) e
       ∙ ap (λ l. piece_at rest.at l ∷ []) (sym piece_whole)
 
   ends_rest : place ≡ End → rest_of rest bytes ≡ rest_at (forward rest.at (length now.bytes)) [] End

@@ -3,25 +3,25 @@ use Rattle.std.proofs.Common.{◌≡◌, ℕ, Bool, true, false, cond, List, [],
 use Rattle.std.specs.Prelude.{◌==◌}
 use Rattle.std.specs.List.{list_all}
 use Rattle.std.proofs.lemmas.Bool.{and_parts, eqb-true, not-true}
-use Rattle.token.specs.Rules.{doubled, in_quotes, is_in_line}
+use Rattle.token.specs.Rules.{with_doubled_quotes, in_quotes, is_in_line}
 use Rattle.shell.specs.declared.cutting.Place.{Place}
 use Rattle.shell.specs.declared.cutting.Place.TheVariants.{Plain, Dash, Comment, Quote, End}
-use Rattle.shell.specs.Cuts.{PassesOver, Rest, after, ended, no_rest, pieces_of, rejoined, rest_of, scan, with_byte}
+use Rattle.shell.specs.Cuts.{PassesOver, Rest, after, piece_at_end, no_rest, pieces_of, text_of_pieces, rest_of, scan, with_byte}
 use Rattle.shell.proofs.Pieces.{HaveNoEnd, after_end, longer, no_end_pieces, no_end_rest, rest_at}
 
 -- ---- the pieces are the input
 
 abbrev IsJoined : Rest → List ℕ → Type 0
-IsJoined rest bytes = rejoined (pieces_of rest bytes) ++ (rest_of rest bytes).bytes ≡ rest.bytes ++ bytes
+IsJoined rest bytes = text_of_pieces (pieces_of rest bytes) ++ (rest_of rest bytes).bytes ≡ rest.bytes ++ bytes
 
 join_byte : (rest : Rest) (b : ℕ) (bytes : List ℕ) → ((next : Rest) → IsJoined next bytes) → (place : Place) → after rest.place b ≡ place
-    → rejoined (ended place rest ++ pieces_of (with_byte place rest b) bytes) ++ (rest_of (with_byte place rest b) bytes).bytes ≡ rest.bytes ++ (b ∷ bytes)
+    → text_of_pieces (piece_at_end place rest ++ pieces_of (with_byte place rest b) bytes) ++ (rest_of (with_byte place rest b) bytes).bytes ≡ rest.bytes ++ (b ∷ bytes)
 join_byte rest b bytes later Plain e = later (longer Plain rest (b ∷ [])) ∙ append_assoc rest.bytes (b ∷ []) bytes
 join_byte rest b bytes later Dash e = later (longer Dash rest (b ∷ [])) ∙ append_assoc rest.bytes (b ∷ []) bytes
 join_byte rest b bytes later Comment e = later (longer Comment rest (b ∷ [])) ∙ append_assoc rest.bytes (b ∷ []) bytes
 join_byte rest b bytes later Quote e = later (longer Quote rest (b ∷ [])) ∙ append_assoc rest.bytes (b ∷ []) bytes
 join_byte rest b bytes later End e =
-    append_assoc (rest.bytes ++ 59 ∷ []) (rejoined (pieces_of (with_byte End rest b) bytes)) (rest_of (with_byte End rest b) bytes).bytes
+    append_assoc (rest.bytes ++ 59 ∷ []) (text_of_pieces (pieces_of (with_byte End rest b) bytes)) (rest_of (with_byte End rest b) bytes).bytes
     ∙ ap (λ l. (rest.bytes ++ 59 ∷ []) ++ l) (later (with_byte End rest b))
     ∙ append_assoc rest.bytes (59 ∷ []) bytes
     ∙ ap (λ n. rest.bytes ++ (n ∷ bytes)) (sym (after_end rest.place b e))
@@ -30,7 +30,7 @@ joined : (rest : Rest) (bytes : List ℕ) → IsJoined rest bytes
 joined rest [] = sym (append-nil rest.bytes)
 joined rest (b ∷ bytes) = join_byte rest b bytes (λ next. joined next bytes) (after rest.place b) refl
 
-pub pieces_rejoin : (input : List ℕ) → rejoined (pieces_of no_rest input) ++ (rest_of no_rest input).bytes ≡ input
+pub pieces_rejoin : (input : List ℕ) → text_of_pieces (pieces_of no_rest input) ++ (rest_of no_rest input).bytes ≡ input
 pieces_rejoin input = joined no_rest input
 
 -- ---- what is passed over
@@ -56,26 +56,26 @@ passes from to bytes none leads = record {
 
 -- in quotes
 
-quoted_no_end : (inside : List ℕ) → HaveNoEnd Quote (doubled inside ++ 39 ∷ [])
+quoted_no_end : (inside : List ℕ) → HaveNoEnd Quote (with_doubled_quotes inside ++ 39 ∷ [])
 quoted_no_end [] = (plain_no_end, tt)
 quoted_no_end (b ∷ inside) = go (b == 39) refl (quoted_no_end inside)
   where
-    go : (q : Bool) → (b == 39) ≡ q → HaveNoEnd Quote (doubled inside ++ 39 ∷ []) → HaveNoEnd Quote (cond q (b ∷ b ∷ doubled inside) (b ∷ doubled inside) ++ 39 ∷ [])
+    go : (q : Bool) → (b == 39) ≡ q → HaveNoEnd Quote (with_doubled_quotes inside ++ 39 ∷ []) → HaveNoEnd Quote (cond q (b ∷ b ∷ with_doubled_quotes inside) (b ∷ with_doubled_quotes inside) ++ 39 ∷ [])
     go true e later =
-        subst (λ n. HaveNoEnd Quote (n ∷ n ∷ (doubled inside ++ 39 ∷ []))) (sym (eqb-true b 39 e)) (plain_no_end, (quote_no_end, later))
+        subst (λ n. HaveNoEnd Quote (n ∷ n ∷ (with_doubled_quotes inside ++ 39 ∷ []))) (sym (eqb-true b 39 e)) (plain_no_end, (quote_no_end, later))
     go false e later =
         let still : after Quote b ≡ Quote = ap (λ q. cond q Plain Quote) e in
-        ((λ h. quote_no_end (sym still ∙ h)), subst (λ p. HaveNoEnd p (doubled inside ++ 39 ∷ [])) (sym still) later)
+        ((λ h. quote_no_end (sym still ∙ h)), subst (λ p. HaveNoEnd p (with_doubled_quotes inside ++ 39 ∷ [])) (sym still) later)
 
-quoted_leads : (inside : List ℕ) → scan Quote (doubled inside ++ 39 ∷ []) ≡ Plain
+quoted_leads : (inside : List ℕ) → scan Quote (with_doubled_quotes inside ++ 39 ∷ []) ≡ Plain
 quoted_leads [] = refl
 quoted_leads (b ∷ inside) = go (b == 39) refl (quoted_leads inside)
   where
-    go : (q : Bool) → (b == 39) ≡ q → scan Quote (doubled inside ++ 39 ∷ []) ≡ Plain → scan Quote (cond q (b ∷ b ∷ doubled inside) (b ∷ doubled inside) ++ 39 ∷ []) ≡ Plain
-    go true e later = ap (λ n. scan Quote (n ∷ n ∷ (doubled inside ++ 39 ∷ []))) (eqb-true b 39 e) ∙ later
+    go : (q : Bool) → (b == 39) ≡ q → scan Quote (with_doubled_quotes inside ++ 39 ∷ []) ≡ Plain → scan Quote (cond q (b ∷ b ∷ with_doubled_quotes inside) (b ∷ with_doubled_quotes inside) ++ 39 ∷ []) ≡ Plain
+    go true e later = ap (λ n. scan Quote (n ∷ n ∷ (with_doubled_quotes inside ++ 39 ∷ []))) (eqb-true b 39 e) ∙ later
     go false e later =
         let still : after Quote b ≡ Quote = ap (λ q. cond q Plain Quote) e in
-        ap (λ p. scan p (doubled inside ++ 39 ∷ [])) still ∙ later
+        ap (λ p. scan p (with_doubled_quotes inside ++ 39 ∷ [])) still ∙ later
 
 pub quotes_pass : (inside : List ℕ) → PassesOver Plain (in_quotes inside) Plain
 quotes_pass inside = passes Plain Plain (in_quotes inside) (quote_no_end, quoted_no_end inside) (quoted_leads inside)

@@ -1,23 +1,22 @@
 -- Why a piece is no event, and why a shell ends early.
 use Rattle.std.proofs.Common.{◌≡◌, ℕ, true, false, List, ◌++◌, ◌-◌, length, take, drop, arith, Result, Ok, Err, inl, inr, refl, sym, ap, ◌∙◌, subst, append-nil}
-use Rattle.std.specs.Prelude.{OnOk}
+use Rattle.std.specs.Prelude.{OnOk, codes}
 use Rattle.std.proofs.lemmas.List.{length-drop, take_all}
 use Rattle.value.specs.declared.refusals.Refusal.{Refusal}
 use Rattle.value.specs.declared.refusals.Refusal.TheVariants.{NoMemory, Syntax}
 use Rattle.syntax.specs.declared.statements.Event.{Event}
 use Rattle.syntax.specs.declared.statements.Step.{Step}
 use Rattle.syntax.specs.StatementGrammar.{IsEvent}
-use Rattle.answer.specs.declared.answers.Answer.{Answer}
+use Rattle.alone.specs.declared.answers.Answer.{Answer}
 use Rattle.commit.specs.Events.{EngineState}
 use Rattle.report.specs.Report.{answer_line, refusal_line}
-use Rattle.std.specs.Prelude.{codes}
 use Rattle.replay.specs.Texts.{IsRead, IsUnread}
 use Rattle.replay.specs.declared.faults.ProgramFault.TheVariants.{Output}
 use Rattle.shell.specs.declared.faults.ShellFault.{ShellFault}
 use Rattle.shell.specs.declared.faults.ShellFault.TheVariants.{Run}
 use Rattle.shell.specs.Cuts.{Piece, forward}
 use Rattle.shell.specs.Headings.{address, event_text, is_blank}
-use Rattle.shell.specs.Outcomes.{Blank, Fault, IsBreak, IsFaultOf, IsStepOf, Reply, moved}
+use Rattle.shell.specs.Outcomes.{Blank, Fault, IsBreak, IsFaultOf, IsStepOf, Reply, refusal_in_input}
 use Rattle.shell.specs.Shell.{IsInTheTalk, is_stop}
 use Rattle.shell.specs.Writing.{Breaks, IsAnsweredNow, Responds}
 
@@ -34,12 +33,12 @@ module _ (at : ℕ) (bytes : List ℕ) (some : is_blank bytes ≡ false) where
   fault_of_memory refusal e = record { some = some; fault = NoMemory; unread = tt; is = e }
 
   -- it is none of the language
-  pub fault_of_text : (from : ℕ) (fault refusal : Refusal) → from ≡ (address bytes).from → IsUnread IsEvent (drop from bytes) fault → refusal ≡ moved (forward at from) fault → IsFaultOf piece refusal
+  pub fault_of_text : (from : ℕ) (fault refusal : Refusal) → from ≡ (address bytes).from → IsUnread IsEvent (drop from bytes) fault → refusal ≡ refusal_in_input (forward at from) fault → IsFaultOf piece refusal
   fault_of_text from fault refusal e unread is = record {
     some = some;
     fault = fault;
     unread = subst (λ n. IsUnread IsEvent (drop n bytes) fault) e unread;
-    is = is ∙ ap (λ n. moved (forward at n) fault) e;
+    is = is ∙ ap (λ n. refusal_in_input (forward at n) fault) e;
   }
 
   pub step_of_text : (from : ℕ) (step : Step) → from ≡ (address bytes).from → step.session ≡ (address bytes).session → IsRead IsEvent (drop from bytes) step.event → IsStepOf bytes step
@@ -48,24 +47,24 @@ module _ (at : ℕ) (bytes : List ℕ) (some : is_blank bytes ≡ false) where
   pub break_of_memory : (refusal : Refusal) → refusal ≡ NoMemory → IsBreak piece refusal
   break_of_memory refusal e = record { some = some; fault = NoMemory; broken = inl tt; is = e }
 
-  pub break_of_text : (from : ℕ) (fault refusal : Refusal) → from ≡ (address bytes).from → IsUnread IsEvent (drop from bytes) fault → refusal ≡ moved (forward at from) fault → IsBreak piece refusal
+  pub break_of_text : (from : ℕ) (fault refusal : Refusal) → from ≡ (address bytes).from → IsUnread IsEvent (drop from bytes) fault → refusal ≡ refusal_in_input (forward at from) fault → IsBreak piece refusal
   break_of_text from fault refusal e unread is = record {
     some = some;
     fault = fault;
     broken = inl (subst (λ n. IsUnread IsEvent (drop n bytes) fault) e unread);
-    is = is ∙ ap (λ n. moved (forward at n) fault) e;
+    is = is ∙ ap (λ n. refusal_in_input (forward at n) fault) e;
   }
 
   -- only its semicolon is missing
   pub break_of_event : (from : ℕ) (text : List ℕ) (event : Event) (refusal : Refusal) → from ≡ (address bytes).from → text ≡ take (length bytes - from) (drop from bytes)
-      → IsRead IsEvent text event → refusal ≡ moved (forward at from) (Syntax (length text)) → IsBreak piece refusal
+      → IsRead IsEvent text event → refusal ≡ refusal_in_input (forward at from) (Syntax (length text)) → IsBreak piece refusal
   break_of_event from text event refusal e is_text read is =
       let same : text ≡ event_text bytes = is_text ∙ all_behind from bytes ∙ ap (λ n. drop n bytes) e in
       record {
         some = some;
         fault = Syntax (length text);
         broken = inr (record { event = event; read = subst (λ l. IsRead IsEvent l event) same read; is = ap (λ l. Syntax (length l)) same });
-        is = is ∙ ap (λ n. moved (forward at n) (Syntax (length text))) e;
+        is = is ∙ ap (λ n. refusal_in_input (forward at n) (Syntax (length text))) e;
       }
 
 -- ---- outcomes, where there was memory for the line

@@ -8,15 +8,15 @@ use Rattle.std.proofs.lemmas.List.{length-map, map-append, set-append_left}
 use Rattle.std.proofs.lemmas.Option.{same_Some}
 use Rattle.std.proofs.lemmas.Slice.Eq.{bytes_eq-Decides}
 use Rattle.syntax.specs.declared.statements.Step.{Step}
-use Rattle.answer.specs.declared.answers.Answer.{Answer}
+use Rattle.alone.specs.declared.answers.Answer.{Answer}
 use Rattle.commit.specs.Transactions.{OpenTransaction}
 use Rattle.commit.specs.declared.seats.Seat.{Seat}
 use Rattle.commit.specs.Cores.{CoreState}
 use Rattle.commit.specs.Events.{EngineState, IsAnswered, IsAnsweredAt, IsReply, after, after_at, core_after, found_no_memory, seat_of, seats_set, takes_memory, takes_memory_at, txn_after, txn_of}
-use Rattle.commit.specs.Runs.{all_seated, free_seat, unless_seated}
+use Rattle.commit.specs.Runs.{seats_with_all, free_seat, unless_seated}
 use Rattle.commit.proofs.Running.{HasSeat, has_seat}
 use Rattle.replay.specs.Texts.{most_sessions}
-use Rattle.shell.specs.Seats.{seated_steps, seated_within, welcomed}
+use Rattle.shell.specs.Seats.{seated_steps, seated_within, engine_with_seat}
 
 abbrev Names : Type 0
 Names = List (List ℕ)
@@ -106,12 +106,12 @@ module _ (seats : List Seat) (step : Step) (rest : List Step) where
 
   -- one event more
   all_step : (place : Option ℕ) (room : Bool) → seat_of seats step.session ≡ place → nat_lt (length seats) most_sessions ≡ room
-      → all_seated seats (kept Now) ≡ all_seated Now (seated_steps Now rest)
+      → seats_with_all seats (kept Now) ≡ seats_with_all Now (seated_steps Now rest)
   all_step (Some place) room e f =
       let now : Now ≡ seats = within_is (Some place) room e f ∙ same room in
       let all : kept Now ≡ step ∷ seated_steps Now rest = kept_by Now true (ap (λ now. is_some (seat_of now step.session)) now ∙ ap is_some e) in
-      ap (all_seated seats) all ∙ ap (λ at. all_seated (unless_seated at seats step.session) (seated_steps Now rest)) e
-      ∙ ap (λ now. all_seated now (seated_steps Now rest)) (sym now)
+      ap (seats_with_all seats) all ∙ ap (λ at. seats_with_all (unless_seated at seats step.session) (seated_steps Now rest)) e
+      ∙ ap (λ now. seats_with_all now (seated_steps Now rest)) (sym now)
     where
       same : (room : Bool) → cond room seats seats ≡ seats
       same true = refl
@@ -119,12 +119,12 @@ module _ (seats : List Seat) (step : Step) (rest : List Step) where
   all_step None true e f =
       let now : Now ≡ seats ++ free_seat step.session ∷ [] = within_is None true e f in
       let all : kept Now ≡ step ∷ seated_steps Now rest = kept_by Now true (ap (λ now. is_some (seat_of now step.session)) now ∙ some_new seats step.session) in
-      ap (all_seated seats) all ∙ ap (λ at. all_seated (unless_seated at seats step.session) (seated_steps Now rest)) e
-      ∙ ap (λ now. all_seated now (seated_steps Now rest)) (sym now)
+      ap (seats_with_all seats) all ∙ ap (λ at. seats_with_all (unless_seated at seats step.session) (seated_steps Now rest)) e
+      ∙ ap (λ now. seats_with_all now (seated_steps Now rest)) (sym now)
   all_step None false e f =
       let now : Now ≡ seats = within_is None false e f in
       let all : kept Now ≡ seated_steps Now rest = kept_by Now false (ap (λ now. is_some (seat_of now step.session)) now ∙ ap is_some e) in
-      ap (all_seated seats) all ∙ ap (λ now. all_seated now (seated_steps Now rest)) (sym now)
+      ap (seats_with_all seats) all ∙ ap (λ now. seats_with_all now (seated_steps Now rest)) (sym now)
 
   late_by : (now : List Seat) → List Seat
   late_by now = now ++ late (names now) rest
@@ -154,7 +154,7 @@ module _ (seats : List Seat) (step : Step) (rest : List Step) where
       ap (λ l. seats ++ l) (placed None false e f) ∙ ap (λ now. now ++ late (names now) rest) (sym (within_is None false e f))
 
 -- all seats, made at the start
-pub seated_late : (seats : List Seat) (steps : List Step) → all_seated seats (seated_steps seats steps) ≡ seats ++ late (names seats) steps
+pub seated_late : (seats : List Seat) (steps : List Step) → seats_with_all seats (seated_steps seats steps) ≡ seats ++ late (names seats) steps
 seated_late seats [] = sym (append-nil seats)
 seated_late seats (step ∷ rest) =
     all_step seats step rest (seat_of seats step.session) (nat_lt (length seats) most_sessions) refl refl
@@ -254,7 +254,7 @@ whole_now now = ap (with_seats now.core) (append-nil now.seats)
 
 module _ (now : EngineState) (step : Step) (rest : List Step) where
   abbrev met : EngineState
-  met = welcomed now step.session
+  met = engine_with_seat now step.session
 
   whole_met : whole now (step ∷ rest) ≡ whole met rest
   whole_met =

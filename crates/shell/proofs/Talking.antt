@@ -8,7 +8,7 @@ use Rattle.commit.specs.Cores.{IsSerializable}
 use Rattle.commit.specs.Events.{EngineState, after}
 use Rattle.commit.specs.Runs.{AreAnswers, InEachRun, beginning, led_to}
 use Rattle.commit.specs.Told.{WereToldAlone}
-use Rattle.delta.specs.Views.{Shown}
+use Rattle.delta.specs.Views.{ViewState}
 use Rattle.report.specs.Fronts.{BeginsWith}
 use Rattle.replay.specs.declared.faults.ProgramFault.{ProgramFault}
 use Rattle.replay.specs.declared.faults.ProgramFault.TheVariants.{Defs, Script, Stopped, Output, NoThread}
@@ -17,7 +17,7 @@ use Rattle.shell.specs.declared.faults.ShellFault.{ShellFault}
 use Rattle.shell.specs.declared.faults.ShellFault.TheVariants.{Run, Input}
 use Rattle.shell.specs.Cuts.{Piece, Rest, no_rest, piece_of, pieces_of}
 use Rattle.shell.specs.Outcomes.{AreOutcomes, IsLast, Outcome, Blank, Reply, Fault, answers_in, line_of, lines_in, steps_in}
-use Rattle.shell.specs.Seats.{first_seated, seated_steps, welcomed}
+use Rattle.shell.specs.Seats.{first_seated, seated_steps, engine_with_seat}
 use Rattle.shell.specs.Shell.{IsBeginning, IsFirstFault, IsInTheTalk, IsRunFault, IsTalk, IsTaken, WritesConversation, WritesFirst, is_before_the_talk, is_run_stop, is_stop}
 use Rattle.shell.specs.Writing.{AreRun, FeedsAll, FeedsFirst, Finishes, ending_if, left_by_all}
 use Rattle.shell.proofs.Seating.{after_whole, answered_whole, seated_late, whole, whole_now, with_seats}
@@ -30,7 +30,7 @@ are_answers now (Fault refusal ∷ more) h = are_answers now more h.1
 are_answers now (Reply step answer ∷ more) h = (
   answered_whole now step (steps_in more) answer h.0,
   subst (λ e. AreAnswers e (steps_in more) (answers_in more)) (sym (after_whole now step (steps_in more) answer h.0))
-      (are_answers (after (welcomed now step.session) step answer) more h.1),
+      (are_answers (after (engine_with_seat now step.session) step answer) more h.1),
 )
 
 lead_to : (now : EngineState) (outcomes : List Outcome) → AreRun now outcomes
@@ -39,11 +39,11 @@ lead_to now [] h = refl
 lead_to now (Blank ∷ more) h = lead_to now more h.1
 lead_to now (Fault refusal ∷ more) h = lead_to now more h.1
 lead_to now (Reply step answer ∷ more) h =
-    lead_to (after (welcomed now step.session) step answer) more h.1
+    lead_to (after (engine_with_seat now step.session) step answer) more h.1
     ∙ ap (λ e. led_to e (steps_in more) (answers_in more)) (sym (after_whole now step (steps_in more) answer h.0))
 
 -- from no session on
-whole_first : (limit : ℕ) (shown : Shown) (steps : List Step) → whole (beginning limit shown []) steps ≡ first_seated limit shown steps
+whole_first : (limit : ℕ) (shown : ViewState) (steps : List Step) → whole (beginning limit shown []) steps ≡ first_seated limit shown steps
 whole_first limit shown steps =
     ap (with_seats (beginning limit shown []).core) (sym (seated_late [] steps))
 

@@ -48,9 +48,9 @@ abbrev pub no_rest : Rest
 no_rest = record { at = 0; bytes = []; place = Plain }
 
 -- the piece that a byte ends, if it ends one
-abbrev pub ended : Place → Rest → List Piece
-ended End rest = piece_of rest ∷ []
-ended place rest = []
+abbrev pub piece_at_end : Place → Rest → List Piece
+piece_at_end End rest = piece_of rest ∷ []
+piece_at_end place rest = []
 
 -- what is not cut off behind this byte
 abbrev pub with_byte : Place → Rest → ℕ → Rest
@@ -61,7 +61,7 @@ with_byte place rest b = record { at = rest.at; bytes = rest.bytes ++ b ∷ []; 
 abbrev pub pieces_of : Rest → List ℕ → List Piece
 pieces_of rest [] = []
 pieces_of rest (b ∷ bytes) =
-    ended (after rest.place b) rest ++ pieces_of (with_byte (after rest.place b) rest b) bytes
+    piece_at_end (after rest.place b) rest ++ pieces_of (with_byte (after rest.place b) rest b) bytes
 
 -- and what is not cut off behind them
 abbrev pub rest_of : Rest → List ℕ → Rest
@@ -69,9 +69,9 @@ rest_of rest [] = rest
 rest_of rest (b ∷ bytes) = rest_of (with_byte (after rest.place b) rest b) bytes
 
 -- pieces with their semicolons, one behind the other
-abbrev pub rejoined : List Piece → List ℕ
-rejoined [] = []
-rejoined (piece ∷ pieces) = (piece.bytes ++ 59 ∷ []) ++ rejoined pieces
+abbrev pub text_of_pieces : List Piece → List ℕ
+text_of_pieces [] = []
+text_of_pieces (piece ∷ pieces) = (piece.bytes ++ 59 ∷ []) ++ text_of_pieces pieces
 
 -- more bytes have come behind what was not cut off
 pub record IsLonger (before now : Rest) (more : List ℕ) : Type 0 where

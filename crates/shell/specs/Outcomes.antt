@@ -5,7 +5,7 @@ use Rattle.value.specs.declared.refusals.Refusal.TheVariants.{Syntax, TooDeep}
 use Rattle.syntax.specs.declared.statements.Step.{Step}
 use Rattle.syntax.specs.declared.statements.Event.{Event}
 use Rattle.syntax.specs.StatementGrammar.{IsEvent}
-use Rattle.answer.specs.declared.answers.Answer.{Answer}
+use Rattle.alone.specs.declared.answers.Answer.{Answer}
 use Rattle.report.specs.Report.{answer_line, refusal_line}
 use Rattle.replay.specs.Texts.{IsRead, IsUnread}
 use Rattle.shell.specs.Cuts.{Piece, forward}
@@ -18,10 +18,10 @@ pub data Outcome : Type 0 where
   Fault : Refusal → Outcome
 
 -- a refusal that names a place of the event, by the place in the input
-abbrev pub moved : ℕ → Refusal → Refusal
-moved at (Syntax n) = Syntax (forward at n)
-moved at (TooDeep n) = TooDeep (forward at n)
-moved at refusal = refusal
+abbrev pub refusal_in_input : ℕ → Refusal → Refusal
+refusal_in_input at (Syntax n) = Syntax (forward at n)
+refusal_in_input at (TooDeep n) = TooDeep (forward at n)
+refusal_in_input at refusal = refusal
 
 -- where the event of a piece begins in the input
 abbrev pub event_at : Piece → ℕ
@@ -38,7 +38,7 @@ pub record IsFaultOf (piece : Piece) (refusal : Refusal) : Type 0 where
   pub some : is_blank piece.bytes ≡ false
   pub fault : Refusal
   pub unread : IsUnread IsEvent (event_text piece.bytes) fault
-  pub is : refusal ≡ moved (event_at piece) fault
+  pub is : refusal ≡ refusal_in_input (event_at piece) fault
 
 -- what may become of a piece that a semicolon ends
 abbrev pub IsOutcome : Piece → Outcome → Type 0
@@ -64,7 +64,7 @@ pub record IsBreak (piece : Piece) (refusal : Refusal) : Type 0 where
   pub some : is_blank piece.bytes ≡ false
   pub fault : Refusal
   pub broken : IsUnread IsEvent (event_text piece.bytes) fault ⊎ IsOpen (event_text piece.bytes) fault
-  pub is : refusal ≡ moved (event_at piece) fault
+  pub is : refusal ≡ refusal_in_input (event_at piece) fault
 
 -- what may become of it
 abbrev pub IsLast : Piece → Outcome → Type 0

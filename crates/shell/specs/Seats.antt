@@ -1,19 +1,19 @@
 -- The sessions that get a seat: the first that come, and no more than so many.
 use Rattle.std.specs.Prelude.{ℕ, List, [], ◌∷◌, length, nat_lt, is_some, if◌then◌else◌}
 use Rattle.syntax.specs.declared.statements.Step.{Step}
-use Rattle.delta.specs.Views.{Shown}
+use Rattle.delta.specs.Views.{ViewState}
 use Rattle.commit.specs.declared.seats.Seat.{Seat}
 use Rattle.commit.specs.Events.{EngineState, seat_of}
-use Rattle.commit.specs.Runs.{beginning, seated}
+use Rattle.commit.specs.Runs.{beginning, seats_with}
 use Rattle.replay.specs.Texts.{most_sessions}
 
 -- with a seat for a session, if it has none and there is one
 abbrev pub seated_within : List Seat → List ℕ → List Seat
-seated_within seats session = if nat_lt (length seats) most_sessions then seated seats session else seats
+seated_within seats session = if nat_lt (length seats) most_sessions then seats_with seats session else seats
 
 -- the engine with a seat for a session, if it has none and there is one
-abbrev pub welcomed : EngineState → List ℕ → EngineState
-welcomed now session = record now { seats = seated_within now.seats session }
+abbrev pub engine_with_seat : EngineState → List ℕ → EngineState
+engine_with_seat now session = record now { seats = seated_within now.seats session }
 
 -- the events of the sessions that have a seat or get one
 abbrev pub seated_steps : List Seat → List Step → List Step
@@ -24,5 +24,5 @@ seated_steps seats (step ∷ rest) =
     else seated_steps (seated_within seats step.session) rest
 
 -- before the first of some events, with a seat for each session that gets one
-abbrev pub first_seated : (limit : ℕ) → Shown → List Step → EngineState
+abbrev pub first_seated : (limit : ℕ) → ViewState → List Step → EngineState
 first_seated limit shown steps = beginning limit shown (seated_steps [] steps)

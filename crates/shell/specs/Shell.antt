@@ -4,8 +4,8 @@ use Rattle.std.specs.Io.KnownBytes.{Appends}
 use Rattle.value.specs.declared.refusals.Refusal.{Refusal}
 use Rattle.syntax.specs.declared.definitions.Definition.{Definition}
 use Rattle.syntax.specs.SchemaGrammar.{IsSchema}
-use Rattle.delta.specs.Views.{Shown}
-use Rattle.commit.specs.Admission.{admitted}
+use Rattle.delta.specs.Views.{ViewState}
+use Rattle.commit.specs.Admission.{admission_of}
 use Rattle.commit.specs.Alone.{IsSound}
 use Rattle.commit.specs.Cores.{IsSerializable}
 use Rattle.commit.specs.Events.{EngineState}
@@ -24,21 +24,21 @@ use Rattle.shell.specs.Seats.{first_seated}
 use Rattle.shell.specs.Writing.{ending_if}
 
 -- the definitions are read and admitted; each assertion means what they write
-pub record AreTaken (defs : List ℕ) (shown : Shown) : Type 0 where
+pub record AreTaken (defs : List ℕ) (shown : ViewState) : Type 0 where
   pub definitions : List Definition
   pub read : IsRead IsSchema defs definitions
-  pub admits : admitted definitions ≡ Ok shown
+  pub admits : admission_of definitions ≡ Ok shown
   pub written : AreWritten definitions shown.declared
 
 -- they are read, and refused so
 pub record AreRefused (defs : List ℕ) (refusal : Refusal) : Type 0 where
   pub definitions : List Definition
   pub read : IsRead IsSchema defs definitions
-  pub refused : admitted definitions ≡ Err refusal
+  pub refused : admission_of definitions ≡ Err refusal
 
 -- the engine before the first event
 pub record IsBeginning (defs : List ℕ) (limit : ℕ) (engine : EngineState) : Type 0 where
-  pub shown : Shown
+  pub shown : ViewState
   pub taken : AreTaken defs shown
   pub sound : IsSound shown.declared shown.state
   pub is : engine ≡ beginning limit shown []
@@ -46,7 +46,8 @@ pub record IsBeginning (defs : List ℕ) (limit : ℕ) (engine : EngineState) : 
 -- The pieces of the input have these outcomes. The events among them are answered, each after those before it, from
 -- what the definitions define. The commits that they lead to are serializable, and each committed transaction was told
 -- what it answers alone.
-pub record IsTalk (limit : ℕ) (shown : Shown) (pieces : List Piece) (outcomes : List Outcome) (left : EngineState) : Type 0 where
+pub record IsTalk (limit : ℕ) (shown : ViewState) (pieces : List Piece) (outcomes : List Outcome)
+    (left : EngineState) : Type 0 where
   pub are : AreOutcomes pieces outcomes
   pub answered : AreAnswers (first_seated limit shown (steps_in outcomes)) (steps_in outcomes) (answers_in outcomes)
   pub leaves : left ≡ led_to (first_seated limit shown (steps_in outcomes)) (steps_in outcomes) (answers_in outcomes)
@@ -55,7 +56,7 @@ pub record IsTalk (limit : ℕ) (shown : Shown) (pieces : List Piece) (outcomes 
 
 -- the lines of all pieces of an input, of what is left at its end, and the report, if it is asked for
 pub record IsConversation (defs input : List ℕ) (limit : ℕ) (reports : Bool) (bytes : List ℕ) : Type 0 where
-  pub shown : Shown
+  pub shown : ViewState
   pub taken : AreTaken defs shown
   pub outcomes : List Outcome
   pub left : EngineState
@@ -75,7 +76,7 @@ pub record WritesConversation (defs : List ℕ) (limit : ℕ) (reports : Bool) (
 
 -- the writer gained the lines of the first pieces of what was read
 pub record WritesFirst (defs : List ℕ) (limit : ℕ) (from old new : Option (List ℕ)) : Type 0 where
-  pub shown : Shown
+  pub shown : ViewState
   pub taken : AreTaken defs shown
   pub input : List ℕ
   pub begins : IfSome from (λ bytes. BeginsWith input bytes)
@@ -89,7 +90,7 @@ pub record WritesFirst (defs : List ℕ) (limit : ℕ) (from old new : Option (L
 
 -- the shell was begun
 abbrev pub IsTaken : List ℕ → Type 0
-IsTaken defs = (shown : Shown) × AreTaken defs shown
+IsTaken defs = (shown : ViewState) × AreTaken defs shown
 
 -- why the shell did not come to its end, of the faults of a replay: there is no script, and no thread
 abbrev pub IsRunFault : List ℕ → ProgramFault → Type 0

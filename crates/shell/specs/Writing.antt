@@ -2,23 +2,23 @@
 use Rattle.std.specs.Prelude.{◌≡◌, ◌++◌, ℕ, Bool, true, false, List, [], ◌∷◌, Option, IfSome, ⊤}
 use Rattle.std.specs.Io.KnownBytes.{Appends, Consumes, IsAtEnd}
 use Rattle.syntax.specs.declared.statements.Step.{Step}
-use Rattle.answer.specs.declared.answers.Answer.{Answer}
+use Rattle.alone.specs.declared.answers.Answer.{Answer}
 use Rattle.commit.specs.Events.{EngineState, IsAnswered, after}
 use Rattle.replay.specs.Lines.{ending}
 use Rattle.shell.specs.Cuts.{Piece, Rest, piece_of, pieces_of, rest_of}
 use Rattle.shell.specs.Outcomes.{AreOutcomes, IsLast, IsOutcome, Outcome, Blank, Reply, Fault, line_of, lines_in}
-use Rattle.shell.specs.Seats.{welcomed}
+use Rattle.shell.specs.Seats.{engine_with_seat}
 
 -- an event is answered; its session has then got its seat, if there was one
 abbrev pub IsRun : EngineState → Outcome → Type 0
 IsRun now Blank = ⊤
-IsRun now (Reply step answer) = IsAnswered (welcomed now step.session) step answer
+IsRun now (Reply step answer) = IsAnswered (engine_with_seat now step.session) step answer
 IsRun now (Fault refusal) = ⊤
 
 -- what an outcome leaves of the engine
 abbrev pub left_by : EngineState → Outcome → EngineState
 left_by now Blank = now
-left_by now (Reply step answer) = after (welcomed now step.session) step answer
+left_by now (Reply step answer) = after (engine_with_seat now step.session) step answer
 left_by now (Fault refusal) = now
 
 -- the events among some outcomes are answered, each after those before it
@@ -33,8 +33,8 @@ left_by_all now (outcome ∷ outcomes) = left_by_all (left_by now outcome) outco
 
 -- an event is answered, and this is what it leaves
 pub record IsAnsweredNow (before : EngineState) (step : Step) (answer : Answer) (left : EngineState) : Type 0 where
-  pub answered : IsAnswered (welcomed before step.session) step answer
-  pub leaves : left ≡ after (welcomed before step.session) step answer
+  pub answered : IsAnswered (engine_with_seat before step.session) step answer
+  pub leaves : left ≡ after (engine_with_seat before step.session) step answer
 
 -- what is left at the end of the input has its outcome, and the lines grow by its line
 pub record Breaks (piece : Piece) (old new : List ℕ) : Type 0 where

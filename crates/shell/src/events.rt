@@ -1,16 +1,15 @@
 //! A piece is answered.
 
-ghost use Rattle.std.specs.Prelude.{◌≡◌, ◌++◌, false, IfErr, IfOk, IsOkUnless, OnErr, OnOk};
-ghost use Rattle.value.specs.declared.refusals.Refusal.TheVariants.{NoMemory};
+ghost use Rattle.std.specs.Prelude.{◌≡◌, ◌++◌, false, IfErr, IfOk, OnErr, OnOk};
 ghost use Rattle.shell.specs.Cuts as cut;
 ghost use Rattle.shell.specs.Headings as heading;
 ghost use Rattle.shell.specs.Outcomes as spec;
 ghost use Rattle.shell.specs.Outcomes.{IsBreak, IsFaultOf, IsStepOf};
-ghost use Rattle.shell.specs.Seats.{welcomed};
+ghost use Rattle.shell.specs.Seats.{engine_with_seat};
 ghost use Rattle.shell.specs.Writing.{Breaks, IsAnsweredNow, Responds};
 
 use crate::headings::{is_blank, read_address};
-use answer::Answer;
+use alone::Answer;
 use commit::Engine;
 use parse::parse_statement;
 use replay::MOST_SESSIONS;
@@ -30,8 +29,8 @@ fn forward(at: usize, count: usize) -> usize
 }
 
 /// A refusal that names a place of the event, by the place in the input.
-fn moved(at: usize, refusal: Refusal) -> Refusal
-    ensures { result ≡ spec.moved at refusal }
+fn refusal_in_input(at: usize, refusal: Refusal) -> Refusal
+    ensures { result ≡ spec.refusal_in_input at refusal }
 {
     match refusal {
         Refusal::Syntax { at: place } => Refusal::Syntax {
@@ -57,14 +56,13 @@ fn read_step(alloc: Global, at: usize, bytes: &[u8]) -> Result<Step, Refusal>
             session: address.session,
             event,
         }),
-        Err(refusal) => Err(moved(forward(at, address.from), refusal)),
+        Err(refusal) => Err(refusal_in_input(forward(at, address.from), refusal)),
     }
 }
 
 /// A seat for a session, if it has none and there is one.
-fn welcome(engine: &mut Engine, session: &Text) -> Result<(), Refusal>
-    ensures only_memory { IsOkUnless result NoMemory }
-    ensures seated { OnOk result (engine.new ≡ welcomed engine.old session.now) }
+fn welcome(engine: &mut Engine, session: &Text) -> Result<(), AllocError>
+    ensures seated { OnOk result (engine.new ≡ engine_with_seat engine.old session.now) }
     ensures same { OnErr result (engine.new ≡ engine.old) }
 {
     if engine.seats().len() < MOST_SESSIONS {
@@ -92,9 +90,9 @@ fn run_piece(
     ensures same { OnErr result (engine.new ≡ engine.old) }
 {
     let step = read_step(alloc, at, bytes)?;
-    if let Err(refusal) = welcome(engine, &step.session) {
+    if let Err(_) = welcome(engine, &step.session) {
         let_go(step);
-        return Err(refusal);
+        return Err(Refusal::NoMemory);
     }
     let answer = engine.answer(&step);
     Ok((step, answer))
@@ -133,7 +131,7 @@ fn refuse_rest(alloc: Global, at: usize, bytes: &[u8]) -> Refusal
     ensures { IsBreak (record { at = at; bytes = bytes.now }) result }
 {
     match read_address(alloc, bytes) {
-        Err(refusal) => refusal,
+        Err(_) => Refusal::NoMemory,
         Ok(address) => {
             let text = &bytes[address.from..];
             let place = forward(at, address.from);
@@ -141,9 +139,9 @@ fn refuse_rest(alloc: Global, at: usize, bytes: &[u8]) -> Refusal
                 Ok(event) => {
                     let_go(event);
                     // (its semicolon is missing)
-                    moved(place, Refusal::Syntax { at: text.len() })
+                    refusal_in_input(place, Refusal::Syntax { at: text.len() })
                 }
-                Err(refusal) => moved(place, refusal),
+                Err(refusal) => refusal_in_input(place, refusal),
             }
         }
     }

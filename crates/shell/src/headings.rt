@@ -1,13 +1,12 @@
 //! What stands in front of a piece's event.
 
-ghost use Rattle.std.specs.Prelude.{◌≡◌, ◌≤◌, ◌<◌, length, IfOk, IfSome, IsOkUnless};
-ghost use Rattle.value.specs.declared.refusals.Refusal.TheVariants.{NoMemory};
+ghost use Rattle.std.specs.Prelude.{◌≡◌, ◌≤◌, ◌<◌, length, IfOk, IfSome};
 ghost use Rattle.syntax.specs.Reading.{same_kind};
 ghost use Rattle.shell.specs.Headings as spec;
 
-use std::alloc::Global;
+use std::alloc::{AllocError, Global};
 use token::{Kind, Token, name_bytes, next_token};
-use value::{Refusal, Text};
+use value::Text;
 
 /// The session of a piece that names none.
 const NAMELESS: &str = "ME";
@@ -51,9 +50,8 @@ fn find(bytes: &[u8], from: usize, kind: Kind) -> Option<Token>
     }
 }
 
-/// The session that a piece names in front, or else ME, and where its event begins. NoMemory is the only error.
-pub fn read_address(alloc: Global, bytes: &[u8]) -> Result<Address, Refusal>
-    ensures only_memory { IsOkUnless result NoMemory }
+/// The session that a piece names in front, or else ME, and where its event begins.
+pub fn read_address(alloc: Global, bytes: &[u8]) -> Result<Address, AllocError>
     ensures session { IfOk result (λ address. address.session ≡ (spec.address bytes.now).session) }
     ensures from { IfOk result (λ address. address.from ≡ (spec.address bytes.now).from) }
     ensures within { IfOk result (λ address. address.from ≤ length bytes.now) }
@@ -70,8 +68,7 @@ pub fn read_address(alloc: Global, bytes: &[u8]) -> Result<Address, Refusal>
     }
 }
 
-fn nameless(alloc: Global) -> Result<Address, Refusal>
-    ensures only_memory { IsOkUnless result NoMemory }
+fn nameless(alloc: Global) -> Result<Address, AllocError>
     ensures session { IfOk result (λ address. address.session ≡ spec.nameless.session) }
     ensures from { IfOk result (λ address. address.from ≡ 0) }
 {

@@ -4,11 +4,11 @@ ghost use Rattle.std.specs.Prelude.{◌≡◌, ◌++◌, ◌∷◌, [], List, �
 ghost use Rattle.std.specs.List.{list_all};
 ghost use Rattle.token.specs.Rules.{in_quotes, is_in_line};
 ghost use Rattle.shell.specs.declared.cutting.Place.TheVariants.{Plain};
-ghost use Rattle.shell.specs.Cuts.{PassesOver, no_rest, pieces_of, rejoined, rest_of};
+ghost use Rattle.shell.specs.Cuts.{PassesOver, no_rest, pieces_of, text_of_pieces, rest_of};
 
 /// The pieces of an input, each with its semicolon, and behind them what is left, are the input.
 pub fn pieces_are_the_input()
-    ensures { (input : List ℕ) → rejoined (pieces_of no_rest input) ++ (rest_of no_rest input).bytes ≡ input }
+    ensures { (input : List ℕ) → text_of_pieces (pieces_of no_rest input) ++ (rest_of no_rest input).bytes ≡ input }
 {}
 
 /// No semicolon in a quoted text ends a piece, nor one in a comment.

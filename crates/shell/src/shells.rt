@@ -20,6 +20,7 @@ use report::Report;
 use std::alloc::{AllocError, Global};
 use std::io;
 use std::io::{BufRead, Write};
+use value::Refusal;
 
 /// The committed transactions and the sessions, what came in and is not answered yet, and the lines of an answer.
 #[derive(Drop)]
@@ -67,7 +68,7 @@ fn begin_engine(alloc: Global, defs: &[u8], limit: u64) -> Result<Engine, Progra
     };
     match Engine::new(alloc, limit, view, &[]) {
         Ok(engine) => Ok(engine),
-        Err(refusal) => Err(ProgramFault::Defs(refusal)),
+        Err(_) => Err(ProgramFault::Defs(Refusal::NoMemory)),
     }
 }
 

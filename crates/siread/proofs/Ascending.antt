@@ -6,7 +6,7 @@ use Rattle.std.proofs.lemmas.Bool.{both_ways}
 use Rattle.siread.specs.declared.keys.LockKey.{LockKey}
 use Rattle.siread.specs.Keys.{same_key}
 use Rattle.siread.specs.Readers.{ends_in, left_out, reaches_above, with_last, IsAscending}
-use Rattle.siread.specs.Locks.{changed_at, reaching, AreAscending, AreBelow, Reads}
+use Rattle.siread.specs.Locks.{changed_at, reads_above, AreAscending, AreBelow, Reads}
 use Rattle.siread.proofs.KeyOrder.{same_key-true}
 use Rattle.siread.proofs.Members.{in_head, in_tail}
 use Rattle.siread.proofs.Steps.{ends_later}
@@ -65,5 +65,5 @@ pub taken_ascends : (number : ℕ) (key : LockKey) (reads : Reads) → AreAscend
 taken_ascends number key reads a = changed_ascends key (left_out number) reads a (filter_ascends _ (reads key) (a key))
 
 pub trimmed_ascends : (low : ℕ) (reaches : List ℕ) (reads : Reads) → AreAscending reads
-    → AreAscending (reaching low reaches reads)
+    → AreAscending (reads_above low reaches reads)
 trimmed_ascends low reaches reads a key = filter_ascends (reaches_above low reaches) (reads key) (a key)

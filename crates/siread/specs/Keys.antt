@@ -38,12 +38,13 @@ abbrev pub touches : Change → LockKey → Bool
 touches change key = holds key (place_of change) change.old || holds key (place_of change) change.new
 
 -- the row, where it is under the key
-abbrev pub seen : LockKey → Place → Option RowValues → Option RowValues
-seen key place row = if holds key place row then row else None
+abbrev pub row_under_key : LockKey → Place → Option RowValues → Option RowValues
+row_under_key key place row = if holds key place row then row else None
 
 -- two states hold the same rows under a key: at each place the same, where it is under the key
 abbrev pub SameUnder : {S : Type 0} → (S → Place → Option RowValues) → LockKey → S → S → Type 0
-SameUnder look key one other = (place : Place) → seen key place (look one place) ≡ seen key place (look other place)
+SameUnder look key one other = (place : Place)
+    → row_under_key key place (look one place) ≡ row_under_key key place (look other place)
 
 -- and under each key of a list
 abbrev pub AlikeUnder : {S : Type 0} → (S → Place → Option RowValues) → List LockKey → S → S → Type 0

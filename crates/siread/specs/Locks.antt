@@ -55,8 +55,8 @@ abbrev pub IsPartlyPut : ℕ → List LockKey → Reads → Reads → Type 0
 IsPartlyPut number keys old new = (count : ℕ) × (new ≡ with_reader number (take count keys) old)
 
 -- with the readers alone that reach above this number
-abbrev pub reaching : (low : ℕ) → (reaches : List ℕ) → Reads → Reads
-reaching low reaches reads key = filter (reaches_above low reaches) (reads key)
+abbrev pub reads_above : (low : ℕ) → (reaches : List ℕ) → Reads → Reads
+reads_above low reaches reads key = filter (reaches_above low reaches) (reads key)
 
 -- the keys that have readers are among these, each of which is listed once
 pub record AreKeysRead (keys : List LockKey) (reads : Reads) : Type 0 where

@@ -3,7 +3,7 @@
 ghost use Rattle.std.specs.Prelude.{◌≡◌, ◌+◌, ◌∷◌, [], ℕ, not, OnOk, OnErr};
 ghost use Rattle.table.specs.Rows.{value_in};
 ghost use Rattle.siread.specs.Families.{is_no_entry, last_in, last_over, last_under, reaching_each, readers_of, IsFamilyCount};
-ghost use Rattle.siread.specs.Locks.{changed_at, no_reads, reaching, readers_at, with_reader, without_reader, AreBelow, IsCount, IsGreatestReader, IsPartlyPut, IsUndone};
+ghost use Rattle.siread.specs.Locks.{changed_at, no_reads, reads_above, readers_at, with_reader, without_reader, AreBelow, IsCount, IsGreatestReader, IsPartlyPut, IsUndone};
 ghost use Rattle.siread.specs.Readers.{last_reaching, left_out, with_last, ReachNoFurther};
 
 use crate::by_value::ByValue;
@@ -116,7 +116,7 @@ impl LockTable {
     /// Keeps the readers alone that reach above a number, of all keys. How far a reader reaches stands in `reaches`,
     /// from the number 1 on; past its end that is 0. It takes no memory.
     pub fn trim(&mut self, low: u64, reaches: &[u64])
-        ensures { readers_at self.new ≡ reaching low reaches.now (readers_at self.old) }
+        ensures { readers_at self.new ≡ reads_above low reaches.now (readers_at self.old) }
     {
         keep_reaching(&mut self.families, low, reaches);
     }
@@ -183,7 +183,7 @@ impl LockTable {
 
 /// Keeps the readers alone that reach above a number, and the families that have some.
 fn keep_reaching(families: &mut BTreeMap<Family, ByValue>, low: u64, reaches: &[u64])
-    ensures { readers_at families.new.entries ≡ reaching low reaches.now (readers_at families.old.entries) }
+    ensures { readers_at families.new.entries ≡ reads_above low reaches.now (readers_at families.old.entries) }
 {
     families.retain(
         |_family, readers|

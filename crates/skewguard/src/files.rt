@@ -4,7 +4,7 @@ ghost use Rattle.std.specs.Prelude.{◌≡◌, ◌≤◌, ◌⊎◌, IfErr};
 ghost use Rattle.replay.specs.declared.files.ReadFault.TheVariants.{NoMemory, Unreadable};
 
 use crate::signs::Sign;
-use checkup::{Colour, Named};
+use checkup::{Colour, NamedText};
 use replay::{ReadFault, fault_of, read_all};
 use report::Report;
 use std::alloc::Global;
@@ -52,8 +52,8 @@ pub struct Source<'a> {
 
 impl<'a> Source<'a> {
     /// The text as a reader is shown it.
-    pub fn named(&self) -> Named<'_> {
-        Named {
+    pub fn named(&self) -> NamedText<'_> {
+        NamedText {
             name: self.name,
             bytes: self.bytes.as_slice(),
         }

@@ -13,8 +13,7 @@ use std::marker::Brand;
 use std::rt::Files;
 use std::sync::Wait;
 use std::thread::Threads;
-use threads::threads_into;
-use workers::Free;
+use threads::{Free, threads_into};
 
 /// How a script is run.
 #[derive(Clone, Copy, Debug, PartialEq, Eq)]

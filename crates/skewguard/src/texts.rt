@@ -3,7 +3,7 @@
 ghost use Rattle.std.specs.Prelude.{◌≤◌, IfErr, IfSome};
 
 use crate::files::{Source, Streams, USAGE, read_or_report};
-use checkup::Named;
+use checkup::NamedText;
 use clap::ArgMatches;
 use std::io::Write;
 use std::rt::Files;
@@ -17,12 +17,12 @@ pub struct Texts<'a> {
 
 impl<'a> Texts<'a> {
     /// The definitions.
-    pub fn defs(&self) -> Named<'_> {
+    pub fn defs(&self) -> NamedText<'_> {
         self.defs.named()
     }
 
     /// The script, if there is one.
-    pub fn script(&self) -> Option<Named<'_>> {
+    pub fn script(&self) -> Option<NamedText<'_>> {
         match &self.script {
             Some(script) => Some(script.named()),
             None => None,

@@ -27,5 +27,6 @@ made_to made (inl _) = made
 made_to made (inr _) = ftrue
 
 -- status 0, and at new a handle of what the request opens; or status 2, and nothing was made
-abbrev pub opened : Global → (request : List ℕ) → Ptr → Ptr → ℤ → Fml
-opened alloc request old new status = fex (IsMade old new status) (made_to (handle_where alloc new (IsOpened request)))
+abbrev pub outcome_of_open : Global → (request : List ℕ) → Ptr → Ptr → ℤ → Fml
+outcome_of_open alloc request old new status =
+    fex (IsMade old new status) (made_to (handle_where alloc new (IsOpened request)))

@@ -13,7 +13,7 @@
 ghost use Rattle.std.specs.Prelude.{IfSome};
 ghost use Rattle.std.specs.Borrow.{sem};
 ghost use Rattle.calls.specs.States.{LibraryState, IsCalled, IsOpened, IsReplied};
-ghost use Rattle.skewguard_c.specs.Handles.{handle, handle_where, opened};
+ghost use Rattle.skewguard_c.specs.Handles.{handle, handle_where, outcome_of_open};
 
 #[cfg(test)]
 mod tests;
@@ -55,7 +55,7 @@ fn finish(library: Box<Library>) {
 /// 0, and the handle is in `out`; or 2 without memory, and nothing was made.
 #[unsafe(no_mangle)]
 pub extern "C" fn skewguard_library_open(alloc: Global, request: &[u8], out: &mut *mut u8) -> i32
-    ensures* { sem 𝓛 (opened alloc request.now out.old out.new result) }
+    ensures* { sem 𝓛 (outcome_of_open alloc request.now out.old out.new result) }
 {
     match make(alloc, request) {
         Some(made) => {

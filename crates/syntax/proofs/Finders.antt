@@ -14,8 +14,8 @@ use Rattle.syntax.specs.declared.trees.Expression.{Expression}
 use Rattle.syntax.specs.declared.trees.Expression.TheVariants as e
 use Rattle.syntax.specs.declared.trees.Condition.{Condition}
 use Rattle.syntax.specs.declared.trees.Condition.TheVariants as b
-use Rattle.syntax.specs.declared.wants.Found.{Found}
-use Rattle.syntax.specs.declared.wants.Found.TheVariants as part
+use Rattle.syntax.specs.declared.wants.PartInParentheses.{PartInParentheses}
+use Rattle.syntax.specs.declared.wants.PartInParentheses.TheVariants as part
 use Rattle.syntax.specs.declared.wants.Want.{Want}
 use Rattle.syntax.specs.declared.wants.Want.TheVariants as want
 use Rattle.syntax.specs.Language.{Lexeme, Lexemes, kind_at, Language, Then}
@@ -163,7 +163,7 @@ limit want.Query = 0
 limit want.Operand = 0
 limit want.Any = 0
 
-star_loop : (inner : Language Found) → Loops rank 9 8 r.is_star (Then (lang.token k.Star) (λ _. g.factor inner))
+star_loop : (inner : Language PartInParentheses) → Loops rank 9 8 r.is_star (Then (lang.token k.Star) (λ _. g.factor inner))
 star_loop inner = record { opening = token_opening r.is_star k.Star (λ _. g.factor inner) refl; binds = binds; stops = stops; below = omega arith }
   where
     binds : (kind : Kind) → r.is_star kind ≡ true → rank kind ≤ 9
@@ -174,11 +174,11 @@ star_loop inner = record { opening = token_opening r.is_star k.Star (λ _. g.fac
     stops k.Star small = absurd (omega arith)
     stops _ small = refl
 
-sum_opening : (inner : Language Found) (w : Lexemes) (x : Expression) → g.sum_item inner w x → Opening r.is_sign (g.sum_item inner) w
+sum_opening : (inner : Language PartInParentheses) (w : Lexemes) (x : Expression) → g.sum_item inner w x → Opening r.is_sign (g.sum_item inner) w
 sum_opening inner w x (inl h) = let o = token_opening r.is_sign k.Plus (λ _. g.term inner) refl w x h in record { token = o.token; more = o.more; is = o.is; passes = o.passes }
 sum_opening inner w x (inr h) = let o = token_opening r.is_sign k.Minus (λ _. lang.◌<$>◌ e.Negation (g.term inner)) refl w x h in record { token = o.token; more = o.more; is = o.is; passes = o.passes }
 
-sum_loop : (inner : Language Found) → Loops rank 8 7 r.is_sign (g.sum_item inner)
+sum_loop : (inner : Language PartInParentheses) → Loops rank 8 7 r.is_sign (g.sum_item inner)
 sum_loop inner = record { opening = sum_opening inner; binds = binds; stops = stops; below = omega arith }
   where
     binds : (kind : Kind) → r.is_sign kind ≡ true → rank kind ≤ 8
@@ -191,7 +191,7 @@ sum_loop inner = record { opening = sum_opening inner; binds = binds; stops = st
     stops k.Minus small = absurd (omega arith)
     stops _ small = refl
 
-and_loop : (inner : Language Found) → Loops rank 6 5 r.is_and (Then (lang.token k.And) (λ _. g.bfact inner))
+and_loop : (inner : Language PartInParentheses) → Loops rank 6 5 r.is_and (Then (lang.token k.And) (λ _. g.bfact inner))
 and_loop inner = record { opening = token_opening r.is_and k.And (λ _. g.bfact inner) refl; binds = binds; stops = stops; below = omega arith }
   where
     binds : (kind : Kind) → r.is_and kind ≡ true → rank kind ≤ 6
@@ -202,7 +202,7 @@ and_loop inner = record { opening = token_opening r.is_and k.And (λ _. g.bfact 
     stops k.And small = absurd (omega arith)
     stops _ small = refl
 
-or_loop : (inner : Language Found) → Loops rank 5 4 r.is_or (Then (lang.token k.Or) (λ _. g.bterm inner))
+or_loop : (inner : Language PartInParentheses) → Loops rank 5 4 r.is_or (Then (lang.token k.Or) (λ _. g.bterm inner))
 or_loop inner = record { opening = token_opening r.is_or k.Or (λ _. g.bterm inner) refl; binds = binds; stops = stops; below = omega arith }
   where
     binds : (kind : Kind) → r.is_or kind ≡ true → rank kind ≤ 5
@@ -213,8 +213,8 @@ or_loop inner = record { opening = token_opening r.is_or k.Or (λ _. g.bterm inn
     stops k.Or small = absurd (omega arith)
     stops _ small = refl
 
-module _ (n : ℕ) (inner : Language Found) (reader : Want → Reader Found)
-    (f : (m : ℕ) → n ≡ suc m → (wanted : Want) → Finds rank (limit wanted) (g.asked wanted inner) (reader wanted)) where
+module _ (n : ℕ) (inner : Language PartInParentheses) (reader : Want → Reader PartInParentheses)
+    (f : (m : ℕ) → n ≡ suc m → (wanted : Want) → Finds rank (limit wanted) (g.wanted_part wanted inner) (reader wanted)) where
   inner_expr_f : (m : ℕ) → n ≡ suc m → Finds rank 7 (g.inner_expr inner) (r.inner_expr n reader)
   unfolding r.inner_expr
   inner_expr_f m is = record {
@@ -481,7 +481,7 @@ module _ (n : ℕ) (inner : Language Found) (reader : Want → Reader Found)
 
   -- ---- a condition in parentheses, or a factor
 
-  abbrev first : Language Found
+  abbrev first : Language PartInParentheses
   first w (part.Condition x) = lang.◌∪◌ (lang.parens (g.inner_cond inner)) (g.exists inner) w x
   first w (part.Expression x) = g.factor inner w x
   first w (part.Query x) = ⊥
@@ -506,7 +506,7 @@ module _ (n : ℕ) (inner : Language Found) (reader : Want → Reader Found)
   factor_split w rest x (inr h) = inl (opens_token Bare k.Minus refl w rest x h)
 
   -- what a test in parentheses may be
-  test_cond : Language Found
+  test_cond : Language PartInParentheses
   test_cond w (part.Condition x) = g.inner_cond inner w x
   test_cond w (part.Expression x) = lang.◌∪◌ (g.inner_expr inner) (lang.◌<$>◌ e.Subquery (g.inner_query inner)) w x
   test_cond w (part.Query x) = ⊥
@@ -515,7 +515,7 @@ module _ (n : ℕ) (inner : Language Found) (reader : Want → Reader Found)
   unfolding test_cond r.inner_test
   inner_test_f m is = record { finds = go m is }
     where
-      go : (m : ℕ) → n ≡ suc m → (w rest : Lexemes) (x : Found) → test_cond w x → rank (kind_at rest) ≤ 0 → Accepts (rd.◌>>=◌ (reader want.Any) r.as_test (w ++ rest)) x rest
+      go : (m : ℕ) → n ≡ suc m → (w rest : Lexemes) (x : PartInParentheses) → test_cond w x → rank (kind_at rest) ≤ 0 → Accepts (rd.◌>>=◌ (reader want.Any) r.as_test (w ++ rest)) x rest
       go m is w rest (part.Condition x) h small = accepts_through (reader want.Any) r.as_test (w ++ rest) rest rest (part.Condition x) (part.Condition x) ((f m is want.Any).finds w rest (part.Condition x) h small) (inl refl)
       go m is w rest (part.Expression x) (inl h) small = accepts_through (reader want.Any) r.as_test (w ++ rest) rest rest (part.Expression x) (part.Expression x) ((f m is want.Any).finds w rest (part.Expression x) h small) (inl refl)
       go m is w rest (part.Expression x) (inr h) small =
@@ -555,7 +555,7 @@ module _ (n : ℕ) (inner : Language Found) (reader : Want → Reader Found)
       either w rest x h small (inr (inl p)) = pick (r.first_by n reader) k.Open 9 refl inside w rest (part.Expression x) (parens_into (g.inner_expr inner) test_cond w x (part.Expression x) (λ v m. expr_in_test v x m) p) small
       either w rest x h small (inr (inr p)) = pick (r.first_by n reader) k.Open 9 refl inside w rest (part.Expression x) (parens_into (lang.◌<$>◌ e.Subquery (g.inner_query inner)) test_cond w x (part.Expression x) (λ v m. query_in_test v x m) (map_parens e.Subquery (g.inner_query inner) w x p)) small
 
-      go : (w rest : Lexemes) (x : Found) → first w x → rank (kind_at rest) ≤ 9 → Accepts (by_kind (r.first_by n reader) (w ++ rest)) x rest
+      go : (w rest : Lexemes) (x : PartInParentheses) → first w x → rank (kind_at rest) ≤ 9 → Accepts (by_kind (r.first_by n reader) (w ++ rest)) x rest
       go w rest (part.Condition x) (inl h) small = pick (r.first_by n reader) k.Open 9 refl inside w rest (part.Condition x) (parens_into (g.inner_cond inner) test_cond w x (part.Condition x) (λ v m. cond_in_test v x m) h) small
       go w rest (part.Condition x) (inr h) small =
           let P : Kind → Type 0 = Goes (r.first_by n reader) (rd.◌<$>◌ part.Condition (r.exists n reader)) in
@@ -569,7 +569,7 @@ module _ (n : ℕ) (inner : Language Found) (reader : Want → Reader Found)
   first_opens P o w rest (part.Expression x) h = factor_opens P o.operand w rest x h
   first_opens P o w rest (part.Query x) h = absurd h
 
-  abbrev test_from : Found → Language Condition
+  abbrev test_from : PartInParentheses → Language Condition
   test_from (part.Condition x) = g.is_after inner x
   test_from (part.Expression x) = Then (expr_after x) (λ left. Then (g.comparison inner left) (g.is_after inner))
   test_from (part.Query x) = λ w y. ⊥
@@ -577,12 +577,12 @@ module _ (n : ℕ) (inner : Language Found) (reader : Want → Reader Found)
   tail_follows : (x : Expression) → Follows 9 6 (Then (expr_after x) (λ left. Then (g.comparison inner left) (g.is_after inner)))
   tail_follows x = follows_then 9 7 6 (expr_after_follows x) (λ left. follows_then 7 7 6 (comparison_follows 7 left) is_after_follows)
 
-  test_from_f : (w : Lexemes) (x : Found) → first w x → Finds rank 6 (test_from x) (r.test_from n reader x)
+  test_from_f : (w : Lexemes) (x : PartInParentheses) → first w x → Finds rank 6 (test_from x) (r.test_from n reader x)
   test_from_f w (part.Condition x) h = is_after_f x
   test_from_f w (part.Expression x) h = then_f 7 6 (expr_after_f x) (λ w left h. then_f 7 6 (comparison_f left) (λ w y h. is_after_f y) is_after_follows) (λ left. follows_then 7 7 6 (comparison_follows 7 left) is_after_follows)
   test_from_f w (part.Query x) h = absurd h
 
-  test_from_follows : (x : Found) → Follows 9 6 (test_from x)
+  test_from_follows : (x : PartInParentheses) → Follows 9 6 (test_from x)
   test_from_follows (part.Condition x) = λ w rest y h small. let three = is_after_follows x w rest y h small in omega arith
   test_from_follows (part.Expression x) = tail_follows x
   test_from_follows (part.Query x) = λ w rest y h small. absurd h
@@ -596,13 +596,13 @@ module _ (n : ℕ) (inner : Language Found) (reader : Want → Reader Found)
       (regroup (g.expr inner) (g.comparison inner) M w c h))
 
   -- a condition by what it begins with
-  begun : {A : Type 0} (M : Condition → Language A) (N : Found → Language A) → ((x : Condition) (w : Lexemes) (c : A) → M x w c → N (part.Condition x) w c)
+  begun : {A : Type 0} (M : Condition → Language A) (N : PartInParentheses → Language A) → ((x : Condition) (w : Lexemes) (c : A) → M x w c → N (part.Condition x) w c)
       → ((x : Expression) (w : Lexemes) (c : A) → Then (expr_after x) (λ left. Then (g.comparison inner left) M) w c → N (part.Expression x) w c)
       → (w : Lexemes) (c : A) → Then (g.bprim inner) M w c → Then first N w c
   unfolding g.bprim
   begun M N one two w c h = go M N one two h.tree h.split.front h.split.back w c h.split.cut h.split.first h.split.second
     where
-      go : {A : Type 0} (M : Condition → Language A) (N : Found → Language A) → ((x : Condition) (w : Lexemes) (c : A) → M x w c → N (part.Condition x) w c)
+      go : {A : Type 0} (M : Condition → Language A) (N : PartInParentheses → Language A) → ((x : Condition) (w : Lexemes) (c : A) → M x w c → N (part.Condition x) w c)
           → ((x : Expression) (w : Lexemes) (c : A) → Then (expr_after x) (λ left. Then (g.comparison inner left) M) w c → N (part.Expression x) w c)
           → (y : Condition) (front back w : Lexemes) (c : A) → w ≡ front ++ back → lang.◌∪◌ (lang.◌∪◌ (lang.parens (g.inner_cond inner)) (g.exists inner)) (lang.◌>>=◌ (g.expr inner) (g.comparison inner)) front y → M y back c → Then first N w c
       go M N one two y front back w c cut (inl h) k = record { tree = part.Condition y; split = record { front = front; back = back; cut = cut; first = h; second = one y back c k } }
@@ -732,10 +732,10 @@ module _ (n : ℕ) (inner : Language Found) (reader : Want → Reader Found)
   rest_from_follows : (x : Condition) → Follows 7 4 (rest_from x)
   rest_from_follows x = follows_then 7 6 4 (is_after_follows x) cond_after_follows
 
-  abbrev any_after : Expression → Language Found
+  abbrev any_after : Expression → Language PartInParentheses
   any_after left = lang.◌∪◌ (lang.◌<$>◌ part.Condition (Then (g.comparison inner left) rest_from)) (lang.pure (part.Expression left))
 
-  abbrev any_from : Found → Language Found
+  abbrev any_from : PartInParentheses → Language PartInParentheses
   any_from (part.Condition x) = lang.◌<$>◌ part.Condition (rest_from x)
   any_from (part.Expression x) = Then (expr_after x) any_after
   any_from (part.Query x) = λ w y. ⊥
@@ -760,7 +760,7 @@ module _ (n : ℕ) (inner : Language Found) (reader : Want → Reader Found)
   unfolding r.any_after
   any_after_f left = record { finds = go left }
     where
-      go : (left : Expression) (w rest : Lexemes) (x : Found) → any_after left w x → rank (kind_at rest) ≤ 4 → Accepts (by_kind (λ kind. r.any_by n reader left (r.begins_comparison kind)) (w ++ rest)) x rest
+      go : (left : Expression) (w rest : Lexemes) (x : PartInParentheses) → any_after left w x → rank (kind_at rest) ≤ 4 → Accepts (by_kind (λ kind. r.any_by n reader left (r.begins_comparison kind)) (w ++ rest)) x rest
       go left w rest x (inl h) small =
           let begins = opens_then (λ kind. r.begins_comparison kind ≡ true) (opens_then (λ kind. r.begins_comparison kind ≡ true) (comparison_opens (λ kind. r.begins_comparison kind ≡ true) left refl refl refl refl refl refl refl refl refl refl)) w rest x h in
           subst (λ t. Accepts (r.any_by n reader left t (w ++ rest)) x rest) (sym begins) ((compared_whole left).finds w rest x h small)
@@ -771,12 +771,12 @@ module _ (n : ℕ) (inner : Language Found) (reader : Want → Reader Found)
   any_after_follows : (left : Expression) → Follows 7 4 (any_after left)
   any_after_follows left = follows_either 7 4 (follows_map 7 4 part.Condition (follows_then 7 7 4 (comparison_follows 7 left) rest_from_follows)) (follows_pure 7 4 (part.Expression left) (omega arith))
 
-  any_from_f : (w : Lexemes) (x : Found) → first w x → Finds rank 4 (any_from x) (r.any_from n reader x)
+  any_from_f : (w : Lexemes) (x : PartInParentheses) → first w x → Finds rank 4 (any_from x) (r.any_from n reader x)
   any_from_f w (part.Condition x) h = map_f 4 part.Condition (rest_from_f x)
   any_from_f w (part.Expression x) h = then_f 7 4 (expr_after_f x) (λ w left h. any_after_f left) any_after_follows
   any_from_f w (part.Query x) h = absurd h
 
-  any_from_follows : (x : Found) → Follows 9 4 (any_from x)
+  any_from_follows : (x : PartInParentheses) → Follows 9 4 (any_from x)
   any_from_follows (part.Condition x) = λ w rest y h small. let three = follows_map 7 4 part.Condition (rest_from_follows x) w rest y h small in omega arith
   any_from_follows (part.Expression x) = follows_then 9 7 4 (expr_after_follows x) any_after_follows
   any_from_follows (part.Query x) = λ w rest y h small. absurd h
@@ -808,7 +808,7 @@ module _ (n : ℕ) (inner : Language Found) (reader : Want → Reader Found)
       whole : (w : Lexemes) (x : Condition) → Then (g.bprim inner) rest_from w x → Then (g.bprim inner) (λ y. lang.◌<$>◌ part.Condition (rest_from y)) w (part.Condition x)
       whole w x h = record { tree = h.tree; split = record { front = h.split.front; back = h.split.back; cut = h.split.cut; first = h.split.first; second = mapping part.Condition (rest_from h.tree) h.split.back x h.split.second } }
 
-      into : (y : Expression) (w : Lexemes) (z : Found) → Then (expr_after y) (λ left. Then (g.comparison inner left) (λ u. lang.◌<$>◌ part.Condition (rest_from u))) w z → Then (expr_after y) any_after w z
+      into : (y : Expression) (w : Lexemes) (z : PartInParentheses) → Then (expr_after y) (λ left. Then (g.comparison inner left) (λ u. lang.◌<$>◌ part.Condition (rest_from u))) w z → Then (expr_after y) any_after w z
       into y w z h = record {
         tree = h.tree;
         split = record {
@@ -829,7 +829,7 @@ module _ (n : ℕ) (inner : Language Found) (reader : Want → Reader Found)
   unfolding r.any
   found_f = record { finds = go }
     where
-      by_first : (w rest : Lexemes) (x : Found) → Goes (r.any_of n reader) (rd.◌>>=◌ (r.first n reader) (r.any_from n reader)) (kind_at (w ++ rest)) → Then first any_from w x → rank (kind_at rest) ≤ 0 → Accepts (by_kind (r.any_of n reader) (w ++ rest)) x rest
+      by_first : (w rest : Lexemes) (x : PartInParentheses) → Goes (r.any_of n reader) (rd.◌>>=◌ (r.first n reader) (r.any_from n reader)) (kind_at (w ++ rest)) → Then first any_from w x → rank (kind_at rest) ≤ 0 → Accepts (by_kind (r.any_of n reader) (w ++ rest)) x rest
       by_first w rest x e h small = subst (λ p. Accepts (p (w ++ rest)) x rest) (sym e) ((lower 0 4 (omega arith) any_f).finds w rest x h small)
 
       cond_at : (w rest : Lexemes) (x : Condition) → g.cond inner w x → (y : Condition) (front back : Lexemes) → w ≡ front ++ back
@@ -844,7 +844,7 @@ module _ (n : ℕ) (inner : Language Found) (reader : Want → Reader Found)
           let e = opens_then P (opens_token P k.Not refl) w rest x t in
           subst (λ p. Accepts (p (w ++ rest)) (part.Condition x) rest) (sym e) ((lower 0 4 (omega arith) (map_f 4 part.Condition condition_f)).finds w rest (part.Condition x) (mapping part.Condition (g.cond inner) w x whole) small)
 
-      go : (w rest : Lexemes) (x : Found) → g.found inner w x → rank (kind_at rest) ≤ 0 → Accepts (by_kind (r.any_of n reader) (w ++ rest)) x rest
+      go : (w rest : Lexemes) (x : PartInParentheses) → g.found inner w x → rank (kind_at rest) ≤ 0 → Accepts (by_kind (r.any_of n reader) (w ++ rest)) x rest
       go w rest (part.Condition x) h small = let t = cond_to w x h in cond_at w rest x h t.tree t.split.front t.split.back t.split.cut (open_bfact t.split.front t.tree t.split.first) t.split.second small
       go w rest (part.Expression x) h small =
           let P : Kind → Type 0 = Goes (r.any_of n reader) (rd.◌>>=◌ (r.first n reader) (r.any_from n reader)) in
@@ -853,26 +853,26 @@ module _ (n : ℕ) (inner : Language Found) (reader : Want → Reader Found)
           let P : Kind → Type 0 = Goes (r.any_of n reader) (rd.◌<$>◌ part.Query (r.query n reader)) in
           route (r.any_of n reader) 0 (map_f 0 part.Query query_f) (opens_then P (query_opens P refl)) w rest (part.Query x) (mapping part.Query (g.query inner) w x h) small
 
-  asked_cond : (w : Lexemes) (x : Found) → g.asked want.Condition (g.found inner) w x → lang.◌<$>◌ part.Condition (g.cond inner) w x
+  asked_cond : (w : Lexemes) (x : PartInParentheses) → g.wanted_part want.Condition (g.found inner) w x → lang.◌<$>◌ part.Condition (g.cond inner) w x
   asked_cond w (part.Condition x) h = mapping part.Condition (g.cond inner) w x h
   asked_cond w (part.Expression x) h = absurd h
   asked_cond w (part.Query x) h = absurd h
 
-  asked_expr : (w : Lexemes) (x : Found) → g.asked want.Expression (g.found inner) w x → lang.◌<$>◌ part.Expression (g.expr inner) w x
+  asked_expr : (w : Lexemes) (x : PartInParentheses) → g.wanted_part want.Expression (g.found inner) w x → lang.◌<$>◌ part.Expression (g.expr inner) w x
   asked_expr w (part.Expression x) h = mapping part.Expression (g.expr inner) w x h
   asked_expr w (part.Condition x) h = absurd h
   asked_expr w (part.Query x) h = absurd h
 
-  asked_query : (w : Lexemes) (x : Found) → g.asked want.Query (g.found inner) w x → lang.◌<$>◌ part.Query (g.query inner) w x
+  asked_query : (w : Lexemes) (x : PartInParentheses) → g.wanted_part want.Query (g.found inner) w x → lang.◌<$>◌ part.Query (g.query inner) w x
   asked_query w (part.Query x) h = mapping part.Query (g.query inner) w x h
   asked_query w (part.Condition x) h = absurd h
   asked_query w (part.Expression x) h = absurd h
 
-  operand_f : Finds rank 0 (g.asked want.Operand (g.found inner)) (r.operand n reader)
+  operand_f : Finds rank 0 (g.wanted_part want.Operand (g.found inner)) (r.operand n reader)
   unfolding r.operand
   operand_f = record { finds = go }
     where
-      go : (w rest : Lexemes) (x : Found) → g.asked want.Operand (g.found inner) w x → rank (kind_at rest) ≤ 0 → Accepts (by_kind (r.operand_by n reader) (w ++ rest)) x rest
+      go : (w rest : Lexemes) (x : PartInParentheses) → g.wanted_part want.Operand (g.found inner) w x → rank (kind_at rest) ≤ 0 → Accepts (by_kind (r.operand_by n reader) (w ++ rest)) x rest
       go w rest (part.Expression x) h small =
           let P : Kind → Type 0 = Goes (r.operand_by n reader) (rd.◌<$>◌ part.Expression (r.expr n reader)) in
           route (r.operand_by n reader) 0 (map_f 0 part.Expression (lower 0 7 (omega arith) expr_f)) (opens_then P (expr_opens P (record { other = (record { text = refl; name = refl; open_ = refl; count = refl; sum = refl; min = refl; max = refl }); number = refl; plus = refl; minus = refl }))) w rest (part.Expression x) (mapping part.Expression (g.expr inner) w x h) small
@@ -881,7 +881,7 @@ module _ (n : ℕ) (inner : Language Found) (reader : Want → Reader Found)
           route (r.operand_by n reader) 0 (map_f 0 part.Query query_f) (opens_then P (query_opens P refl)) w rest (part.Query x) (mapping part.Query (g.query inner) w x h) small
       go w rest (part.Condition x) h small = absurd h
 
-  level_f : (wanted : Want) → Finds rank (limit wanted) (g.asked wanted (g.found inner)) (r.level n reader wanted)
+  level_f : (wanted : Want) → Finds rank (limit wanted) (g.wanted_part wanted (g.found inner)) (r.level n reader wanted)
   level_f want.Any = found_f
   level_f want.Operand = operand_f
   level_f want.Condition = few asked_cond (map_f 4 part.Condition condition_f)
@@ -890,7 +890,7 @@ module _ (n : ℕ) (inner : Language Found) (reader : Want → Reader Found)
 
 -- ---- at each depth
 
-nothing : (wanted : Want) (w : Lexemes) (x : Found) → g.asked wanted (g.nested zero) w x → ⊥
+nothing : (wanted : Want) (w : Lexemes) (x : PartInParentheses) → g.wanted_part wanted (g.nested zero) w x → ⊥
 unfolding g.nested
 nothing want.Any w x h = h
 nothing want.Condition w (part.Condition x) h = h
@@ -907,7 +907,7 @@ nothing want.Operand w (part.Expression x) h = h
 nothing want.Operand w (part.Query x) h = h
 
 -- one level of it
-asked_level : (l : ℕ) (wanted : Want) (w : Lexemes) (x : Found) → g.asked wanted (g.nested (suc l)) w x → g.asked wanted (g.found (g.nested l)) w x
+asked_level : (l : ℕ) (wanted : Want) (w : Lexemes) (x : PartInParentheses) → g.wanted_part wanted (g.nested (suc l)) w x → g.wanted_part wanted (g.found (g.nested l)) w x
 unfolding g.nested
 asked_level l want.Any w x h = h
 asked_level l want.Condition w (part.Condition x) h = h
@@ -923,7 +923,7 @@ asked_level l want.Operand w (part.Condition x) h = h
 asked_level l want.Operand w (part.Expression x) h = h
 asked_level l want.Operand w (part.Query x) h = h
 
-pub read_f : (n l : ℕ) (wanted : Want) → Finds rank (limit wanted) (g.asked wanted (g.nested l)) (r.read n wanted)
+pub read_f : (n l : ℕ) (wanted : Want) → Finds rank (limit wanted) (g.wanted_part wanted (g.nested l)) (r.read n wanted)
 unfolding r.read
 read_f n zero wanted = record { finds = λ w rest x h small. absurd (nothing wanted w x h) }
 read_f zero (suc l) wanted = few (asked_level l wanted) (level_f zero (g.nested l) (λ _. refuse) (λ m is. absurd (omega arith)) wanted)

@@ -56,16 +56,16 @@ marks_f : Finds rank 4 dg.marks r.marks
 unfolding dg.marks r.marks
 marks_f = record { finds = go }
   where
-    key_f : Finds rank 4 (lang.◌>>=◌ dg.not_null (λ _. lang.◌<$>◌ (λ key. dg.marks_of true (dg.written key)) (lang.optional dg.primary_key))) (r.marks_by k.Not)
-    key_f = then_f 7 4 (two_f 7 k.Not k.Null) (λ w x h. map_f 4 (λ key. dg.marks_of true (dg.written key)) (optional_f 4 k.Primary (omega arith) (two_opens k.Primary k.Key) (two_f 4 k.Primary k.Key)))
-        (λ x. follows_map 7 4 (λ key. dg.marks_of true (dg.written key)) (optional_follows 7 4 k.Primary (omega arith) (omega arith) (two_opens k.Primary k.Key)))
+    key_f : Finds rank 4 (lang.◌>>=◌ dg.not_null (λ _. lang.◌<$>◌ (λ key. dg.marks_of true (dg.is_present key)) (lang.optional dg.primary_key))) (r.marks_by k.Not)
+    key_f = then_f 7 4 (two_f 7 k.Not k.Null) (λ w x h. map_f 4 (λ key. dg.marks_of true (dg.is_present key)) (optional_f 4 k.Primary (omega arith) (two_opens k.Primary k.Key) (two_f 4 k.Primary k.Key)))
+        (λ x. follows_map 7 4 (λ key. dg.marks_of true (dg.is_present key)) (optional_follows 7 4 k.Primary (omega arith) (omega arith) (two_opens k.Primary k.Key)))
 
-    null_f : Finds rank 4 (lang.◌>>=◌ dg.primary_key (λ _. lang.◌<$>◌ (λ other. dg.marks_of (dg.written other) true) (lang.optional dg.not_null))) (r.marks_by k.Primary)
-    null_f = then_f 7 4 (two_f 7 k.Primary k.Key) (λ w x h. map_f 4 (λ other. dg.marks_of (dg.written other) true) (optional_f 4 k.Not (omega arith) (two_opens k.Not k.Null) (two_f 4 k.Not k.Null)))
-        (λ x. follows_map 7 4 (λ other. dg.marks_of (dg.written other) true) (optional_follows 7 4 k.Not (omega arith) (omega arith) (two_opens k.Not k.Null)))
+    null_f : Finds rank 4 (lang.◌>>=◌ dg.primary_key (λ _. lang.◌<$>◌ (λ other. dg.marks_of (dg.is_present other) true) (lang.optional dg.not_null))) (r.marks_by k.Primary)
+    null_f = then_f 7 4 (two_f 7 k.Primary k.Key) (λ w x h. map_f 4 (λ other. dg.marks_of (dg.is_present other) true) (optional_f 4 k.Not (omega arith) (two_opens k.Not k.Null) (two_f 4 k.Not k.Null)))
+        (λ x. follows_map 7 4 (λ other. dg.marks_of (dg.is_present other) true) (optional_follows 7 4 k.Not (omega arith) (omega arith) (two_opens k.Not k.Null)))
 
     go : (w rest : Lexemes) (x : Marks)
-        → lang.◌∪◌ (lang.◌∪◌ (lang.pure (dg.marks_of false false)) (lang.◌>>=◌ dg.not_null (λ _. lang.◌<$>◌ (λ key. dg.marks_of true (dg.written key)) (lang.optional dg.primary_key)))) (lang.◌>>=◌ dg.primary_key (λ _. lang.◌<$>◌ (λ other. dg.marks_of (dg.written other) true) (lang.optional dg.not_null))) w x
+        → lang.◌∪◌ (lang.◌∪◌ (lang.pure (dg.marks_of false false)) (lang.◌>>=◌ dg.not_null (λ _. lang.◌<$>◌ (λ key. dg.marks_of true (dg.is_present key)) (lang.optional dg.primary_key)))) (lang.◌>>=◌ dg.primary_key (λ _. lang.◌<$>◌ (λ other. dg.marks_of (dg.is_present other) true) (lang.optional dg.not_null))) w x
         → rank (kind_at rest) ≤ 4 → Accepts (by_kind r.marks_by (w ++ rest)) x rest
     go w rest x (inl (inl h)) small =
         subst (λ t. Accepts (by_kind r.marks_by (t ++ rest)) x rest) (sym h.0)

@@ -10,7 +10,7 @@ use Rattle.syntax.specs.declared.definitions.Definition.TheVariants as d
 use Rattle.syntax.specs.declared.statements.Step.{Step}
 use Rattle.syntax.specs.Language.{Lexeme, Lexemes, Language, Then, Begins}
 use Rattle.syntax.specs.Language as lang
-use Rattle.syntax.specs.declared.wants.Found.{Found}
+use Rattle.syntax.specs.declared.wants.PartInParentheses.{PartInParentheses}
 use Rattle.syntax.specs.Grammar as g
 use Rattle.syntax.specs.Readers as q
 use Rattle.syntax.specs.StatementGrammar as st
@@ -62,8 +62,8 @@ no_marks n = weak (λ w a h. inl (inl h)) (sound_pure n (dg.marks_of false false
 
 marks_by_s : (n : ℕ) (kind : Kind) → Sound n n dg.marks (r.marks_by kind)
 unfolding dg.marks
-marks_by_s n k.Not = weak (λ w a h. inl (inr h)) (then_s (not_null_s n) (λ w x h. map_s (λ key. dg.marks_of true (dg.written key)) (optional_s k.Primary (primary_key_s n))))
-marks_by_s n k.Primary = weak (λ w a h. inr h) (then_s (primary_key_s n) (λ w x h. map_s (λ other. dg.marks_of (dg.written other) true) (optional_s k.Not (not_null_s n))))
+marks_by_s n k.Not = weak (λ w a h. inl (inr h)) (then_s (not_null_s n) (λ w x h. map_s (λ key. dg.marks_of true (dg.is_present key)) (optional_s k.Primary (primary_key_s n))))
+marks_by_s n k.Primary = weak (λ w a h. inr h) (then_s (primary_key_s n) (λ w x h. map_s (λ other. dg.marks_of (dg.is_present other) true) (optional_s k.Not (not_null_s n))))
 marks_by_s n _ = no_marks n
 
 marks_s : (n : ℕ) → Sound n n dg.marks r.marks
@@ -130,7 +130,7 @@ table_s : (n : ℕ) → Sound n n table_in (r.table n)
 unfolding r.table
 table_s n = seq_s k.Table refl (then_s (name_s n) (λ w name h. map_s (d.Table name) (sound_parens n (lang.list dg.col) (list (r.col (n - 1))) (some_list dg.col (col_s 0).begins) (λ m is. list_s (col_inside n m is)))))
 
-abbrev pub assertion_in : Language Found → Language Definition
+abbrev pub assertion_in : Language PartInParentheses → Language Definition
 assertion_in inner = Then (lang.token k.Assertion) (λ _. lang.◌>>=◌ g.name (λ name. lang.◌>>◌ (lang.token k.Check) (lang.◌>>=◌ (lang.parens (g.inner_cond inner)) (λ c. lang.◌<$>◌ (d.Assertion name c) dg.attributes))))
 
 module _ (n l : ℕ) (below : n + 1 < l) where

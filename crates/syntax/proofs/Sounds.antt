@@ -11,8 +11,8 @@ use Rattle.syntax.specs.declared.trees.Expression.{Expression}
 use Rattle.syntax.specs.declared.trees.Expression.TheVariants as e
 use Rattle.syntax.specs.declared.trees.Condition.{Condition}
 use Rattle.syntax.specs.declared.trees.Condition.TheVariants as b
-use Rattle.syntax.specs.declared.wants.Found.{Found}
-use Rattle.syntax.specs.declared.wants.Found.TheVariants as part
+use Rattle.syntax.specs.declared.wants.PartInParentheses.{PartInParentheses}
+use Rattle.syntax.specs.declared.wants.PartInParentheses.TheVariants as part
 use Rattle.syntax.specs.declared.wants.Want.{Want}
 use Rattle.syntax.specs.declared.wants.Want.TheVariants as want
 use Rattle.syntax.specs.Language.{Lexeme, Lexemes, Language, Then, Behind, Begins, after_kind}
@@ -122,21 +122,21 @@ count_into w x h =
 
 -- ---- what may have parentheses in it, of which n may still be opened
 
-module _ (n : ℕ) (inner : Language Found) (reader : Want → Reader Found) (some_c : Begins (g.inner_cond inner) []) (some_e : Begins (g.inner_expr inner) []) (some_q : Begins (g.inner_query inner) [])
-    (s : (m : ℕ) → n ≡ suc m → (wanted : Want) → Sound m m (g.asked wanted inner) (reader wanted)) where
-  abbrev as_expr_of : Found → Language Expression
+module _ (n : ℕ) (inner : Language PartInParentheses) (reader : Want → Reader PartInParentheses) (some_c : Begins (g.inner_cond inner) []) (some_e : Begins (g.inner_expr inner) []) (some_q : Begins (g.inner_query inner) [])
+    (s : (m : ℕ) → n ≡ suc m → (wanted : Want) → Sound m m (g.wanted_part wanted inner) (reader wanted)) where
+  abbrev as_expr_of : PartInParentheses → Language Expression
   as_expr_of (part.Expression x) = lang.pure x
   as_expr_of _ = g.inner_expr inner
 
-  as_expr_s : (m : ℕ) (w : Lexemes) (x : Found) → g.asked want.Expression inner w x → Sound m m (as_expr_of x) (r.as_expr x)
+  as_expr_s : (m : ℕ) (w : Lexemes) (x : PartInParentheses) → g.wanted_part want.Expression inner w x → Sound m m (as_expr_of x) (r.as_expr x)
   as_expr_s m w (part.Expression x) h = sound_pure m x
   as_expr_s m w (part.Condition x) h = absurd h
   as_expr_s m w (part.Query x) h = absurd h
 
-  expr_inside : (w : Lexemes) (x : Expression) → Then (g.asked want.Expression inner) as_expr_of w x → g.inner_expr inner w x
+  expr_inside : (w : Lexemes) (x : Expression) → Then (g.wanted_part want.Expression inner) as_expr_of w x → g.inner_expr inner w x
   expr_inside w x h = go w x h.tree h.split.front h.split.back h.split.cut h.split.first h.split.second
     where
-      go : (w : Lexemes) (x : Expression) (y : Found) (front back : Lexemes) → w ≡ front ++ back → g.asked want.Expression inner front y → as_expr_of y back x → g.inner_expr inner w x
+      go : (w : Lexemes) (x : Expression) (y : PartInParentheses) (front back : Lexemes) → w ≡ front ++ back → g.wanted_part want.Expression inner front y → as_expr_of y back x → g.inner_expr inner w x
       go w x (part.Expression y) front back cut one two =
           let same : w ≡ front = cut ∙ ap (λ t. front ++ t) two.0 ∙ append-nil front in
           subst (λ z. inner w (part.Expression z)) (sym two.1) (subst (λ t. inner t (part.Expression y)) (sym same) one)
@@ -147,19 +147,19 @@ module _ (n : ℕ) (inner : Language Found) (reader : Want → Reader Found) (so
   unfolding r.inner_expr
   inner_expr_s m is = weak expr_inside (then_s (s m is want.Expression) (as_expr_s m))
 
-  abbrev as_query_of : Found → Language Query
+  abbrev as_query_of : PartInParentheses → Language Query
   as_query_of (part.Query x) = lang.pure x
   as_query_of _ = g.inner_query inner
 
-  as_query_s : (m : ℕ) (w : Lexemes) (x : Found) → g.asked want.Query inner w x → Sound m m (as_query_of x) (r.as_query x)
+  as_query_s : (m : ℕ) (w : Lexemes) (x : PartInParentheses) → g.wanted_part want.Query inner w x → Sound m m (as_query_of x) (r.as_query x)
   as_query_s m w (part.Query x) h = sound_pure m x
   as_query_s m w (part.Condition x) h = absurd h
   as_query_s m w (part.Expression x) h = absurd h
 
-  query_inside : (w : Lexemes) (x : Query) → Then (g.asked want.Query inner) as_query_of w x → g.inner_query inner w x
+  query_inside : (w : Lexemes) (x : Query) → Then (g.wanted_part want.Query inner) as_query_of w x → g.inner_query inner w x
   query_inside w x h = go w x h.tree h.split.front h.split.back h.split.cut h.split.first h.split.second
     where
-      go : (w : Lexemes) (x : Query) (y : Found) (front back : Lexemes) → w ≡ front ++ back → g.asked want.Query inner front y → as_query_of y back x → g.inner_query inner w x
+      go : (w : Lexemes) (x : Query) (y : PartInParentheses) (front back : Lexemes) → w ≡ front ++ back → g.wanted_part want.Query inner front y → as_query_of y back x → g.inner_query inner w x
       go w x (part.Query y) front back cut one two =
           let same : w ≡ front = cut ∙ ap (λ t. front ++ t) two.0 ∙ append-nil front in
           subst (λ z. inner w (part.Query z)) (sym two.1) (subst (λ t. inner t (part.Query y)) (sym same) one)
@@ -174,20 +174,20 @@ module _ (n : ℕ) (inner : Language Found) (reader : Want → Reader Found) (so
   abbrev pub operand_in : Language Expression
   operand_in = lang.◌∪◌ (g.inner_expr inner) (lang.◌<$>◌ e.Subquery (g.inner_query inner))
 
-  abbrev as_operand_of : Found → Language Expression
+  abbrev as_operand_of : PartInParentheses → Language Expression
   as_operand_of (part.Expression x) = lang.pure x
   as_operand_of (part.Query x) = lang.pure (e.Subquery x)
   as_operand_of _ = g.inner_expr inner
 
-  as_operand_s : (m : ℕ) (w : Lexemes) (x : Found) → g.asked want.Operand inner w x → Sound m m (as_operand_of x) (r.as_operand x)
+  as_operand_s : (m : ℕ) (w : Lexemes) (x : PartInParentheses) → g.wanted_part want.Operand inner w x → Sound m m (as_operand_of x) (r.as_operand x)
   as_operand_s m w (part.Expression x) h = sound_pure m x
   as_operand_s m w (part.Query x) h = sound_pure m (e.Subquery x)
   as_operand_s m w (part.Condition x) h = absurd h
 
-  operand_inside : (w : Lexemes) (x : Expression) → Then (g.asked want.Operand inner) as_operand_of w x → operand_in w x
+  operand_inside : (w : Lexemes) (x : Expression) → Then (g.wanted_part want.Operand inner) as_operand_of w x → operand_in w x
   operand_inside w x h = go w x h.tree h.split.front h.split.back h.split.cut h.split.first h.split.second
     where
-      go : (w : Lexemes) (x : Expression) (y : Found) (front back : Lexemes) → w ≡ front ++ back → g.asked want.Operand inner front y → as_operand_of y back x → operand_in w x
+      go : (w : Lexemes) (x : Expression) (y : PartInParentheses) (front back : Lexemes) → w ≡ front ++ back → g.wanted_part want.Operand inner front y → as_operand_of y back x → operand_in w x
       go w x (part.Expression y) front back cut one two =
           let same : w ≡ front = cut ∙ ap (λ t. front ++ t) two.0 ∙ append-nil front in
           inl (subst (λ z. inner w (part.Expression z)) (sym two.1) (subst (λ t. inner t (part.Expression y)) (sym same) one))
@@ -395,29 +395,29 @@ module _ (n : ℕ) (inner : Language Found) (reader : Want → Reader Found) (so
   is_after_s x = sound_by_kind n n (g.is_after inner x) (r.is_by n reader x) (is_by_s x)
 
   -- a condition in parentheses or of EXISTS, or a factor
-  abbrev pub first : Language Found
+  abbrev pub first : Language PartInParentheses
   first w (part.Condition x) = lang.◌∪◌ (lang.parens (g.inner_cond inner)) (g.exists inner) w x
   first w (part.Expression x) = g.factor inner w x
   first w (part.Query x) = ⊥
 
-  abbrev pub test_in : Language Found
+  abbrev pub test_in : Language PartInParentheses
   test_in w (part.Condition x) = g.inner_cond inner w x
   test_in w (part.Expression x) = operand_in w x
   test_in w (part.Query x) = ⊥
 
-  abbrev as_test_of : Found → Language Found
+  abbrev as_test_of : PartInParentheses → Language PartInParentheses
   as_test_of (part.Query x) = lang.pure (part.Expression (e.Subquery x))
   as_test_of x = lang.pure x
 
-  as_test_s : (m : ℕ) (w : Lexemes) (x : Found) → g.asked want.Any inner w x → Sound m m (as_test_of x) (r.as_test x)
+  as_test_s : (m : ℕ) (w : Lexemes) (x : PartInParentheses) → g.wanted_part want.Any inner w x → Sound m m (as_test_of x) (r.as_test x)
   as_test_s m w (part.Query x) h = sound_pure m _
   as_test_s m w (part.Condition x) h = sound_pure m _
   as_test_s m w (part.Expression x) h = sound_pure m _
 
-  test_inside : (w : Lexemes) (x : Found) → Then (g.asked want.Any inner) as_test_of w x → test_in w x
+  test_inside : (w : Lexemes) (x : PartInParentheses) → Then (g.wanted_part want.Any inner) as_test_of w x → test_in w x
   test_inside w x h = go w x h.tree h.split.front h.split.back h.split.cut h.split.first h.split.second
     where
-      go : (w : Lexemes) (x : Found) (y : Found) (front back : Lexemes) → w ≡ front ++ back → g.asked want.Any inner front y → as_test_of y back x → test_in w x
+      go : (w : Lexemes) (x : PartInParentheses) (y : PartInParentheses) (front back : Lexemes) → w ≡ front ++ back → g.wanted_part want.Any inner front y → as_test_of y back x → test_in w x
       go w x (part.Condition y) front back cut one two =
           let same : w ≡ front = cut ∙ ap (λ t. front ++ t) two.0 ∙ append-nil front in
           subst (λ z. test_in w z) (sym two.1) (subst (λ t. inner t (part.Condition y)) (sym same) one)
@@ -432,16 +432,16 @@ module _ (n : ℕ) (inner : Language Found) (reader : Want → Reader Found) (so
   unfolding r.inner_test
   inner_test_s m is = weak test_inside (then_s (s m is want.Any) (as_test_s m))
 
-  first_parens : (w : Lexemes) (x : Found) → lang.parens test_in w x → first w x
+  first_parens : (w : Lexemes) (x : PartInParentheses) → lang.parens test_in w x → first w x
   unfolding g.factor g.prim
   first_parens w (part.Condition x) h = inl (parens_into test_in (g.inner_cond inner) w (part.Condition x) x (λ v m. m) h)
   first_parens w (part.Expression x) h = inl (inl (inl (inr (operand_parens w x (parens_into test_in operand_in w (part.Expression x) x (λ v m. m) h)))))
   first_parens w (part.Query x) h = let p = opened_up test_in w (part.Query x) h in absurd p.inside
 
-  first_factor : (w : Lexemes) (x : Found) → lang.◌<$>◌ part.Expression (g.factor inner) w x → first w x
+  first_factor : (w : Lexemes) (x : PartInParentheses) → lang.◌<$>◌ part.Expression (g.factor inner) w x → first w x
   first_factor w x h = let m = mapped part.Expression (g.factor inner) w x h in subst (λ y. first w y) (sym m.2) m.1
 
-  first_exists : (w : Lexemes) (x : Found) → lang.◌<$>◌ part.Condition (g.exists inner) w x → first w x
+  first_exists : (w : Lexemes) (x : PartInParentheses) → lang.◌<$>◌ part.Condition (g.exists inner) w x → first w x
   first_exists w x h = let m = mapped part.Condition (g.exists inner) w x h in subst (λ y. first w y) (sym m.2) (inr m.1)
 
   some_test : Begins test_in []
@@ -460,12 +460,12 @@ module _ (n : ℕ) (inner : Language Found) (reader : Want → Reader Found) (so
   unfolding r.first
   first_s = sound_by_kind n n first (r.first_by n reader) first_by_s
 
-  abbrev pub test_from : Found → Language Condition
+  abbrev pub test_from : PartInParentheses → Language Condition
   test_from (part.Condition x) = g.is_after inner x
   test_from (part.Expression x) = Then (expr_after x) (λ left. Then (g.comparison inner left) (g.is_after inner))
   test_from (part.Query x) = g.cond inner
 
-  test_from_s : (w : Lexemes) (x : Found) → first w x → Sound n n (test_from x) (r.test_from n reader x)
+  test_from_s : (w : Lexemes) (x : PartInParentheses) → first w x → Sound n n (test_from x) (r.test_from n reader x)
   test_from_s w (part.Condition x) h = is_after_s x
   test_from_s w (part.Expression x) h = then_s (expr_after_s x) (λ w left h. then_s (comparison_s left) (λ w y h. is_after_s y))
   test_from_s w (part.Query x) h = absurd h
@@ -487,7 +487,7 @@ module _ (n : ℕ) (inner : Language Found) (reader : Want → Reader Found) (so
   unfolding g.btest
   test_into w c h = go h.tree h.split.front h.split.back w c h.split.cut h.split.first h.split.second
     where
-      go : (x : Found) (front back w : Lexemes) (c : Condition) → w ≡ front ++ back → first front x → test_from x back c → Then (g.bprim inner) (g.is_after inner) w c
+      go : (x : PartInParentheses) (front back w : Lexemes) (c : Condition) → w ≡ front ++ back → first front x → test_from x back c → Then (g.bprim inner) (g.is_after inner) w c
       go (part.Condition x) front back w c cut h k = in_parens (g.is_after inner) x front back w c cut h k
       go (part.Expression x) front back w c cut h k = compared (g.is_after inner) x front back w c cut h k
       go (part.Query x) front back w c cut h k = absurd h
@@ -537,10 +537,10 @@ module _ (n : ℕ) (inner : Language Found) (reader : Want → Reader Found) (so
   abbrev pub rest_from : Condition → Language Condition
   rest_from x = Then (g.is_after inner x) cond_after
 
-  abbrev pub any_after : Expression → Language Found
+  abbrev pub any_after : Expression → Language PartInParentheses
   any_after left = lang.◌∪◌ (lang.◌<$>◌ part.Condition (Then (g.comparison inner left) rest_from)) (lang.pure (part.Expression left))
 
-  abbrev pub any_from : Found → Language Found
+  abbrev pub any_from : PartInParentheses → Language PartInParentheses
   any_from (part.Condition x) = lang.◌<$>◌ part.Condition (rest_from x)
   any_from (part.Expression x) = Then (expr_after x) any_after
   any_from (part.Query x) = g.found inner
@@ -549,7 +549,7 @@ module _ (n : ℕ) (inner : Language Found) (reader : Want → Reader Found) (so
   any_by_s left true = weak (λ w a h. inl h) (map_s part.Condition (then_s (comparison_s left) (λ w x h. then_s (is_after_s x) (λ w y h. cond_after_s y))))
   any_by_s left false = weak (λ w a h. inr h) (sound_pure n (part.Expression left))
 
-  any_from_s : (w : Lexemes) (x : Found) → first w x → Sound n n (any_from x) (r.any_from n reader x)
+  any_from_s : (w : Lexemes) (x : PartInParentheses) → first w x → Sound n n (any_from x) (r.any_from n reader x)
   unfolding r.any_after
   any_from_s w (part.Condition x) h = map_s part.Condition (then_s (is_after_s x) (λ w y h. cond_after_s y))
   any_from_s w (part.Expression x) h = then_s (expr_after_s x) (λ w left h. sound_by_kind n n (any_after left) (λ kind. r.any_by n reader left (r.begins_comparison kind)) (λ kind. any_by_s left (r.begins_comparison kind)))
@@ -559,10 +559,10 @@ module _ (n : ℕ) (inner : Language Found) (reader : Want → Reader Found) (so
   unfolding g.btest g.bfact
   tested w c h = cond_from w c (then_into (Then (g.bprim inner) (g.is_after inner)) (g.bfact inner) cond_after cond_after (λ w y h. inl h) (λ y w z h. h) w c (regroup_left (g.bprim inner) (g.is_after inner) cond_after w c h))
 
-  any_into : (w : Lexemes) (x : Found) → Then first any_from w x → g.found inner w x
+  any_into : (w : Lexemes) (x : PartInParentheses) → Then first any_from w x → g.found inner w x
   any_into w x h = go h.tree h.split.front h.split.back w x h.split.cut h.split.first h.split.second
     where
-      ended : (y left : Expression) (front back more tail w : Lexemes) (x : Found) → w ≡ front ++ back → g.factor inner front y → back ≡ more ++ tail → expr_after y more left → any_after left tail x → g.found inner w x
+      ended : (y left : Expression) (front back more tail w : Lexemes) (x : PartInParentheses) → w ≡ front ++ back → g.factor inner front y → back ≡ more ++ tail → expr_after y more left → any_after left tail x → g.found inner w x
       ended y left front back more tail w x cut h cut' k (inl m) =
           let o = mapped part.Condition (Then (g.comparison inner left) rest_from) tail x m in
           subst (λ z. g.found inner w z) (sym o.2) (tested w o.0 (compared rest_from y front back w o.0 cut h (record { tree = left; split = record { front = more; back = tail; cut = cut'; first = k; second = o.1 } })))
@@ -570,14 +570,14 @@ module _ (n : ℕ) (inner : Language Found) (reader : Want → Reader Found) (so
           let all : back ≡ more = cut' ∙ ap (λ t. more ++ t) m.0 ∙ append-nil more in
           subst (λ z. g.found inner w z) (sym m.1) (expr_from w left (record { tree = y; split = record { front = front; back = back; cut = cut; first = h; second = subst (λ t. expr_after y t left) (sym all) k } }))
 
-      go : (y : Found) (front back w : Lexemes) (x : Found) → w ≡ front ++ back → first front y → any_from y back x → g.found inner w x
+      go : (y : PartInParentheses) (front back w : Lexemes) (x : PartInParentheses) → w ≡ front ++ back → first front y → any_from y back x → g.found inner w x
       go (part.Condition y) front back w x cut h k =
           let m = mapped part.Condition (rest_from y) back x k in
           subst (λ z. g.found inner w z) (sym m.2) (tested w m.0 (in_parens rest_from y front back w m.0 cut h m.1))
       go (part.Expression y) front back w x cut h k = ended y k.tree front back k.split.front k.split.back w x cut h k.split.cut k.split.first k.split.second
       go (part.Query y) front back w x cut h k = absurd h
 
-  found_of_cond : (w : Lexemes) (x : Found) → lang.◌<$>◌ part.Condition (g.cond inner) w x → g.found inner w x
+  found_of_cond : (w : Lexemes) (x : PartInParentheses) → lang.◌<$>◌ part.Condition (g.cond inner) w x → g.found inner w x
   found_of_cond w x h = let m = mapped part.Condition (g.cond inner) w x h in subst (λ y. g.found inner w y) (sym m.2) m.1
 
   -- ---- queries
@@ -620,7 +620,7 @@ module _ (n : ℕ) (inner : Language Found) (reader : Want → Reader Found) (so
   any_first : Sound n n (g.found inner) (r.any_of n reader k.End)
   any_first = weak any_into (then_s first_s any_from_s)
 
-  found_of_query : (w : Lexemes) (x : Found) → lang.◌<$>◌ part.Query (g.query inner) w x → g.found inner w x
+  found_of_query : (w : Lexemes) (x : PartInParentheses) → lang.◌<$>◌ part.Query (g.query inner) w x → g.found inner w x
   found_of_query w x h = let m = mapped part.Query (g.query inner) w x h in subst (λ y. g.found inner w y) (sym m.2) m.1
 
   any_of_s : (kind : Kind) → Sound n n (g.found inner) (r.any_of n reader kind)
@@ -628,29 +628,29 @@ module _ (n : ℕ) (inner : Language Found) (reader : Want → Reader Found) (so
   any_of_s k.Select = weak found_of_query (map_s part.Query query_s)
   any_of_s _ = any_first
 
-  asked_of_cond : (w : Lexemes) (x : Found) → lang.◌<$>◌ part.Condition (g.cond inner) w x → g.asked want.Condition (g.found inner) w x
-  asked_of_cond w x h = let m = mapped part.Condition (g.cond inner) w x h in subst (λ y. g.asked want.Condition (g.found inner) w y) (sym m.2) m.1
+  asked_of_cond : (w : Lexemes) (x : PartInParentheses) → lang.◌<$>◌ part.Condition (g.cond inner) w x → g.wanted_part want.Condition (g.found inner) w x
+  asked_of_cond w x h = let m = mapped part.Condition (g.cond inner) w x h in subst (λ y. g.wanted_part want.Condition (g.found inner) w y) (sym m.2) m.1
 
-  asked_of_expr : (w : Lexemes) (x : Found) → lang.◌<$>◌ part.Expression (g.expr inner) w x → g.asked want.Expression (g.found inner) w x
-  asked_of_expr w x h = let m = mapped part.Expression (g.expr inner) w x h in subst (λ y. g.asked want.Expression (g.found inner) w y) (sym m.2) m.1
+  asked_of_expr : (w : Lexemes) (x : PartInParentheses) → lang.◌<$>◌ part.Expression (g.expr inner) w x → g.wanted_part want.Expression (g.found inner) w x
+  asked_of_expr w x h = let m = mapped part.Expression (g.expr inner) w x h in subst (λ y. g.wanted_part want.Expression (g.found inner) w y) (sym m.2) m.1
 
-  asked_of_query : (w : Lexemes) (x : Found) → lang.◌<$>◌ part.Query (g.query inner) w x → g.asked want.Query (g.found inner) w x
-  asked_of_query w x h = let m = mapped part.Query (g.query inner) w x h in subst (λ y. g.asked want.Query (g.found inner) w y) (sym m.2) m.1
+  asked_of_query : (w : Lexemes) (x : PartInParentheses) → lang.◌<$>◌ part.Query (g.query inner) w x → g.wanted_part want.Query (g.found inner) w x
+  asked_of_query w x h = let m = mapped part.Query (g.query inner) w x h in subst (λ y. g.wanted_part want.Query (g.found inner) w y) (sym m.2) m.1
 
-  operand_of_expr : (w : Lexemes) (x : Found) → lang.◌<$>◌ part.Expression (g.expr inner) w x → g.asked want.Operand (g.found inner) w x
-  operand_of_expr w x h = let m = mapped part.Expression (g.expr inner) w x h in subst (λ y. g.asked want.Operand (g.found inner) w y) (sym m.2) m.1
+  operand_of_expr : (w : Lexemes) (x : PartInParentheses) → lang.◌<$>◌ part.Expression (g.expr inner) w x → g.wanted_part want.Operand (g.found inner) w x
+  operand_of_expr w x h = let m = mapped part.Expression (g.expr inner) w x h in subst (λ y. g.wanted_part want.Operand (g.found inner) w y) (sym m.2) m.1
 
-  operand_of_query : (w : Lexemes) (x : Found) → lang.◌<$>◌ part.Query (g.query inner) w x → g.asked want.Operand (g.found inner) w x
-  operand_of_query w x h = let m = mapped part.Query (g.query inner) w x h in subst (λ y. g.asked want.Operand (g.found inner) w y) (sym m.2) m.1
+  operand_of_query : (w : Lexemes) (x : PartInParentheses) → lang.◌<$>◌ part.Query (g.query inner) w x → g.wanted_part want.Operand (g.found inner) w x
+  operand_of_query w x h = let m = mapped part.Query (g.query inner) w x h in subst (λ y. g.wanted_part want.Operand (g.found inner) w y) (sym m.2) m.1
 
-  operand_by_s : (kind : Kind) → Sound n n (g.asked want.Operand (g.found inner)) (r.operand_by n reader kind)
+  operand_by_s : (kind : Kind) → Sound n n (g.wanted_part want.Operand (g.found inner)) (r.operand_by n reader kind)
   operand_by_s k.Select = weak operand_of_query (map_s part.Query query_s)
   operand_by_s _ = weak operand_of_expr (map_s part.Expression expr_s)
 
-  pub level_s : (wanted : Want) → Sound n n (g.asked wanted (g.found inner)) (r.level n reader wanted)
+  pub level_s : (wanted : Want) → Sound n n (g.wanted_part wanted (g.found inner)) (r.level n reader wanted)
   unfolding r.any r.operand
   level_s want.Any = sound_by_kind n n (g.found inner) (r.any_of n reader) any_of_s
-  level_s want.Operand = sound_by_kind n n (g.asked want.Operand (g.found inner)) (r.operand_by n reader) operand_by_s
+  level_s want.Operand = sound_by_kind n n (g.wanted_part want.Operand (g.found inner)) (r.operand_by n reader) operand_by_s
   level_s want.Condition = weak asked_of_cond (map_s part.Condition condition_s)
   level_s want.Expression = weak asked_of_expr (map_s part.Expression expr_s)
   level_s want.Query = weak asked_of_query (map_s part.Query query_s)
@@ -660,14 +660,14 @@ module _ (n : ℕ) (inner : Language Found) (reader : Want → Reader Found) (so
 into_begins : {A : Type 0} (K L : Language A) → ((w : Lexemes) (a : A) → K w a → L w a) → Begins K [] → Begins L []
 into_begins K L f (w, a, h) = (w, a, f w a h)
 
-pub some_expr : (inner : Language Found) → Begins (g.expr inner) []
+pub some_expr : (inner : Language PartInParentheses) → Begins (g.expr inner) []
 unfolding g.expr g.term g.factor g.prim g.sum_after g.product_after
 some_expr inner =
     begins_first (g.term inner) (g.sum_after inner) [] (λ v x h. ([], _, mapping g.sum_of (Behind (x ∷ []) (g.sum_item inner)) [] (x ∷ []) ([], refl, refl)))
     (begins_first (g.factor inner) (g.product_after inner) [] (λ v x h. ([], _, mapping g.product_of (Behind (x ∷ []) (Then (lang.token k.Star) (λ _. g.factor inner))) [] (x ∷ []) ([], refl, refl)))
     (into_begins g.number (g.factor inner) (λ w x h. inl (inl (inl (inl h)))) (number_s 0 false).begins))
 
-pub some_cond : (inner : Language Found) → Begins (g.cond inner) []
+pub some_cond : (inner : Language PartInParentheses) → Begins (g.cond inner) []
 unfolding g.cond g.bterm g.bfact g.btest g.bprim g.comparison g.is_after g.and_after g.or_after
 some_cond inner =
     begins_first (g.bterm inner) (g.or_after inner) [] (λ v x h. ([], _, mapping g.or_of (Behind (x ∷ []) (Then (lang.token k.Or) (λ _. g.bterm inner))) [] (x ∷ []) ([], refl, refl)))
@@ -682,7 +682,7 @@ some_cond inner =
     (sign_s 0).begins))
     (some_expr inner))))))
 
-pub some_query : (inner : Language Found) → Begins (g.query inner) []
+pub some_query : (inner : Language PartInParentheses) → Begins (g.query inner) []
 unfolding g.query g.query_from g.query_rest g.where_clause g.group_by g.having g.correlation_name g.selected
 some_query inner =
     begins_first (lang.token k.Select) (λ _. lang.◌>>=◌ (g.selected inner) (λ list. lang.◌>>◌ (lang.token k.From) (g.query_from inner list))) [] (λ v x h.
@@ -697,7 +697,7 @@ some_query inner =
 
 -- ---- at each depth
 
-pub read_s : (n l : ℕ) → n + 1 < l → (wanted : Want) → Sound n n (g.asked wanted (g.nested l)) (r.read n wanted)
+pub read_s : (n l : ℕ) → n + 1 < l → (wanted : Want) → Sound n n (g.wanted_part wanted (g.nested l)) (r.read n wanted)
 unfolding r.read g.nested
 read_s n zero below wanted = absurd (omega arith)
 read_s n (suc zero) below wanted = absurd (omega arith)
@@ -705,23 +705,23 @@ read_s zero (suc (suc l)) below wanted =
     level_s zero (g.nested (suc l)) (λ _. refuse) (some_cond (g.nested l)) (some_expr (g.nested l)) (some_query (g.nested l)) (λ m is. absurd (omega arith)) wanted
 read_s (suc n) (suc (suc l)) below wanted =
     level_s (suc n) (g.nested (suc l)) (r.read n) (some_cond (g.nested l)) (some_expr (g.nested l)) (some_query (g.nested l))
-    (λ m is wanted. let same : n ≡ m = omega arith in subst (λ i. Sound i i (g.asked wanted (g.nested (suc l))) (r.read n wanted)) same (read_s n (suc l) (omega arith) wanted)) wanted
+    (λ m is wanted. let same : n ≡ m = omega arith in subst (λ i. Sound i i (g.wanted_part wanted (g.nested (suc l))) (r.read n wanted)) same (read_s n (suc l) (omega arith) wanted)) wanted
 
 -- ---- a condition, an expression, at the level of a statement
 
-abbrev as_cond_of : Language Found → Found → Language Condition
+abbrev as_cond_of : Language PartInParentheses → PartInParentheses → Language Condition
 as_cond_of inner (part.Condition x) = lang.pure x
 as_cond_of inner _ = g.inner_cond inner
 
-as_cond_s : (inner : Language Found) (m : ℕ) (w : Lexemes) (x : Found) → g.asked want.Condition inner w x → Sound m m (as_cond_of inner x) (r.as_cond x)
+as_cond_s : (inner : Language PartInParentheses) (m : ℕ) (w : Lexemes) (x : PartInParentheses) → g.wanted_part want.Condition inner w x → Sound m m (as_cond_of inner x) (r.as_cond x)
 as_cond_s inner m w (part.Condition x) h = sound_pure m x
 as_cond_s inner m w (part.Expression x) h = absurd h
 as_cond_s inner m w (part.Query x) h = absurd h
 
-cond_inside : (inner : Language Found) (w : Lexemes) (x : Condition) → Then (g.asked want.Condition inner) (as_cond_of inner) w x → g.inner_cond inner w x
+cond_inside : (inner : Language PartInParentheses) (w : Lexemes) (x : Condition) → Then (g.wanted_part want.Condition inner) (as_cond_of inner) w x → g.inner_cond inner w x
 cond_inside inner w x h = go inner w x h.tree h.split.front h.split.back h.split.cut h.split.first h.split.second
   where
-    go : (inner : Language Found) (w : Lexemes) (x : Condition) (y : Found) (front back : Lexemes) → w ≡ front ++ back → g.asked want.Condition inner front y → as_cond_of inner y back x → g.inner_cond inner w x
+    go : (inner : Language PartInParentheses) (w : Lexemes) (x : Condition) (y : PartInParentheses) (front back : Lexemes) → w ≡ front ++ back → g.wanted_part want.Condition inner front y → as_cond_of inner y back x → g.inner_cond inner w x
     go inner w x (part.Condition y) front back cut one two =
         let same : w ≡ front = cut ∙ ap (λ t. front ++ t) two.0 ∙ append-nil front in
         subst (λ z. inner w (part.Condition z)) (sym two.1) (subst (λ t. inner t (part.Condition y)) (sym same) one)
@@ -732,19 +732,19 @@ pub cond_at_s : (n l : ℕ) → n + 1 < l → Sound n n (g.conditions l) (r.cond
 unfolding r.cond_at
 cond_at_s n l below = weak (cond_inside (g.nested l)) (then_s (read_s n l below want.Condition) (as_cond_s (g.nested l) n))
 
-abbrev expr_of : Language Found → Found → Language Expression
+abbrev expr_of : Language PartInParentheses → PartInParentheses → Language Expression
 expr_of inner (part.Expression x) = lang.pure x
 expr_of inner _ = g.inner_expr inner
 
-expr_of_s : (inner : Language Found) (m : ℕ) (w : Lexemes) (x : Found) → g.asked want.Expression inner w x → Sound m m (expr_of inner x) (r.as_expr x)
+expr_of_s : (inner : Language PartInParentheses) (m : ℕ) (w : Lexemes) (x : PartInParentheses) → g.wanted_part want.Expression inner w x → Sound m m (expr_of inner x) (r.as_expr x)
 expr_of_s inner m w (part.Expression x) h = sound_pure m x
 expr_of_s inner m w (part.Condition x) h = absurd h
 expr_of_s inner m w (part.Query x) h = absurd h
 
-expr_in : (inner : Language Found) (w : Lexemes) (x : Expression) → Then (g.asked want.Expression inner) (expr_of inner) w x → g.inner_expr inner w x
+expr_in : (inner : Language PartInParentheses) (w : Lexemes) (x : Expression) → Then (g.wanted_part want.Expression inner) (expr_of inner) w x → g.inner_expr inner w x
 expr_in inner w x h = go inner w x h.tree h.split.front h.split.back h.split.cut h.split.first h.split.second
   where
-    go : (inner : Language Found) (w : Lexemes) (x : Expression) (y : Found) (front back : Lexemes) → w ≡ front ++ back → g.asked want.Expression inner front y → expr_of inner y back x → g.inner_expr inner w x
+    go : (inner : Language PartInParentheses) (w : Lexemes) (x : Expression) (y : PartInParentheses) (front back : Lexemes) → w ≡ front ++ back → g.wanted_part want.Expression inner front y → expr_of inner y back x → g.inner_expr inner w x
     go inner w x (part.Expression y) front back cut one two =
         let same : w ≡ front = cut ∙ ap (λ t. front ++ t) two.0 ∙ append-nil front in
         subst (λ z. inner w (part.Expression z)) (sym two.1) (subst (λ t. inner t (part.Expression y)) (sym same) one)

@@ -5,8 +5,8 @@ use Rattle.token.specs.declared.kinds.Kind.TheVariants as k
 use Rattle.value.specs.declared.values.Value.{Value}
 use Rattle.value.specs.declared.values.Value.TheVariants as c
 use Rattle.syntax.specs.declared.statements.Insert.{Insert}
-use Rattle.syntax.specs.declared.statements.Assigned.{Assigned}
-use Rattle.syntax.specs.declared.statements.Assigned.TheVariants as to
+use Rattle.syntax.specs.declared.statements.UpdateSource.{UpdateSource}
+use Rattle.syntax.specs.declared.statements.UpdateSource.TheVariants as to
 use Rattle.syntax.specs.declared.statements.Which.{Which}
 use Rattle.syntax.specs.declared.statements.Which.TheVariants as which
 use Rattle.syntax.specs.declared.statements.Mode.{Mode}
@@ -121,7 +121,7 @@ module _ (n l : ℕ) where
   unfolding st.assigned r.assigned
   assigned_f = record { finds = go }
     where
-      go : (w rest : Lexemes) (x : Assigned) → lang.◌∪◌ (lang.◌>>◌ (lang.token k.Null) (lang.pure to.Null)) (lang.◌<$>◌ to.To (g.expressions l)) w x → rank (kind_at rest) ≤ 4 → Accepts (by_kind (r.assigned_by n) (w ++ rest)) x rest
+      go : (w rest : Lexemes) (x : UpdateSource) → lang.◌∪◌ (lang.◌>>◌ (lang.token k.Null) (lang.pure to.Null)) (lang.◌<$>◌ to.To (g.expressions l)) w x → rank (kind_at rest) ≤ 4 → Accepts (by_kind (r.assigned_by n) (w ++ rest)) x rest
       go w rest x (inl h) small = pick (r.assigned_by n) k.Null 4 refl (seq_f 4 k.Null (finds_pure rank 4 to.Null)) w rest x h small
       go w rest x (inr h) small =
           let P : Kind → Type 0 = Goes (r.assigned_by n) (rd.◌<$>◌ to.To (q.expr_at n)) in

@@ -4,7 +4,7 @@ use Rattle.token.specs.declared.kinds.Kind.{Kind}
 use Rattle.token.specs.declared.kinds.Kind.TheVariants as k
 use Rattle.value.specs.declared.values.Value.TheVariants as c
 use Rattle.syntax.specs.declared.statements.Insert.{Insert}
-use Rattle.syntax.specs.declared.statements.Assigned.TheVariants as to
+use Rattle.syntax.specs.declared.statements.UpdateSource.TheVariants as to
 use Rattle.syntax.specs.declared.statements.Which.TheVariants as which
 use Rattle.syntax.specs.declared.statements.Mode.TheVariants as mode
 use Rattle.syntax.specs.declared.statements.Statement.TheVariants as s

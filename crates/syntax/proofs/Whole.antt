@@ -5,7 +5,7 @@ use Rattle.token.specs.declared.kinds.Kind.TheVariants as k
 use Rattle.syntax.specs.Language.{Lexemes, head, Language, Then, Begins, Some_level, after_kind, room_after, room}
 use Rattle.syntax.specs.Language as lang
 use Rattle.syntax.specs.Answer.{Fits, NoneGoesOn, IsWrong, IsTooDeep}
-use Rattle.syntax.specs.Reading.{Verdict, Done, Fail, Deep, Reader, ended, whole}
+use Rattle.syntax.specs.Reading.{Verdict, Done, Fail, Deep, Reader, at_end, whole}
 use Rattle.syntax.proofs.WordLaws.{append-nil, room-append, Meets, Took, Sound, stays, Bound, Through, Failed, Deepened, bound, Accepts, Finds}
 use Rattle.syntax.proofs.Loops.{accepts_through}
 use Rattle.syntax.proofs.Short.{then_s, weak}
@@ -13,18 +13,18 @@ use Rattle.syntax.proofs.Follow.{rank}
 
 -- ---- the end
 
-ended_took : {A : Type 0} (n : ℕ) (x : A) (ts : Lexemes) (v : Verdict A) (rest : Lexemes) → ended x ts ≡ (v, rest) → Took n n (lang.pure x) ts v rest
+ended_took : {A : Type 0} (n : ℕ) (x : A) (ts : Lexemes) (v : Verdict A) (rest : Lexemes) → at_end x ts ≡ (v, rest) → Took n n (lang.pure x) ts v rest
 ended_took n x [] v rest e = record { text = []; cut = ap (λ o. o.1) e; meets = subst (λ u. Meets n n (lang.pure x) [] rest u) (ap (λ o. o.0) e) ((refl, refl), refl) }
 ended_took n x (t ∷ ts) v rest e = record { text = []; cut = ap (λ o. o.1) e; meets = subst (λ u. Meets n n (lang.pure x) [] rest u) (ap (λ o. o.0) e) (([], x, (refl, refl)), (n, refl)) }
 
-ended_looks : {A : Type 0} (x : A) (w a b : Lexemes) (v : Verdict A) → ended x (w ++ a) ≡ (v, a) → head a ≡ head b → ended x (w ++ b) ≡ (v, b)
+ended_looks : {A : Type 0} (x : A) (w a b : Lexemes) (v : Verdict A) → at_end x (w ++ a) ≡ (v, a) → head a ≡ head b → at_end x (w ++ b) ≡ (v, b)
 ended_looks x [] [] [] v e same = e
 ended_looks x [] [] (t ∷ b) v e same = absurd (cc)
 ended_looks x [] (t ∷ a) [] v e same = absurd (cc)
 ended_looks x [] (t ∷ a) (u ∷ b) v e same = stays Fail v [] (t ∷ a) (u ∷ b) e
 ended_looks x (t ∷ w) a b v e same = stays Fail v (t ∷ w) a b e
 
-ended_s : {A : Type 0} (n : ℕ) (x : A) → Sound n n (lang.pure x) (ended x)
+ended_s : {A : Type 0} (n : ℕ) (x : A) → Sound n n (lang.pure x) (at_end x)
 ended_s n x = record { begins = ([], x, (refl, refl)); took = ended_took n x; looks = ended_looks x }
 
 -- ---- what a reader of whole texts stands on
@@ -68,7 +68,7 @@ module _ {A : Type 0} (L : ℕ → Language A) (p : ℕ → Reader A) (exact : E
   whole_accepts : (n : ℕ) (w : Lexemes) (a : A) → Some_level L w a → Accepts (whole (p n) w) a []
   whole_accepts n w a (l, h) =
       let one = (exact.finds n l).finds w [] a h (omega arith) in
-      let two = accepts_through (p n) ended (w ++ []) [] [] a a one (inl refl) in
+      let two = accepts_through (p n) at_end (w ++ []) [] [] a a one (inl refl) in
       subst (λ t. Accepts (whole (p n) t) a []) (append-nil w) two
 
   fail_not_accepts : (n : ℕ) (w rest : Lexemes) (a : A) → whole (p n) w ≡ (Fail, rest) → Accepts (whole (p n) w) a [] → ⊥
@@ -101,13 +101,13 @@ module _ {A : Type 0} (L : ℕ → Language A) (p : ℕ → Reader A) (exact : E
 
   -- nothing stands behind what is read
   whole_ends : (n : ℕ) (ts rest : Lexemes) (a : A) → whole (p n) ts ≡ (Done a, rest) → rest ≡ []
-  whole_ends n ts rest a e = by_bound ts rest a (bound (p n) ended ts (Done a) rest e)
+  whole_ends n ts rest a e = by_bound ts rest a (bound (p n) at_end ts (Done a) rest e)
     where
-      by_end : (x : A) (mid rest : Lexemes) (a : A) → ended x mid ≡ (Done a, rest) → rest ≡ []
+      by_end : (x : A) (mid rest : Lexemes) (a : A) → at_end x mid ≡ (Done a, rest) → rest ≡ []
       by_end x [] rest a e = sym (ap (λ o. o.1) e)
       by_end x (t ∷ mid) rest a e = let f = ap (λ o. o.0) e in absurd (cc)
 
-      by_bound : (ts rest : Lexemes) (a : A) → Bound (p n) ended ts (Done a) rest → rest ≡ []
+      by_bound : (ts rest : Lexemes) (a : A) → Bound (p n) at_end ts (Done a) rest → rest ≡ []
       by_bound ts rest a (Through x mid h k) = by_end x mid rest a k
       by_bound ts rest a (Failed h k) = absurd (cc)
       by_bound ts rest a (Deepened h k) = absurd (cc)

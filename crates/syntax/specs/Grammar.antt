@@ -5,7 +5,7 @@ use Rattle.std.specs.Option.{unwrap_or}
 use Rattle.token.specs.declared.kinds.Kind.TheVariants as k
 use Rattle.token.specs.Bytes.{name_of as upper}
 use Rattle.token.specs.Lexer.{number_value}
-use Rattle.token.specs.Readings.{undoubled, between_quotes}
+use Rattle.token.specs.Readings.{with_quotes_once, between_quotes}
 use Rattle.value.specs.declared.comparisons.Comparison.{Comparison}
 use Rattle.value.specs.declared.comparisons.Comparison.TheVariants as c
 use Rattle.value.specs.declared.truths.Truth.{Truth}
@@ -21,8 +21,8 @@ use Rattle.syntax.specs.declared.trees.Expression.TheVariants as e
 use Rattle.syntax.specs.declared.trees.Condition.{Condition, out-Condition}
 use Rattle.syntax.specs.declared.trees.Condition.TheVariants as b
 use Rattle.syntax.specs.declared.trees.Condition.TheOpen.{Condition-F, Expression-F}
-use Rattle.syntax.specs.declared.wants.Found.{Found}
-use Rattle.syntax.specs.declared.wants.Found.TheVariants as part
+use Rattle.syntax.specs.declared.wants.PartInParentheses.{PartInParentheses}
+use Rattle.syntax.specs.declared.wants.PartInParentheses.TheVariants as part
 use Rattle.syntax.specs.declared.wants.Want.{Want}
 use Rattle.syntax.specs.declared.wants.Want.TheVariants as want
 use Rattle.syntax.specs.Language.{Lexeme, Language, ◌>>=◌, ◌>>◌, ◌<$>◌, ◌∪◌, pure, token, optional, list, parens, Behind, Some_level}
@@ -34,13 +34,13 @@ unfoldable pub digits_value : Lexeme → ℕ
 digits_value x = unwrap_or (number_value x.spelling) 0
 
 -- a number with its sign
-abbrev pub signed : Bool → ℕ → ℤ
-signed true n = neg_ℤ (pos n)
-signed false n = pos n
+abbrev pub signed_number : Bool → ℕ → ℤ
+signed_number true n = neg_ℤ (pos n)
+signed_number false n = pos n
 
 -- what stands in the quotes of a text
 unfoldable pub quoted : Lexeme → List ℕ
-quoted x = undoubled false (between_quotes x.spelling)
+quoted x = with_quotes_once false (between_quotes x.spelling)
 
 -- a name: the word in upper case
 unfoldable pub name_of : Lexeme → List ℕ
@@ -48,7 +48,7 @@ name_of x = upper x.spelling
 
 -- the expression of a number's token, with its sign: SQL-92's signed numeric literal
 abbrev pub number_of : Bool → Lexeme → Expression
-number_of is_negative x = e.Number (signed is_negative (digits_value x))
+number_of is_negative x = e.Number (signed_number is_negative (digits_value x))
 
 -- Lists of parts: one part stands for itself, and a part of the same kind is merged into the list around it.
 abbrev pub product_layer : Expression → Expression-F Condition Expression SelectList Query → List Expression
@@ -172,7 +172,7 @@ query_of list table correlation_name keeps group having =
       having = having;
     })
 
-module _ (inner : Language Found) where
+module _ (inner : Language PartInParentheses) where
   -- what stands in parentheses: an expression, a condition, a query
   abbrev pub inner_expr : Language Expression
   inner_expr w x = inner w (part.Expression x)
@@ -300,26 +300,26 @@ module _ (inner : Language Found) where
   query = token k.Select >> (selected >>= (λ list. token k.From >> query_from list))
 
   -- what may stand in parentheses one level further out: a condition, an expression or a query
-  abbrev pub found : Language Found
+  abbrev pub found : Language PartInParentheses
   found w (part.Condition x) = cond w x
   found w (part.Expression x) = expr w x
   found w (part.Query x) = query w x
 
 -- the part of it that is asked for
-abbrev pub asked : Want → Language Found → Language Found
-asked want.Any inner w x = inner w x
-asked want.Condition inner w (part.Condition x) = inner w (part.Condition x)
-asked want.Condition inner w _ = ⊥
-asked want.Expression inner w (part.Expression x) = inner w (part.Expression x)
-asked want.Expression inner w _ = ⊥
-asked want.Query inner w (part.Query x) = inner w (part.Query x)
-asked want.Query inner w _ = ⊥
-asked want.Operand inner w (part.Expression x) = inner w (part.Expression x)
-asked want.Operand inner w (part.Query x) = inner w (part.Query x)
-asked want.Operand inner w _ = ⊥
+abbrev pub wanted_part : Want → Language PartInParentheses → Language PartInParentheses
+wanted_part want.Any inner w x = inner w x
+wanted_part want.Condition inner w (part.Condition x) = inner w (part.Condition x)
+wanted_part want.Condition inner w _ = ⊥
+wanted_part want.Expression inner w (part.Expression x) = inner w (part.Expression x)
+wanted_part want.Expression inner w _ = ⊥
+wanted_part want.Query inner w (part.Query x) = inner w (part.Query x)
+wanted_part want.Query inner w _ = ⊥
+wanted_part want.Operand inner w (part.Expression x) = inner w (part.Expression x)
+wanted_part want.Operand inner w (part.Query x) = inner w (part.Query x)
+wanted_part want.Operand inner w _ = ⊥
 
 -- with parentheses nested less deep than the number
-unfoldable pub nested : ℕ → Language Found
+unfoldable pub nested : ℕ → Language PartInParentheses
 nested zero w x = ⊥
 nested (suc n) w x = found (nested n) w x
 

@@ -106,13 +106,13 @@ abbrev pub Some_level : {A : Type 0} → (ℕ → Language A) → Language A
 Some_level L w x = (n : ℕ) × L n w x
 
 -- How many parentheses may still be opened after a token, where n might be before it. None: one too many was opened.
-abbrev pub opened : ℕ → Option ℕ
-opened zero = None
-opened (suc n) = Some n
+abbrev pub depth_left : ℕ → Option ℕ
+depth_left zero = None
+depth_left (suc n) = Some n
 
 -- the same by the token's kind: "(" takes one away, and ")" gives one back
 abbrev pub after_kind : Kind → ℕ → Option ℕ
-after_kind k.Open n = opened n
+after_kind k.Open n = depth_left n
 after_kind k.Close n = Some (suc n)
 after_kind _ n = Some n
 

@@ -16,8 +16,8 @@ use Rattle.syntax.specs.declared.trees.Expression.{Expression}
 use Rattle.syntax.specs.declared.trees.Expression.TheVariants as e
 use Rattle.syntax.specs.declared.trees.Condition.{Condition}
 use Rattle.syntax.specs.declared.trees.Condition.TheVariants as b
-use Rattle.syntax.specs.declared.wants.Found.{Found}
-use Rattle.syntax.specs.declared.wants.Found.TheVariants as part
+use Rattle.syntax.specs.declared.wants.PartInParentheses.{PartInParentheses}
+use Rattle.syntax.specs.declared.wants.PartInParentheses.TheVariants as part
 use Rattle.syntax.specs.declared.wants.Want.{Want}
 use Rattle.syntax.specs.declared.wants.Want.TheVariants as want
 use Rattle.syntax.specs.Language.{Lexeme}
@@ -98,28 +98,28 @@ unfoldable pub group_by : Reader (Option ColumnName)
 group_by = optional k.Group (expect k.Group >> (expect k.By >> column))
 
 -- what stood in parentheses, where an expression has to
-abbrev pub as_expr : Found → Reader Expression
+abbrev pub as_expr : PartInParentheses → Reader Expression
 as_expr (part.Expression x) = pure x
 as_expr _ = refuse
 
 -- what was read, where a condition has to stand
-abbrev pub as_cond : Found → Reader Condition
+abbrev pub as_cond : PartInParentheses → Reader Condition
 as_cond (part.Condition x) = pure x
 as_cond _ = refuse
 
 -- what stood in parentheses, where a query has to
-abbrev pub as_query : Found → Reader Query
+abbrev pub as_query : PartInParentheses → Reader Query
 as_query (part.Query x) = pure x
 as_query _ = refuse
 
 -- a query stands for its value
-abbrev pub as_operand : Found → Reader Expression
+abbrev pub as_operand : PartInParentheses → Reader Expression
 as_operand (part.Expression x) = pure x
 as_operand (part.Query x) = pure (e.Subquery x)
 as_operand _ = refuse
 
 -- what stood in parentheses at the front of a boolean test: a query there stands for its value
-abbrev pub as_test : Found → Reader Found
+abbrev pub as_test : PartInParentheses → Reader PartInParentheses
 as_test (part.Query x) = pure (part.Expression (e.Subquery x))
 as_test x = pure x
 
@@ -159,7 +159,7 @@ begins_comparison k.In = true
 begins_comparison _ = false
 
 -- How many parentheses may be opened, and the reader of what stands in them.
-module _ (depth : ℕ) (inner : Want → Reader Found) where
+module _ (depth : ℕ) (inner : Want → Reader PartInParentheses) where
   -- reads an expression in parentheses
   unfoldable pub inner_expr : Reader Expression
   inner_expr = inner want.Expression >>= as_expr
@@ -173,7 +173,7 @@ module _ (depth : ℕ) (inner : Want → Reader Found) where
   inner_operand = inner want.Operand >>= as_operand
 
   -- reads what a boolean test has in its first parentheses: a condition, an expression or a query
-  unfoldable pub inner_test : Reader Found
+  unfoldable pub inner_test : Reader PartInParentheses
   inner_test = inner want.Any >>= as_test
 
   -- "(" column ")"
@@ -327,17 +327,17 @@ module _ (depth : ℕ) (inner : Want → Reader Found) where
   exists = expect k.Exists >> (b.Exists <$> parens depth inner_query)
 
   -- a condition in parentheses, EXISTS, or the first factor of an expression
-  abbrev pub first_by : Kind → Reader Found
+  abbrev pub first_by : Kind → Reader PartInParentheses
   first_by k.Open = parens depth inner_test
   first_by k.Exists = part.Condition <$> exists
   first_by _ = part.Expression <$> factor
 
   -- reads the front of a boolean test, by which the test begins with a condition or with an expression
-  unfoldable pub first : Reader Found
+  unfoldable pub first : Reader PartInParentheses
   first = by_kind first_by
 
   -- a boolean test, by what was at its front
-  abbrev pub test_from : Found → Reader Condition
+  abbrev pub test_from : PartInParentheses → Reader Condition
   test_from (part.Condition x) = is_after x
   test_from (part.Expression x) = expr_after x >>= (λ left. comparison left >>= is_after)
   test_from (part.Query x) = refuse
@@ -384,16 +384,16 @@ module _ (depth : ℕ) (inner : Want → Reader Found) where
   condition = bfact >>= cond_after
 
   -- the condition that an expression begins, if the next token says so, and else the expression
-  abbrev pub any_by : Expression → Bool → Reader Found
+  abbrev pub any_by : Expression → Bool → Reader PartInParentheses
   any_by left true = part.Condition <$> (comparison left >>= (λ x. is_after x >>= cond_after))
   any_by left false = pure (part.Expression left)
 
   -- an expression, or the condition that it begins
-  unfoldable pub any_after : Expression → Reader Found
+  unfoldable pub any_after : Expression → Reader PartInParentheses
   any_after left = by_kind (λ kind. any_by left (begins_comparison kind))
 
   -- a condition or an expression, by what was at its front
-  abbrev pub any_from : Found → Reader Found
+  abbrev pub any_from : PartInParentheses → Reader PartInParentheses
   any_from (part.Condition x) = part.Condition <$> (is_after x >>= cond_after)
   any_from (part.Expression x) = expr_after x >>= any_after
   any_from (part.Query x) = refuse
@@ -433,26 +433,26 @@ module _ (depth : ℕ) (inner : Want → Reader Found) where
   -- ---- what is asked for
 
   -- a condition, an expression or a query, by the kind of the next token
-  abbrev pub any_of : Kind → Reader Found
+  abbrev pub any_of : Kind → Reader PartInParentheses
   any_of k.Not = part.Condition <$> condition
   any_of k.Select = part.Query <$> query
   any_of _ = first >>= any_from
 
   -- reads a condition, an expression or a query, whichever stands there
-  unfoldable pub any : Reader Found
+  unfoldable pub any : Reader PartInParentheses
   any = by_kind any_of
 
   -- an expression or a query, by the kind of the next token
-  abbrev pub operand_by : Kind → Reader Found
+  abbrev pub operand_by : Kind → Reader PartInParentheses
   operand_by k.Select = part.Query <$> query
   operand_by _ = part.Expression <$> expr
 
   -- reads an expression or a query, whichever stands there
-  unfoldable pub operand : Reader Found
+  unfoldable pub operand : Reader PartInParentheses
   operand = by_kind operand_by
 
   -- reads what is wanted, where what stands in parentheses is read by `inner`
-  abbrev pub level : Want → Reader Found
+  abbrev pub level : Want → Reader PartInParentheses
   level want.Condition = part.Condition <$> condition
   level want.Expression = part.Expression <$> expr
   level want.Query = part.Query <$> query
@@ -460,7 +460,7 @@ module _ (depth : ℕ) (inner : Want → Reader Found) where
   level want.Any = any
 
 -- what is wanted, with so many parentheses still to be opened
-unfoldable pub read : ℕ → Want → Reader Found
+unfoldable pub read : ℕ → Want → Reader PartInParentheses
 read zero wanted = level zero (λ _. refuse) wanted
 read (suc n) wanted = level (suc n) (read n) wanted
 

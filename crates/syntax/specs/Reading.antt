@@ -112,10 +112,10 @@ unfoldable pub list : {A : Type 0} → Reader A → Reader (List A)
 list p = p >>= (λ first. all is_comma (list_item p) (first ∷ []))
 
 -- nothing behind it
-abbrev pub ended : {A : Type 0} → A → Reader A
-ended x [] = (Done x, [])
-ended x (t ∷ ts) = (Fail, t ∷ ts)
+abbrev pub at_end : {A : Type 0} → A → Reader A
+at_end x [] = (Done x, [])
+at_end x (t ∷ ts) = (Fail, t ∷ ts)
 
 -- a text from its first token to its last
 abbrev pub whole : {A : Type 0} → Reader A → Reader A
-whole p = p >>= ended
+whole p = p >>= at_end

@@ -12,7 +12,7 @@ use Rattle.syntax.specs.declared.definitions.Definition.TheVariants as d
 use Rattle.syntax.specs.declared.statements.Step.{Step}
 use Rattle.syntax.specs.declared.statements.Event.{Event}
 use Rattle.syntax.specs.declared.statements.Insert.{Insert}
-use Rattle.syntax.specs.declared.wants.Found.{Found}
+use Rattle.syntax.specs.declared.wants.PartInParentheses.{PartInParentheses}
 use Rattle.syntax.specs.Grammar.{digits_value, name, inner_cond, nested}
 use Rattle.syntax.specs.StatementGrammar.{insert, check_time, one_event}
 use Rattle.syntax.specs.Language.{Lexeme, Language, ◌>>=◌, ◌>>◌, ◌<$>◌, ◌∪◌, pure, token, token_where, optional, list, parens, Behind, Some_level}
@@ -40,9 +40,9 @@ abbrev pub primary_key : Language Lexeme
 primary_key = token k.Primary >> token k.Key
 
 -- whether a part that may be missing is written
-abbrev pub written : {A : Type 0} → Option A → Bool
-written None = false
-written (Some x) = true
+abbrev pub is_present : {A : Type 0} → Option A → Bool
+is_present None = false
+is_present (Some x) = true
 
 -- what stands behind a column's type: whether NOT NULL, and whether PRIMARY KEY
 abbrev pub marks_of : Bool → Bool → Marks
@@ -51,8 +51,8 @@ marks_of not_null key = record { not_null = not_null; key = key }
 -- [ NOT NULL [PRIMARY KEY] | PRIMARY KEY [NOT NULL] ]
 unfoldable pub marks : Language Marks
 marks =
-    pure (marks_of false false) ∪ (not_null >> ((λ key. marks_of true (written key)) <$> optional primary_key))
-    ∪ (primary_key >> ((λ other. marks_of (written other) true) <$> optional not_null))
+    pure (marks_of false false) ∪ (not_null >> ((λ key. marks_of true (is_present key)) <$> optional primary_key))
+    ∪ (primary_key >> ((λ other. marks_of (is_present other) true) <$> optional not_null))
 
 -- the tree of a column definition
 abbrev pub column_definition : List ℕ → ColType → Marks → ColumnDefinition
@@ -88,7 +88,7 @@ table = token k.Create >> (token k.Table >> (name >>= (λ name. d.Table name <$>
 abbrev pub step_of : List ℕ → Event → Step
 step_of session event = record { session = session; event = event }
 
-module _ (inner : Language Found) where
+module _ (inner : Language PartInParentheses) where
   -- CREATE ASSERTION name CHECK "(" cond ")" [attrs]
   unfoldable pub assertion : Language Definition
   assertion =

@@ -13,7 +13,7 @@ use Rattle.syntax.specs.declared.definitions.Definition.TheVariants as d
 use Rattle.syntax.specs.declared.statements.Step.{Step}
 use Rattle.syntax.specs.declared.statements.Insert.{Insert}
 use Rattle.syntax.specs.Readers.{name, cond_at}
-use Rattle.syntax.specs.SchemaGrammar.{is_width, varchar_of, written, marks_of, column_definition, attributes_of, step_of}
+use Rattle.syntax.specs.SchemaGrammar.{is_width, varchar_of, is_present, marks_of, column_definition, attributes_of, step_of}
 use Rattle.syntax.specs.StatementReaders.{insert, check_time, one_event}
 use Rattle.syntax.specs.Language.{Lexeme}
 use Rattle.syntax.specs.Reading.{Reader, ◌>>=◌, ◌>>◌, ◌<$>◌, pure, refuse, by_kind, expect, expect_where, optional, list, all, parens}
@@ -28,8 +28,8 @@ primary_key = expect k.Primary >> expect k.Key
 
 -- what follows a column's type, by the kind of the next token
 abbrev pub marks_by : Kind → Reader Marks
-marks_by k.Not = not_null >> ((λ key. marks_of true (written key)) <$> optional k.Primary primary_key)
-marks_by k.Primary = primary_key >> ((λ other. marks_of (written other) true) <$> optional k.Not not_null)
+marks_by k.Not = not_null >> ((λ key. marks_of true (is_present key)) <$> optional k.Primary primary_key)
+marks_by k.Primary = primary_key >> ((λ other. marks_of (is_present other) true) <$> optional k.Not not_null)
 marks_by _ = pure (marks_of false false)
 
 -- reads [ NOT NULL [PRIMARY KEY] | PRIMARY KEY [NOT NULL] ]

@@ -5,8 +5,8 @@ use Rattle.syntax.specs.declared.trees.Condition.{Condition}
 use Rattle.value.specs.declared.values.Value.{Value}
 use Rattle.value.specs.declared.values.Value.TheVariants as c
 use Rattle.syntax.specs.declared.statements.Insert.{Insert}
-use Rattle.syntax.specs.declared.statements.Assigned.{Assigned}
-use Rattle.syntax.specs.declared.statements.Assigned.TheVariants as to
+use Rattle.syntax.specs.declared.statements.UpdateSource.{UpdateSource}
+use Rattle.syntax.specs.declared.statements.UpdateSource.TheVariants as to
 use Rattle.syntax.specs.declared.statements.Assignment.{Assignment}
 use Rattle.syntax.specs.declared.statements.Which.{Which}
 use Rattle.syntax.specs.declared.statements.Which.TheVariants as which
@@ -16,13 +16,13 @@ use Rattle.syntax.specs.declared.statements.Statement.{Statement}
 use Rattle.syntax.specs.declared.statements.Statement.TheVariants as s
 use Rattle.syntax.specs.declared.statements.Event.{Event}
 use Rattle.syntax.specs.declared.statements.Event.TheVariants as event
-use Rattle.syntax.specs.declared.wants.Found.{Found}
-use Rattle.syntax.specs.Grammar.{digits_value, signed, quoted, name, inner_cond, inner_expr, nested}
+use Rattle.syntax.specs.declared.wants.PartInParentheses.{PartInParentheses}
+use Rattle.syntax.specs.Grammar.{digits_value, signed_number, quoted, name, inner_cond, inner_expr, nested}
 use Rattle.syntax.specs.Language.{Lexeme, Language, ◌>>=◌, ◌>>◌, ◌<$>◌, ◌∪◌, pure, token, optional, list, parens, Some_level}
 
 -- the constant of a number's token, with its sign
 abbrev pub number_of : Bool → Lexeme → Value
-number_of is_negative x = c.Int (signed is_negative (digits_value x))
+number_of is_negative x = c.Int (signed_number is_negative (digits_value x))
 
 -- the constant of a text's token: what stands in its quotes
 abbrev pub text_of : Lexeme → Value
@@ -70,7 +70,7 @@ unfoldable pub verdict : Language Statement
 verdict = token k.Verdict >> (s.Verdict <$> name)
 
 -- the tree of a set clause of an update statement: a column, and what it is given
-abbrev pub assignment_of : List ℕ → Assigned → Assignment
+abbrev pub assignment_of : List ℕ → UpdateSource → Assignment
 assignment_of column value = record { column = column; value = value }
 
 -- [READ ONLY], behind BEGIN
@@ -82,13 +82,13 @@ begin_of (Some only) = event.BeginReadOnly
 unfoldable pub access : Language Event
 access = begin_of <$> optional (token k.Read >> token k.Only)
 
-module _ (inner : Language Found) where
+module _ (inner : Language PartInParentheses) where
   -- [WHERE cond]
   unfoldable pub where_clause : Language (Option Condition)
   where_clause = optional (token k.Where >> inner_cond inner)
 
   -- NULL | expr
-  unfoldable pub assigned : Language Assigned
+  unfoldable pub assigned : Language UpdateSource
   assigned = (token k.Null >> pure to.Null) ∪ (to.To <$> inner_expr inner)
 
   -- set: name "=" ( NULL | expr )

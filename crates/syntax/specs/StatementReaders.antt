@@ -6,8 +6,8 @@ use Rattle.syntax.specs.declared.trees.Condition.{Condition}
 use Rattle.value.specs.declared.values.Value.{Value}
 use Rattle.value.specs.declared.values.Value.TheVariants as c
 use Rattle.syntax.specs.declared.statements.Insert.{Insert}
-use Rattle.syntax.specs.declared.statements.Assigned.{Assigned}
-use Rattle.syntax.specs.declared.statements.Assigned.TheVariants as to
+use Rattle.syntax.specs.declared.statements.UpdateSource.{UpdateSource}
+use Rattle.syntax.specs.declared.statements.UpdateSource.TheVariants as to
 use Rattle.syntax.specs.declared.statements.Assignment.{Assignment}
 use Rattle.syntax.specs.declared.statements.Which.{Which}
 use Rattle.syntax.specs.declared.statements.Which.TheVariants as which
@@ -92,12 +92,12 @@ module _ (n : ℕ) where
   where_clause = optional k.Where (expect k.Where >> cond_at n)
 
   -- what a column is given, by the kind of the next token
-  abbrev pub assigned_by : Kind → Reader Assigned
+  abbrev pub assigned_by : Kind → Reader UpdateSource
   assigned_by k.Null = expect k.Null >> pure to.Null
   assigned_by _ = to.To <$> expr_at n
 
   -- reads NULL | expr: what a set clause gives to its column
-  unfoldable pub assigned : Reader Assigned
+  unfoldable pub assigned : Reader UpdateSource
   assigned = by_kind assigned_by
 
   -- reads set: a set clause of an update statement

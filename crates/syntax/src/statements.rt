@@ -14,7 +14,7 @@ pub struct Insert {
 
 /// What an UPDATE gives to a column.
 #[derive(Drop)]
-pub enum Assigned {
+pub enum UpdateSource {
     Null,
     To(Expression),
 }
@@ -23,7 +23,7 @@ pub enum Assigned {
 #[derive(Drop)]
 pub struct Assignment {
     pub column: Text,
-    pub value: Assigned,
+    pub value: UpdateSource,
 }
 
 /// All of them, or those with these names: columns of a SELECT, or assertions.

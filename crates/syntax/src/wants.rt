@@ -15,7 +15,7 @@ pub enum Want {
 
 /// What stands in parentheses is a condition, an expression or a query.
 #[derive(Drop)]
-pub enum Found {
+pub enum PartInParentheses {
     Condition(Boxed<Condition>),
     Expression(Expression),
     Query(Boxed<Query>),

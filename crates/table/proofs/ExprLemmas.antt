@@ -16,7 +16,7 @@ use Rattle.table.specs.declared.exprs.Expr.TheVariants.{Slot, rolls-Slot, rolls-
 use Rattle.table.specs.Bounds.{joined_bound, bound_step, bound_of, limit_at}
 use Rattle.table.specs.Slots.{magnitude}
 use Rattle.table.specs.Eval.{answer, expr_step}
-use Rattle.table.specs.Values.{total, joined}
+use Rattle.table.specs.Values.{total, operation_value}
 use Rattle.table.proofs.SlotLemmas.{limit_at_small}
 
 module _ (row : RowValues) (slots : List Value) where
@@ -68,7 +68,7 @@ module _ (kinds : List SlotKind) (g : ℕ → ℕ → ℕ) (mono : (a b c d : �
 
 -- one part more of the whole
 pub total_more : (f : ℤ → ℤ → ℤ) (ans : Expr → Value) (items : List Expr) (i : ℕ) (part : Expr) (before start : Value) → i < length items → part ≡ get_or items i part
-    → total f before (map ans (drop i items)) ≡ total f start (map ans items) → total f (joined f before (ans part)) (map ans (drop (i + 1) items)) ≡ total f start (map ans items)
+    → total f before (map ans (drop i items)) ≡ total f start (map ans items) → total f (operation_value f before (ans part)) (map ans (drop (i + 1) items)) ≡ total f start (map ans items)
 total_more f ans items i part before start h is e = ap (λ (es : List Expr). total f before (map ans es)) (sym (drop_item items i part h is)) ∙ e
 
 -- where no part is left

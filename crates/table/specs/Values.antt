@@ -8,39 +8,39 @@ use Rattle.value.specs.declared.comparisons.Comparison.{Comparison}
 use Rattle.value.specs.Comparisons.{holds, known_cmp}
 use Rattle.value.specs.declared.truths.Truth.{Truth}
 use Rattle.value.specs.declared.truths.Truth.TheVariants.{True, False, Unknown}
-use Rattle.value.specs.Truths.{and_of, or_of, known}
+use Rattle.value.specs.Truths.{and_of, or_of, truth_of_bool}
 
 -- ---- numeric value expressions (6.12)
 
 -- a number with the sign turned; NULL stays
-abbrev pub negated : Value → Value
-negated Null = Null
-negated (Int n) = Int (neg_ℤ n)
-negated (Text t) = Null
+abbrev pub negative_of : Value → Value
+negative_of Null = Null
+negative_of (Int n) = Int (neg_ℤ n)
+negative_of (Text t) = Null
 
 -- two numbers by an operation; NULL where a side is NULL
-abbrev pub joined : (ℤ → ℤ → ℤ) → Value → Value → Value
-joined f Null w = Null
-joined f (Text s) w = Null
-joined f (Int m) Null = Null
-joined f (Int m) (Text t) = Null
-joined f (Int m) (Int n) = Int (f m n)
+abbrev pub operation_value : (ℤ → ℤ → ℤ) → Value → Value → Value
+operation_value f Null w = Null
+operation_value f (Text s) w = Null
+operation_value f (Int m) Null = Null
+operation_value f (Int m) (Text t) = Null
+operation_value f (Int m) (Int n) = Int (f m n)
 
 -- all the numbers of a list by an operation, from the left
 abbrev pub total : (ℤ → ℤ → ℤ) → Value → List Value → Value
 total f so_far [] = so_far
-total f so_far (v ∷ rest) = total f (joined f so_far v) rest
+total f so_far (v ∷ rest) = total f (operation_value f so_far v) rest
 
 -- ---- predicates
 
 -- the truth of a comparison by what is known of its sides
 abbrev pub known_as : Comparison → Option Ordering → Truth
 known_as comparison None = Unknown
-known_as comparison (Some ordering) = known (holds comparison ordering)
+known_as comparison (Some ordering) = truth_of_bool (holds comparison ordering)
 
 -- a comparison, unknown where a side is NULL (8.2)
-abbrev pub compared : Comparison → Value → Value → Truth
-compared comparison v w = known_as comparison (known_cmp v w)
+abbrev pub comparison_truth : Comparison → Value → Value → Truth
+comparison_truth comparison v w = known_as comparison (known_cmp v w)
 
 -- IS NULL, which is never unknown (8.6)
 abbrev pub is_null : Value → Truth

@@ -63,7 +63,7 @@ pub use aggregates::Aggregate;
 pub use bounds::{bound, is_bounded};
 pub use catalogs::Catalog;
 pub use conds::Cond;
-pub use evals::{Given, evaluate};
+pub use evals::{LentValue, evaluate};
 pub use exprs::Expr;
 pub use rows::{Change, Row};
 pub use schemas::{Column, LARGEST, Schema};

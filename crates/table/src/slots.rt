@@ -5,9 +5,9 @@ ghost use Rattle.value.specs.declared.values.Value.TheVariants as value;
 ghost use Rattle.table.specs.Bounds.{IsSmallRow, limit_at};
 ghost use Rattle.table.specs.Slots.{IsWithinKind, kinds_of, magnitude, values_of};
 ghost use Rattle.table.specs.declared.slots.SlotKind.TheVariants as kind;
-ghost use Rattle.table.specs.Shown.{shown};
+ghost use Rattle.table.specs.Shown.{lent_value};
 
-use crate::evals::{Given, lent};
+use crate::evals::{LentValue, lend_value};
 use crate::rows::Row;
 use std::alloc::{AllocError, Global};
 use std::marker::Model;
@@ -82,22 +82,22 @@ impl Slots {
     }
 
     /// What stands in a slot: NULL where there is none.
-    pub fn get(&self, slot: usize) -> Given<'_>
-        ensures value { shown result ≡ slice_index_or (values_of self.now) slot value.Null }
-        ensures small { magnitude (shown result) ≤ limit_at (kinds_of self.now) slot }
+    pub fn get(&self, slot: usize) -> LentValue<'_>
+        ensures value { lent_value result ≡ slice_index_or (values_of self.now) slot value.Null }
+        ensures small { magnitude (lent_value result) ≤ limit_at (kinds_of self.now) slot }
     {
-        found(self.values.as_slice(), slot)
+        value_in_slot(self.values.as_slice(), slot)
     }
 }
 
 /// What stands in one of these slots: NULL where there is none.
-fn found(values: &[SlotValue], slot: usize) -> Given<'_>
-    ensures { shown result ≡ slice_index_or (values_of values.now) slot value.Null }
+fn value_in_slot(values: &[SlotValue], slot: usize) -> LentValue<'_>
+    ensures { lent_value result ≡ slice_index_or (values_of values.now) slot value.Null }
 {
     match values.get(slot) {
-        Some(SlotValue::Count(count)) => Given::Number(*count as i128),
-        Some(SlotValue::Sum(Some(sum))) => Given::Number(*sum),
-        Some(SlotValue::Extreme(value)) => lent(value),
-        Some(SlotValue::Sum(None)) | None => Given::Null,
+        Some(SlotValue::Count(count)) => LentValue::Number(*count as i128),
+        Some(SlotValue::Sum(Some(sum))) => LentValue::Number(*sum),
+        Some(SlotValue::Extreme(value)) => lend_value(value),
+        Some(SlotValue::Sum(None)) | None => LentValue::Null,
     }
 }

@@ -3,12 +3,12 @@
 ghost use Rattle.std.specs.Prelude.{◌≡◌, ◌↔◌, [], IsTrue};
 ghost use Rattle.table.specs.Bounds.{is_bounded, IsSmallRow};
 ghost use Rattle.table.specs.Eval.{truth, keeps as keeps_of};
-ghost use Rattle.table.specs.Values.{compared as compared_of};
-ghost use Rattle.table.specs.Shown.{shown};
+ghost use Rattle.table.specs.Values.{comparison_truth as compared_of};
+ghost use Rattle.table.specs.Shown.{lent_value};
 ghost use Rattle.table.specs.Slots.{kinds_of, values_of};
 
 use crate::conds::Cond;
-use crate::evals::{Given, evaluate};
+use crate::evals::{LentValue, evaluate};
 use crate::rows::Row;
 use crate::slots::Slots;
 use std::alloc::Global;
@@ -42,17 +42,21 @@ pub fn eval(cond: &Cond, row: &Row, slots: &Slots) -> Truth
     ensures { result ≡ truth row.now (values_of slots.now) cond.now }
 {
     match cond {
-        Cond::Compare(comparison, left, right) => compared(
+        Cond::Compare(comparison, left, right) => truth_of_comparison(
             *comparison,
             evaluate(left, row, slots),
             evaluate(right, row, slots),
         ),
         Cond::IsNull(part) => match evaluate(part, row, slots) {
-            Given::Null => Truth::True,
-            Given::Number(_) | Given::Text(_) => Truth::False,
+            LentValue::Null => Truth::True,
+            LentValue::Number(_) | LentValue::Text(_) => Truth::False,
         },
         Cond::Exists(slot) => {
-            let some = compared(Comparison::Greater, slots.get(*slot), Given::Number(0));
+            let some = truth_of_comparison(
+                Comparison::Greater,
+                slots.get(*slot),
+                LentValue::Number(0),
+            );
             Truth::from(some.is(Truth::True))
         }
         Cond::Is(part, wanted) => Truth::from(eval(part.get(), row, slots).is(*wanted)),
@@ -75,14 +79,16 @@ pub fn eval(cond: &Cond, row: &Row, slots: &Slots) -> Truth
 }
 
 /// What a comparison says of two values: unknown where a side is NULL.
-fn compared(comparison: Comparison, left: Given, right: Given) -> Truth
-    ensures { result ≡ compared_of comparison (shown left.entry) (shown right.entry) }
+fn truth_of_comparison(comparison: Comparison, left: LentValue, right: LentValue) -> Truth
+    ensures { result ≡ compared_of comparison (lent_value left.entry) (lent_value right.entry) }
 {
     match (left, right) {
-        (Given::Null, _) | (_, Given::Null) => Truth::Unknown,
-        (Given::Number(m), Given::Number(n)) => Truth::from(comparison.holds(m.cmp(&n))),
-        (Given::Number(_), Given::Text(_)) => Truth::from(comparison.holds(Ordering::Less)),
-        (Given::Text(_), Given::Number(_)) => Truth::from(comparison.holds(Ordering::Greater)),
-        (Given::Text(s), Given::Text(t)) => Truth::from(comparison.holds(s.cmp(t))),
+        (LentValue::Null, _) | (_, LentValue::Null) => Truth::Unknown,
+        (LentValue::Number(m), LentValue::Number(n)) => Truth::from(comparison.holds(m.cmp(&n))),
+        (LentValue::Number(_), LentValue::Text(_)) => Truth::from(comparison.holds(Ordering::Less)),
+        (LentValue::Text(_), LentValue::Number(_)) => Truth::from(comparison.holds(
+            Ordering::Greater,
+        )),
+        (LentValue::Text(s), LentValue::Text(t)) => Truth::from(comparison.holds(s.cmp(t))),
     }
 }

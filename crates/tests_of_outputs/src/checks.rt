@@ -1,7 +1,7 @@
 //! What is shown of whole texts.
 
 use crate::writers::Brittle;
-use checkup::{CheckFault, Colour, Health, Named, Style, check_into};
+use checkup::{CheckFault, Colour, Health, NamedText, Style, check_into};
 use std::alloc::Global;
 use std::process::Abort;
 use std::test::Fail;
@@ -28,7 +28,7 @@ fn shows(
     health: Health,
     want: &str,
 ) -> Result<(), Fail> {
-    let named = Named {
+    let named = NamedText {
         name: "defs.sql",
         bytes: defs.as_bytes(),
     };
@@ -107,7 +107,7 @@ CREATE ASSERTION RULE CHECK (NOT EXISTS (SELECT * FROM T R WHERE EXISTS (SELECT 
 #[test]
 fn each_call_failing(rt: HostRuntime) -> Result<(), Fail> {
     let alloc = rt.alloc();
-    let defs = Named {
+    let defs = NamedText {
         name: "defs.sql",
         bytes: b"CREATE TABLE T (ID INTEGER PRIMARY KEY);",
     };

@@ -1,7 +1,7 @@
 //! Gates that hold threads, for tests.
 
 use std::sync::atomic::{AtomicBool, AtomicU64, Ordering};
-use workers::Gate;
+use threads::Gate;
 
 /// A thread that waits at a gate looks so often, and then notes that it gives up.
 const TURNS: u64 = 1_000_000_000;

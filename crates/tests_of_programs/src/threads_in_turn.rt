@@ -17,9 +17,8 @@ use std::process::Abort;
 use std::sync::Wait;
 use std::test::Fail;
 use std::thread::Threads;
-use threads::{print_report, threads_into};
+use threads::{Free, Gate, Script, ScriptAnswers, print_report, run_sessions, threads_into};
 use value::Text;
-use workers::{Free, Gate, Script, ScriptAnswers, run_sessions};
 
 /// What is written for two texts, by the threads that the gate lets pass.
 fn written<R, G>(rt: &R, defs: &str, script: &str, gate: &G) -> Result<Vec<u8>, Fail>

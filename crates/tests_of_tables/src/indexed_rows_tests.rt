@@ -148,7 +148,7 @@ fn wrong(alloc: Global, versions: &[Rows], others: &[Rows]) -> Result<i64, Alloc
 #[test]
 fn an_index_changes_no_answer(rt: HostRuntime) -> Result<(), Fail> {
     let first = first_version(rt.alloc())?;
-    let indexed = versions(rt.alloc(), first.indexed(KEY, COLUMN)?)?;
+    let indexed = versions(rt.alloc(), first.with_index(KEY, COLUMN)?)?;
     let scanned = versions(rt.alloc(), first)?;
     assert!(rt; indexed.len() == 1_001 && scanned.len() == 1_001);
     assert!(rt; wrong(rt.alloc(), &indexed, &scanned)? == 0);
@@ -186,7 +186,7 @@ fn found(alloc: Global, version: &Rows) -> Result<(i64, i64, i64), AllocError> {
 fn nulls(alloc: Global) -> Result<Rows, AllocError>
     ensures { IfOk result (λ rows. IsAscending value_cmp (value_in 0) rows) }
 {
-    let none = Rows::new(alloc).indexed(KEY, COLUMN)?;
+    let none = Rows::new(alloc).with_index(KEY, COLUMN)?;
     let one = changed(alloc, none, 1, Cell::Number(7))?;
     let two = changed(alloc, one, 2, Cell::Null)?;
     let three = changed(alloc, two, 3, Cell::Number(7))?;
@@ -209,7 +209,7 @@ fn null_is_found_too(rt: HostRuntime) -> Result<(), Fail> {
     assert!(rt; found(rt.alloc(), &old)? == (13, 0, 24));
     assert!(rt; found(rt.alloc(), &new)? == (1, 2, 34));
     let copy = new.copy()?;
-    let twice = copy.indexed(KEY, COLUMN)?;
+    let twice = copy.with_index(KEY, COLUMN)?;
     assert!(rt; found(rt.alloc(), &twice)? == (1, 2, 34));
     Ok(())
 }
@@ -242,7 +242,7 @@ fn a_text_is_found_too(rt: HostRuntime) -> Result<(), Fail> {
 #[test]
 fn another_key_column_is_looked_through(rt: HostRuntime) -> Result<(), Fail> {
     let old = nulls(rt.alloc())?;
-    let same = old.indexed(COLUMN, KEY)?;
+    let same = old.with_index(COLUMN, KEY)?;
     let keys = same.keys_with(rt.alloc(), COLUMN, KEY, &Value::Int(3))?;
     assert!(rt; keys.len() == 1 && keys.first().map(digit) == Some(7));
     Ok(())

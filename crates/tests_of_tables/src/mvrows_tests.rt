@@ -151,7 +151,7 @@ fn mixed(index: i64) -> i64 {
 fn loaded(alloc: Global) -> Result<Rows, AllocError>
     ensures { IfOk result (λ rows. IsAscending value_cmp (value_in 1) rows) }
 {
-    let mut rows = Rows::new(alloc).indexed(1, 0)?;
+    let mut rows = Rows::new(alloc).with_index(1, 0)?;
     for index in 0..COUNT {
         rows = put(alloc, rows, mixed(index), mixed(index))?;
     }

@@ -3,7 +3,8 @@
 use crate::shared::{add_table, condition_of, event, expression_of, let_go, same, schema};
 use assertion::Form;
 use form_check::{
-    Columns, Scope, Source, form, numbered, numbered_expression, row_condition, row_expression,
+    Columns, Scope, Source, form, numbered_condition, numbered_expression, row_condition,
+    row_expression,
 };
 use std::alloc::Global;
 use std::process::Abort;
@@ -154,7 +155,12 @@ fn sources(rt: HostRuntime) -> Result<(), Fail> {
 fn slots_in(alloc: Global, event: &Event) -> Option<usize> {
     let mut leaves = Vec::new(alloc);
     let is_made = match (condition_of(event), expression_of(event)) {
-        (Some(condition), _) => is_made(numbered(alloc, &Columns::None, condition, &mut leaves)),
+        (Some(condition), _) => is_made(numbered_condition(
+            alloc,
+            &Columns::None,
+            condition,
+            &mut leaves,
+        )),
         (None, Some(expression)) => {
             is_made(numbered_expression(alloc, &Columns::None, expression, &mut leaves))
         }

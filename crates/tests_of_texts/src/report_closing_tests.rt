@@ -2,10 +2,9 @@
 
 use crate::report_tests::reads;
 use crate::shared::let_go;
-use answer::RefusedCommit;
+use alone::{Record, RefusedCommit};
 use assertion::{Assertion, ConstraintAttributes, Form};
 use report::Report;
-use serial::Record;
 use sqlite_items::Items;
 use std::alloc::{AllocError, Global};
 use std::test::Fail;

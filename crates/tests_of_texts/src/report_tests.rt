@@ -1,7 +1,7 @@
 //! Each line by its bytes, and that the calls succeed.
 
 use crate::shared::let_go;
-use answer::{Answer, Reply};
+use alone::{Answer, Reply};
 use parse::parse_script;
 use report::Report;
 use sqlite_items::Items;

@@ -3,7 +3,7 @@
 use parse::parse_statement;
 use std::alloc::Global;
 use std::process::Abort;
-use syntax::{Assigned, Condition, Event, Expression, Statement};
+use syntax::{Condition, Event, Expression, Statement, UpdateSource};
 use table::{Catalog, Column, Schema};
 use value::{ColType, Refusal, Text};
 
@@ -84,9 +84,9 @@ pub fn expression_of(event: &Event) -> Option<&Expression> {
 }
 
 /// The expression that is given to a column.
-fn assigned(value: &Assigned) -> Option<&Expression> {
+fn assigned(value: &UpdateSource) -> Option<&Expression> {
     match value {
-        Assigned::To(expression) => Some(expression),
-        Assigned::Null => None,
+        UpdateSource::To(expression) => Some(expression),
+        UpdateSource::Null => None,
     }
 }

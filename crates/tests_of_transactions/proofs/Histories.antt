@@ -2,15 +2,15 @@
 use Rattle.std.proofs.Common.{◌≡◌, ◌+◌, ◌<◌, ℕ, suc, true, List, [], ◌∷◌, ◌++◌, length, map, refl, sym, ap, ◌∙◌, subst, arith}
 use mathlib.Core.List.{reverse}
 use Rattle.std.proofs.lemmas.List.{length-reverse, reverse-append}
-use Rattle.siread.specs.Locks.{AreBelow, Reads, no_reads, reaching, with_reader}
+use Rattle.siread.specs.Locks.{AreBelow, Reads, no_reads, reads_above, with_reader}
 use Rattle.alone.proofs.Lists.{Each}
-use Rattle.serial.specs.declared.records.Record.{Record}
-use Rattle.serial.specs.Commits.{IsLog, IsNext, reach}
-use Rattle.serial.specs.Order.{put_by, rank, serial_order}
-use Rattle.serial.proofs.Ranks.{numbers_below}
-use Rattle.conflict.specs.Judged.{IsVerdict}
+use Rattle.alone.specs.declared.records.Record.{Record}
+use Rattle.alone.specs.Commits.{IsLog, IsNext, reach}
+use Rattle.alone.specs.Order.{put_by, rank, serial_order}
+use Rattle.alone.proofs.Ranks.{numbers_below}
+use Rattle.conflict.specs.Judged.{IsJudgmentOf}
 use Rattle.conflict.specs.Ordered.{numbers_of}
-use Rattle.conflict.specs.declared.verdicts.Verdict.TheVariants.{Fine}
+use Rattle.conflict.specs.declared.verdicts.Judgment.TheVariants.{Fine}
 use Rattle.conflict.proofs.Joined.{log_after, places_after, reaches_after}
 use Rattle.conflict.proofs.Puts.{numbers_after}
 use Rattle.conflict.specs.Readers.{reads_of}
@@ -48,15 +48,15 @@ module _ (committed : List Record) (places reaches order : List ℕ) (reads : Re
 
   -- one that may join them, on the tables of the start
   pub kept_more : (commit : Record) (place : ℕ) (after : List ℕ) → commit.number ≡ length committed + 1 → commit.snapshot ≡ 0 → (commit.read_only ≡ true → commit.changes ≡ [])
-      → IsVerdict (reverse committed) commit (Fine place)
+      → IsJudgmentOf (reverse committed) commit (Fine place)
       → after ≡ numbers_of (put_by (rank (reverse committed)) commit (serial_order (reverse committed)))
-      → AreKept (committed ++ commit ∷ []) (places ++ place ∷ []) (reaches ++ reach commit ∷ []) after (reaching 0 (reaches ++ reach commit ∷ []) (with_reader commit.number commit.reads reads))
+      → AreKept (committed ++ commit ∷ []) (places ++ place ∷ []) (reaches ++ reach commit ∷ []) after (reads_above 0 (reaches ++ reach commit ∷ []) (with_reader commit.number commit.reads reads))
   kept_more commit place after next start nothing verdict put =
       let is_next : IsNext commit (reverse committed) = record { accepted = kept.log; numbered = omega (arith, length-reverse committed, next) } in
       let later : commit.snapshot < commit.number = omega (arith, next, start) in
       let log : IsLog (reverse (committed ++ commit ∷ [])) = log_after committed commit place is_next later nothing verdict in
       let longer : reaches ++ reach commit ∷ [] ≡ map reach (committed ++ commit ∷ []) = reaches_after committed reaches commit (reach commit) refl kept.reaches_are in
-      let had : reads ≡ reaching kept.readers.low (map reach committed) (reads_of committed) = kept.readers.are ∙ ap (λ far. reaching kept.readers.low far (reads_of committed)) kept.reaches_are in
+      let had : reads ≡ reads_above kept.readers.low (map reach committed) (reads_of committed) = kept.readers.are ∙ ap (λ far. reads_above kept.readers.low far (reads_of committed)) kept.reaches_are in
       let turned : reverse (committed ++ commit ∷ []) ≡ commit ∷ reverse committed = reverse-append committed (commit ∷ []) in
       record {
         log = log;
@@ -67,8 +67,8 @@ module _ (committed : List Record) (places reaches order : List ℕ) (reads : Re
           low = 0;
           within = omega arith;
           are =
-              (λ i. reaching 0 (longer i) (with_reader commit.number commit.reads (had i)))
+              (λ i. reads_above 0 (longer i) (with_reader commit.number commit.reads (had i)))
               ∙ reaching_more kept.readers.low 0 committed commit kept.readers.within each_below
-              ∙ (λ i. reaching 0 (sym longer i) (reads_of (committed ++ commit ∷ [])));
+              ∙ (λ i. reads_above 0 (sym longer i) (reads_of (committed ++ commit ∷ [])));
         };
       }

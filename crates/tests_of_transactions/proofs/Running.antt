@@ -1,7 +1,7 @@
 -- What events lead to, each answered after those before it.
 use Rattle.std.proofs.Common.{List, [], ◌∷◌}
 use Rattle.syntax.specs.declared.statements.Step.{Step}
-use Rattle.answer.specs.declared.answers.Answer.{Answer}
+use Rattle.alone.specs.declared.answers.Answer.{Answer}
 use Rattle.commit.specs.Events.{EngineState, after}
 use Rattle.commit.specs.Runs.{AreAnswers, led_to}
 use Rattle.commit.proofs.Running.{IsRunning, running_after}

@@ -1,9 +1,9 @@
 -- What is kept beside the commits of a history.
 use Rattle.std.specs.Prelude.{◌≡◌, ℕ, List, map, reverse}
 use Rattle.siread.specs.Locks.{Reads}
-use Rattle.serial.specs.declared.records.Record.{Record}
-use Rattle.serial.specs.Commits.{reach, IsLog}
-use Rattle.serial.specs.Order.{least_out, serial_order}
+use Rattle.alone.specs.declared.records.Record.{Record}
+use Rattle.alone.specs.Commits.{reach, IsLog}
+use Rattle.alone.specs.Order.{least_out, serial_order}
 use Rattle.conflict.specs.Ordered.{numbers_of}
 use Rattle.conflict.specs.Readers.{HasReaders}
 

@@ -5,18 +5,18 @@ ghost use Rattle.alone.specs.Alone.{IsSound};
 ghost use Rattle.commit.specs.Events.{AreLive};
 
 use crate::texts::let_go;
-use answer::Answer;
+use alone::Answer;
 use commit::{
-    Core, Engine, Outcome, Uncommitted, admit, replies_are_those_alone, run,
+    CommitFailure, Core, Engine, Outcome, admit, replies_are_those_alone, run,
     safe_readers_are_never_refused,
 };
 use delta::View;
 use parse::{parse_schema, parse_script};
-use std::alloc::Global;
+use std::alloc::{AllocError, Global};
 use std::process::Abort;
 use std::test::Fail;
 use syntax::Step;
-use txn::{Closed, Txn, Unclosed};
+use txn::{CloseFailure, ClosedTransaction, Txn};
 use value::{Refusal, Text};
 
 /// The tables that a text defines.
@@ -142,25 +142,25 @@ fn readers_stay_unsafe(rt: HostRuntime) -> Result<(), Fail> {
 fn empty(alloc: Global) -> Result<Core, Refusal>
     ensures { IfOk result (λ core. core.prepared ≡ None) }
 {
-    Core::new(alloc, 1, admit(alloc, &[])?)
+    Ok(Core::new(alloc, 1, admit(alloc, &[])?)?)
 }
 
 /// Whether a transaction that changes nothing was closed.
-fn closed(txn: Txn) -> Result<Closed, Refusal>
+fn closed(txn: Txn) -> Result<ClosedTransaction, AllocError>
     ensures { IfOk result (λ closed. closed ≡ txn) }
 {
     match txn.close_check() {
         Ok(closed) => Ok(closed),
-        Err(Unclosed { refusal, txn }) => {
+        Err(CloseFailure { txn }) => {
             let_go(txn.abandon());
-            Err(refusal)
+            Err(AllocError)
         }
     }
 }
 
 /// Why a COMMIT was refused. A transaction that is given back is let go.
-fn reason(fault: Uncommitted) -> Refusal {
-    let Uncommitted { refusal, txn } = fault;
+fn reason(fault: CommitFailure) -> Refusal {
+    let CommitFailure { refusal, txn } = fault;
     if let Some(txn) = txn {
         let_go(txn.abandon());
     }

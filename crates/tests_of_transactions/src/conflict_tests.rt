@@ -1,11 +1,11 @@
 //! Small histories, of transactions that all began before the first commit.
 
 ghost use Rattle.std.specs.Prelude.{◌≡◌, ◌<◌, ◌+◌, [], true, is_none, length, reverse, vec_capacity, vec_len, IfOk, OnOk};
-ghost use Rattle.conflict.specs.Judged.{IsVerdict};
+ghost use Rattle.conflict.specs.Judged.{IsJudgmentOf};
 
 use crate::texts::let_go;
-use conflict::{Candidate, Danger, Verdict, is_safe, judge, put_in_order};
-use serial::{Record, safe_snapshots_have_no_danger};
+use alone::{Record, safe_snapshots_have_no_danger};
+use conflict::{Candidate, Danger, Judgment, is_safe, judge, put_in_order};
 use siread::{LockKey, LockTable, Place};
 use sqlite_items::Items;
 use std::alloc::{AllocError, Global};
@@ -104,7 +104,7 @@ impl Model for History {
     ghost use Rattle.std.specs.Coded.{codes};
     ghost use Rattle.std.specs.Prelude.{List};
     ghost use Rattle.siread.specs.Locks.{readers_at};
-    ghost use Rattle.serial.specs.declared.records.Record.{Record as Commit};
+    ghost use Rattle.alone.specs.declared.records.Record.{Record as Commit};
     ghost use Rattle.tests_of_transactions.specs.Histories.{AreKept};
 
     ghost Value = { List Commit };
@@ -130,10 +130,10 @@ impl History {
     }
 
     /// Judges the next transaction. One that may join those before it then does.
-    fn submit(&mut self, alloc: Global, ran: &Ran) -> Result<Verdict, AllocError> {
+    fn submit(&mut self, alloc: Global, ran: &Ran) -> Result<Judgment, AllocError> {
         let commit = ran.commit(alloc, self.committed.len() as u64 + 1)?;
         let verdict = self.judge(&commit);
-        if let Verdict::Fine { place } = verdict {
+        if let Judgment::Fine { place } = verdict {
             make_room(
                 &mut self.committed,
                 &mut self.places,
@@ -157,11 +157,11 @@ impl History {
     }
 
     /// Judges a transaction that is a record already.
-    fn judge(&self, commit: &Record) -> Verdict
+    fn judge(&self, commit: &Record) -> Judgment
         requires next { commit.now.number ≡ length self.now + 1 }
         requires start { commit.now.snapshot ≡ 0 }
         requires changes_nothing { commit.now.read_only ≡ true → commit.now.changes ≡ [] }
-        ensures { IsVerdict (reverse self.now) commit.now result }
+        ensures { IsJudgmentOf (reverse self.now) commit.now result }
     {
         let candidate = Candidate {
             number: commit.number,
@@ -180,8 +180,8 @@ impl History {
     }
 
     /// Judges transactions one after the other, and answers the last verdict.
-    fn submit_all(&mut self, alloc: Global, all: &[Ran]) -> Result<Verdict, AllocError> {
-        let mut last = Verdict::Fine { place: 0 };
+    fn submit_all(&mut self, alloc: Global, all: &[Ran]) -> Result<Judgment, AllocError> {
+        let mut last = Judgment::Fine { place: 0 };
         for ran in all {
             last = self.submit(alloc, ran)?;
         }
@@ -221,7 +221,7 @@ fn make_room(
 }
 
 /// The last of these transactions gets this verdict.
-fn answers<R: Abort>(rt: &R, alloc: Global, all: &[Ran], want: Verdict) -> Result<(), Fail> {
+fn answers<R: Abort>(rt: &R, alloc: Global, all: &[Ran], want: Judgment) -> Result<(), Fail> {
     let mut history = History::new(alloc);
     let verdict = history.submit_all(alloc, all);
     let_go(history);
@@ -231,19 +231,19 @@ fn answers<R: Abort>(rt: &R, alloc: Global, all: &[Ran], want: Verdict) -> Resul
 
 #[test]
 fn the_first_commit_joins(rt: HostRuntime) -> Result<(), Fail> {
-    let want = Verdict::Fine { place: 1 };
+    let want = Judgment::Fine { place: 1 };
     answers(&rt, rt.alloc(), &[writer(7, 7)], want)
 }
 
 #[test]
 fn the_first_committer_wins(rt: HostRuntime) -> Result<(), Fail> {
-    let want = Verdict::WriteConflict { row: 0, by: 1 };
+    let want = Judgment::WriteConflict { row: 0, by: 1 };
     answers(&rt, rt.alloc(), &[writer(1, 2), writer(3, 2)], want)
 }
 
 #[test]
 fn each_read_what_the_other_wrote(rt: HostRuntime) -> Result<(), Fail> {
-    let want = Verdict::Dangerous(Danger::AsPivot {
+    let want = Judgment::Dangerous(Danger::AsPivot {
         reader: 1,
         writer: 1,
     });
@@ -255,14 +255,14 @@ fn each_read_what_the_other_wrote(rt: HostRuntime) -> Result<(), Fail> {
 #[test]
 fn the_reader_comes_last(rt: HostRuntime) -> Result<(), Fail> {
     let (first, pivot) = (writer(9, 1), writer(1, 2));
-    let joins = Verdict::Fine { place: 1 };
+    let joins = Judgment::Fine { place: 1 };
     answers(&rt, rt.alloc(), &[first, pivot], joins)?;
-    let danger = Verdict::Dangerous(Danger::AsReader {
+    let danger = Judgment::Dangerous(Danger::AsReader {
         pivot: 2,
         writer: 1,
     });
     answers(&rt, rt.alloc(), &[first, pivot, writer(2, 3)], danger)?;
-    let passes = Verdict::Fine { place: 2 };
+    let passes = Judgment::Fine { place: 2 };
     answers(&rt, rt.alloc(), &[first, pivot, reader(2)], passes)
 }
 
@@ -270,12 +270,12 @@ fn the_reader_comes_last(rt: HostRuntime) -> Result<(), Fail> {
 #[test]
 fn the_pivot_comes_last(rt: HostRuntime) -> Result<(), Fail> {
     let (first, pivot) = (writer(9, 1), writer(1, 2));
-    let danger = Verdict::Dangerous(Danger::AsPivot {
+    let danger = Judgment::Dangerous(Danger::AsPivot {
         reader: 2,
         writer: 1,
     });
     answers(&rt, rt.alloc(), &[first, writer(2, 3), pivot], danger)?;
-    let passes = Verdict::Fine { place: 1 };
+    let passes = Judgment::Fine { place: 1 };
     answers(&rt, rt.alloc(), &[first, reader(2), pivot], passes)
 }
 

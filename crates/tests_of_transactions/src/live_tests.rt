@@ -1,7 +1,7 @@
 //! Begins and ends of three transactions.
 
 use crate::texts::let_go;
-use live::Live;
+use conflict::Live;
 use std::alloc::AllocError;
 use std::process::Abort;
 use std::test::Fail;

@@ -3,8 +3,8 @@
 ghost use Rattle.std.specs.Prelude.{◌≡◌, length};
 
 use crate::texts::{let_go, view_of};
+use alone::{Modes, settable_names};
 use assertion::Assertion;
-use modes::{Modes, settable_names};
 use sqlite_items::Items;
 use std::alloc::{AllocError, Global};
 use std::process::Abort;

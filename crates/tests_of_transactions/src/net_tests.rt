@@ -9,7 +9,7 @@ ghost use Rattle.delta.specs.Views.{IsFitting};
 ghost use Rattle.changes.specs.Nets.{DifferAt};
 
 use crate::texts::{let_go, view_of};
-use changes::{Touched, is_same_there, net_change, row_in};
+use changes::{TouchedPlaces, is_same_there, net_change, row_in};
 use delta::View;
 use siread::Place;
 use std::alloc::{AllocError, Global};
@@ -58,7 +58,7 @@ fn change_to(view: &View, row: Row) -> Result<Change, Refusal>
 }
 
 /// The view with the row in place of the one under its key, whose place is noted.
-fn put(start: &View, view: &View, touched: &mut Touched, row: Row) -> Result<View, Refusal>
+fn put(start: &View, view: &View, touched: &mut TouchedPlaces, row: Row) -> Result<View, Refusal>
     requires declared { view.now.declared ≡ start.now.declared }
     requires differ { DifferAt (layouts_in start.now.declared) start.now.state view.now.state touched.old }
     ensures declared { IfOk result (λ after. after.declared ≡ start.now.declared) }
@@ -77,7 +77,7 @@ fn net_by(
     alloc: Global,
     start: &View,
     once: &View,
-    touched: &mut Touched,
+    touched: &mut TouchedPlaces,
     balance: i64,
 ) -> Result<Vec<Change>, Refusal>
     requires declared { once.now.declared ≡ start.now.declared }
@@ -91,7 +91,7 @@ fn net_by(
 
 /// The net change over two balances of the account, one after the other.
 fn net_of(alloc: Global, start: &View, first: i64, second: i64) -> Result<Vec<Change>, Refusal> {
-    let mut touched = Touched::new(alloc);
+    let mut touched = TouchedPlaces::new(alloc);
     let once = put(start, start, &mut touched, account(alloc, first)?)?;
     let net = net_by(alloc, start, &once, &mut touched, second);
     let_go(once);

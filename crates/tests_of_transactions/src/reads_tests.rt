@@ -4,7 +4,7 @@ ghost use Rattle.std.specs.Prelude.{◌≡◌, length};
 
 use crate::texts::{let_go, view_of};
 use assertion::Assertion;
-use changes::{Equality, checks_read, equality_on, real_changes, tables_read, where_key};
+use changes::{Equality, checks_read, equality_on, filter_key, real_changes, tables_read};
 use delta::View;
 use siread::{LockKey, Place};
 use sqlite_items::Items;
@@ -65,7 +65,7 @@ fn describe(key: &LockKey) -> (&'static str, i64) {
 
 /// The key that a WHERE reads, described.
 fn key_read(filter: Cond) -> Result<(&'static str, i64), AllocError> {
-    let key = where_key(0, 0, &filter);
+    let key = filter_key(0, 0, &filter);
     let_go(filter);
     Ok(describe(&key?))
 }

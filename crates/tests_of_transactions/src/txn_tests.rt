@@ -1,7 +1,7 @@
 //! Transactions, by the bytes that their statements print and by what they tell of themselves.
 
 use crate::texts::{let_go, view_of};
-use answer::Answer;
+use alone::Answer;
 use delta::View;
 use parse::parse_script;
 use report::Report;
@@ -10,7 +10,7 @@ use std::alloc::Global;
 use std::process::Abort;
 use std::test::Fail;
 use syntax::{Event, Step};
-use txn::{Closed, Txn, Unclosed};
+use txn::{CloseFailure, ClosedTransaction, Txn};
 use value::{Text, Truth};
 
 /// There is at most one leader, and no shift stands twice in DUTY.
@@ -97,10 +97,7 @@ fn begun_after(alloc: Global, script: &str, read_only: bool) -> Result<Txn, Fail
 fn reopened(txn: Txn) -> Txn {
     match txn.close_check() {
         Ok(closed) => closed.reopen(),
-        Err(Unclosed { refusal, txn }) => {
-            let_go(refusal);
-            txn
-        }
+        Err(CloseFailure { txn }) => txn,
     }
 }
 
@@ -119,7 +116,7 @@ fn open_tells<R: Abort>(rt: &R, txn: &Txn, leader: &Text, case: &Case) {
 }
 
 /// What a closed one tells.
-fn closed_tells<R: Abort>(rt: &R, closed: &Closed, case: &Case) {
+fn closed_tells<R: Abort>(rt: &R, closed: &ClosedTransaction, case: &Case) {
     assert_eq!(rt; closed.is_read_only(), case.read_only);
     closed.recall_read_only();
     assert_eq!(rt; closed.changes().len(), case.rows);
@@ -133,8 +130,7 @@ fn end<R: Abort>(rt: &R, txn: Txn, case: &Case) {
             closed_tells(rt, &closed, case);
             let_go(closed.into_parts());
         }
-        Err(Unclosed { refusal, txn }) => {
-            let_go(refusal);
+        Err(CloseFailure { txn }) => {
             let_go(txn.abandon());
             assert!(rt; false, "memory");
         }

@@ -10,10 +10,10 @@ use Rattle.std.proofs.lemmas.Slice.Eq.{bytes_eq-Decides}
 use Rattle.syntax.specs.declared.statements.Step.{Step}
 use Rattle.commit.specs.declared.seats.Seat.{Seat}
 use Rattle.commit.specs.Events.{seat_of}
-use Rattle.commit.specs.Runs.{all_seated, free_seat, seated, unless_seated}
-use Rattle.workers.specs.declared.scripts.Script.{Script}
-use Rattle.threads.specs.Adding.{added, added_at, added_to, all_added, first_step, script_of, with_step}
-use Rattle.threads.specs.Grouping.{grouped, script_for, steps_of}
+use Rattle.commit.specs.Runs.{seats_with_all, free_seat, seats_with, unless_seated}
+use Rattle.threads.specs.declared.scripts.Script.{Script}
+use Rattle.threads.specs.Adding.{scripts_with_step, added_at, added_to, scripts_with_steps, first_step, script_of, with_step}
+use Rattle.threads.specs.Grouping.{scripts_of, script_for, steps_of}
 
 same_bytes : (a b : List ℕ) → bytes_eq a b ≡ true → a ≡ b
 same_bytes a b e = (bytes_eq-Decides a b).0 e
@@ -75,13 +75,13 @@ added_behind : (script : Script) (scripts : List Script) (step : Step) (place : 
 added_behind script scripts step None = refl
 added_behind script scripts step (Some place) = to_behind script scripts step place (slice_get scripts place)
 
-put_by : (script : Script) (rest : List Script) (step : Step) (here : Bool) → added rest step ≡ put rest step
+put_by : (script : Script) (rest : List Script) (step : Step) (here : Bool) → scripts_with_step rest step ≡ put rest step
     → added_at (script ∷ rest) step (cond here (Some 0) (option_map suc (script_of rest step.session)))
     ≡ cond here (with_step step script ∷ rest) (script ∷ put rest step)
 put_by script rest step true is = refl
 put_by script rest step false is = added_behind script rest step (script_of rest step.session) ∙ ap (λ more. script ∷ more) is
 
-put_is : (scripts : List Script) (step : Step) → added scripts step ≡ put scripts step
+put_is : (scripts : List Script) (step : Step) → scripts_with_step scripts step ≡ put scripts step
 put_is [] step = refl
 put_is (script ∷ rest) step =
     ap (added_at (script ∷ rest) step) (front (λ (s : Script). bytes_eq s.name step.session) script rest)
@@ -92,13 +92,13 @@ seat_behind : (seat : Seat) (seats : List Seat) (session : List ℕ) (place : Op
 seat_behind seat seats session None = refl
 seat_behind seat seats session (Some place) = refl
 
-seat_by : (seat : Seat) (rest : List Seat) (session : List ℕ) (here : Bool) → seated rest session ≡ seat_put rest session
+seat_by : (seat : Seat) (rest : List Seat) (session : List ℕ) (here : Bool) → seats_with rest session ≡ seat_put rest session
     → unless_seated (cond here (Some 0) (option_map suc (seat_of rest session))) (seat ∷ rest) session
     ≡ cond here (seat ∷ rest) (seat ∷ seat_put rest session)
 seat_by seat rest session true is = refl
 seat_by seat rest session false is = seat_behind seat rest session (seat_of rest session) ∙ ap (λ more. seat ∷ more) is
 
-seat_is : (seats : List Seat) (session : List ℕ) → seated seats session ≡ seat_put seats session
+seat_is : (seats : List Seat) (session : List ℕ) → seats_with seats session ≡ seat_put seats session
 seat_is [] session = refl
 seat_is (seat ∷ rest) session =
     ap (λ place. unless_seated place (seat ∷ rest) session) (front (λ (s : Seat). bytes_eq s.session session) seat rest)
@@ -180,8 +180,8 @@ record IsGrouped (steps : List Step) (seats : List Seat) (scripts : List Script)
   are : scripts ≡ map (script_for steps) seats
 
 grouped_more : (steps : List Step) (seats : List Seat) (scripts : List Script) (step : Step) → IsGrouped steps seats scripts
-    → IsGrouped (steps ++ step ∷ []) (seated seats step.session) (added scripts step)
-grouped_more steps seats scripts step g = subst (λ s. IsGrouped (steps ++ step ∷ []) s (added scripts step)) (sym (seat_is seats step.session)) (record {
+    → IsGrouped (steps ++ step ∷ []) (seats_with seats step.session) (scripts_with_step scripts step)
+grouped_more steps seats scripts step g = subst (λ s. IsGrouped (steps ++ step ∷ []) s (scripts_with_step scripts step)) (sym (seat_is seats step.session)) (record {
   apart = put_apart seats step.session g.apart;
   none = λ session has.
       let was = was_not seats step.session session has in
@@ -190,12 +190,12 @@ grouped_more steps seats scripts step g = subst (λ s. IsGrouped (steps ++ step 
 })
 
 all_grouped : (steps left : List Step) (seats : List Seat) (scripts : List Script) → IsGrouped steps seats scripts
-    → all_added scripts left ≡ map (script_for (steps ++ left)) (all_seated seats left)
+    → scripts_with_steps scripts left ≡ map (script_for (steps ++ left)) (seats_with_all seats left)
 all_grouped steps [] seats scripts g = g.are ∙ ap (λ all. map (script_for all) seats) (sym (append-nil steps))
 all_grouped steps (step ∷ left) seats scripts g =
-    all_grouped (steps ++ step ∷ []) left (seated seats step.session) (added scripts step) (grouped_more steps seats scripts step g)
-    ∙ ap (λ all. map (script_for all) (all_seated (seated seats step.session) left)) (append_assoc steps (step ∷ []) left)
+    all_grouped (steps ++ step ∷ []) left (seats_with seats step.session) (scripts_with_step scripts step) (grouped_more steps seats scripts step g)
+    ∙ ap (λ all. map (script_for all) (seats_with_all (seats_with seats step.session) left)) (append_assoc steps (step ∷ []) left)
 
 -- each script has the steps of its session
-pub grouped_are : (steps : List Step) → all_added [] steps ≡ grouped steps
+pub grouped_are : (steps : List Step) → scripts_with_steps [] steps ≡ scripts_of steps
 grouped_are steps = all_grouped [] steps [] [] (record { apart = tt; none = λ session has. refl; are = refl })

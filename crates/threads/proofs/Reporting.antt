@@ -7,38 +7,38 @@ use Rattle.value.specs.declared.refusals.Refusal.{Refusal}
 use Rattle.value.specs.declared.refusals.Refusal.TheVariants.{NoMemory, TooManySessions}
 use Rattle.syntax.specs.declared.definitions.Definition.{Definition}
 use Rattle.syntax.specs.declared.statements.Step.{Step}
-use Rattle.commit.specs.Views.{Shown}
-use Rattle.definitions.specs.Taken.{taken}
+use Rattle.commit.specs.Views.{ViewState}
+use Rattle.definitions.specs.Taken.{view_of_definitions}
 use Rattle.definitions.specs.Written.{AreWritten}
-use Rattle.commit.specs.Admission.{satisfied}
+use Rattle.commit.specs.Admission.{tables_if_satisfied}
 use Rattle.commit.specs.Cores.{CoreState, IsSerializable}
 use Rattle.session.specs.Books.{IsOver}
-use Rattle.workers.specs.declared.scripts.Script.{Script}
-use Rattle.workers.specs.declared.scripts.ScriptAnswers.{ScriptAnswers}
-use Rattle.workers.specs.Scripts.{AreAnswered}
+use Rattle.threads.specs.declared.scripts.Script.{Script}
+use Rattle.threads.specs.declared.scripts.ScriptAnswers.{ScriptAnswers}
+use Rattle.threads.specs.Scripts.{AreAnswered}
 use Rattle.replay.specs.declared.faults.ProgramFault.{ProgramFault}
 use Rattle.replay.specs.declared.faults.ProgramFault.TheVariants.{Defs, NoThread, Output, Stopped, Script as ScriptFault}
 use Rattle.syntax.specs.SchemaGrammar.{IsScript}
 use Rattle.replay.specs.Texts.{AreRead, HasFewSessions, HasManySessions, HasTooManySessions, IsFirstFault, IsInTheRun, IsNoScript, IsRun, IsUnread, is_before_the_run}
 use Rattle.replay.proofs.Late.{late_fault}
-use Rattle.threads.specs.Grouping.{grouped}
+use Rattle.threads.specs.Grouping.{scripts_of}
 use Rattle.threads.specs.Grouped.{AreOpened, IsAdmitted, PrintsGrouped, WritesGrouped, all_ran, grouped_report}
 
-is_admitted : (definitions : List Definition) (shown : Shown) → taken definitions ≡ Ok shown → AreWritten definitions shown.declared
-    → satisfied shown ≡ Ok shown → (view : Shown) → view ≡ shown → IsAdmitted definitions view
+is_admitted : (definitions : List Definition) (shown : ViewState) → view_of_definitions definitions ≡ Ok shown → AreWritten definitions shown.declared
+    → tables_if_satisfied shown ≡ Ok shown → (view : ViewState) → view ≡ shown → IsAdmitted definitions view
 is_admitted definitions shown takes written holds view is =
-    let made : IsAdmitted definitions shown = record { admits = ap (λ r. and_then r satisfied) takes ∙ holds; written = written } in
+    let made : IsAdmitted definitions shown = record { admits = ap (λ r. and_then r tables_if_satisfied) takes ∙ holds; written = written } in
     subst (IsAdmitted definitions) (sym is) made
 
 -- what is opened over them has their tables
-pub opens_admitted : {M : Type 0} (P Q : M → Type 0) (view_of : M → Shown) (opened : Result M Refusal) (definitions : List Definition) (shown : Shown)
-    → taken definitions ≡ Ok shown → AreWritten definitions shown.declared → IfOk opened (λ m. satisfied shown ≡ Ok shown)
+pub opens_admitted : {M : Type 0} (P Q : M → Type 0) (view_of : M → ViewState) (opened : Result M Refusal) (definitions : List Definition) (shown : ViewState)
+    → view_of_definitions definitions ≡ Ok shown → AreWritten definitions shown.declared → IfOk opened (λ m. tables_if_satisfied shown ≡ Ok shown)
     → IfOk opened (λ m. P m × Q m × (view_of m ≡ shown)) → IfOk opened (λ m. IsAdmitted definitions (view_of m))
 opens_admitted P Q view_of (Ok m) definitions shown takes written holds is = is_admitted definitions shown takes written holds (view_of m) is.2
 opens_admitted P Q view_of (Err refusal) definitions shown takes written holds is = tt
 
 pub are_opened : (defs script : List ℕ) (definitions : List Definition) (steps : List Step) (scripts : List Script)
-    → AreRead defs script definitions steps → (shown : Shown) → IsAdmitted definitions shown → HasFewSessions steps → scripts ≡ grouped steps
+    → AreRead defs script definitions steps → (shown : ViewState) → IsAdmitted definitions shown → HasFewSessions steps → scripts ≡ scripts_of steps
     → AreOpened defs script shown scripts
 are_opened defs script definitions steps scripts read shown admits few are = record {
   steps = steps;
@@ -50,7 +50,7 @@ are_opened defs script definitions steps scripts read shown admits few are = rec
 }
 
 -- a script that can't be run, where the definitions are admitted: it has too many sessions, or there was no memory
-pub scripts_refused : (defs script : List ℕ) (definitions : List Definition) (steps : List Step) (shown : Shown) → AreRead defs script definitions steps
+pub scripts_refused : (defs script : List ℕ) (definitions : List Definition) (steps : List Step) (shown : ViewState) → AreRead defs script definitions steps
     → IsAdmitted definitions shown → (refusal : Refusal) → (refusal ≡ NoMemory) ⊎ (HasManySessions steps × (refusal ≡ TooManySessions))
     → IsNoScript defs script refusal ⊎ HasTooManySessions defs script refusal
 scripts_refused defs script definitions steps shown read admits refusal (inl none) =
@@ -63,13 +63,13 @@ scripts_refused defs script definitions steps shown read admits refusal (inr man
   refused = many.1;
 })
 
-pub prints : (scripts : List Script) (found : List ScriptAnswers) (core : CoreState) (loaded : Shown) (limit : ℕ) (all : Bool) (old new : Option (List ℕ))
+pub prints : (scripts : List Script) (found : List ScriptAnswers) (core : CoreState) (loaded : ViewState) (limit : ℕ) (all : Bool) (old new : Option (List ℕ))
     → IsOver core loaded limit → IsSerializable core → all_ran found ≡ all → Appends old new (grouped_report scripts found core)
     → PrintsGrouped scripts found loaded limit all old new
 prints scripts found core loaded limit all old new over serializable ran written =
     record { core = core; over = over; serializable = serializable; ran = ran; written = written }
 
-module _ (defs script : List ℕ) (shown : Shown) (limit : ℕ) (scripts : List Script) (o : AreOpened defs script shown scripts) where
+module _ (defs script : List ℕ) (shown : ViewState) (limit : ℕ) (scripts : List Script) (o : AreOpened defs script shown scripts) where
   pub no_room : IsFirstFault defs script (ScriptFault NoMemory)
   no_room = inl (record { definitions = o.ready.admitted.definitions; defs_read = o.ready.admitted.read.defs_read; refused = tt })
 

@@ -3,7 +3,7 @@ use Rattle.std.specs.Prelude.{ℕ, List, [], ◌∷◌, ◌++◌, slice_get, sli
 use Rattle.std.specs.List.{position}
 use Rattle.std.specs.Str.{bytes_eq}
 use Rattle.syntax.specs.declared.statements.Step.{Step}
-use Rattle.workers.specs.declared.scripts.Script.{Script}
+use Rattle.threads.specs.declared.scripts.Script.{Script}
 
 -- the place of a session's script
 abbrev pub script_of : List Script → List ℕ → Option ℕ
@@ -28,10 +28,10 @@ added_at scripts step None = scripts ++ first_step step ∷ []
 added_at scripts step (Some place) = added_to scripts step place (slice_get scripts place)
 
 -- with a step more in the script of its session
-abbrev pub added : List Script → Step → List Script
-added scripts step = added_at scripts step (script_of scripts step.session)
+abbrev pub scripts_with_step : List Script → Step → List Script
+scripts_with_step scripts step = added_at scripts step (script_of scripts step.session)
 
 -- with each of some steps in the script of its session
-abbrev pub all_added : List Script → List Step → List Script
-all_added scripts [] = scripts
-all_added scripts (step ∷ rest) = all_added (added scripts step) rest
+abbrev pub scripts_with_steps : List Script → List Step → List Script
+scripts_with_steps scripts [] = scripts
+scripts_with_steps scripts (step ∷ rest) = scripts_with_steps (scripts_with_step scripts step) rest

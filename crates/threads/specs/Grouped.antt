@@ -4,18 +4,18 @@ use Rattle.std.specs.List.{list_all}
 use Rattle.std.specs.Io.KnownBytes.{Appends}
 use Rattle.syntax.specs.declared.statements.Step.{Step}
 use Rattle.syntax.specs.declared.definitions.Definition.{Definition}
-use Rattle.commit.specs.Views.{Shown}
+use Rattle.commit.specs.Views.{ViewState}
 use Rattle.definitions.specs.Written.{AreWritten}
-use Rattle.commit.specs.Admission.{admitted}
+use Rattle.commit.specs.Admission.{admission_of}
 use Rattle.commit.specs.Cores.{CoreState, IsSerializable}
 use Rattle.report.specs.Report.{left_open_line}
 use Rattle.session.specs.Books.{IsOver}
-use Rattle.workers.specs.declared.scripts.Script.{Script}
-use Rattle.workers.specs.declared.scripts.ScriptAnswers.{ScriptAnswers}
-use Rattle.workers.specs.Scripts.{AreAnswered}
-use Rattle.replay.specs.Reports.{closing, lines}
+use Rattle.threads.specs.declared.scripts.Script.{Script}
+use Rattle.threads.specs.declared.scripts.ScriptAnswers.{ScriptAnswers}
+use Rattle.threads.specs.Scripts.{AreAnswered}
+use Rattle.replay.specs.Reports.{closing_part_of, lines}
 use Rattle.replay.specs.Texts.{AreReady}
-use Rattle.threads.specs.Grouping.{grouped}
+use Rattle.threads.specs.Grouping.{scripts_of}
 
 -- the line of a transaction that was rolled back at the end
 abbrev pub ended_line : (rolled_back : Bool) → List ℕ → List ℕ
@@ -34,7 +34,7 @@ all_lines (script ∷ rest) (one ∷ more) = script_lines script one ++ all_line
 
 -- the whole report: the lines of each script, and the closing part
 abbrev pub grouped_report : List Script → List ScriptAnswers → CoreState → List ℕ
-grouped_report scripts found core = all_lines scripts found ++ closing core
+grouped_report scripts found core = all_lines scripts found ++ closing_part_of core
 
 -- whether each script was run
 abbrev pub all_ran : List ScriptAnswers → Bool
@@ -44,16 +44,16 @@ all_ran found = list_all (λ (one : ScriptAnswers). one.ran) found
 -- was not run, and of some commits. These are over what the definitions define, at most as many as the limit, and
 -- serializable.
 pub record IsGroupedReport (defs script : List ℕ) (limit : ℕ) (all : Bool) (bytes : List ℕ) : Type 0 where
-  pub shown : Shown
+  pub shown : ViewState
   pub steps : List Step
   pub found : List ScriptAnswers
   pub core : CoreState
   pub ready : AreReady defs script shown steps
-  pub answered : AreAnswered (grouped steps) found
+  pub answered : AreAnswered (scripts_of steps) found
   pub ran : all_ran found ≡ all
   pub over : IsOver core shown limit
   pub serializable : IsSerializable core
-  pub prints : bytes ≡ grouped_report (grouped steps) found core
+  pub prints : bytes ≡ grouped_report (scripts_of steps) found core
 
 -- the writer gained the report and nothing else
 pub record WritesGrouped (defs script : List ℕ) (limit : ℕ) (all : Bool) (old new : Option (List ℕ)) : Type 0 where
@@ -62,7 +62,7 @@ pub record WritesGrouped (defs script : List ℕ) (limit : ℕ) (all : Bool) (ol
   pub written : Appends old new bytes
 
 -- the same, of scripts that were run and of what was found of them
-pub record PrintsGrouped (scripts : List Script) (found : List ScriptAnswers) (loaded : Shown) (limit : ℕ) (all : Bool)
+pub record PrintsGrouped (scripts : List Script) (found : List ScriptAnswers) (loaded : ViewState) (limit : ℕ) (all : Bool)
     (old new : Option (List ℕ)) : Type 0 where
   pub core : CoreState
   pub over : IsOver core loaded limit
@@ -71,13 +71,13 @@ pub record PrintsGrouped (scripts : List Script) (found : List ScriptAnswers) (l
   pub written : Appends old new (grouped_report scripts found core)
 
 -- the definitions are admitted; each assertion means what they write
-pub record IsAdmitted (definitions : List Definition) (shown : Shown) : Type 0 where
-  pub admits : admitted definitions ≡ Ok shown
+pub record IsAdmitted (definitions : List Definition) (shown : ViewState) : Type 0 where
+  pub admits : admission_of definitions ≡ Ok shown
   pub written : AreWritten definitions shown.declared
 
 -- both texts are read, the definitions are admitted, as these tables, and these are the scripts of the sessions, which
 -- are few
-pub record AreOpened (defs script : List ℕ) (shown : Shown) (scripts : List Script) : Type 0 where
+pub record AreOpened (defs script : List ℕ) (shown : ViewState) (scripts : List Script) : Type 0 where
   pub steps : List Step
   pub ready : AreReady defs script shown steps
-  pub are : scripts ≡ grouped steps
+  pub are : scripts ≡ scripts_of steps

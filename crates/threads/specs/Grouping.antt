@@ -4,8 +4,8 @@ use Rattle.std.specs.List.{filter}
 use Rattle.std.specs.Str.{bytes_eq}
 use Rattle.syntax.specs.declared.statements.Step.{Step}
 use Rattle.commit.specs.declared.seats.Seat.{Seat}
-use Rattle.commit.specs.Runs.{all_seated}
-use Rattle.workers.specs.declared.scripts.Script.{Script}
+use Rattle.commit.specs.Runs.{seats_with_all}
+use Rattle.threads.specs.declared.scripts.Script.{Script}
 
 -- the steps of a session, in their order
 abbrev pub steps_of : List ℕ → List Step → List Step
@@ -16,5 +16,5 @@ abbrev pub script_for : List Step → Seat → Script
 script_for steps seat = record { name = seat.session; steps = steps_of seat.session steps }
 
 -- a script for each session of some steps, in the order of their first steps
-abbrev pub grouped : List Step → List Script
-grouped steps = map (script_for steps) (all_seated [] steps)
+abbrev pub scripts_of : List Step → List Script
+scripts_of steps = map (script_for steps) (seats_with_all [] steps)

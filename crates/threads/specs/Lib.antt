@@ -1,3 +1,5 @@
 pub mod Grouping
 pub mod Adding
 pub mod Grouped
+pub mod Scripts
+pub mod Steps

@@ -2,14 +2,17 @@
 
 ghost use Rattle.std.specs.Prelude.{◌≡◌, ◌≢◌, ◌≤◌, ◌⊎◌, true, false, Err, IfOk, IfErr, OnOk};
 ghost use Rattle.value.specs.declared.refusals.Refusal.TheVariants.{NoMemory, TooManySessions};
-ghost use Rattle.commit.specs.Admission.{admitted};
+ghost use Rattle.commit.specs.Admission.{admission_of};
 ghost use Rattle.replay.specs.declared.faults.ProgramFault.TheVariants.{NoThread, Stopped};
 ghost use Rattle.replay.specs.Texts.{HasFewSessions, HasManySessions, IsFirstFault, is_before_the_run, most_sessions};
-ghost use Rattle.threads.specs.Grouping.{grouped};
+ghost use Rattle.threads.specs.Grouping.{scripts_of};
 ghost use Rattle.threads.specs.Grouped.{AreOpened, IsAdmitted, WritesGrouped};
 
+use crate::gates::Gate;
 use crate::grouping::group_by_session;
 use crate::printing::print_report;
+use crate::runs::run_sessions;
+use crate::scripts::Script;
 use commit::has_few_sessions;
 use definitions::Definitions;
 use replay::{MOST_SESSIONS, ProgramFault, read_texts};
@@ -21,7 +24,6 @@ use std::sync::Wait;
 use std::thread::Threads;
 use syntax::{Definition, Step};
 use value::Refusal;
-use workers::{Gate, Script, run_sessions};
 
 /// Runs a script of any sessions on definitions, with a thread for each session, on a shelf that is the manager's
 /// of this id, with at most so many commits. It writes all lines of a session together, sessions by their first
@@ -74,7 +76,7 @@ where
     let (manager, scripts) = open_manager::<N, R>(rt, alloc, shelf, id, defs, script, max_commits)?;
     let answered = match run_sessions(rt, alloc, &manager, scripts.as_slice(), gate) {
         Ok(answered) => answered,
-        Err(refusal) => return Err(ProgramFault::Script(refusal)),
+        Err(_) => return Err(ProgramFault::Script(Refusal::NoMemory)),
     };
     let history = match manager.close() {
         Ok(history) => history,
@@ -139,7 +141,7 @@ fn manage<N: Named, R: Wait>(
     requires limits { N.limits id ≡ record { commits = max_commits; sessions = most_sessions } }
     ensures admitted { IfOk result (λ manager. IsAdmitted definitions.now manager.loaded.value.view) }
     ensures id { IfOk result (λ manager. manager.id ≡ id) }
-    ensures refused { IfErr result (λ refusal. refusal ≢ NoMemory → admitted definitions.now ≡ Err refusal) }
+    ensures refused { IfErr result (λ refusal. refusal ≢ NoMemory → admission_of definitions.now ≡ Err refusal) }
 {
     let taken = Definitions::take(alloc, definitions)?;
     Manager::open(rt, alloc, shelf, id, taken, limits_of(max_commits))
@@ -160,7 +162,7 @@ fn limits_of(max_commits: u64) -> Limits
 /// The scripts of the sessions, if they are 256 or fewer.
 #[tactic(auto, using(crate::proofs::Collecting::few, crate::proofs::Collecting::many))]
 fn require_few_scripts(alloc: Global, steps: Items<Step>) -> Result<Vec<Script>, Refusal>
-    ensures grouped { IfOk result (λ scripts. scripts.items ≡ grouped steps) }
+    ensures grouped { IfOk result (λ scripts. scripts.items ≡ scripts_of steps) }
     ensures few { IfOk result (λ _. HasFewSessions steps) }
     ensures refused { IfErr result (λ refusal.
         (refusal ≡ NoMemory) ⊎ (HasManySessions steps × (refusal ≡ TooManySessions))) }

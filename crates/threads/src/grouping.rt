@@ -1,22 +1,20 @@
 //! The scripts of the sessions.
 
-ghost use Rattle.std.specs.Prelude.{◌≡◌, ◌<◌, ◌∷◌, ◌++◌, [], length, reverse, IfOk, IfSome, IsOkUnless, OnOk};
-ghost use Rattle.value.specs.declared.refusals.Refusal.TheVariants.{NoMemory};
-ghost use Rattle.threads.specs.Adding.{added, first_step, script_of, with_step};
-ghost use Rattle.threads.specs.Grouping.{grouped};
+ghost use Rattle.std.specs.Prelude.{◌≡◌, ◌<◌, ◌∷◌, ◌++◌, [], length, reverse, IfOk, IfSome, OnOk};
+ghost use Rattle.threads.specs.Adding.{scripts_with_step, first_step, script_of, with_step};
+ghost use Rattle.threads.specs.Grouping.{scripts_of};
 
+use crate::scripts::Script;
 use sqlite_items::Items;
-use std::alloc::Global;
+use std::alloc::{AllocError, Global};
 use syntax::Step;
-use value::{Refusal, Text};
-use workers::Script;
+use value::Text;
 
 /// A script for each session of some steps, in the order of their first steps, with the steps of that session in
-/// their order. NoMemory is the only error.
+/// their order.
 #[tactic(auto, using(crate::proofs::Collecting::group_step, crate::proofs::Collecting::group_start))]
-pub fn group_by_session(alloc: Global, steps: Items<Step>) -> Result<Vec<Script>, Refusal>
-    ensures only_memory { IsOkUnless result NoMemory }
-    ensures grouped { IfOk result (λ scripts. scripts.items ≡ grouped steps) }
+pub fn group_by_session(alloc: Global, steps: Items<Step>) -> Result<Vec<Script>, AllocError>
+    ensures { IfOk result (λ scripts. scripts.items ≡ scripts_of steps) }
 {
     let mut left = reverse(alloc, steps)?;
     let mut scripts = Vec::new(alloc);
@@ -28,9 +26,8 @@ pub fn group_by_session(alloc: Global, steps: Items<Step>) -> Result<Vec<Script>
 
 /// The steps from the last to the first.
 #[tactic(auto, using(value::proofs::Lists::turn_step))]
-fn reverse(alloc: Global, mut steps: Items<Step>) -> Result<Items<Step>, Refusal>
-    ensures only_memory { IsOkUnless result NoMemory }
-    ensures turned { IfOk result (λ turned. turned ≡ reverse steps) }
+fn reverse(alloc: Global, mut steps: Items<Step>) -> Result<Items<Step>, AllocError>
+    ensures { IfOk result (λ turned. turned ≡ reverse steps) }
 {
     let mut turned = Items::new(alloc);
     'turn: while let Some(step) = steps.pop() {
@@ -40,9 +37,8 @@ fn reverse(alloc: Global, mut steps: Items<Step>) -> Result<Items<Step>, Refusal
 }
 
 /// Adds a step to the script of its session, which comes last where it is new.
-fn add_step(alloc: Global, scripts: &mut Vec<Script>, step: Step) -> Result<(), Refusal>
-    ensures only_memory { IsOkUnless result NoMemory }
-    ensures added { OnOk result (scripts.new.items ≡ added scripts.old.items step) }
+fn add_step(alloc: Global, scripts: &mut Vec<Script>, step: Step) -> Result<(), AllocError>
+    ensures { OnOk result (scripts.new.items ≡ scripts_with_step scripts.old.items step) }
 {
     match place_of(scripts.as_slice(), &step.session) {
         Some(place) => add_to(&mut scripts[place], step),
@@ -50,17 +46,15 @@ fn add_step(alloc: Global, scripts: &mut Vec<Script>, step: Step) -> Result<(), 
     }
 }
 
-fn add_to(script: &mut Script, step: Step) -> Result<(), Refusal>
-    ensures only_memory { IsOkUnless result NoMemory }
-    ensures added { OnOk result (script.new ≡ with_step step script.old) }
+fn add_to(script: &mut Script, step: Step) -> Result<(), AllocError>
+    ensures { OnOk result (script.new ≡ with_step step script.old) }
 {
     script.steps.push(step)?;
     Ok(())
 }
 
-fn add_script(alloc: Global, scripts: &mut Vec<Script>, step: Step) -> Result<(), Refusal>
-    ensures only_memory { IsOkUnless result NoMemory }
-    ensures added { OnOk result (scripts.new.items ≡ scripts.old.items ++ first_step step ∷ []) }
+fn add_script(alloc: Global, scripts: &mut Vec<Script>, step: Step) -> Result<(), AllocError>
+    ensures { OnOk result (scripts.new.items ≡ scripts.old.items ++ first_step step ∷ []) }
 {
     let script = first_step(alloc, step)?;
     scripts.push(script)?;
@@ -68,9 +62,8 @@ fn add_script(alloc: Global, scripts: &mut Vec<Script>, step: Step) -> Result<()
 }
 
 /// The script of a session with its first step.
-fn first_step(alloc: Global, step: Step) -> Result<Script, Refusal>
-    ensures only_memory { IsOkUnless result NoMemory }
-    ensures first { IfOk result (λ script. script ≡ first_step step) }
+fn first_step(alloc: Global, step: Step) -> Result<Script, AllocError>
+    ensures { IfOk result (λ script. script ≡ first_step step) }
 {
     let name = match step.session.copy() {
         Ok(name) => name,
@@ -84,10 +77,8 @@ fn first_step(alloc: Global, step: Step) -> Result<Script, Refusal>
 }
 
 /// Lets go of what there was no memory for. (A function of its own, since its type hides how large that is.)
-fn drop_for_no_memory<T: Drop>(_left: T) -> Refusal
-    ensures { result ≡ NoMemory }
-{
-    Refusal::NoMemory
+fn drop_for_no_memory<T: Drop>(_left: T) -> AllocError {
+    AllocError
 }
 
 /// The place of a session's script. It takes no memory.

@@ -7,7 +7,8 @@ ghost use Rattle.replay.specs.declared.faults.ProgramFault.TheVariants.{NoThread
 ghost use Rattle.replay.specs.Texts.{IsInTheRun};
 ghost use Rattle.threads.specs.Grouped.{PrintsGrouped, all_lines, all_ran, ended_line, grouped_report, script_lines};
 
-use answer::Answer;
+use crate::scripts::{Script, ScriptAnswers};
+use alone::Answer;
 use commit::Core;
 use replay::{ProgramFault, add_closing_part, flush, write_all};
 use report::Report;
@@ -16,7 +17,6 @@ use std::alloc::{AllocError, Global};
 use std::io::Write;
 use syntax::Step;
 use value::Text;
-use workers::{Script, ScriptAnswers};
 
 /// Writes the lines of each script, and then the closing part of the commits that are left, and flushes the writer.
 ///
@@ -42,7 +42,7 @@ pub fn print_report<N: Named, W: Write>(
     ensures late { IfErr result (λ fault. fault ≢ NoThread → IsInTheRun fault) }
     ensures stopped { IfErr result (λ fault. fault ≡ Stopped → out.new ≡ out.old) }
 {
-    history.is_serializable();
+    history.recall_serializability();
     print_lines(alloc, history.core(), scripts, answered, out)?;
     if have_all_run(answered) {
         Ok(())

@@ -3,7 +3,7 @@
 ghost use Rattle.std.specs.Prelude.{◌≡◌, ◌-◌, false, IfOk};
 ghost use Rattle.token.specs.Bytes.{Text, name_of};
 ghost use Rattle.token.specs.Rules.{in_quotes};
-ghost use Rattle.token.specs.Readings.{undoubled, between_quotes};
+ghost use Rattle.token.specs.Readings.{with_quotes_once, between_quotes};
 
 use std::alloc::{AllocError, Global};
 
@@ -28,7 +28,7 @@ fn strip_quotes<'a>(spelling: &'a [u8]) -> &'a [u8]
 }
 
 fn undouble(alloc: Global, bytes: &[u8]) -> Result<Vec<u8>, AllocError>
-    ensures { IfOk result (λ text. text.items ≡ undoubled false bytes.now) }
+    ensures { IfOk result (λ text. text.items ≡ with_quotes_once false bytes.now) }
 {
     let mut text = Vec::with_capacity(alloc, bytes.len())?;
     let mut second = false;
@@ -45,7 +45,7 @@ fn undouble(alloc: Global, bytes: &[u8]) -> Result<Vec<u8>, AllocError>
 
 /// What a text in quotes stands for: the bytes between its quotes, with each doubled quote once.
 pub fn text_bytes(alloc: Global, spelling: &[u8]) -> Result<Vec<u8>, AllocError>
-    ensures value { IfOk result (λ text. text.items ≡ undoubled false (between_quotes spelling.now)) }
+    ensures value { IfOk result (λ text. text.items ≡ with_quotes_once false (between_quotes spelling.now)) }
     ensures inside { (inside : Text) → spelling.now ≡ in_quotes inside → IfOk result (λ text. text.items ≡ inside) }
 {
     undouble(alloc, strip_quotes(spelling))

@@ -7,7 +7,7 @@ use Rattle.value.specs.declared.refusals.Refusal.{Refusal}
 use Rattle.table.specs.Rows.{Layout}
 use Rattle.assertion.specs.declared.assertions.Assertion.{Assertion}
 use Rattle.assertion.specs.Meaning.{State, least_bad_of}
-use Rattle.modes.specs.Modes.{immediate_ones}
+use Rattle.alone.specs.Modes.{immediate_ones}
 use Rattle.alone.specs.Checks.{refusal_at, violation}
 use Rattle.txn.specs.Checks.{refused_at}
 

@@ -21,15 +21,15 @@ use Rattle.assertion.specs.Roots.{state_after, state_after_all}
 use Rattle.assertion.specs.declared.assertions.Assertion.{Assertion}
 use Rattle.assertcheck.specs.declared.inserts.NewRow.{NewRow}
 use Rattle.assertcheck.specs.declared.updates.Setting.{Setting}
-use Rattle.answer.specs.declared.answers.Reply.{Reply}
-use Rattle.modes.specs.Modes.{assertion_of, is_immediate}
+use Rattle.alone.specs.declared.answers.Reply.{Reply}
+use Rattle.alone.specs.Modes.{assertion_of, is_immediate}
 use Rattle.siread.specs.declared.keys.LockKey.{LockKey}
 use Rattle.siread.specs.declared.keys.Place.{Place}
-use Rattle.alone.specs.declared.statements.Resolved.{Resolved}
-use Rattle.alone.specs.declared.statements.Resolved.TheVariants.{Refused as Refuse, Insert, Update, Delete, Select, SetModes, Verdict}
-use Rattle.alone.specs.Alone.{Standing, Step, effected, modes_step, ran, run_on, stepped, unless_key, unless_violated, verdict_step}
+use Rattle.alone.specs.declared.statements.ResolvedStatement.{ResolvedStatement}
+use Rattle.alone.specs.declared.statements.ResolvedStatement.TheVariants.{Refused as Refuse, Insert, Update, Delete, Select, SetModes, Verdict}
+use Rattle.alone.specs.Alone.{Standing, Step, step_of_effect, modes_step, ran, run_on, step_alone, unless_key, unless_violated, verdict_step}
 use Rattle.alone.specs.States.{net_change}
-use Rattle.alone.specs.Statements.{Effect, columns_of, delete_effect, found_rows, given_fault, given_value, insert_effect, inserted_at, place_in, removal, renewal, settings_fault, update_effect, update_fault, updated}
+use Rattle.alone.specs.Statements.{Effect, columns_of, delete_effect, found_rows, given_fault, given_value, insert_effect, inserted_at, place_in, removal, renewal, settings_fault, update_effect, update_fault, row_after_settings}
 use Rattle.alone.proofs.Lists.{Each, each_from}
 use Rattle.changes.proofs.Fitting.{faultless_fits, fits_set, set_nothing}
 use Rattle.delta.specs.Views.{IsFitting, layout_at}
@@ -103,7 +103,7 @@ given_fits : (columns : List Column) (column : Option Column) (place : ℕ) (v :
 given_fits columns None place v row there faultless fit = subst (FitsColumns columns) (sym (set_nothing columns row place v there fit)) fit
 given_fits columns (Some column) place v row there faultless fit = fits_set columns row place column v there (faultless_fits column v faultless) fit
 
-updated_fits : (columns : List Column) (sets : List Setting) (old row : RowValues) → settings_fault columns sets old ≡ None → FitsColumns columns row → FitsColumns columns (updated sets old row)
+updated_fits : (columns : List Column) (sets : List Setting) (old row : RowValues) → settings_fault columns sets old ≡ None → FitsColumns columns row → FitsColumns columns (row_after_settings sets old row)
 updated_fits columns [] old row faultless fit = fit
 updated_fits columns (setting ∷ rest) old row faultless fit =
     updated_fits columns rest old (slice_set row setting.column (given_value old setting.value)) (no_second _ _ faultless)
@@ -134,7 +134,7 @@ module _ (declared : Declared) where
   unless_fits (Some refusal) reply before after reads old new = old
 
   effected_fits : (now : Standing) (read : LockKey) (made : Result Effect Refusal) → ((effect : Effect) → made ≡ Ok effect → Each (IsFitting (layouts_in declared)) effect.changes) → Fit now
-      → Fit (effected declared now read made).after
+      → Fit (step_of_effect declared now read made).after
   effected_fits now read (Err refusal) new old = old
   effected_fits now read (Ok effect) new old =
       unless_fits _ effect.reply now (record { view = state_after_all (layouts_in declared) effect.changes now.view; modes = now.modes }) _ old
@@ -152,7 +152,7 @@ module _ (declared : Declared) where
   unless_key_fits true refusal now step old new = old
   unless_key_fits false refusal now step old new = new
 
-  step_fits : (start : State) (now : Standing) (statement : Resolved) → Fit now → Fit (stepped declared start now statement).after
+  step_fits : (start : State) (now : Standing) (statement : ResolvedStatement) → Fit now → Fit (step_alone declared start now statement).after
   step_fits start now (Refuse refusal) old = old
   step_fits start now (Insert new) old = effected_fits now _ (insert_effect declared.tables new now.view) (insert_fits declared.tables new now.view) old
   step_fits start now (Update u) old =
@@ -167,10 +167,10 @@ module _ (declared : Declared) where
   step_fits start now (SetModes names mode) old = modes_fits start names (is_immediate mode) now old
   step_fits start now (Verdict name) old = verdict_fits (assertion_of name declared.assertions) name now old
 
-  ran_fits : (start : State) (now : Standing) (trace : List Resolved) → Fit now → Fit (ran declared start now trace).final
+  ran_fits : (start : State) (now : Standing) (trace : List ResolvedStatement) → Fit now → Fit (ran declared start now trace).final
   ran_fits start now [] old = old
-  ran_fits start now (statement ∷ rest) old = ran_fits start (stepped declared start now statement).after rest (step_fits start now statement old)
+  ran_fits start now (statement ∷ rest) old = ran_fits start (step_alone declared start now statement).after rest (step_fits start now statement old)
 
   -- a transaction's own view
-  pub run_fits : (trace : List Resolved) (start : State) → RowsFit (layouts_in declared) start → RowsFit (layouts_in declared) (run_on declared trace start).final.view
+  pub run_fits : (trace : List ResolvedStatement) (start : State) → RowsFit (layouts_in declared) start → RowsFit (layouts_in declared) (run_on declared trace start).final.view
   run_fits trace start old = ran_fits start _ trace old

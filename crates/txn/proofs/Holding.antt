@@ -4,38 +4,38 @@ use Rattle.std.specs.Prelude.{Contains, unwrap_or, IfOk, IfErr, ◌≢◌}
 use Rattle.value.specs.declared.refusals.Refusal.{Refusal}
 use Rattle.value.specs.declared.refusals.Refusal.TheVariants.{NoMemory}
 use Rattle.value.specs.Ordered.{HoldsOf}
-use Rattle.answer.specs.declared.answers.Reply.{Reply}
+use Rattle.alone.specs.declared.answers.Reply.{Reply}
 use Rattle.assertion.specs.Declarations.{Declared, layouts_in}
 use Rattle.assertion.specs.Meaning.{State}
 use Rattle.siread.specs.declared.keys.LockKey.{LockKey}
 use Rattle.siread.specs.declared.keys.Place.{Place}
 use Rattle.siread.specs.Keys.{place_of}
-use Rattle.modes.specs.Modes.{Immediates}
-use Rattle.alone.specs.declared.statements.Resolved.{Resolved}
+use Rattle.alone.specs.Modes.{Immediates}
+use Rattle.alone.specs.declared.statements.ResolvedStatement.{ResolvedStatement}
 use Rattle.alone.proofs.ReadOnly.{one_more}
-use Rattle.alone.specs.Alone.{Run, Standing, Step, followed, ran, stepped}
+use Rattle.alone.specs.Alone.{Run, Standing, Step, joined_runs, ran, step_alone}
 use Rattle.alone.specs.Resolve.{is_read_only}
-use Rattle.delta.specs.Views.{Shown}
+use Rattle.delta.specs.Views.{ViewState}
 use Rattle.changes.specs.Nets.{DifferAt}
-use Rattle.txn.specs.declared.steps.Done.{Done}
+use Rattle.txn.specs.declared.steps.StepResult.{StepResult}
 use Rattle.txn.specs.Held.{IsHeld}
-use Rattle.txn.specs.Steps.{IsDone, IsOf, left_by, rows_left, standing}
+use Rattle.txn.specs.Steps.{IsDone, IsOf, left_by, rows_left, standing_with}
 use Rattle.txn.specs.Transactions.{OpenTransaction, run_of, standing_of, step_of, with_statement}
 use Rattle.txn.proofs.Putting.{differ_both}
 
 -- runs may be run in two parts
 abbrev pub InParts : Type 0
-InParts = (declared : Declared) (start : State) (now : Standing) (first rest : List Resolved)
-    → ran declared start now (first ++ rest) ≡ followed (ran declared start now first) (ran declared start (ran declared start now first).final rest)
+InParts = (declared : Declared) (start : State) (now : Standing) (first rest : List ResolvedStatement)
+    → ran declared start now (first ++ rest) ≡ joined_runs (ran declared start now first) (ran declared start (ran declared start now first).final rest)
 
-module _ (t : OpenTransaction) (own : Shown) (modes : Immediates) (s : Resolved) where
+module _ (t : OpenTransaction) (own : ViewState) (modes : Immediates) (s : ResolvedStatement) where
   -- the step on what is held is that of the transaction
-  pub step_is : {touched : List Place} {reads : List LockKey} → IsHeld t own modes touched reads → stepped own.declared t.start (standing own modes) s ≡ step_of t s
-  step_is h = λ i. stepped (h.own_is i).declared t.start (record { view = (h.own_is i).state; modes = h.modes_are i }) s
+  pub step_is : {touched : List Place} {reads : List LockKey} → IsHeld t own modes touched reads → step_alone own.declared t.start (standing_with own modes) s ≡ step_of t s
+  step_is h = λ i. step_alone (h.own_is i).declared t.start (record { view = (h.own_is i).state; modes = h.modes_are i }) s
 
   module _ (parts : InParts) where
     -- the run with one statement more
-    pub run_with : run_of (with_statement t s) ≡ followed (run_of t) (ran t.declared t.start (standing_of t) (s ∷ []))
+    pub run_with : run_of (with_statement t s) ≡ joined_runs (run_of t) (ran t.declared t.start (standing_of t) (s ∷ []))
     run_with = parts t.declared t.start _ t.trace (s ∷ [])
 
     pub final_with : standing_of (with_statement t s) ≡ (step_of t s).after
@@ -44,11 +44,11 @@ module _ (t : OpenTransaction) (own : Shown) (modes : Immediates) (s : Resolved)
     pub reads_with : (run_of (with_statement t s)).reads ≡ (run_of t).reads ++ (step_of t s).reads
     reads_with = ap (λ (r : Run). r.reads) run_with ∙ ap (λ ks. (run_of t).reads ++ ks) (append-nil (step_of t s).reads)
 
-view_left : (own : Shown) (view : Option Shown) → (unwrap_or view own).state ≡ rows_left own.state view
+view_left : (own : ViewState) (view : Option ViewState) → (unwrap_or view own).state ≡ rows_left own.state view
 view_left own None = refl
 view_left own (Some after) = refl
 
-declared_left : (own : Shown) (view : Option Shown) → HoldsOf (λ (after : Shown). after.declared ≡ own.declared) view → (unwrap_or view own).declared ≡ own.declared
+declared_left : (own : ViewState) (view : Option ViewState) → HoldsOf (λ (after : ViewState). after.declared ≡ own.declared) view → (unwrap_or view own).declared ≡ own.declared
 declared_left own None h = refl
 declared_left own (Some after) h = h
 
@@ -57,26 +57,26 @@ long_left : (modes : Immediates) (new : Option Immediates) (declared : Declared)
 long_left modes None declared e h = e
 long_left modes (Some after) declared e h = h
 
-pub held_after : (t : OpenTransaction) (own : Shown) (modes : Immediates) (touched more : List Place) (reads all : List LockKey) (s : Resolved) (d : Done) → InParts
+pub held_after : (t : OpenTransaction) (own : ViewState) (modes : Immediates) (touched more : List Place) (reads all : List LockKey) (s : ResolvedStatement) (d : StepResult) → InParts
     → IsHeld t own modes touched reads
-    → IsDone (standing own modes) (stepped own.declared t.start (standing own modes) s) d → IsOf own.declared d
-    → DifferAt (layouts_in own.declared) own.state (left_by (standing own modes) d).view (map place_of d.changes.items)
+    → IsDone (standing_with own modes) (step_alone own.declared t.start (standing_with own modes) s) d → IsOf own.declared d
+    → DifferAt (layouts_in own.declared) own.state (left_by (standing_with own modes) d).view (map place_of d.changes.items)
     → ((place : Place) → Contains touched place → Contains more place) → ((place : Place) → Contains (map place_of d.changes.items) place → Contains more place)
     → all ≡ reads ++ d.reads.items
     → (t.read_only ≡ true → is_read_only s ≡ true)
     → IsHeld (with_statement t s) (unwrap_or d.view own) (unwrap_or d.modes modes) more all
 held_after t own modes touched more reads all s d parts h done of differ kept added read may =
-    let step : stepped own.declared t.start (standing own modes) s ≡ step_of t s = step_is t own modes s h in
-    let after : standing_of (with_statement t s) ≡ left_by (standing own modes) d = final_with t own modes s parts ∙ sym (ap (λ (p : Step). p.after) step) ∙ done.after in
-    let declared : (unwrap_or d.view own).declared ≡ t.declared = declared_left own d.view of.view ∙ ap (λ (o : Shown). o.declared) h.own_is in
+    let step : step_alone own.declared t.start (standing_with own modes) s ≡ step_of t s = step_is t own modes s h in
+    let after : standing_of (with_statement t s) ≡ left_by (standing_with own modes) d = final_with t own modes s parts ∙ sym (ap (λ (p : Step). p.after) step) ∙ done.after in
+    let declared : (unwrap_or d.view own).declared ≡ t.declared = declared_left own d.view of.view ∙ ap (λ (o : ViewState). o.declared) h.own_is in
     let state : (unwrap_or d.view own).state ≡ (standing_of (with_statement t s)).view = view_left own d.view ∙ sym (ap (λ (p : Standing). p.view) after) in
     record {
       own_is = λ i. record { declared = declared i; state = state i };
       modes_are = sym (ap (λ (p : Standing). p.modes) after);
-      long = long_left modes d.modes t.declared h.long (subst (λ (declared : Declared). HoldsOf (λ (after : Immediates). length after ≡ length declared.assertions) d.modes) (ap (λ (o : Shown). o.declared) h.own_is) of.modes);
+      long = long_left modes d.modes t.declared h.long (subst (λ (declared : Declared). HoldsOf (λ (after : Immediates). length after ≡ length declared.assertions) d.modes) (ap (λ (o : ViewState). o.declared) h.own_is) of.modes);
       differ = differ_both (layouts_in t.declared) t.start own.state (unwrap_or d.view own).state touched (map place_of d.changes.items) more kept added h.differ
           (subst (λ u. DifferAt (layouts_in t.declared) own.state u (map place_of d.changes.items)) (sym (view_left own d.view))
-          (subst (λ (declared : Declared). DifferAt (layouts_in declared) own.state (rows_left own.state d.view) (map place_of d.changes.items)) (ap (λ (o : Shown). o.declared) h.own_is) differ));
+          (subst (λ (declared : Declared). DifferAt (layouts_in declared) own.state (rows_left own.state d.view) (map place_of d.changes.items)) (ap (λ (o : ViewState). o.declared) h.own_is) differ));
       reads_are = read ∙ ap (λ ks. ks ++ d.reads.items) h.reads_are ∙ ap (λ ks. (run_of t).reads ++ ks) (sym done.reads ∙ ap (λ (p : Step). p.reads) step) ∙ sym (reads_with t own modes s parts);
       no_changes = λ only. one_more t.trace s (h.no_changes only) (may only);
     }

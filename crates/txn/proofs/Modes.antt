@@ -1,7 +1,7 @@
 -- Modes are of as many assertions as there are.
 use Rattle.std.proofs.Common.{◌≡◌, ℕ, suc, Bool, List, [], ◌∷◌, length, refl, ap, arith}
 use Rattle.assertion.specs.declared.assertions.Assertion.{Assertion}
-use Rattle.modes.specs.Modes.{Immediates, modes_with}
+use Rattle.alone.specs.Modes.{Immediates, modes_with}
 
 pub set_long : (names : List (List ℕ)) (immediate : Bool) (assertions : List Assertion) (modes : Immediates) → length modes ≡ length assertions
     → length (modes_with names immediate assertions modes) ≡ length assertions

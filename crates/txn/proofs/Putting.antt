@@ -11,19 +11,19 @@ use Rattle.assertion.specs.Roots.{state_after_all}
 use Rattle.siread.specs.declared.keys.LockKey.{LockKey}
 use Rattle.siread.specs.declared.keys.Place.{Place}
 use Rattle.siread.specs.Keys.{place_of}
-use Rattle.modes.specs.Modes.{Immediates, immediate_ones, modes_with, named_ones}
-use Rattle.answer.specs.declared.answers.Reply.{Reply}
-use Rattle.answer.specs.declared.answers.Reply.TheVariants.{ModesSet}
-use Rattle.alone.specs.Alone.{Standing, effected, modes_step, unless_violated}
+use Rattle.alone.specs.Modes.{Immediates, immediate_ones, modes_with, named_ones}
+use Rattle.alone.specs.declared.answers.Reply.{Reply}
+use Rattle.alone.specs.declared.answers.Reply.TheVariants.{ModesSet}
+use Rattle.alone.specs.Alone.{Standing, step_of_effect, modes_step, unless_violated}
 use Rattle.alone.specs.Checks.{checks_read, violation}
 use Rattle.alone.specs.States.{change_between, net_change, IsState}
 use Rattle.alone.specs.Statements.{Effect}
 use Rattle.alone.proofs.Members.{in_map}
 use Rattle.alone.proofs.Nets.{net_all}
-use Rattle.delta.specs.Views.{Shown}
+use Rattle.delta.specs.Views.{ViewState}
 use Rattle.changes.specs.Nets.{DifferAt}
-use Rattle.txn.specs.declared.steps.Done.{Done}
-use Rattle.txn.specs.Steps.{ArePut, IsDone, IsLeft, left_by, rows_left, standing}
+use Rattle.txn.specs.declared.steps.StepResult.{StepResult}
+use Rattle.txn.specs.Steps.{ArePut, IsDone, IsLeft, left_by, rows_left, standing_with}
 
 module _ (layouts : List Layout) where
   -- two states differ at the places of their net change alone
@@ -50,14 +50,14 @@ module _ (layouts : List Layout) where
   }
 
 -- what is left where nothing has changed, and where rows have
-left_none : (own : Shown) (modes : Immediates) (done : Done) → done.view ≡ None → done.modes ≡ None → standing own modes ≡ left_by (standing own modes) done
+left_none : (own : ViewState) (modes : Immediates) (done : StepResult) → done.view ≡ None → done.modes ≡ None → standing_with own modes ≡ left_by (standing_with own modes) done
 left_none own modes done v m = λ i. record { view = sym (ap (rows_left own.state) v) i; modes = sym (ap (λ o. unwrap_or o modes) m) i }
 
-left_so : (own : Shown) (modes : Immediates) {after : Shown} (new : State) (done : Done) → done.view ≡ Some after → done.modes ≡ None → after.state ≡ new
-    → record { view = new; modes = modes } ≡ left_by (standing own modes) done
+left_so : (own : ViewState) (modes : Immediates) {after : ViewState} (new : State) (done : StepResult) → done.view ≡ Some after → done.modes ≡ None → after.state ≡ new
+    → record { view = new; modes = modes } ≡ left_by (standing_with own modes) done
 left_so own modes new done v m e = λ i. record { view = sym (ap (rows_left own.state) v ∙ e) i; modes = sym (ap (λ o. unwrap_or o modes) m) i }
 
-module _ (own : Shown) (modes : Immediates) where
+module _ (own : ViewState) (modes : Immediates) where
   abbrev layouts : List Layout
   layouts = layouts_in own.declared
 
@@ -65,13 +65,13 @@ module _ (own : Shown) (modes : Immediates) where
   checked = immediate_ones modes own.declared.assertions
 
   -- rows that are left unless an assertion is violated are those of the step
-  pub rows_done : (read : LockKey) (effect : Effect) (after : Shown) (found violated : Option Refusal) (done : Done) → after.state ≡ state_after_all layouts effect.changes own.state
+  pub rows_done : (read : LockKey) (effect : Effect) (after : ViewState) (found violated : Option Refusal) (done : StepResult) → after.state ≡ state_after_all layouts effect.changes own.state
       → found ≡ violation layouts checked (state_after_all layouts effect.changes own.state) → violated ≡ found
       → done.reads.items ≡ read ∷ checks_read layouts (state_after_all layouts effect.changes own.state) checked (net_change layouts own.state (state_after_all layouts effect.changes own.state))
       → IsLeft violated effect.reply (Some after) None done
-      → IsDone (standing own modes) (effected own.declared (standing own modes) read (Ok effect)) done
+      → IsDone (standing_with own modes) (step_of_effect own.declared (standing_with own modes) read (Ok effect)) done
   rows_done read effect after found None done e f g r left =
-      subst (λ o. IsDone (standing own modes) (unless_violated o effect.reply (standing own modes) new reads) done) (g ∙ f) (record {
+      subst (λ o. IsDone (standing_with own modes) (unless_violated o effect.reply (standing_with own modes) new reads) done) (g ∙ f) (record {
         reply = sym left.0;
         after = left_so own modes _ done left.1 left.2 e;
         reads = sym r;
@@ -83,7 +83,7 @@ module _ (own : Shown) (modes : Immediates) where
       reads : List LockKey
       reads = read ∷ checks_read (layouts_in own.declared) (state_after_all (layouts_in own.declared) effect.changes own.state) (immediate_ones modes own.declared.assertions) (net_change (layouts_in own.declared) own.state (state_after_all (layouts_in own.declared) effect.changes own.state))
   rows_done read effect after found (Some refusal) done e f g r left =
-      subst (λ o. IsDone (standing own modes) (unless_violated o effect.reply (standing own modes) new reads) done) (g ∙ f) (record {
+      subst (λ o. IsDone (standing_with own modes) (unless_violated o effect.reply (standing_with own modes) new reads) done) (g ∙ f) (record {
         reply = sym left.0;
         after = left_none own modes done left.1 left.2;
         reads = sym r;
@@ -96,30 +96,30 @@ module _ (own : Shown) (modes : Immediates) where
       reads = read ∷ checks_read (layouts_in own.declared) (state_after_all (layouts_in own.declared) effect.changes own.state) (immediate_ones modes own.declared.assertions) (net_change (layouts_in own.declared) own.state (state_after_all (layouts_in own.declared) effect.changes own.state))
 
   -- and they differ at the changed places alone
-  pub rows_differ : (real put : List Change) (after : Shown) (reply : Reply) (violated : Option Refusal) (done : Done)
+  pub rows_differ : (real put : List Change) (after : ViewState) (reply : Reply) (violated : Option Refusal) (done : StepResult)
       → DifferAt layouts own.state after.state (map place_of real)
       → IsLeft violated reply (Some after) None done → ArePut violated real put
-      → DifferAt layouts own.state (left_by (standing own modes) done).view (map place_of put)
+      → DifferAt layouts own.state (left_by (standing_with own modes) done).view (map place_of put)
   rows_differ real put after reply None done d left same =
       subst (λ all. DifferAt layouts own.state (rows_left own.state done.view) (map place_of all)) (sym same) (subst (λ u. DifferAt layouts own.state (rows_left own.state u) (map place_of real)) (sym left.1) d)
   rows_differ real put after reply (Some refusal) done d left same =
       subst (λ u. DifferAt layouts own.state (rows_left own.state u) (map place_of put)) (sym left.1) (differ_nowhere layouts own.state (map place_of put))
 
   -- modes that are set unless an assertion is violated are those of the step
-  pub modes_done : (start : State) (names : List (List ℕ)) (new : Immediates) (net : List Change) (found violated : Option Refusal) (done : Done)
+  pub modes_done : (start : State) (names : List (List ℕ)) (new : Immediates) (net : List Change) (found violated : Option Refusal) (done : StepResult)
       → net ≡ net_change layouts start own.state → new ≡ modes_with names true own.declared.assertions modes
       → found ≡ violation layouts (named_ones names own.declared.assertions) own.state → violated ≡ found
       → done.reads.items ≡ checks_read layouts own.state (named_ones names own.declared.assertions) net
       → IsLeft violated ModesSet None (Some new) done
-      → IsDone (standing own modes) (modes_step own.declared start names true (standing own modes)) done
+      → IsDone (standing_with own modes) (modes_step own.declared start names true (standing_with own modes)) done
   modes_done start names new net found None done n e f g r left =
-      subst (λ o. IsDone (standing own modes) (unless_violated o ModesSet (standing own modes) (record { view = own.state; modes = modes_with names true own.declared.assertions modes }) (checks_read (layouts_in own.declared) own.state (named_ones names own.declared.assertions) (net_change (layouts_in own.declared) start own.state))) done) (g ∙ f) (record {
+      subst (λ o. IsDone (standing_with own modes) (unless_violated o ModesSet (standing_with own modes) (record { view = own.state; modes = modes_with names true own.declared.assertions modes }) (checks_read (layouts_in own.declared) own.state (named_ones names own.declared.assertions) (net_change (layouts_in own.declared) start own.state))) done) (g ∙ f) (record {
         reply = sym left.0;
         after = λ i. record { view = sym (ap (rows_left own.state) left.1) i; modes = sym (ap (λ o. unwrap_or o modes) left.2 ∙ e) i };
         reads = sym (r ∙ ap (checks_read (layouts_in own.declared) own.state (named_ones names own.declared.assertions)) n);
       })
   modes_done start names new net found (Some refusal) done n e f g r left =
-      subst (λ o. IsDone (standing own modes) (unless_violated o ModesSet (standing own modes) (record { view = own.state; modes = modes_with names true own.declared.assertions modes }) (checks_read (layouts_in own.declared) own.state (named_ones names own.declared.assertions) (net_change (layouts_in own.declared) start own.state))) done) (g ∙ f) (record {
+      subst (λ o. IsDone (standing_with own modes) (unless_violated o ModesSet (standing_with own modes) (record { view = own.state; modes = modes_with names true own.declared.assertions modes }) (checks_read (layouts_in own.declared) own.state (named_ones names own.declared.assertions) (net_change (layouts_in own.declared) start own.state))) done) (g ∙ f) (record {
         reply = sym left.0;
         after = left_none own modes done left.1 left.2;
         reads = sym (r ∙ ap (checks_read (layouts_in own.declared) own.state (named_ones names own.declared.assertions)) n);

@@ -4,17 +4,17 @@ use Rattle.std.specs.List.{list_all}
 use Rattle.value.specs.declared.refusals.Refusal.{Refusal}
 use Rattle.table.specs.declared.rows.Change.{Change}
 use Rattle.assertion.specs.Declarations.{layouts_in}
-use Rattle.modes.specs.Modes.{Immediates}
+use Rattle.alone.specs.Modes.{Immediates}
 use Rattle.siread.specs.declared.keys.LockKey.{LockKey}
 use Rattle.siread.specs.declared.keys.Place.{Place}
 use Rattle.alone.specs.Resolve.{is_read_only}
-use Rattle.delta.specs.Views.{Shown}
+use Rattle.delta.specs.Views.{ViewState}
 use Rattle.changes.specs.Nets.{DifferAt}
 use Rattle.txn.specs.Transactions.{OpenTransaction, keys_of, outcome_of, own_view, run_of, standing_of}
 
 -- its own view, its modes, the places of the rows that it has changed, and what it has read; and a read-only one has
 -- run no statement that changes rows
-pub record IsHeld (t : OpenTransaction) (own : Shown) (modes : Immediates) (touched : List Place)
+pub record IsHeld (t : OpenTransaction) (own : ViewState) (modes : Immediates) (touched : List Place)
     (reads : List LockKey) : Type 0 where
   pub own_is : own ≡ own_view t
   pub modes_are : modes ≡ (standing_of t).modes

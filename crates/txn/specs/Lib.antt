@@ -5,4 +5,4 @@ pub mod Held
 pub mod Runnable
 pub mod Steps
 pub mod Transactions
-pub use Rattle.modes.specs.Modes
+pub use Rattle.alone.specs.Modes

@@ -9,8 +9,8 @@ use Rattle.assertcheck.specs.declared.deletes.Delete.{Delete}
 use Rattle.assertcheck.specs.declared.selects.Select.{Select}
 use Rattle.assertcheck.specs.declared.updates.Update.{Update}
 use Rattle.assertcheck.specs.Updates.{IsBoundedSetting}
-use Rattle.alone.specs.declared.statements.Resolved.{Resolved}
-use Rattle.alone.specs.declared.statements.Resolved.TheVariants as resolved
+use Rattle.alone.specs.declared.statements.ResolvedStatement.{ResolvedStatement}
+use Rattle.alone.specs.declared.statements.ResolvedStatement.TheVariants as resolved
 use Rattle.alone.specs.Statements.{sets_key}
 
 -- what is known of an UPDATE
@@ -31,7 +31,7 @@ pub record IsRunnableSelect (declared : Declared) (select : Select) : Type 0 whe
   pub bounded : IsTrue (is_bounded [] select.filter)
 
 -- what is known of any statement; one that was refused found its refusal, and was not out of memory
-abbrev pub IsRunnable : Declared → Resolved → Type 0
+abbrev pub IsRunnable : Declared → ResolvedStatement → Type 0
 IsRunnable declared (resolved.Refused refusal) = refusal ≢ NoMemory
 IsRunnable declared (resolved.Insert new) = new.table < length declared.tables
 IsRunnable declared (resolved.Update update) = IsRunnableUpdate declared update

@@ -6,50 +6,50 @@ use Rattle.value.specs.Ordered.{HoldsOf}
 use Rattle.table.specs.declared.rows.Change.{Change}
 use Rattle.assertion.specs.Declarations.{Declared, layouts_in}
 use Rattle.assertion.specs.Meaning.{State, key_of}
-use Rattle.modes.specs.Modes.{Immediates}
-use Rattle.answer.specs.declared.answers.Reply.{Reply}
+use Rattle.alone.specs.Modes.{Immediates}
+use Rattle.alone.specs.declared.answers.Reply.{Reply}
 use Rattle.assertcheck.specs.declared.deletes.Delete.{Delete}
 use Rattle.assertcheck.specs.declared.inserts.NewRow.{NewRow}
 use Rattle.assertcheck.specs.declared.updates.Update.{Update}
 use Rattle.siread.specs.declared.keys.LockKey.TheVariants.{Row as OneRow}
-use Rattle.alone.specs.Alone.{Standing, Step, effected}
-use Rattle.alone.specs.Reads.{where_key}
+use Rattle.alone.specs.Alone.{Standing, Step, step_of_effect}
+use Rattle.alone.specs.Reads.{filter_key}
 use Rattle.alone.specs.Statements.{Effect, insert_effect, place_in}
-use Rattle.delta.specs.Views.{Shown}
+use Rattle.delta.specs.Views.{ViewState}
 use Rattle.txn.specs.declared.effects.Effect.{Effect as Made}
-use Rattle.txn.specs.declared.steps.Done.{Done}
+use Rattle.txn.specs.declared.steps.StepResult.{StepResult}
 use Rattle.txn.specs.Effects.{delete_of, update_of}
 
 -- a view of the tables, and modes
-abbrev pub standing : Shown → Immediates → Standing
-standing own modes = record { view = own.state; modes = modes }
+abbrev pub standing_with : ViewState → Immediates → Standing
+standing_with own modes = record { view = own.state; modes = modes }
 
 -- the rows that are left
-abbrev pub rows_left : State → Option Shown → State
+abbrev pub rows_left : State → Option ViewState → State
 rows_left before None = before
 rows_left before (Some after) = after.state
 
 -- what is left
-abbrev pub left_by : Standing → Done → Standing
+abbrev pub left_by : Standing → StepResult → Standing
 left_by now done = record { view = rows_left now.view done.view; modes = unwrap_or done.modes now.modes }
 
 -- it was answered as the step, leaves what the step leaves, and read what it reads
-pub record IsDone (now : Standing) (step : Step) (done : Done) : Type 0 where
+pub record IsDone (now : Standing) (step : Step) (done : StepResult) : Type 0 where
   pub reply : step.reply ≡ done.reply
   pub after : step.after ≡ left_by now done
   pub reads : step.reads ≡ done.reads.items
 
 -- where it was refused, that was for another reason than memory
-abbrev pub IsKnown : Done → Type 0
+abbrev pub IsKnown : StepResult → Type 0
 IsKnown done = IfErr done.reply (λ refusal. refusal ≢ NoMemory)
 
 -- what it leaves is of the same declarations
-pub record IsOf (declared : Declared) (done : Done) : Type 0 where
+pub record IsOf (declared : Declared) (done : StepResult) : Type 0 where
   pub view : HoldsOf (λ after. after.declared ≡ declared) done.view
   pub modes : HoldsOf (λ after. length after ≡ length declared.assertions) done.modes
 
 -- an answer and what it leaves, unless an assertion is violated
-abbrev pub IsLeft : Option Refusal → Reply → Option Shown → Option Immediates → Done → Type 0
+abbrev pub IsLeft : Option Refusal → Reply → Option ViewState → Option Immediates → StepResult → Type 0
 IsLeft None reply view modes done = (done.reply ≡ Ok reply) × (done.view ≡ view) × (done.modes ≡ modes)
 IsLeft (Some refusal) reply view modes done = (done.reply ≡ Err refusal) × (done.view ≡ None) × (done.modes ≡ None)
 
@@ -63,19 +63,21 @@ abbrev pub shown_effect : Made → Effect
 shown_effect made = record { reply = made.reply; changes = made.changes.items }
 
 -- the steps of the statements that change rows
-abbrev pub insert_step : Shown → Immediates → NewRow → Step
+abbrev pub insert_step : ViewState → Immediates → NewRow → Step
 insert_step own modes new =
-    effected own.declared (standing own modes) (OneRow (place_in (layouts_in own.declared) new))
+    step_of_effect own.declared (standing_with own modes) (OneRow (place_in (layouts_in own.declared) new))
     (insert_effect own.declared.tables new own.state)
 
 -- UPDATE of the rows that its condition keeps, as a step
-abbrev pub update_step : Shown → Immediates → Update → Step
+abbrev pub update_step : ViewState → Immediates → Update → Step
 update_step own modes u =
-    effected own.declared (standing own modes) (where_key u.table (key_of u.table (layouts_in own.declared)) u.filter)
+    step_of_effect own.declared (standing_with own modes)
+    (filter_key u.table (key_of u.table (layouts_in own.declared)) u.filter)
     (update_of own u)
 
 -- DELETE of the rows that its condition keeps, as a step
-abbrev pub delete_step : Shown → Immediates → Delete → Step
+abbrev pub delete_step : ViewState → Immediates → Delete → Step
 delete_step own modes d =
-    effected own.declared (standing own modes) (where_key d.table (key_of d.table (layouts_in own.declared)) d.filter)
+    step_of_effect own.declared (standing_with own modes)
+    (filter_key d.table (key_of d.table (layouts_in own.declared)) d.filter)
     (Ok (delete_of own d))

@@ -7,9 +7,9 @@ use Rattle.assertion.specs.declared.assertions.Assertion.{Assertion}
 use Rattle.assertion.specs.Declarations.{Declared, layouts_in}
 use Rattle.assertion.specs.Meaning.{State, verdict_of}
 use Rattle.siread.specs.declared.keys.LockKey.{LockKey}
-use Rattle.alone.specs.declared.statements.Resolved.{Resolved}
-use Rattle.alone.specs.Alone.{Outcome, Run, Standing, Step, run_on, stepped, transaction, transaction_keys}
-use Rattle.delta.specs.Views.{Shown}
+use Rattle.alone.specs.declared.statements.ResolvedStatement.{ResolvedStatement}
+use Rattle.alone.specs.Alone.{Outcome, Run, Standing, Step, run_on, step_alone, transaction, transaction_keys}
+use Rattle.delta.specs.Views.{ViewState}
 
 -- a transaction that has not ended
 pub record OpenTransaction : Type 0 where
@@ -19,7 +19,7 @@ pub record OpenTransaction : Type 0 where
   -- whether it began READ ONLY
   pub read_only : Bool
   pub start : State
-  pub trace : List Resolved
+  pub trace : List ResolvedStatement
 
 -- its statements, run alone on the tables that it began on
 abbrev pub run_of : OpenTransaction → Run
@@ -30,7 +30,7 @@ abbrev pub standing_of : OpenTransaction → Standing
 standing_of t = (run_of t).final
 
 -- the tables as it sees them
-abbrev pub own_view : OpenTransaction → Shown
+abbrev pub own_view : OpenTransaction → ViewState
 own_view t = record { declared = t.declared; state = (standing_of t).view }
 
 -- what it would answer and change as a whole, if it went to COMMIT now
@@ -42,16 +42,16 @@ abbrev pub keys_of : OpenTransaction → List LockKey
 keys_of t = transaction_keys t.declared t.trace t.start
 
 -- one more statement
-abbrev pub step_of : OpenTransaction → Resolved → Step
-step_of t statement = stepped t.declared t.start (standing_of t) statement
+abbrev pub step_of : OpenTransaction → ResolvedStatement → Step
+step_of t statement = step_alone t.declared t.start (standing_of t) statement
 
 -- the transaction with one more statement in its trace
-abbrev pub with_statement : OpenTransaction → Resolved → OpenTransaction
+abbrev pub with_statement : OpenTransaction → ResolvedStatement → OpenTransaction
 with_statement t statement = record t { trace = t.trace ++ statement ∷ [] }
 
 -- a transaction that began on these tables, and has run these statements
-abbrev pub opened : (ticket snapshot : ℕ) → Bool → Shown → List Resolved → OpenTransaction
-opened ticket snapshot read_only shown trace = record {
+abbrev pub transaction_after : (ticket snapshot : ℕ) → Bool → ViewState → List ResolvedStatement → OpenTransaction
+transaction_after ticket snapshot read_only shown trace = record {
   declared = shown.declared;
   ticket = ticket;
   snapshot = snapshot;
@@ -61,22 +61,22 @@ opened ticket snapshot read_only shown trace = record {
 }
 
 -- before its first statement
-abbrev pub begun : (ticket snapshot : ℕ) → Bool → Shown → OpenTransaction
-begun ticket snapshot read_only shown = opened ticket snapshot read_only shown []
+abbrev pub transaction_at_begin : (ticket snapshot : ℕ) → Bool → ViewState → OpenTransaction
+transaction_at_begin ticket snapshot read_only shown = transaction_after ticket snapshot read_only shown []
 
 -- whether an assertion is false on what a view shows
-abbrev pub is_false_on : Shown → Assertion → Bool
+abbrev pub is_false_on : ViewState → Assertion → Bool
 is_false_on shown a = is_of (verdict_of (layouts_in shown.declared) a.form shown.state) False
 
 -- the name of an assertion, if it is false there
-abbrev pub name_if_false : Shown → Assertion → List (List ℕ)
+abbrev pub name_if_false : ViewState → Assertion → List (List ℕ)
 name_if_false shown a = if is_false_on shown a then a.name ∷ [] else []
 
 -- the names of the assertions that are false there, in the order of their creation
-abbrev pub false_names : Shown → List (List ℕ)
+abbrev pub false_names : ViewState → List (List ℕ)
 false_names shown = flat_map (name_if_false shown) shown.declared.assertions
 
 -- the truth of the assertion of a name there
-abbrev pub truth_of : Shown → Option Assertion → Option Truth
+abbrev pub truth_of : ViewState → Option Assertion → Option Truth
 truth_of shown None = None
 truth_of shown (Some a) = Some (verdict_of (layouts_in shown.declared) a.form shown.state)

@@ -5,7 +5,7 @@ ghost use Rattle.value.specs.Ordered.{HoldsOf};
 ghost use Rattle.value.specs.declared.refusals.Refusal.TheVariants.{NoMemory};
 ghost use Rattle.assertion.specs.declared.assertions.Assertion.{Assertion as AnyAssertion};
 ghost use Rattle.assertion.specs.Declarations.{layouts_in};
-ghost use Rattle.modes.specs.Modes.{assertion_of, immediate_ones};
+ghost use Rattle.alone.specs.Modes.{assertion_of, immediate_ones};
 ghost use Rattle.alone.specs.Checks.{violation};
 ghost use Rattle.txn.specs.Checks.{refused_at};
 ghost use Rattle.txn.specs.Transactions.{false_names, name_if_false, truth_of};

@@ -7,10 +7,9 @@ ghost use Rattle.delta.specs.Views.{IsFitting};
 ghost use Rattle.txn.specs.Transactions.{keys_of, outcome_of, own_view};
 
 use crate::txns::Txn;
-use alone::{Resolved, read_only_statements_change_nothing};
-use changes::Touched;
+use alone::{Modes, ResolvedStatement, read_only_statements_change_nothing};
+use changes::TouchedPlaces;
 use delta::View;
-use modes::Modes;
 use siread::LockKey;
 use std::marker::Model;
 use table::Change;
@@ -19,15 +18,15 @@ use value::Refusal;
 /// A transaction that goes to COMMIT: its net change, the refusal by the first assertion that is false on its own
 /// view, if one is, and what it has read, this check included. It must be spent: as the [`Txn`] that it was, or in
 /// its [`Parts`].
-pub struct Closed {
+pub struct ClosedTransaction {
     pub(crate) ticket: u64,
     pub(crate) snapshot: u64,
     pub(crate) read_only: bool,
     pub(crate) start: View,
     pub(crate) own: View,
     pub(crate) modes: Modes,
-    pub(crate) trace: Vec<Resolved>,
-    pub(crate) touched: Touched,
+    pub(crate) trace: Vec<ResolvedStatement>,
+    pub(crate) touched: TouchedPlaces,
     pub(crate) changes: Vec<Change>,
     pub(crate) refused: Option<Refusal>,
     /// What its statements read, and behind that what the check of COMMIT read.
@@ -39,39 +38,38 @@ pub struct Closed {
 /// What stays of a transaction that is committed: its statements, what it has read, and its net change.
 #[derive(Drop)]
 pub struct Parts {
-    pub trace: Vec<Resolved>,
+    pub trace: Vec<ResolvedStatement>,
     pub reads: Vec<LockKey>,
     pub changes: Vec<Change>,
 }
 
-impl Model for Closed {
+impl Model for ClosedTransaction {
     ghost use Rattle.table.specs.contracts.conds.Cond as cond_type;
     ghost use Rattle.table.specs.contracts.exprs.Expr as expr_type;
     ghost use Rattle.std.specs.Coded.{codes};
     ghost use Rattle.std.specs.Prelude.{take};
     ghost use Rattle.txn.specs.Held.{IsClosed, IsHeld};
-    ghost use Rattle.txn.specs.Transactions.{OpenTransaction, opened};
+    ghost use Rattle.txn.specs.Transactions.{OpenTransaction, transaction_after};
 
     ghost Value = { OpenTransaction };
 
     ghost coded = { Prim.hlevel (codes, cond_type.the_row.coded, expr_type.the_row.coded) };
 
-    ghost view = { λ c. opened c.ticket c.snapshot c.read_only c.start c.trace.items };
+    ghost view = { λ c. transaction_after c.ticket c.snapshot c.read_only c.start c.trace.items };
 
     ghost invariant = { λ c.
-        IsHeld (opened c.ticket c.snapshot c.read_only c.start c.trace.items) c.own c.modes c.touched
+        IsHeld (transaction_after c.ticket c.snapshot c.read_only c.start c.trace.items) c.own c.modes c.touched
         (take c.run c.reads.items)
-        × IsClosed (opened c.ticket c.snapshot c.read_only c.start c.trace.items) c.changes.items c.refused
+        × IsClosed (transaction_after c.ticket c.snapshot c.read_only c.start c.trace.items) c.changes.items c.refused
         c.reads.items };
 }
 
-/// Why a transaction could not be closed, and the transaction.
-pub struct Unclosed {
-    pub refusal: Refusal,
+/// A transaction that could not be closed, since memory ran out.
+pub struct CloseFailure {
     pub txn: Txn,
 }
 
-impl Closed {
+impl ClosedTransaction {
     /// The name of the transaction with whom it was begun. It takes no memory.
     pub fn ticket(&self) -> u64
         ensures { result ≡ self.now.ticket }
@@ -114,7 +112,7 @@ impl Closed {
     }
 
     /// Its statements, with their names found, refused ones too. It takes no memory.
-    pub fn trace(&self) -> &[Resolved]
+    pub fn trace(&self) -> &[ResolvedStatement]
         ensures { result.now ≡ self.now.trace }
     {
         self.trace.as_slice()
@@ -145,7 +143,7 @@ impl Closed {
     pub fn reopen(self) -> Txn
         ensures { result ≡ self }
     {
-        let Closed {
+        let ClosedTransaction {
             ticket,
             snapshot,
             read_only,
@@ -179,7 +177,7 @@ impl Closed {
         ensures reads { result.reads.items ≡ keys_of self }
         ensures changes { result.changes.items ≡ (outcome_of self).changes }
     {
-        let Closed {
+        let ClosedTransaction {
             ticket: _,
             snapshot: _,
             read_only: _,

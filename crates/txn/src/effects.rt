@@ -9,7 +9,7 @@ ghost use Rattle.alone.specs.Statements.{insert_effect};
 ghost use Rattle.txn.specs.Effects.{ArePutIn, delete_of, update_of};
 ghost use Rattle.txn.specs.Runnable.{IsRunnableDelete, IsRunnableUpdate};
 
-use answer::Reply;
+use alone::Reply;
 use assertcheck::{Delete, NewRow, Update};
 use changes::{insertion, removals, renewals};
 use delta::View;

@@ -15,10 +15,11 @@
 //!   their names found, and the keys under which they have read.
 //! - [`Txn::verdict`] is the truth of an assertion on the own view, and [`Txn::pending`] names the assertions that
 //!   are false there. Neither enters the trace.
-//! - [`Txn::close_check`] takes it to COMMIT: a [`Closed`] has its net change ([`Closed::changes`]) and the refusal
-//!   by the first assertion that is false ([`Closed::refused`]), and what it has read ([`Closed::reads`]).
-//!   [`Closed::into_parts`] hands out what is kept of it when it is committed, and [`Closed::reopen`] opens it again.
-//!   Where memory runs out, [`Unclosed`] gives it back as it was.
+//! - [`Txn::close_check`] takes it to COMMIT: a [`ClosedTransaction`] has its net change
+//!   ([`ClosedTransaction::changes`]) and the refusal by the first assertion that is false
+//!   ([`ClosedTransaction::refused`]), and what it has read ([`ClosedTransaction::reads`]).
+//!   [`ClosedTransaction::into_parts`] hands out what is kept of it when it is committed, and
+//!   [`ClosedTransaction::reopen`] opens it again. Where memory runs out, [`CloseFailure`] gives it back as it was.
 //! - [`Txn::abandon`] ends it, and nothing is kept but its own view.
 //! - [`find_violation`] is the refusal by the first assertion that is false, of those that are meant: also for tables
 //!   that a transaction is to begin on.
@@ -38,7 +39,7 @@
 //! INSERT, UPDATE or DELETE, and so it has no net change.
 //!
 //! What the layer above may rest on: a trace is all that there is to know of a transaction, and it can be run again
-//! on other tables; a refusal is the definition's refusal, and stands in the trace; or it is NoMemory, and then
+//! on other tables; a refusal is the definition's refusal, and stands in the trace; where memory runs out instead,
 //! nothing has changed and the statement is in no trace. Tables, assertions and start stay as they were begun with. A
 //! transaction is not let go by itself: each one is closed or abandoned. What it owes: nothing but tables that are a
 //! [`delta::View`].
@@ -57,7 +58,7 @@ mod steps;
 mod txns;
 
 pub use checks::{find_violation, verdict_on};
-pub use closed::{Closed, Parts, Unclosed};
+pub use closed::{CloseFailure, ClosedTransaction, Parts};
 pub use effects::{Effect, delete_effect, insert_effect, recall_order, update_effect};
-pub use resolutions::resolve;
+pub use resolutions::{resolve, unless_memory};
 pub use txns::Txn;

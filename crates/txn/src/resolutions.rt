@@ -1,15 +1,13 @@
 //! Statements with their names found.
 
-ghost use Rattle.std.specs.Prelude.{◌≡◌, ◌≢◌, IfOk, Err};
+ghost use Rattle.std.specs.Prelude.{◌≡◌, ◌≢◌, IfOk};
 ghost use Rattle.value.specs.declared.refusals.Refusal.TheVariants.{NoMemory};
-ghost use Rattle.alone.specs.Resolve.{resolved};
-ghost use Rattle.alone.specs.declared.statements.Resolved.TheVariants as forms;
+ghost use Rattle.alone.specs.Resolve.{resolution_of};
 ghost use Rattle.txn.specs.Runnable.{IsRunnable};
 
-use alone::{Resolved, updates_leave_the_key};
+use alone::{ResolvedStatement, settable_names, updates_leave_the_key};
 use assertcheck::{check_delete, check_insert, check_select, check_update};
 use delta::View;
-use modes::settable_names;
 use std::alloc::{AllocError, Global};
 use syntax::Statement;
 use value::Refusal;
@@ -22,19 +20,19 @@ pub fn resolve(
     view: &View,
     read_only: bool,
     statement: &Statement,
-) -> Result<Resolved, AllocError>
-    ensures resolved { IfOk result (λ made. made ≡ resolved view.now.declared read_only statement.now) }
+) -> Result<ResolvedStatement, AllocError>
+    ensures resolved { IfOk result (λ made. made ≡ resolution_of view.now.declared read_only statement.now) }
     ensures runnable { IfOk result (λ made. IsRunnable view.now.declared made) }
 {
     updates_leave_the_key();
     let catalog = view.catalog();
     match statement {
         Statement::Insert(_) | Statement::Update { .. } | Statement::Delete { .. } if read_only => {
-            Ok(Resolved::Refused(Refusal::ReadOnlyTransaction))
+            Ok(ResolvedStatement::Refused(Refusal::ReadOnlyTransaction))
         }
         Statement::Insert(insert) => match check_insert(alloc, catalog, insert) {
-            Ok(new) => Ok(Resolved::Insert(new)),
-            Err(refusal) => resolve_refused(refusal),
+            Ok(new) => Ok(ResolvedStatement::Insert(new)),
+            Err(refusal) => Ok(ResolvedStatement::Refused(unless_memory(refusal)?)),
         },
         Statement::Update { table, sets, keeps } => match check_update(
             alloc,
@@ -43,37 +41,38 @@ pub fn resolve(
             sets.as_slice(),
             keeps,
         ) {
-            Ok(update) => Ok(Resolved::Update(update)),
-            Err(refusal) => resolve_refused(refusal),
+            Ok(update) => Ok(ResolvedStatement::Update(update)),
+            Err(refusal) => Ok(ResolvedStatement::Refused(unless_memory(refusal)?)),
         },
         Statement::Delete { table, keeps } => match check_delete(alloc, catalog, table, keeps) {
-            Ok(delete) => Ok(Resolved::Delete(delete)),
-            Err(refusal) => resolve_refused(refusal),
+            Ok(delete) => Ok(ResolvedStatement::Delete(delete)),
+            Err(refusal) => Ok(ResolvedStatement::Refused(unless_memory(refusal)?)),
         },
         Statement::Select {
             columns,
             table,
             keeps,
         } => match check_select(alloc, catalog, columns, table, keeps) {
-            Ok(select) => Ok(Resolved::Select(select)),
-            Err(refusal) => resolve_refused(refusal),
+            Ok(select) => Ok(ResolvedStatement::Select(select)),
+            Err(refusal) => Ok(ResolvedStatement::Refused(unless_memory(refusal)?)),
         },
         Statement::SetConstraints { assertions, mode } => {
             match settable_names(alloc, view.assertions(), assertions) {
-                Ok(names) => Ok(Resolved::SetModes { names, mode: *mode }),
-                Err(refusal) => resolve_refused(refusal),
+                Ok(names) => Ok(ResolvedStatement::SetModes { names, mode: *mode }),
+                Err(refusal) => Ok(ResolvedStatement::Refused(unless_memory(refusal)?)),
             }
         }
-        Statement::Verdict(name) => Ok(Resolved::Verdict(name.copy()?)),
+        Statement::Verdict(name) => Ok(ResolvedStatement::Verdict(name.copy()?)),
     }
 }
 
-/// A refused statement is just its refusal; memory running out is no refusal of it.
-fn resolve_refused(refusal: Refusal) -> Result<Resolved, AllocError>
-    ensures { IfOk result (λ made. (made ≡ forms.Refused refusal) × (refusal ≢ NoMemory)) }
+/// The refusal of a statement; memory running out is no refusal of it.
+pub fn unless_memory(refusal: Refusal) -> Result<Refusal, AllocError>
+    ensures same { IfOk result (λ named. named ≡ refusal) }
+    ensures named { IfOk result (λ named. named ≢ NoMemory) }
 {
     match refusal {
         Refusal::NoMemory => Err(AllocError),
-        refusal => Ok(Resolved::Refused(refusal)),
+        refusal => Ok(refusal),
     }
 }

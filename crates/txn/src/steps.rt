@@ -7,30 +7,29 @@ ghost use Rattle.assertion.specs.Declarations.{layouts_in};
 ghost use Rattle.assertion.specs.Meaning.{State, key_of};
 ghost use Rattle.siread.specs.declared.keys.LockKey.{LockKey as AnyKey};
 ghost use Rattle.siread.specs.Keys.{place_of};
-ghost use Rattle.modes.specs.Modes.{Immediates, assertion_of, is_immediate, modes_with};
-ghost use Rattle.answer.specs.declared.answers.Reply.TheVariants as replies;
-ghost use Rattle.answer.specs.declared.answers.Reply.TheVariants.{ModesSet};
-ghost use Rattle.alone.specs.Alone.{effected, modes_step, stepped, verdict_step};
-ghost use Rattle.alone.specs.Reads.{where_key};
+ghost use Rattle.alone.specs.Modes.{Immediates, assertion_of, is_immediate, modes_with};
+ghost use Rattle.alone.specs.declared.answers.Reply.TheVariants as replies;
+ghost use Rattle.alone.specs.declared.answers.Reply.TheVariants.{ModesSet};
+ghost use Rattle.alone.specs.Alone.{step_of_effect, modes_step, step_alone, verdict_step};
+ghost use Rattle.alone.specs.Reads.{filter_key};
 ghost use Rattle.alone.specs.States.{net_change};
 ghost use Rattle.alone.specs.Statements.{found_rows, selected_rows, place_in};
 ghost use Rattle.changes.specs.Nets.{DifferAt};
 ghost use Rattle.txn.specs.Effects.{ArePutIn};
 ghost use Rattle.txn.specs.Runnable.{IsRunnable, IsRunnableDelete, IsRunnableSelect, IsRunnableUpdate};
-ghost use Rattle.txn.specs.Steps.{ArePut, IsDone, IsKnown, IsLeft, IsOf, delete_step, insert_step, left_by, shown_effect, standing, update_step};
+ghost use Rattle.txn.specs.Steps.{ArePut, IsDone, IsKnown, IsLeft, IsOf, delete_step, insert_step, left_by, shown_effect, standing_with, update_step};
 
 use crate::checks::{find_assertion, find_violation};
 use crate::effects::{
     Effect, delete_effect, insert_effect, recall_order, recall_table, update_effect,
 };
-use alone::Resolved;
-use answer::Reply;
+use crate::resolutions::unless_memory;
+use alone::{Modes, Reply, ResolvedStatement};
 use assertcheck::{Delete, NewRow, Select, Update};
 use changes::{
-    Touched, checks_read, net_change, real_changes, selected_rows, tables_read, where_key,
+    TouchedPlaces, checks_read, filter_key, net_change, real_changes, selected_rows, tables_read,
 };
 use delta::View;
-use modes::Modes;
 use siread::{LockKey, Place};
 use sqlite_items::Items;
 use std::alloc::{AllocError, Global};
@@ -41,7 +40,7 @@ use value::{Refusal, Text, Value};
 /// What a statement answered, a refusal among the answers, what it left where that is another than before, and what
 /// it read.
 #[derive(Drop)]
-pub struct Done {
+pub struct StepResult {
     pub reply: Result<Reply, Refusal>,
     pub view: Option<View>,
     pub modes: Option<Modes>,
@@ -58,42 +57,42 @@ pub fn step(
     start: &View,
     own: &View,
     modes: &Modes,
-    touched: &Touched,
-    statement: &Resolved,
-) -> Result<Done, AllocError>
+    touched: &TouchedPlaces,
+    statement: &ResolvedStatement,
+) -> Result<StepResult, AllocError>
     requires runnable { IsRunnable own.now.declared statement.now }
     requires modes { length modes.now ≡ length own.now.declared.assertions }
     requires declared { own.now.declared ≡ start.now.declared }
     requires differ { DifferAt (layouts_in start.now.declared) start.now.state own.now.state touched.now }
     ensures done { IfOk result
-        (IsDone (standing own.now modes.now)
-        (stepped own.now.declared start.now.state (standing own.now modes.now) statement.now)) }
+        (IsDone (standing_with own.now modes.now)
+        (step_alone own.now.declared start.now.state (standing_with own.now modes.now) statement.now)) }
     ensures of { IfOk result (IsOf own.now.declared) }
     ensures known { IfOk result IsKnown }
     ensures changes { IfOk result (λ done.
-        DifferAt (layouts_in own.now.declared) own.now.state (left_by (standing own.now modes.now) done).view
+        DifferAt (layouts_in own.now.declared) own.now.state (left_by (standing_with own.now modes.now) done).view
         (map place_of done.changes.items)) }
 {
     match statement {
-        Resolved::Refused(refusal) => Ok(refuse_with(refusal.copy()?, Vec::new(alloc))),
-        Resolved::Insert(new) => run_insert(alloc, own, modes, new),
-        Resolved::Update(update) => run_update(alloc, own, modes, update),
-        Resolved::Delete(delete) => run_delete(alloc, own, modes, delete),
-        Resolved::Select(select) => run_select(alloc, own, select),
-        Resolved::SetModes { names, mode } => {
+        ResolvedStatement::Refused(refusal) => Ok(refuse_with(refusal.copy()?, Vec::new(alloc))),
+        ResolvedStatement::Insert(new) => run_insert(alloc, own, modes, new),
+        ResolvedStatement::Update(update) => run_update(alloc, own, modes, update),
+        ResolvedStatement::Delete(delete) => run_delete(alloc, own, modes, delete),
+        ResolvedStatement::Select(select) => run_select(alloc, own, select),
+        ResolvedStatement::SetModes { names, mode } => {
             run_set_constraints(alloc, start, own, modes, touched, names.as_slice(), *mode)
         }
-        Resolved::Verdict(name) => run_verdict(alloc, own, name),
+        ResolvedStatement::Verdict(name) => run_verdict(alloc, own, name),
     }
 }
 
 /// It was answered, and nothing has changed.
-fn answer_with(reply: Reply, reads: Vec<LockKey>) -> Done
+fn answer_with(reply: Reply, reads: Vec<LockKey>) -> StepResult
     ensures reply { result.reply ≡ Ok reply }
     ensures same { (result.view ≡ None) × (result.modes ≡ None) × (result.changes.items ≡ []) }
     ensures reads { result.reads.items ≡ reads.items }
 {
-    Done {
+    StepResult {
         reply: Ok(reply),
         view: None,
         modes: None,
@@ -103,12 +102,12 @@ fn answer_with(reply: Reply, reads: Vec<LockKey>) -> Done
 }
 
 /// It was refused, and nothing has changed.
-fn refuse_with(refusal: Refusal, reads: Vec<LockKey>) -> Done
+fn refuse_with(refusal: Refusal, reads: Vec<LockKey>) -> StepResult
     ensures reply { result.reply ≡ Err refusal }
     ensures same { (result.view ≡ None) × (result.modes ≡ None) × (result.changes.items ≡ []) }
     ensures reads { result.reads.items ≡ reads.items }
 {
-    Done {
+    StepResult {
         reply: Err(refusal),
         view: None,
         modes: None,
@@ -118,16 +117,14 @@ fn refuse_with(refusal: Refusal, reads: Vec<LockKey>) -> Done
 }
 
 /// The same, of a refusal that may be that no memory was left, which is an error.
-fn refuse_unless_memory(refusal: Refusal, reads: Vec<LockKey>) -> Result<Done, AllocError>
+fn refuse_unless_memory(refusal: Refusal, reads: Vec<LockKey>) -> Result<StepResult, AllocError>
     ensures known { IfOk result IsKnown }
     ensures reply { IfOk result (λ done. done.reply ≡ Err refusal) }
     ensures same { IfOk result (λ done. (done.view ≡ None) × (done.modes ≡ None) × (done.changes.items ≡ [])) }
     ensures reads { IfOk result (λ done. done.reads.items ≡ reads.items) }
 {
-    match refusal {
-        Refusal::NoMemory => Err(AllocError),
-        refusal => Ok(refuse_with(refusal, reads)),
-    }
+    let refusal = unless_memory(refusal)?;
+    Ok(refuse_with(refusal, reads))
 }
 
 /// One key.
@@ -140,14 +137,19 @@ fn list_one(alloc: Global, key: LockKey) -> Result<Vec<LockKey>, AllocError>
 }
 
 /// INSERT, which reads the row of its key.
-fn run_insert(alloc: Global, own: &View, modes: &Modes, new: &NewRow) -> Result<Done, AllocError>
+fn run_insert(
+    alloc: Global,
+    own: &View,
+    modes: &Modes,
+    new: &NewRow,
+) -> Result<StepResult, AllocError>
     requires table_in { new.now.table < length own.now.declared.tables }
     requires modes { length modes.now ≡ length own.now.declared.assertions }
-    ensures done { IfOk result (IsDone (standing own.now modes.now) (insert_step own.now modes.now new.now)) }
+    ensures done { IfOk result (IsDone (standing_with own.now modes.now) (insert_step own.now modes.now new.now)) }
     ensures of { IfOk result (IsOf own.now.declared) }
     ensures known { IfOk result IsKnown }
     ensures changes { IfOk result (λ done.
-        DifferAt (layouts_in own.now.declared) own.now.state (left_by (standing own.now modes.now) done).view
+        DifferAt (layouts_in own.now.declared) own.now.state (left_by (standing_with own.now modes.now) done).view
         (map place_of done.changes.items)) }
 {
     let reads = list_one(alloc, LockKey::Row(place_in(own, new)?))?;
@@ -158,14 +160,19 @@ fn run_insert(alloc: Global, own: &View, modes: &Modes, new: &NewRow) -> Result<
 }
 
 /// UPDATE, which reads what its condition names.
-fn run_update(alloc: Global, own: &View, modes: &Modes, update: &Update) -> Result<Done, AllocError>
+fn run_update(
+    alloc: Global,
+    own: &View,
+    modes: &Modes,
+    update: &Update,
+) -> Result<StepResult, AllocError>
     requires runnable { IsRunnableUpdate own.now.declared update.now }
     requires modes { length modes.now ≡ length own.now.declared.assertions }
-    ensures done { IfOk result (IsDone (standing own.now modes.now) (update_step own.now modes.now update.now)) }
+    ensures done { IfOk result (IsDone (standing_with own.now modes.now) (update_step own.now modes.now update.now)) }
     ensures of { IfOk result (IsOf own.now.declared) }
     ensures known { IfOk result IsKnown }
     ensures changes { IfOk result (λ done.
-        DifferAt (layouts_in own.now.declared) own.now.state (left_by (standing own.now modes.now) done).view
+        DifferAt (layouts_in own.now.declared) own.now.state (left_by (standing_with own.now modes.now) done).view
         (map place_of done.changes.items)) }
 {
     let reads = list_one(alloc, read_key(own, update.table, &update.filter)?)?;
@@ -176,14 +183,19 @@ fn run_update(alloc: Global, own: &View, modes: &Modes, update: &Update) -> Resu
 }
 
 /// DELETE, which reads what its condition names.
-fn run_delete(alloc: Global, own: &View, modes: &Modes, delete: &Delete) -> Result<Done, AllocError>
+fn run_delete(
+    alloc: Global,
+    own: &View,
+    modes: &Modes,
+    delete: &Delete,
+) -> Result<StepResult, AllocError>
     requires runnable { IsRunnableDelete own.now.declared delete.now }
     requires modes { length modes.now ≡ length own.now.declared.assertions }
-    ensures done { IfOk result (IsDone (standing own.now modes.now) (delete_step own.now modes.now delete.now)) }
+    ensures done { IfOk result (IsDone (standing_with own.now modes.now) (delete_step own.now modes.now delete.now)) }
     ensures of { IfOk result (IsOf own.now.declared) }
     ensures known { IfOk result IsKnown }
     ensures changes { IfOk result (λ done.
-        DifferAt (layouts_in own.now.declared) own.now.state (left_by (standing own.now modes.now) done).view
+        DifferAt (layouts_in own.now.declared) own.now.state (left_by (standing_with own.now modes.now) done).view
         (map place_of done.changes.items)) }
 {
     let reads = list_one(alloc, read_key(own, delete.table, &delete.filter)?)?;
@@ -193,11 +205,11 @@ fn run_delete(alloc: Global, own: &View, modes: &Modes, delete: &Delete) -> Resu
 /// The key under which a condition on a table reads.
 fn read_key(own: &View, table: usize, filter: &Cond) -> Result<LockKey, AllocError>
     requires table_in { table < length own.now.declared.tables }
-    ensures { IfOk result (λ key. key ≡ where_key table (key_of table (layouts_in own.now.declared)) filter.now) }
+    ensures { IfOk result (λ key. key ≡ filter_key table (key_of table (layouts_in own.now.declared)) filter.now) }
 {
     // (that there are rows for each table is a clause of the catalog)
     let _ = own.catalog();
-    where_key(table, own.schema(table).key(), filter)
+    filter_key(table, own.schema(table).key(), filter)
 }
 
 /// The place at which a new row is to stand.
@@ -223,16 +235,16 @@ fn put_in(
     modes: &Modes,
     reads: Vec<LockKey>,
     effect: Effect,
-) -> Result<Done, AllocError>
+) -> Result<StepResult, AllocError>
     requires modes { length modes.now ≡ length own.now.declared.assertions }
     requires changes { ArePutIn (layouts_in own.now.declared) effect.changes.items own.now.state }
     ensures done { IfOk result (λ done. (read : AnyKey) → reads.items ≡ read ∷ []
-        → IsDone (standing own.now modes.now)
-        (effected own.now.declared (standing own.now modes.now) read (Ok (shown_effect effect))) done) }
+        → IsDone (standing_with own.now modes.now)
+        (step_of_effect own.now.declared (standing_with own.now modes.now) read (Ok (shown_effect effect))) done) }
     ensures of { IfOk result (IsOf own.now.declared) }
     ensures known { IfOk result IsKnown }
     ensures changes { IfOk result (λ done.
-        DifferAt (layouts_in own.now.declared) own.now.state (left_by (standing own.now modes.now) done).view
+        DifferAt (layouts_in own.now.declared) own.now.state (left_by (standing_with own.now modes.now) done).view
         (map place_of done.changes.items)) }
 {
     let Effect { reply, changes } = effect;
@@ -254,7 +266,7 @@ fn leave_rows_unless(
     after: View,
     changes: Vec<Change>,
     reads: Vec<LockKey>,
-) -> Done
+) -> StepResult
     requires named { HoldsOf (λ refusal. refusal ≢ NoMemory) violated }
     ensures known { IsKnown result }
     ensures left { IsLeft violated reply (Some after) None result }
@@ -263,7 +275,7 @@ fn leave_rows_unless(
 {
     match violated {
         Some(refusal) => refuse_with(refusal, reads),
-        None => Done {
+        None => StepResult {
             reply: Ok(reply),
             view: Some(after),
             modes: None,
@@ -274,7 +286,7 @@ fn leave_rows_unless(
 }
 
 /// These modes are set, unless an assertion is violated.
-fn leave_modes_unless(violated: Option<Refusal>, modes: Modes, reads: Vec<LockKey>) -> Done
+fn leave_modes_unless(violated: Option<Refusal>, modes: Modes, reads: Vec<LockKey>) -> StepResult
     requires named { HoldsOf (λ refusal. refusal ≢ NoMemory) violated }
     ensures known { IsKnown result }
     ensures left { IsLeft violated ModesSet None (Some modes) result }
@@ -283,7 +295,7 @@ fn leave_modes_unless(violated: Option<Refusal>, modes: Modes, reads: Vec<LockKe
 {
     match violated {
         Some(refusal) => refuse_with(refusal, reads),
-        None => Done {
+        None => StepResult {
             reply: Ok(Reply::ModesSet),
             view: None,
             modes: Some(modes),
@@ -294,7 +306,7 @@ fn leave_modes_unless(violated: Option<Refusal>, modes: Modes, reads: Vec<LockKe
 }
 
 /// SELECT: the listed values of the rows that its condition keeps, in key order.
-fn run_select(alloc: Global, own: &View, select: &Select) -> Result<Done, AllocError>
+fn run_select(alloc: Global, own: &View, select: &Select) -> Result<StepResult, AllocError>
     requires runnable { IsRunnableSelect own.now.declared select.now }
     ensures reply { IfOk result (λ done.
         done.reply
@@ -303,7 +315,7 @@ fn run_select(alloc: Global, own: &View, select: &Select) -> Result<Done, AllocE
     ensures same { IfOk result (λ done. (done.view ≡ None) × (done.modes ≡ None) × (done.changes.items ≡ [])) }
     ensures reads { IfOk result (λ done.
         done.reads.items
-        ≡ where_key select.now.table (key_of select.now.table (layouts_in own.now.declared)) select.now.filter ∷ []) }
+        ≡ filter_key select.now.table (key_of select.now.table (layouts_in own.now.declared)) select.now.filter ∷ []) }
 {
     let reads = list_one(alloc, read_key(own, select.table, &select.filter)?)?;
     recall_table(own, select.table);
@@ -324,16 +336,16 @@ fn run_set_constraints(
     start: &View,
     own: &View,
     modes: &Modes,
-    touched: &Touched,
+    touched: &TouchedPlaces,
     names: &[Text],
     mode: Mode,
-) -> Result<Done, AllocError>
+) -> Result<StepResult, AllocError>
     requires modes { length modes.now ≡ length own.now.declared.assertions }
     requires declared { own.now.declared ≡ start.now.declared }
     requires differ { DifferAt (layouts_in start.now.declared) start.now.state own.now.state touched.now }
     ensures done { IfOk result
-        (IsDone (standing own.now modes.now)
-        (modes_step own.now.declared start.now.state names.now (is_immediate mode) (standing own.now modes.now))) }
+        (IsDone (standing_with own.now modes.now)
+        (modes_step own.now.declared start.now.state names.now (is_immediate mode) (standing_with own.now modes.now))) }
     ensures of { IfOk result (IsOf own.now.declared) }
     ensures known { IfOk result IsKnown }
     ensures rows { IfOk result (λ done. done.view ≡ None) }
@@ -368,12 +380,12 @@ fn set_immediate(
     modes: &Modes,
     names: &[Text],
     net: &[Change],
-) -> Result<Done, AllocError>
+) -> Result<StepResult, AllocError>
     requires modes { length modes.now ≡ length own.now.declared.assertions }
     ensures done { IfOk result (λ done. (start : State)
         → net.now ≡ net_change (layouts_in own.now.declared) start own.now.state
-        → IsDone (standing own.now modes.now)
-        (modes_step own.now.declared start names.now true (standing own.now modes.now)) done) }
+        → IsDone (standing_with own.now modes.now)
+        (modes_step own.now.declared start names.now true (standing_with own.now modes.now)) done) }
     ensures of { IfOk result (IsOf own.now.declared) }
     ensures known { IfOk result IsKnown }
     ensures rows { IfOk result (λ done. done.view ≡ None) }
@@ -386,12 +398,12 @@ fn set_immediate(
 }
 
 /// VERDICT: the truth of the assertion of a name on the own view. It reads the tables that the assertion names.
-fn run_verdict(alloc: Global, own: &View, name: &Text) -> Result<Done, AllocError>
+fn run_verdict(alloc: Global, own: &View, name: &Text) -> Result<StepResult, AllocError>
     ensures known { IfOk result IsKnown }
     ensures done { IfOk result (λ done. (modes : Immediates)
-        → IsDone (standing own.now modes)
+        → IsDone (standing_with own.now modes)
         (verdict_step own.now.declared (assertion_of name.now own.now.declared.assertions) name.now
-        (standing own.now modes)) done) }
+        (standing_with own.now modes)) done) }
     ensures same { IfOk result (λ done. (done.view ≡ None) × (done.modes ≡ None) × (done.changes.items ≡ [])) }
 {
     match find_assertion(own.assertions(), name) {

@@ -4,21 +4,21 @@ ghost use Rattle.std.specs.Prelude.{◌≡◌, ◌≢◌, ◌<◌, ◌++◌, tru
 ghost use Rattle.value.specs.declared.refusals.Refusal.TheVariants.{NoMemory};
 ghost use Rattle.siread.specs.declared.keys.Place.{Place as AnyPlace};
 ghost use Rattle.siread.specs.Keys.{place_of};
-ghost use Rattle.modes.specs.Modes.{assertion_of};
-ghost use Rattle.alone.specs.Resolve.{is_read_only, resolved};
+ghost use Rattle.alone.specs.Modes.{assertion_of};
+ghost use Rattle.alone.specs.Resolve.{is_read_only, resolution_of};
 ghost use Rattle.txn.specs.Held.{IsClosed};
 ghost use Rattle.txn.specs.Runnable.{IsRunnable};
-ghost use Rattle.txn.specs.Transactions.{begun, false_names, outcome_of, own_view, run_of, step_of, truth_of, with_statement};
+ghost use Rattle.txn.specs.Transactions.{transaction_at_begin, false_names, outcome_of, own_view, run_of, step_of, truth_of, with_statement};
 
 use crate::checks::{find_violation, list_false, verdict_on};
-use crate::closed::{Closed, Unclosed};
+use crate::closed::{CloseFailure, ClosedTransaction};
 use crate::resolutions::resolve;
-use crate::steps::{Done, append, step};
-use alone::{Resolved, read_only_statements_change_nothing, runs_are_joined};
-use answer::Reply;
-use changes::{Touched, checks_read, net_change};
+use crate::steps::{StepResult, append, step};
+use alone::{
+    Modes, Reply, ResolvedStatement, read_only_statements_change_nothing, runs_are_joined,
+};
+use changes::{TouchedPlaces, checks_read, net_change};
 use delta::View;
-use modes::Modes;
 use siread::LockKey;
 use std::alloc::{AllocError, Global};
 use std::marker::Model;
@@ -35,14 +35,14 @@ pub struct Txn {
     pub(crate) start: View,
     pub(crate) own: View,
     pub(crate) modes: Modes,
-    pub(crate) trace: Vec<Resolved>,
-    pub(crate) touched: Touched,
+    pub(crate) trace: Vec<ResolvedStatement>,
+    pub(crate) touched: TouchedPlaces,
     pub(crate) reads: Vec<LockKey>,
 }
 
 /// What a transaction needs for COMMIT: its net change, the refusal by a false assertion, and what the check read.
 #[derive(Drop)]
-struct Closing {
+struct CloseCheck {
     changes: Vec<Change>,
     refused: Option<Refusal>,
     checked: Vec<LockKey>,
@@ -53,15 +53,16 @@ impl Model for Txn {
     ghost use Rattle.table.specs.contracts.exprs.Expr as expr_type;
     ghost use Rattle.std.specs.Coded.{codes};
     ghost use Rattle.txn.specs.Held.{IsHeld};
-    ghost use Rattle.txn.specs.Transactions.{OpenTransaction, opened};
+    ghost use Rattle.txn.specs.Transactions.{OpenTransaction, transaction_after};
 
     ghost Value = { OpenTransaction };
 
     ghost coded = { Prim.hlevel (codes, cond_type.the_row.coded, expr_type.the_row.coded) };
 
-    ghost view = { λ t. opened t.ticket t.snapshot t.read_only t.start t.trace.items };
+    ghost view = { λ t. transaction_after t.ticket t.snapshot t.read_only t.start t.trace.items };
 
-    ghost invariant = { λ t. IsHeld (opened t.ticket t.snapshot t.read_only t.start t.trace.items) t.own t.modes
+    ghost invariant = { λ t. IsHeld
+        (transaction_after t.ticket t.snapshot t.read_only t.start t.trace.items) t.own t.modes
         t.touched t.reads.items };
 }
 
@@ -75,7 +76,7 @@ impl Txn {
         read_only: bool,
         tables: &View,
     ) -> Result<Txn, AllocError>
-        ensures { IfOk result (λ txn. txn ≡ begun ticket snapshot read_only tables.now) }
+        ensures { IfOk result (λ txn. txn ≡ transaction_at_begin ticket snapshot read_only tables.now) }
     {
         Ok(Txn {
             ticket,
@@ -85,7 +86,7 @@ impl Txn {
             own: tables.copy()?,
             modes: Modes::initial(alloc, tables.assertions())?,
             trace: Vec::new(alloc),
-            touched: Touched::new(alloc),
+            touched: TouchedPlaces::new(alloc),
             reads: Vec::new(alloc),
         })
     }
@@ -128,7 +129,7 @@ impl Txn {
     }
 
     /// Its statements so far, with their names found, refused ones too. It takes no memory.
-    pub fn trace(&self) -> &[Resolved]
+    pub fn trace(&self) -> &[ResolvedStatement]
         ensures { result.now ≡ self.now.trace }
     {
         self.trace.as_slice()
@@ -155,15 +156,16 @@ impl Txn {
     /// [`Refusal::NoMemory`]: then nothing has changed, and the statement is in no trace.
     pub fn execute(&mut self, statement: &Statement) -> Result<Reply, Refusal>
         ensures replied { IfOk result (λ reply.
-            (step_of self.old (resolved self.old.declared self.old.read_only statement.now)).reply ≡ Ok reply) }
+            (step_of self.old (resolution_of self.old.declared self.old.read_only statement.now)).reply ≡ Ok reply) }
         ensures run { IfOk result (λ _.
-            self.new ≡ with_statement self.old (resolved self.old.declared self.old.read_only statement.now)) }
+            self.new ≡ with_statement self.old (resolution_of self.old.declared self.old.read_only statement.now)) }
         ensures refused { IfErr result (λ refusal.
             refusal ≢ NoMemory
-            → (step_of self.old (resolved self.old.declared self.old.read_only statement.now)).reply ≡ Err refusal) }
+            → (step_of self.old (resolution_of self.old.declared self.old.read_only statement.now)).reply
+            ≡ Err refusal) }
         ensures noted { IfErr result (λ refusal.
             refusal ≢ NoMemory
-            → self.new ≡ with_statement self.old (resolved self.old.declared self.old.read_only statement.now)) }
+            → self.new ≡ with_statement self.old (resolution_of self.old.declared self.old.read_only statement.now)) }
         ensures same { IfErr result (λ refusal. refusal ≡ NoMemory → self.new ≡ self.old) }
     {
         let alloc = *self.trace.allocator();
@@ -172,7 +174,7 @@ impl Txn {
     }
 
     /// Runs a statement with its names found.
-    fn run(&mut self, alloc: Global, statement: Resolved) -> Result<Reply, Refusal>
+    fn run(&mut self, alloc: Global, statement: ResolvedStatement) -> Result<Reply, Refusal>
         requires runnable { IsRunnable self.old.declared statement }
         requires may_run { self.old.read_only ≡ true → is_read_only statement ≡ true }
         ensures replied { IfOk result (λ reply. (step_of self.old statement).reply ≡ Ok reply) }
@@ -192,9 +194,9 @@ impl Txn {
             &statement,
         ) {
             Ok(done) => done,
-            Err(_) => return drop_and_refuse(Refusal::NoMemory, statement),
+            Err(_) => return drop_and_refuse(statement),
         };
-        let Done {
+        let StepResult {
             reply,
             view,
             modes,
@@ -208,7 +210,7 @@ impl Txn {
             changes.as_slice(),
             reads,
         ) {
-            return drop_and_refuse(Refusal::NoMemory, (statement, reply, view, modes));
+            return drop_and_refuse((statement, reply, view, modes));
         }
         settle(&mut self.own, view);
         settle_modes(&mut self.modes, modes);
@@ -234,27 +236,22 @@ impl Txn {
     }
 
     /// Takes the transaction to COMMIT: its net change, and the check of all assertions on its own view, whatever
-    /// their modes (ISO/IEC 9075:1992, commit statement). NoMemory is the only error, and gives the transaction
-    /// back as it was.
-    pub fn close_check(self) -> Result<Closed, Unclosed>
+    /// their modes (ISO/IEC 9075:1992, commit statement). Where memory runs out, the transaction is given back as it
+    /// was.
+    pub fn close_check(self) -> Result<ClosedTransaction, CloseFailure>
         ensures closed { IfOk result (λ closed. closed ≡ self) }
-        ensures only_memory { IfErr result (λ fault. fault.refusal ≡ NoMemory) }
         ensures back { IfErr result (λ fault. fault.txn ≡ self) }
     {
         match self.prepare_close() {
             Ok(closing) => self.close_with(closing),
-            Err(_) => Err(Unclosed {
-                refusal: Refusal::NoMemory,
-                txn: self,
-            }),
+            Err(_) => Err(CloseFailure { txn: self }),
         }
     }
 
     /// The transaction with what COMMIT is answered by.
-    fn close_with(self, closing: Closing) -> Result<Closed, Unclosed>
+    fn close_with(self, closing: CloseCheck) -> Result<ClosedTransaction, CloseFailure>
         requires { IsClosed self closing.changes.items closing.refused ((run_of self).reads ++ closing.checked.items) }
         ensures closed { IfOk result (λ closed. closed ≡ self) }
-        ensures only_memory { IfErr result (λ fault. fault.refusal ≡ NoMemory) }
         ensures back { IfErr result (λ fault. fault.txn ≡ self) }
     {
         let Txn {
@@ -268,14 +265,14 @@ impl Txn {
             touched,
             mut reads,
         } = self;
-        let Closing {
+        let CloseCheck {
             changes,
             refused,
             checked,
         } = closing;
         let run = reads.len();
         match append(&mut reads, checked) {
-            Ok(()) => Ok(Closed {
+            Ok(()) => Ok(ClosedTransaction {
                 ticket,
                 snapshot,
                 read_only,
@@ -289,8 +286,7 @@ impl Txn {
                 reads,
                 run,
             }),
-            Err(_) => Err(Unclosed {
-                refusal: Refusal::NoMemory,
+            Err(_) => Err(CloseFailure {
                 txn: Txn {
                     ticket,
                     snapshot,
@@ -307,7 +303,7 @@ impl Txn {
     }
 
     /// What COMMIT is answered by.
-    fn prepare_close(&self) -> Result<Closing, AllocError>
+    fn prepare_close(&self) -> Result<CloseCheck, AllocError>
         ensures { IfOk result (λ closing.
             IsClosed self.now closing.changes.items closing.refused ((run_of self.now).reads
             ++ closing.checked.items)) }
@@ -317,7 +313,7 @@ impl Txn {
         let meant = Modes::all_immediate(alloc, self.own.assertions())?;
         let checked = checks_read(alloc, &self.own, meant.as_slice(), changes.as_slice())?;
         let refused = find_violation(&self.own, meant.as_slice())?;
-        Ok(Closing {
+        Ok(CloseCheck {
             changes,
             refused,
             checked,
@@ -343,18 +339,18 @@ impl Txn {
     }
 }
 
-/// Stopped by this, with what had been made.
-fn drop_and_refuse<T: Drop>(refusal: Refusal, _made: T) -> Result<Reply, Refusal>
-    ensures { result ≡ Err refusal }
+/// Stopped for want of memory, with what had been made.
+fn drop_and_refuse<T: Drop>(_made: T) -> Result<Reply, Refusal>
+    ensures { result ≡ Err NoMemory }
 {
-    Err(refusal)
+    Err(Refusal::NoMemory)
 }
 
 /// Notes the places of changes and what was read, and makes room for one more statement. After an error some of the
 /// places may have been noted.
 fn make_room(
-    touched: &mut Touched,
-    trace: &mut Vec<Resolved>,
+    touched: &mut TouchedPlaces,
+    trace: &mut Vec<ResolvedStatement>,
     reads: &mut Vec<LockKey>,
     changes: &[Change],
     more: Vec<LockKey>,

@@ -2,7 +2,7 @@
 use Rattle.std.proofs.Common.{◌≡◌, Bool, true, false, ℕ, List, [], ◌∷◌, ◌++◌, Option, Some, None, Result, Ok, Err, refl, ap, sym}
 use Rattle.std.proofs.lemmas.List.{append_assoc}
 use Rattle.value.specs.declared.refusals.Refusal.{Refusal}
-use Rattle.value.specs.Results.{and_then, behind, found, provided, unless}
+use Rattle.value.specs.Results.{and_then, behind, result_of_name, provided, unless}
 
 -- what an answer holds
 abbrev of_ok : {A : Type 0} → A → Result A Refusal → A
@@ -30,7 +30,7 @@ unless_is (Some fault) r a e = cc
 pub unless_ok : {A : Type 0} (fault : Option Refusal) (r : Result A Refusal) (a : A) → unless fault r ≡ Ok a → r ≡ Ok a
 unless_ok fault r a e = (unless_is fault r a e).1
 
-pub found_ok : {A : Type 0} (name : List ℕ) (o : Option A) (a : A) → found name o ≡ Ok a → o ≡ Some a
+pub found_ok : {A : Type 0} (name : List ℕ) (o : Option A) (a : A) → result_of_name name o ≡ Ok a → o ≡ Some a
 found_ok name None a e = cc
 found_ok name (Some x) a e = ap (λ y. let o : Option _ = Some y in o) (ok_same x a e)
 

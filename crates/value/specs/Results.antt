@@ -19,9 +19,9 @@ provided true refusal answer = answer
 provided false refusal answer = Err refusal
 
 -- something of this name, or the fault that there is none
-abbrev pub found : {A : Type 0} → List ℕ → Option A → Result A Refusal
-found name None = Err (UnknownName name)
-found name (Some a) = Ok a
+abbrev pub result_of_name : {A : Type 0} → List ℕ → Option A → Result A Refusal
+result_of_name name None = Err (UnknownName name)
+result_of_name name (Some a) = Ok a
 
 -- what each of several parts becomes, from the left
 abbrev pub each : {X A : Type 0} → (X → Result A Refusal) → List X → Result (List A) Refusal

@@ -38,9 +38,9 @@ is_of Unknown False = false
 is_of Unknown Unknown = true
 
 -- the truth of what is known to hold or not
-abbrev pub known : Bool → Truth
-known true = True
-known false = False
+abbrev pub truth_of_bool : Bool → Truth
+truth_of_bool true = True
+truth_of_bool false = False
 
 -- the word that SQL has for a truth
 abbrev pub name_of : Truth → List ℕ

@@ -1,7 +1,7 @@
 //! The truth of a search condition, and its tables.
 
 ghost use Rattle.std.specs.Prelude.{◌≡◌};
-ghost use Rattle.value.specs.Truths.{and_of, or_of, not_of, is_of, known, name_of};
+ghost use Rattle.value.specs.Truths.{and_of, or_of, not_of, is_of, truth_of_bool, name_of};
 
 /// The truth of a search condition.
 #[derive(Clone, Copy, Debug, PartialEq, Eq)]
@@ -66,7 +66,7 @@ impl Truth {
 
 /// The truth of what is known to hold, or not to hold.
 impl From<bool> for Truth {
-    ghost from_gives = { λ holds truth. truth ≡ known holds };
+    ghost from_gives = { λ holds truth. truth ≡ truth_of_bool holds };
 
     fn from(holds: bool) -> Truth {
         if holds { Truth::True } else { Truth::False }

@@ -5,7 +5,7 @@ use Rattle.table.specs.Rows.{RowValues, FitsColumns, row_at}
 use Rattle.table.specs.Bounds.{IsSmallRow}
 use Rattle.alone.specs.Meaning.{filtered_rows}
 use Rattle.alone.specs.Reads.{Equality, first_on, top_parts}
-use Rattle.changes.specs.Shown.{shown}
+use Rattle.changes.specs.Shown.{lent_equality}
 use Rattle.changes.specs.Lookups.{looked_at}
 use Rattle.changes.proofs.FilteredUnder.{filtered_under, filtered_on, all_under, one_looked}
 use Rattle.changes.proofs.lookups.look_through.Goals as goal
@@ -13,7 +13,7 @@ use Rattle.changes.proofs.lookups.look_through.Goals as goal
 pub returns-in-Some-clause-filtered : goal.returns-in-Some-clause-filtered
 returns-in-Some-clause-filtered c =
     let equality : Equality = record { column = c.in-Some.equality.column; value = c.in-Some.equality.value.now } in
-    let on : first_on c.args.key (top_parts c.args.filter.now) ≡ Some equality = sym c.equality_on.ensures ∙ ap shown c.in-Some.is in
+    let on : first_on c.args.key (top_parts c.args.filter.now) ≡ Some equality = sym c.equality_on.ensures ∙ ap lent_equality c.in-Some.is in
     let looked : looked_at (option_copied c.get.result) None ≡ option_to_list (row_at c.args.key equality.value c.args.rows.now) = one_looked (option_copied c.get.result) c.args.key equality.value c.args.rows.now c.get.ensures in
     ap (λ (rows : List RowValues). filtered_rows c.args.filter.now rows) looked
     ∙ filtered_under c.args.filter.now c.args.key equality.value (filtered_on c.args.filter.now c.args.key equality on) c.args.rows.now c.requires

@@ -1,6 +1,6 @@
 use Rattle.std.proofs.Common.{◌≡◌, ◌+◌, false, length, take, reverse}
 use Rattle.std.specs.List.{list_any}
-use Rattle.serial.specs.Numbers.{is_reader_of}
+use Rattle.alone.specs.Numbers.{is_reader_of}
 use Rattle.conflict.specs.Candidates.{record_of}
 use Rattle.conflict.proofs.dangers.find_pivot.Given as goal
 

@@ -1,6 +1,6 @@
 use Rattle.std.proofs.Common.{map, reverse, subst}
 use Rattle.siread.specs.Locks.{readers_at, IsGreatestReader}
-use Rattle.serial.specs.Commits.{reach}
+use Rattle.alone.specs.Commits.{reach}
 use Rattle.conflict.specs.Candidates.{record_of}
 use Rattle.conflict.specs.Readers.{HasReaders}
 use Rattle.conflict.proofs.Reading.{greatest_found, none_conflict}

@@ -1,5 +1,5 @@
 use Rattle.std.proofs.Common.{◌≡◌, take, reverse}
-use Rattle.serial.specs.Order.{least_out}
+use Rattle.alone.specs.Order.{least_out}
 use Rattle.conflict.specs.Candidates.{record_of}
 use Rattle.conflict.proofs.numbers.least_out.Given as goal
 

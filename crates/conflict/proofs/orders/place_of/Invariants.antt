@@ -1,6 +1,6 @@
 use Rattle.std.proofs.Common.{◌<◌, drop, reverse}
 use Rattle.std.specs.List.{AllByRecursion}
-use Rattle.serial.specs.Order.{rank, serial_order}
+use Rattle.alone.specs.Order.{rank, serial_order}
 use Rattle.conflict.proofs.orders.place_of.Given as goal
 
 -- all at the end have a greater rank

@@ -1,6 +1,6 @@
 use Rattle.std.proofs.Common.{◌≡◌, suc, ◌∷◌, [], ◌++◌, insert, length, reverse, sym, ap, ◌∙◌, arith}
 use Rattle.std.proofs.lemmas.List.{length-reverse}
-use Rattle.serial.specs.Order.{rank_at}
+use Rattle.alone.specs.Order.{rank_at}
 use Rattle.conflict.proofs.Puts.{put_at_place, put_last}
 use Rattle.conflict.proofs.orders.put_in_order.Goals as goal
 

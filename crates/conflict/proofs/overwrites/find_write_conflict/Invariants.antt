@@ -1,6 +1,6 @@
 use Rattle.std.proofs.Common.{◌≡◌, false, take}
 use Rattle.std.specs.List.{list_any}
-use Rattle.serial.specs.Commits.{share_row}
+use Rattle.alone.specs.Commits.{share_row}
 use Rattle.conflict.proofs.overwrites.find_write_conflict.Given as goal
 
 -- no row so far is that of another

@@ -1,6 +1,6 @@
 use Rattle.std.proofs.Common.{sym, ap, ◌∙◌}
 use Rattle.std.specs.Prelude.{◌&&◌}
-use Rattle.serial.specs.Commits.{conflicts_to, touch_any}
+use Rattle.alone.specs.Commits.{conflicts_to, touch_any}
 use Rattle.conflict.proofs.pairs.conflicts_to.Goals as goal
 
 pub returns-then-is_overlap : goal.returns-then-is_overlap

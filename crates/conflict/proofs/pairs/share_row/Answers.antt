@@ -1,4 +1,4 @@
-use Rattle.serial.specs.Commits.{share_row}
+use Rattle.alone.specs.Commits.{share_row}
 use Rattle.conflict.proofs.pairs.share_row.Goals as goal
 
 pub returns : goal.returns

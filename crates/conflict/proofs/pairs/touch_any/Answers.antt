@@ -1,4 +1,4 @@
-use Rattle.serial.specs.Commits.{touch_any}
+use Rattle.alone.specs.Commits.{touch_any}
 use Rattle.conflict.proofs.pairs.touch_any.Goals as goal
 
 pub returns : goal.returns

@@ -1,8 +1,8 @@
 use Rattle.std.proofs.Common.{◌≡◌, ◌++◌, drop, map}
 use Rattle.form_check.specs.Leaves.{numbered, numbered_conditions, all, then_made}
-use Rattle.form_check.specs.ShownLeaves.{shown_leaves, meant}
+use Rattle.form_check.specs.ShownLeaves.{shown_leaves, meaning_of}
 use Rattle.form_check.proofs.leaves.+conditions.Given as goal
 
 -- the parts made so far with what the rest becomes are what all become
 abbrev pub invariant-all_numbered-loop-part : goal.invariant-all_numbered-loop-part
-invariant-all_numbered-loop-part l = then_made (λ others. l.made.items ++ others) (all (map (λ part. (part, numbered (meant l.columns) part)) (drop l.part-index l.parts)) (shown_leaves l.leaves.items)) ≡ numbered_conditions (meant l.columns) l.parts (shown_leaves l.initial.leaves.items)
+invariant-all_numbered-loop-part l = then_made (λ others. l.made.items ++ others) (all (map (λ part. (part, numbered (meaning_of l.columns) part)) (drop l.part-index l.parts)) (shown_leaves l.leaves.items)) ≡ numbered_conditions (meaning_of l.columns) l.parts (shown_leaves l.initial.leaves.items)

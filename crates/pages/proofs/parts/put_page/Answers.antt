@@ -23,7 +23,7 @@ returns-in_ok-insert-in-Some-clause-whole g c =
     let at = c.in-Err.at in
     let items : c.insert.new.self.items ≡ take at page ++ (c.args.key.now, c.in-Some.value) ∷ drop at page =
     c.in_ok-insert-in-Some.ensures.items ∙ ap (λ (k : Value). take at page ++ (k, c.in-Some.value) ∷ drop at page) c.in_ok-key-in-Some.ensures in
-    let room : length page < 32 = subst (λ (new : Option g.row.V.Denot). HasRoom new (page_tree page)) c.in-Some.is c.requires.room in
+    let room : length page < 15 = subst (λ (new : Option g.row.V.Denot). HasRoom new (page_tree page)) c.in-Some.is c.requires.room in
     let within : at ≤ length page = omega (arith, c.in-Err.ensures.beside.within, ap length c.deref.ensures.value) in
     record {
       most = omega (arith, room, within, ap length items, length-append (take at page) ((c.args.key.now, c.in-Some.value) ∷ drop at page), length-drop at page, length-take_le at page);

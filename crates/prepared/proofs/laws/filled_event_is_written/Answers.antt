@@ -11,7 +11,7 @@ use Rattle.prepared.specs.declared.faults.FillFault.TheVariants.{WrongCount}
 use Rattle.prepared.specs.declared.prepared.Prepared.{Prepared}
 use Rattle.prepared.specs.Masks.{mask}
 use Rattle.prepared.specs.Numbers.{parameter_count, stray}
-use Rattle.prepared.specs.Constants.{Given, and_then, constants_of}
+use Rattle.prepared.specs.Constants.{Argument, and_then, constants_of}
 use Rattle.prepared.specs.Statements.{filled_event}
 use Rattle.prepared.specs.Prepared.{IsPrepared, numbers_of, stray_of}
 use Rattle.prepared.specs.Written.{IsValue, MayStand, AreAll, Writes, IsWritten}
@@ -24,9 +24,9 @@ clear : (ok : Value → Type 0) (text : Text) (values : List Value) → AreAll o
 unfolding numbers_of stray_of stray
 clear ok text values are h = clear_from ok text (mask text) (tokens_of (mask text)) 0 false false values are h
 
-is_written : (text : Text) (prepared : Prepared) (values : List Value) (write : Given → Lexemes) → IsPrepared text prepared
+is_written : (text : Text) (prepared : Prepared) (values : List Value) (write : Argument → Lexemes) → IsPrepared text prepared
     → length values ≡ parameter_count prepared.numbers → AreAll (MayStand prepared.event) values
-    → ((given : Given) → IsValue given.value → Writes given.value (write given)) → IsWritten text prepared values write
+    → ((given : Argument) → IsValue given.value → Writes given.value (write given)) → IsWritten text prepared values write
 is_written text prepared values write is count are writes =
     let at : Clear (MayStand prepared.event) Other (lexemes (mask text)) (constants_of prepared.numbers values) =
     subst (λ z. Clear (MayStand prepared.event) Other (lexemes (mask text)) (constants_of z values)) (sym is.numbers) (clear (MayStand prepared.event) text values are is.in_place) in

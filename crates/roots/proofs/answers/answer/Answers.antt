@@ -8,14 +8,14 @@ use Rattle.groups.specs.Answers.{value_for}
 use Rattle.groups.proofs.RowLemmas.{filtered_within}
 use Rattle.roots.specs.Answers.{query_answer}
 use Rattle.roots.specs.Bad.{given_by}
-use Rattle.roots.specs.Shown.{shown}
+use Rattle.roots.specs.Shown.{lent_query}
 use Rattle.roots.specs.Summaries.{group_rows, members, rows_beside}
 use Rattle.roots.proofs.MaintainedLemmas.{members-within}
 use Rattle.roots.proofs.answers.answer.Goals as goal
 
 pub returns-in-None-clause-value : goal.returns-in-None-clause-value
 returns-in-None-clause-value c =
-    let s = shown c.args.summary in
+    let s = lent_query c.args.summary in
     IfOk-weaker c.answer-in-None.result _ _
     (λ (v : SlotValue) h. h (group_rows c.args.tables.now s) c.requires.totals ∙ ap (λ g. query_answer c.args.tables.now g s) c.asked_group-group.ensures
     ∙ ap (λ link. given_by link c.args.tables.now c.args.row.now s) (sym c.in-None.is ∙ c.link_to_key.ensures))
@@ -23,7 +23,7 @@ returns-in-None-clause-value c =
 
 pub returns-in-None-clause-within : goal.returns-in-None-clause-within
 returns-in-None-clause-within c =
-    let s = shown c.args.summary in
+    let s = lent_query c.args.summary in
     IfOk-weaker c.answer-in-None.result _ _
     (λ (v : SlotValue) h. h (members c.args.tables.now s) c.requires.totals (members-within c.args.tables.now s c.requires.small c.asked_group-group.result.now))
     c.answer-in-None.ensures.within

@@ -6,14 +6,14 @@ use Rattle.table.specs.Rows.{RowValues, put_row, value_in}
 use Rattle.assertion.specs.Meaning.{key_of, rows_of}
 use Rattle.groups.specs.Totals.{AreTotalsOf, AreWithin, Entries}
 use Rattle.roots.specs.Around.{around_members}
-use Rattle.roots.specs.Shown.{shown}
+use Rattle.roots.specs.Shown.{lent_query}
 use Rattle.roots.proofs.AroundSteps.{around_within, key_is, ordered_after, outer_in_order, table_changed, table_stands}
 use Rattle.roots.proofs.MaintainedLemmas.{totals-as}
 use Rattle.roots.proofs.around.around_after.Goals as goal
 
 pub linked_after-requires-clause-in_order : goal.linked_after-requires-clause-in_order
 linked_after-requires-clause-in_order c =
-    let q = shown c.args.summary in
+    let q = lent_query c.args.summary in
     let around = c.args.around in
     let layouts = c.args.schemas.now in
     subst (λ (rows : List RowValues). IsAscending value_cmp (value_in around.key) rows) (sym (c.in-Some.ensures.lookup.3.1 []))
@@ -22,7 +22,7 @@ linked_after-requires-clause-in_order c =
 
 pub returns-in-Some : goal.returns-in-Some
 returns-in-Some c =
-    let q = shown c.args.summary in
+    let q = lent_query c.args.summary in
     let around = c.args.around in
     let layouts = c.args.schemas.now in
     let change = c.args.change.now in

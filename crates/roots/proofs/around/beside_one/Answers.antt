@@ -4,7 +4,7 @@ use Rattle.std.proofs.lemmas.Result.{IfOk-weaker}
 use Rattle.table.specs.Bounds.{is_bounded}
 use Rattle.table.proofs.SlotlessLemmas.{bounded_beside}
 use Rattle.groups.specs.Totals.{Entries}
-use Rattle.roots.specs.Shown.{shown}
+use Rattle.roots.specs.Shown.{lent_query}
 use Rattle.roots.proofs.AroundLemmas.{turned}
 use Rattle.roots.proofs.around.beside_one.Goals as goal
 
@@ -24,6 +24,6 @@ returns c =
     (λ (made : Entries) h. λ key rows before after stands was is elsewhere within old.
     h before after
     (rw (c.in_ok-add.ensures, c.in_ok-remove.ensures)
-    (turned c.args.around (shown c.args.summary) c.args.row.now key c.args.change.now.key c.args.change.now.old c.args.change.now.new rows stands before after was is elsewhere))
+    (turned c.args.around (lent_query c.args.summary) c.args.row.now key c.args.change.now.key c.args.change.now.old c.args.change.now.new rows stands before after was is elsewhere))
     old within)
     c.with.ensures

@@ -8,14 +8,14 @@ use Rattle.value.proofs.ValueOrders.{value_exact}
 use Rattle.table.specs.Rows.{put_row}
 use Rattle.groups.specs.Totals.{Entries}
 use Rattle.roots.specs.Around.{IsTurn, around_members}
-use Rattle.roots.specs.Shown.{shown}
+use Rattle.roots.specs.Shown.{lent_query}
 use Rattle.roots.proofs.AroundLemmas.{first_turn, halfway, one_value, second_turn}
 use Rattle.roots.proofs.around.linked_after.Goals as goal
 
 pub returns-in-Equal : goal.returns-in-Equal
 returns-in-Equal c = λ key rows stands within within_after old.
     let around = c.args.around in
-    let q = shown c.args.summary in
+    let q = lent_query c.args.summary in
     let outer = c.args.outer.now in
     let k = c.args.change.now.key in
     let was = c.args.change.now.old in
@@ -34,7 +34,7 @@ returns c =
     IfOk-weaker c.linked_to-in-Less.result _ _
     (λ (made : Entries) h. λ key rows stands within within_after old.
     let around = c.args.around in
-    let q = shown c.args.summary in
+    let q = lent_query c.args.summary in
     let outer = c.args.outer.now in
     let k = c.args.change.now.key in
     let was = c.args.change.now.old in

@@ -7,7 +7,7 @@ use Rattle.table.specs.Rows.{RowValues, put_row, value_in}
 use Rattle.groups.specs.Totals.{AreTotalsOf}
 use Rattle.groups.proofs.EntryLemmas.{AreTotalsOf-along}
 use Rattle.roots.specs.Around.{is_equal}
-use Rattle.roots.specs.Shown.{shown}
+use Rattle.roots.specs.Shown.{lent_query}
 use Rattle.roots.proofs.AroundLemmas.{StandAll, first_left, midway, midway_first, midway_new, midway_old, midway_other, midway_within, none_left, row_has, stand_kept, stand_left}
 use Rattle.roots.proofs.around.linked_to.Goals as goal
 
@@ -16,11 +16,11 @@ loop-row-init c = λ key rows before after stands turn old.
     let around = c.args.around in
     let outer = c.args.outer.now in
     let changed = put_row key c.args.change.now.key c.args.change.now.new rows in
-    let at_first = midway_first around (shown c.args.summary) outer c.args.value.now rows changed before after turn c.requires.in_order in
+    let at_first = midway_first around (lent_query c.args.summary) outer c.args.value.now rows changed before after turn c.requires.in_order in
     let lent = ap (map (λ row. row.now)) c.deref-row-items.ensures.value ∙ c.in_ok-rows.ensures in
-    let left = midway around (shown c.args.summary) outer c.args.value.now rows changed before after turn (map (λ row. row.now) c.deref-row-items.result.now) in
+    let left = midway around (lent_query c.args.summary) outer c.args.value.now rows changed before after turn (map (λ row. row.now) c.deref-row-items.result.now) in
     AreTotalsOf-along c.args.summary.aggregate before left c.args.totals
-    (λ v. subst (λ xs. midway around (shown c.args.summary) outer c.args.value.now rows changed before after turn xs v ≡ before v) (sym lent) (at_first v)) old
+    (λ v. subst (λ xs. midway around (lent_query c.args.summary) outer c.args.value.now rows changed before after turn xs v ≡ before v) (sym lent) (at_first v)) old
 
 pub beside_one-requires-clause-row_small : goal.beside_one-requires-clause-row_small
 beside_one-requires-clause-row_small c =
@@ -32,7 +32,7 @@ beside_one-requires-clause-row_small c =
 pub loop-row-preserved : goal.loop-row-preserved
 loop-row-preserved c = λ key rows before after stands turn old.
     let around = c.args.around in
-    let q = shown c.args.summary in
+    let q = lent_query c.args.summary in
     let outer = c.args.outer.now in
     let v = c.args.value.now in
     let changed = put_row key c.args.change.now.key c.args.change.now.new rows in
@@ -53,5 +53,5 @@ loop-row-preserved c = λ key rows before after stands turn old.
 pub returns : goal.returns
 returns c = λ key rows before after stands turn old.
     let changed = put_row key c.args.change.now.key c.args.change.now.new rows in
-    subst (λ xs. AreTotalsOf c.args.summary.aggregate (midway c.args.around (shown c.args.summary) c.args.outer.now c.args.value.now rows changed before after turn xs) c.loop-row.made)
+    subst (λ xs. AreTotalsOf c.args.summary.aggregate (midway c.args.around (lent_query c.args.summary) c.args.outer.now c.args.value.now rows changed before after turn xs) c.loop-row.made)
     (none_left c.loop-row.row-index (map (λ row. row.now) c.deref-row-items.result.now) (omega (arith, length-map c.deref-row-items.result.now (λ row. row.now)))) (c.loop-row.invariant key rows before after stands turn old)

@@ -2,7 +2,7 @@ use Rattle.std.proofs.Common.{◌≡◌, ℕ, List, drop, map}
 use Rattle.table.specs.Rows.{RowValues, row_at, put_row}
 use Rattle.groups.specs.Totals.{AreTotalsOf, Members}
 use Rattle.roots.specs.Around.{IsTurn}
-use Rattle.roots.specs.Shown.{shown}
+use Rattle.roots.specs.Shown.{lent_query}
 use Rattle.roots.proofs.AroundLemmas.{midway}
 use Rattle.roots.proofs.around.linked_to.Given as goal
 
@@ -10,7 +10,7 @@ use Rattle.roots.proofs.around.linked_to.Given as goal
 abbrev pub invariant-loop-row : goal.invariant-loop-row
 invariant-loop-row l =
     (key : ℕ) (rows : List RowValues) (before after : Members) → row_at key l.change.key rows ≡ l.change.old
-    → (turn : IsTurn l.around (shown l.summary) l.outer l.value rows (put_row key l.change.key l.change.new rows) before after)
+    → (turn : IsTurn l.around (lent_query l.summary) l.outer l.value rows (put_row key l.change.key l.change.new rows) before after)
     → AreTotalsOf l.summary.aggregate before l.fn.totals
     → AreTotalsOf l.summary.aggregate
-    (midway l.around (shown l.summary) l.outer l.value rows (put_row key l.change.key l.change.new rows) before after turn (drop l.row-index (map (λ row. row.now) l.row-items))) l.made
+    (midway l.around (lent_query l.summary) l.outer l.value rows (put_row key l.change.key l.change.new rows) before after turn (drop l.row-index (map (λ row. row.now) l.row-items))) l.made

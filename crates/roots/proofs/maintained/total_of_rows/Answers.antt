@@ -1,10 +1,10 @@
-use Rattle.roots.specs.Shown.{shown}
+use Rattle.roots.specs.Shown.{lent_query}
 use Rattle.roots.proofs.LoadedLemmas.{done-more, next-within}
 use Rattle.roots.proofs.maintained.total_of_rows.Goals as goal
 
 pub loop-row-preserved : goal.loop-row-preserved
 loop-row-preserved c =
-    let s = shown c.args.summary in
+    let s = lent_query c.args.summary in
     let rows = c.args.rows.now in
     let left = c.loop-row.row-iterator in
     let rest = c.next.new.self in

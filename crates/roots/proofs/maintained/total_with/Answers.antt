@@ -3,13 +3,13 @@ use Rattle.std.proofs.Common.{[], ◌∷◌, ◌++◌}
 use Rattle.groups.specs.Answers.{value_for}
 use Rattle.groups.specs.Totals.{Entries}
 use Rattle.groups.proofs.RowLemmas.{members_added}
-use Rattle.roots.specs.Shown.{shown}
+use Rattle.roots.specs.Shown.{lent_query}
 use Rattle.roots.specs.Summaries.{place, row_members}
 use Rattle.roots.proofs.maintained.total_with.Goals as goal
 
 pub returns : goal.returns
 returns c =
-    let s = shown c.args.summary in
+    let s = lent_query c.args.summary in
     let row = c.args.row.now in
     IfOk-weaker c.with.result _ _
     (λ (made : Entries) h. λ rows within totals.

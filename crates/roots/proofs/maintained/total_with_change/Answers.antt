@@ -4,14 +4,14 @@ use Rattle.assertion.specs.Meaning.{rows_of}
 use Rattle.assertion.specs.Roots.{state_after}
 use Rattle.groups.specs.Totals.{AreTotalsOf, Entries}
 use Rattle.groups.proofs.RowLemmas.{members_within}
-use Rattle.roots.specs.Shown.{shown}
+use Rattle.roots.specs.Shown.{lent_query}
 use Rattle.roots.specs.Summaries.{place, row_members}
 use Rattle.roots.proofs.MaintainedLemmas.{members-changed}
 use Rattle.roots.proofs.maintained.total_with_change.Goals as goal
 
 pub returns : goal.returns
 returns c =
-    let q = shown c.args.summary in
+    let q = lent_query c.args.summary in
     IfOk-weaker c.with.result _ _
     (λ (made : Entries) h. λ layouts state is small totals.
     let after = state_after layouts c.args.change.now state in

@@ -1,7 +1,7 @@
 use Rattle.std.proofs.Common.{arith, length, subst}
 use Rattle.assertion.specs.declared.queries.Query.{Query}
 use Rattle.roots.specs.declared.grouped.Grouping.{Grouping}
-use Rattle.roots.specs.Shown.{shown}
+use Rattle.roots.specs.Shown.{lent_query}
 use Rattle.roots.specs.Maintained.{AreSoFar, AreTotalsFor}
 use Rattle.roots.specs.Summaries.{summaries_of}
 use Rattle.roots.proofs.BoundLemmas.{summary-bounded}
@@ -11,18 +11,18 @@ use Rattle.roots.proofs.maintained.totals_after.Goals as goal
 
 pub total_after-requires-clause-bounded : goal.total_after-requires-clause-bounded
 total_after-requires-clause-bounded c =
-    summary-bounded c.args.schemas.now c.args.form.now c.requires.bounded c.loop-index.index (shown c.summary_of-summary.result) (omega (arith, c.loop-index-test.true, c.summary_count-index-end.ensures c.args.schemas.now)) c.summary_of-summary.ensures.summary
+    summary-bounded c.args.schemas.now c.args.form.now c.requires.bounded c.loop-index.index (lent_query c.summary_of-summary.result) (omega (arith, c.loop-index-test.true, c.summary_count-index-end.ensures c.args.schemas.now)) c.summary_of-summary.ensures.summary
 
 pub total_after-requires-clause-totals : goal.total_after-requires-clause-totals
 total_after-requires-clause-totals c =
     let summaries = summaries_of c.args.schemas.now c.args.form.now in
-    rw (← c.summary_of-summary.ensures.summary) at (totals-at c.args.before.now summaries (length summaries) c.args.totals.now c.loop-index.index c.index-totals-index.result c.requires.totals (omega (arith, c.loop-index-test.true, c.summary_count-index-end.ensures c.args.schemas.now)) c.index-totals-index.is (shown c.summary_of-summary.result))
+    rw (← c.summary_of-summary.ensures.summary) at (totals-at c.args.before.now summaries (length summaries) c.args.totals.now c.loop-index.index c.index-totals-index.result c.requires.totals (omega (arith, c.loop-index-test.true, c.summary_count-index-end.ensures c.args.schemas.now)) c.index-totals-index.is (lent_query c.summary_of-summary.result))
 
 pub loop-index-preserved : goal.loop-index-preserved
 loop-index-preserved c =
     let summaries = summaries_of c.args.schemas.now c.args.form.now in
     AreSoFar-more c.args.after.now summaries c.loop-index.index c.loop-index.made.items c.push.new.self.items c.in_ok-total_after.field-0 c.in_ok-push.ensures.items
-    (item_has (λ (s : Query Grouping). AreTotalsFor c.args.after.now s c.in_ok-total_after.field-0) summaries c.loop-index.index (shown c.summary_of-summary.result) (omega (arith, c.loop-index-test.true, c.summary_count-index-end.ensures c.args.schemas.now)) c.summary_of-summary.ensures.summary
+    (item_has (λ (s : Query Grouping). AreTotalsFor c.args.after.now s c.in_ok-total_after.field-0) summaries c.loop-index.index (lent_query c.summary_of-summary.result) (omega (arith, c.loop-index-test.true, c.summary_count-index-end.ensures c.args.schemas.now)) c.summary_of-summary.ensures.summary
     c.in_ok-total_after.ensures)
     c.loop-index.invariant
 

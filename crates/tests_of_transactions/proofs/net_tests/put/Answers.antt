@@ -12,7 +12,7 @@ use Rattle.siread.proofs.KeyOrder.{same_place-true}
 use Rattle.siread.proofs.Members.{in_head}
 use Rattle.alone.specs.States.{row_in, IsPut, IsState}
 use Rattle.alone.proofs.Stores.{row_in-after}
-use Rattle.delta.specs.Views.{Shown}
+use Rattle.delta.specs.Views.{ViewState}
 use Rattle.changes.specs.Nets.{DifferAt}
 use Rattle.changes.proofs.Places.{tables_state}
 use Rattle.tests_of_transactions.proofs.net_tests.put.Goals as goal
@@ -47,4 +47,4 @@ returns-clause-differ c =
     let after : DifferAt layouts start (state_after layouts change now) c.add.new.self
     = differ_after layouts start now (tables_state layouts now c.catalog.ensures.tables) change c.in_ok-change.ensures.is c.args.touched.now c.add.new.self c.add.ensures.kept added differ in
     subst (λ (declared : Declared). DifferAt (layouts_in declared) start c.in_ok-after.after.state c.add.new.self) c.requires.declared
-    (subst (λ (state : State). DifferAt layouts start state c.add.new.self) (sym (ap (λ (s : Shown). s.state) c.in_ok-after.ensures)) after)
+    (subst (λ (state : State). DifferAt layouts start state c.add.new.self) (sym (ap (λ (s : ViewState). s.state) c.in_ok-after.ensures)) after)

@@ -4,7 +4,7 @@ use Rattle.replay.specs.declared.faults.ProgramFault.TheVariants.{NoThread}
 use Rattle.replay.specs.Texts.{is_before_the_run}
 use Rattle.session.specs.Books.{Token}
 use Rattle.session.specs.Limits.{LimitsState}
-use Rattle.workers.specs.Scripts.{AreAnswered}
+use Rattle.threads.specs.Scripts.{AreAnswered}
 use Rattle.threads.specs.Grouped.{PrintsGrouped}
 use Rattle.threads.proofs.Reporting.{not_unrun, reports, reports_unrun}
 use Rattle.threads.proofs.engine.threads_into.Goals as goal
@@ -26,7 +26,7 @@ returns-clause-written g c =
     let old = g.W.Write.contents c.args.out.now in
     let new = g.W.Write.contents c.print_report-printed.new.out in
     let answered : AreAnswered scripts found =
-    subst (λ lent. AreAnswered lent found) c.as_slice.ensures.value c.in-Ok.ensures.answered in
+    subst (λ lent. AreAnswered lent found) c.as_slice.ensures.value c.in-Ok.ensures in
     let loaded = ap (λ (t : Token). t.value.view) c.in-Ok-close.ensures.loaded in
     let limit = ap (λ n. (limits n).commits) (c.in-Ok-close.ensures.whose.0 ∙ c.in_ok-manager.ensures.id) ∙ ap (λ (l : LimitsState). l.commits) c.requires.limits in
     reports _ _ _ _ _ c.in_ok-manager.ensures.opened printed found old new answered
@@ -46,7 +46,7 @@ returns-clause-no_thread g c =
     let old = g.W.Write.contents c.args.out.now in
     let new = g.W.Write.contents c.print_report-printed.new.out in
     let answered : AreAnswered scripts found =
-    subst (λ lent. AreAnswered lent found) c.as_slice.ensures.value c.in-Ok.ensures.answered in
+    subst (λ lent. AreAnswered lent found) c.as_slice.ensures.value c.in-Ok.ensures in
     let loaded = ap (λ (t : Token). t.value.view) c.in-Ok-close.ensures.loaded in
     let limit = ap (λ n. (limits n).commits) (c.in-Ok-close.ensures.whose.0 ∙ c.in_ok-manager.ensures.id) ∙ ap (λ (l : LimitsState). l.commits) c.requires.limits in
     reports_unrun _ _ _ _ _ c.in_ok-manager.ensures.opened printed found old new answered

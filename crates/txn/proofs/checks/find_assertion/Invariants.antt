@@ -1,5 +1,5 @@
 use Rattle.std.proofs.Common.{◌≡◌, drop}
-use Rattle.modes.specs.Modes.{assertion_of}
+use Rattle.alone.specs.Modes.{assertion_of}
 use Rattle.txn.proofs.checks.find_assertion.Given as goal
 
 -- no assertion so far has the name

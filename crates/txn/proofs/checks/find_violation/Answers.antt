@@ -1,7 +1,7 @@
 use Rattle.std.proofs.Common.{◌∙◌, ◌+◌, drop, sym, ap, false}
 use Rattle.std.specs.Option.{option_or}
 use Rattle.assertion.specs.Declarations.{layouts_in}
-use Rattle.modes.specs.Modes.{immediate_ones}
+use Rattle.alone.specs.Modes.{immediate_ones}
 use Rattle.alone.specs.Checks.{violation}
 use Rattle.txn.proofs.Checking.{at_place}
 use Rattle.txn.proofs.checks.find_violation.Goals as goal

@@ -1,6 +1,6 @@
 use Rattle.std.proofs.Common.{◌≡◌, drop}
 use Rattle.assertion.specs.Declarations.{layouts_in}
-use Rattle.modes.specs.Modes.{immediate_ones}
+use Rattle.alone.specs.Modes.{immediate_ones}
 use Rattle.alone.specs.Checks.{violation}
 use Rattle.txn.proofs.checks.find_violation.Given as goal
 

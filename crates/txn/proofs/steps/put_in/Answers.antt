@@ -2,7 +2,7 @@ use Rattle.std.proofs.Common.{◌≡◌, List, map, ap, sym, refl, ◌∙◌, su
 use Rattle.table.specs.declared.rows.Change.{Change}
 use Rattle.assertion.specs.Declarations.{layouts_in}
 use Rattle.assertion.specs.Roots.{AreChangesOf, state_after_all}
-use Rattle.modes.specs.Modes.{immediate_ones}
+use Rattle.alone.specs.Modes.{immediate_ones}
 use Rattle.alone.specs.Checks.{checks_read}
 use Rattle.alone.specs.States.{net_change, IsPut, IsState}
 use Rattle.siread.specs.Keys.{place_of}
@@ -10,7 +10,7 @@ use Rattle.changes.specs.Nets.{DifferAt}
 use Rattle.alone.proofs.Lists.{each_from}
 use Rattle.alone.proofs.Stores.{all_fit}
 use Rattle.alone.proofs.Orders.{due_changes, net_is_real}
-use Rattle.delta.specs.Views.{Shown}
+use Rattle.delta.specs.Views.{ViewState}
 use Rattle.txn.proofs.Putting.{differ_net, rows_differ, rows_done}
 use Rattle.txn.proofs.steps.put_in.Goals as goal
 
@@ -21,7 +21,7 @@ after-requires-clause-are c =
 
 after_is : (c : goal.After-leave_rows_unless) → c.in_ok-after.after.state ≡ state_after_all (layouts_in c.args.own.now.declared) c.args.effect.changes.items c.args.own.now.state
 after_is c =
-    ap (λ (s : Shown). s.state) c.in_ok-after.ensures
+    ap (λ (s : ViewState). s.state) c.in_ok-after.ensures
     ∙ ap (λ (changes : List Change). state_after_all (layouts_in c.args.own.now.declared) changes c.args.own.now.state) c.as_slice.ensures.value
 
 -- what stays of the changes is the net change of the statement

@@ -1,7 +1,7 @@
 use Rattle.std.proofs.Common.{ap, refl, ◌∙◌}
 use Rattle.assertion.specs.Declarations.{layouts_in}
 use Rattle.alone.specs.Checks.{checks_read, violation}
-use Rattle.modes.proofs.Ones.{named_are}
+use Rattle.alone.proofs.Ones.{named_are}
 use Rattle.txn.proofs.Putting.{modes_done}
 use Rattle.txn.proofs.steps.set_immediate.Goals as goal
 

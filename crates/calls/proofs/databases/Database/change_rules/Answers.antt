@@ -1,7 +1,7 @@
 use Rattle.std.proofs.Common.{ap, refl, subst, ◌∙◌, inr}
 use Rattle.messages.specs.declared.responses.Response.TheVariants.{Changed}
 use Rattle.commit.specs.Epochs.{IsNextEpoch}
-use Rattle.replay.specs.Reports.{closing}
+use Rattle.replay.specs.Reports.{closing_part_of}
 use Rattle.calls.proofs.databases.Database.change_rules.Goals as goal
 
 pub returns-in-Ok-checkpoint : goal.returns-in-Ok-checkpoint
@@ -14,5 +14,5 @@ returns-in-Ok-checkpoint c =
       seats = c.in-Ok-checkpoint.ensures.seats;
       sessions = refl;
       statements = refl;
-      told = ap Changed (c.in-Ok.ensures ∙ ap closing c.core.ensures);
+      told = ap Changed (c.in-Ok.ensures ∙ ap closing_part_of c.core.ensures);
     })

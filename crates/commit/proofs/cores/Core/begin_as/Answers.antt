@@ -1,8 +1,8 @@
 use Rattle.std.proofs.Common.{◌≡◌, ◌<◌, ◌∙◌, ap, length, subst, sym}
 use Rattle.std.specs.Prelude.{vec_capacity, vec_len}
 use Rattle.siread.specs.Locks.{readers_at}
-use Rattle.live.specs.Live.{LiveState, with_begin}
-use Rattle.txn.specs.Transactions.{begun}
+use Rattle.conflict.specs.Live.{LiveState, with_begin}
+use Rattle.txn.specs.Transactions.{transaction_at_begin}
 use Rattle.commit.specs.Cores.{CoreState, IsLive, with_begun}
 use Rattle.commit.specs.Kept.{IsKept, idle_core, pending_of}
 use Rattle.commit.proofs.Accepting.{begun_live}
@@ -40,8 +40,8 @@ returns-clause-live c =
     let count = c.len-snapshot.ensures ∙ c.self.inside.records.ok.0 in
     let began : c.begin-2.new.self ≡ with_begin (length c.self.inside.records.items) c.args.read_only c.self.inside.live
     = c.in_default.ensures.begun ∙ ap (λ n. with_begin n c.args.read_only c.self.inside.live) count in
-    let txn_is : c.in_ok-txn.txn ≡ begun c.self.inside.live.begun (length c.self.inside.records.items) c.args.read_only c.self.inside.newest
-    = c.in_ok-txn.ensures ∙ (λ i. begun (c.next_ticket.ensures i) (count i) c.args.read_only c.self.inside.newest) in
+    let txn_is : c.in_ok-txn.txn ≡ transaction_at_begin c.self.inside.live.begun (length c.self.inside.records.items) c.args.read_only c.self.inside.newest
+    = c.in_ok-txn.ensures ∙ (λ i. transaction_at_begin (c.next_ticket.ensures i) (count i) c.args.read_only c.self.inside.newest) in
     subst (λ (s : CoreState). IsLive s c.in_ok-txn.txn)
     (λ i. record (idle_core c.self.inside.limit c.self.inside.loaded c.self.inside.records.items c.self.inside.refused.items (sym began i)) { prepared = pending_of (sym idle i) })
     (subst (IsLive (with_begun c.args.read_only now)) (sym txn_is) (begun_live now c.self.inside.newest c.self.inside.places.items c.self.inside.reaches.items c.self.inside.order.items c.self.invariant.0 c.args.read_only))

@@ -1,8 +1,8 @@
 use Rattle.std.proofs.Common.{◌≡◌, ◌<◌, ◌+◌, ◌∙◌, ap, length, map, subst, sym, Some}
 use Rattle.std.specs.Prelude.{vec_capacity, vec_len}
 use Rattle.siread.specs.Locks.{AreBelow, readers_at, with_reader}
-use Rattle.live.specs.Live.{least_writing}
-use Rattle.serial.specs.Commits.{reach}
+use Rattle.conflict.specs.Live.{least_writing}
+use Rattle.alone.specs.Commits.{reach}
 use Rattle.txn.specs.Transactions.{keys_of}
 use Rattle.conflict.proofs.Readers.{reads_below}
 use Rattle.commit.specs.Cores.{reads_kept}

@@ -1,7 +1,7 @@
 use Rattle.std.proofs.Common.{◌<◌, ◌∙◌, ℕ, List, ap}
 use Rattle.std.specs.Prelude.{vec_capacity, vec_len}
-use Rattle.siread.specs.Locks.{reaching, readers_at}
-use Rattle.live.specs.Live.{least_writing, without}
+use Rattle.siread.specs.Locks.{reads_above, readers_at}
+use Rattle.conflict.specs.Live.{least_writing, without}
 use Rattle.commit.specs.Kept.{idle_core}
 use Rattle.commit.proofs.Keeping.{is_idle, kept_left}
 use Rattle.commit.proofs.cores.Core.end.Goals as goal
@@ -15,5 +15,5 @@ invariant_of-self c =
     (is_idle now c.args.self.now c.self.inside.prepared c.self.view_is c.requires.idle)
     (c.forget.ensures.live ∙ ap (λ ticket. without ticket c.self.inside.live) c.ticket.ensures)
     (c.len-newest.ensures ∙ c.self.inside.records.ok.0)
-    (c.forget.ensures.locks ∙ ap (λ (far : List ℕ). reaching (least_writing c.len-newest.result c.forget.new.live.snapshots) far (readers_at c.self.inside.locks)) c.as_slice.ensures.value)
+    (c.forget.ensures.locks ∙ ap (λ (far : List ℕ). reads_above (least_writing c.len-newest.result c.forget.new.live.snapshots) far (readers_at c.self.inside.locks)) c.as_slice.ensures.value)
     c.self.invariant

@@ -1,13 +1,13 @@
 use Rattle.std.proofs.Common.{◌≡◌, ◌<◌, ◌+◌, ◌∙◌, ◌++◌, ◌∷◌, ℕ, List, [], ap, length, map, reverse, subst, sym, Some}
 use Rattle.std.specs.Prelude.{vec_capacity, vec_len}
 use Rattle.std.proofs.lemmas.List.{length-append, map_push}
-use Rattle.serial.specs.declared.records.Record.{Record}
-use Rattle.siread.specs.Locks.{reaching, readers_at}
-use Rattle.live.specs.Live.{least_writing, without}
-use Rattle.serial.specs.Commits.{IsLog, reach}
-use Rattle.serial.specs.Order.{least_out, put_by, rank, serial_order}
+use Rattle.alone.specs.declared.records.Record.{Record}
+use Rattle.siread.specs.Locks.{reads_above, readers_at}
+use Rattle.conflict.specs.Live.{least_writing, without}
+use Rattle.alone.specs.Commits.{IsLog, reach}
+use Rattle.alone.specs.Order.{least_out, put_by, rank, serial_order}
 use Rattle.conflict.specs.Ordered.{numbers_of}
-use Rattle.commit.specs.Cores.{committed, log_of, reads_kept, record_of}
+use Rattle.commit.specs.Cores.{core_after_commit, log_of, reads_kept, record_of}
 use Rattle.commit.specs.Kept.{idle_core}
 use Rattle.commit.proofs.Accepting.{core_next}
 use Rattle.commit.proofs.Keeping.{kept_idle, kept_ready, same_core}
@@ -73,7 +73,7 @@ invariant_of-self-2 c =
     let reaches : c.push_reserved-2.new.self.items ≡ c.self.inside.reaches.items ++ reach commit ∷ []
     = c.push_reserved-2.ensures.items ∙ ap (λ (n : ℕ). c.self.inside.reaches.items ++ n ∷ []) (c.reach.ensures ∙ ap reach made) in
     let live : c.forget.new.live ≡ without t.ticket c.self.inside.live = c.forget.ensures.live ∙ ap (λ ticket. without ticket c.self.inside.live) c.ticket-ticket.ensures in
-    let after = committed now p.session t in
+    let after = core_after_commit now p.session t in
     let same : after ≡ idle_core c.self.inside.limit c.self.inside.loaded c.push_reserved-3.new.self.items c.self.inside.refused.items c.forget.new.live
     = λ i. idle_core c.self.inside.limit c.self.inside.loaded (sym records i) c.self.inside.refused.items (sym live i) in
     let order : c.put_in_order.new.order.items ≡ numbers_of (put_by (rank (log_of now)) commit (serial_order (log_of now)))
@@ -83,7 +83,7 @@ invariant_of-self-2 c =
     let far : c.as_slice.result.now ≡ map reach (c.self.inside.records.items ++ commit ∷ [])
     = c.as_slice.ensures.value ∙ reaches ∙ ap (λ (rs : List ℕ). rs ++ reach commit ∷ []) c.self.invariant.0.reaches_are ∙ sym (map_push reach c.self.inside.records.items commit) in
     let left : readers_at c.forget.new.locks ≡ reads_kept after =
-    c.forget.ensures.locks ∙ (λ i. reaching (least_writing (count i) (live i).snapshots) (far i) (ready.2 i))
+    c.forget.ensures.locks ∙ (λ i. reads_above (least_writing (count i) (live i).snapshots) (far i) (ready.2 i))
     ∙ kept_committed c.self.inside.live c.self.inside.records.items t.ticket commit (below now c.self.invariant.0.epoch.accepted) in
     kept_idle _ p.tables c.push_reserved.new.self.items c.push_reserved-2.new.self.items c.put_in_order.new.order.items (readers_at c.forget.new.locks) _ c.take.new.self c.take.ensures.after
     (same_core after _ p.tables p.tables (c.self.inside.places.items ++ p.place ∷ []) _ (c.self.inside.reaches.items ++ reach commit ∷ []) _ c.put_in_order.new.order.items _ same

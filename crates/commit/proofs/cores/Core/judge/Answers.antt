@@ -3,10 +3,10 @@ use Rattle.std.specs.Prelude.{All, slice_index_or, vec_capacity, vec_len}
 use Rattle.table.specs.declared.rows.Change.{Change}
 use Rattle.table.specs.Rows.{Tables, names_of}
 use Rattle.siread.specs.Locks.{readers_at}
-use Rattle.serial.specs.declared.records.Record.{Record}
-use Rattle.serial.specs.Commits.{reach}
-use Rattle.conflict.specs.declared.verdicts.Verdict.TheVariants.{Fine, Dangerous}
-use Rattle.conflict.specs.Judged.{IsConflictAt, IsVerdict}
+use Rattle.alone.specs.declared.records.Record.{Record}
+use Rattle.alone.specs.Commits.{reach}
+use Rattle.conflict.specs.declared.verdicts.Judgment.TheVariants.{Fine, Dangerous}
+use Rattle.conflict.specs.Judged.{IsConflictAt, IsJudgmentOf}
 use Rattle.conflict.specs.Readers.{HasReaders}
 use Rattle.txn.specs.Transactions.{outcome_of}
 use Rattle.commit.specs.declared.decisions.Decision.TheVariants.{Accepted, Refused}
@@ -33,13 +33,13 @@ judge-requires-clause-readers c = λ writes.
     (subst (HasReaders (readers_at c.self.inside.locks) (map reach c.self.inside.records.items) c.as_slice-records.result.now) (sym c.snapshot.ensures)
     (subst (λ records. HasReaders (readers_at c.self.inside.locks) (map reach c.self.inside.records.items) records c.args.closed.now.snapshot) (sym c.as_slice-records.ensures.value) known))
 
-pub returns-in-Fine-clause-judged : goal.returns-in-Fine-clause-judged
-returns-in-Fine-clause-judged c = λ session.
+pub returns-in-Fine : goal.returns-in-Fine
+returns-in-Fine c = λ session.
     let now = idle_core c.self.inside.limit c.self.inside.loaded c.self.inside.records.items c.self.inside.refused.items c.self.inside.live in
     let is : now ≡ c.args.self.now = idle_view now c.args.self.now c.self.inside.prepared c.self.view_is c.requires.idle in
     subst (λ (s : CoreState). IsJudgment s (record_of s session c.args.closed.now) (Accepted c.in-Fine.place)) is
     (judged_fine now session c.args.closed.now c.in-Fine.place
-    (subst (λ records. IsVerdict (reverse records) (record_of now session c.args.closed.now) (Fine c.in-Fine.place)) c.as_slice-records.ensures.value
+    (subst (λ records. IsJudgmentOf (reverse records) (record_of now session c.args.closed.now) (Fine c.in-Fine.place)) c.as_slice-records.ensures.value
     (c.in-Fine.ensures (record_of now session c.args.closed.now) (record {
       number = ap (λ (records : List Record). length records + 1) c.as_slice-records.ensures.value;
       snapshot = c.snapshot.ensures;
@@ -70,8 +70,8 @@ refuse_for_writer-requires-clause-tables c =
     (subst (All (λ (change : Change). change.table < length (names_of c.self.inside.loaded.declared.tables))) (sym c.changes-changes.ensures.net)
     (tables_in now c.self.inside.newest c.self.inside.places.items c.self.inside.reaches.items c.self.inside.order.items c.self.invariant.0 [] c.args.closed.now live))
 
-pub returns-in_ok-refusal-in-WriteConflict-clause-judged : goal.returns-in_ok-refusal-in-WriteConflict-clause-judged
-returns-in_ok-refusal-in-WriteConflict-clause-judged c = λ session.
+pub returns-in_ok-refusal-in-WriteConflict : goal.returns-in_ok-refusal-in-WriteConflict
+returns-in_ok-refusal-in-WriteConflict c = λ session.
     let now = idle_core c.self.inside.limit c.self.inside.loaded c.self.inside.records.items c.self.inside.refused.items c.self.inside.live in
     let is : now ≡ c.args.self.now = idle_view now c.args.self.now c.self.inside.prepared c.self.view_is c.requires.idle in
     subst (λ (s : CoreState). IsJudgment s (record_of s session c.args.closed.now) (Refused c.in_ok-refusal-in-WriteConflict.refusal)) is
@@ -86,15 +86,15 @@ returns-in_ok-refusal-in-WriteConflict-clause-judged c = λ session.
     })))
     (λ change. subst (λ (tables : Tables). IsConflictOf tables (slice_index_or (outcome_of c.args.closed.now).changes c.in-WriteConflict.row change) c.in-WriteConflict.by c.in_ok-refusal-in-WriteConflict.refusal) c.catalog.ensures.value
     (subst (λ (changes : List Change). IsConflictOf c.catalog.result.now (slice_index_or changes c.in-WriteConflict.row change) c.in-WriteConflict.by c.in_ok-refusal-in-WriteConflict.refusal) c.changes-changes.ensures.net
-    (c.in_ok-refusal-in-WriteConflict.ensures.named change))))
+    (c.in_ok-refusal-in-WriteConflict.ensures change))))
 
-pub returns-in-Dangerous-clause-judged : goal.returns-in-Dangerous-clause-judged
-returns-in-Dangerous-clause-judged c = λ session.
+pub returns-in-Dangerous : goal.returns-in-Dangerous
+returns-in-Dangerous c = λ session.
     let now = idle_core c.self.inside.limit c.self.inside.loaded c.self.inside.records.items c.self.inside.refused.items c.self.inside.live in
     let is : now ≡ c.args.self.now = idle_view now c.args.self.now c.self.inside.prepared c.self.view_is c.requires.idle in
     subst (λ (s : CoreState). IsJudgment s (record_of s session c.args.closed.now) (Refused c.refuse_for_triple.result)) is
     (judged_danger now session c.args.closed.now c.in-Dangerous.danger c.refuse_for_triple.result c.refuse_for_triple.ensures
-    (subst (λ records. IsVerdict (reverse records) (record_of now session c.args.closed.now) (Dangerous c.in-Dangerous.danger)) c.as_slice-records.ensures.value
+    (subst (λ records. IsJudgmentOf (reverse records) (record_of now session c.args.closed.now) (Dangerous c.in-Dangerous.danger)) c.as_slice-records.ensures.value
     (c.in-Dangerous.ensures (record_of now session c.args.closed.now) (record {
       number = ap (λ (records : List Record). length records + 1) c.as_slice-records.ensures.value;
       snapshot = c.snapshot.ensures;

@@ -10,4 +10,4 @@ make_tables-requires-clause-free c = λ session other listed conflict.
     all.answer.1 other listed (record { after_snapshot = conflict.after_snapshot; common = conflict.common })
 
 pub returns-clause-tables : goal.returns-clause-tables
-returns-clause-tables c = c.in_ok-tables.ensures.tables c.args.session.now
+returns-clause-tables c = c.in_ok-tables.ensures c.args.session.now

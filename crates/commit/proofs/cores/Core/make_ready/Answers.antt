@@ -1,8 +1,8 @@
 use Rattle.std.proofs.Common.{◌≡◌, ◌<◌, ◌+◌, ◌∙◌, length, map, subst, sym}
 use Rattle.std.specs.Prelude.{vec_capacity, vec_len}
 use Rattle.siread.specs.Locks.{AreBelow, readers_at}
-use Rattle.live.specs.Live.{least_writing}
-use Rattle.serial.specs.Commits.{reach}
+use Rattle.conflict.specs.Live.{least_writing}
+use Rattle.alone.specs.Commits.{reach}
 use Rattle.conflict.proofs.Readers.{reads_below}
 use Rattle.commit.specs.Cores.{reads_kept}
 use Rattle.commit.specs.Kept.{idle_core}

@@ -2,8 +2,8 @@ use Rattle.std.proofs.Common.{◌≡◌, [], sym, ◌∙◌, subst}
 use Rattle.changes.proofs.Places.{tables_state}
 use Rattle.assertion.specs.Declarations.{layouts_in}
 use Rattle.assertion.specs.Roots.{AreChangesOf}
-use Rattle.delta.specs.Views.{AreTables, Shown}
-use Rattle.serial.specs.Commits.{HasNoWriteConflict}
+use Rattle.delta.specs.Views.{AreTables, ViewState}
+use Rattle.alone.specs.Commits.{HasNoWriteConflict}
 use Rattle.txn.specs.Transactions.{own_view}
 use Rattle.commit.specs.Cores.{CoreState, IsLive, log_of, newest_tables, record_of, with_commit}
 use Rattle.commit.specs.Kept.{idle_core}
@@ -21,8 +21,8 @@ after-requires-clause-are c =
     (puts now c.self.inside.newest c.self.inside.places.items c.self.inside.reaches.items c.self.inside.order.items c.self.invariant.0 [] c.args.closed.now live
     free)
 
-pub returns-in_ok-view-clause-tables : goal.returns-in_ok-view-clause-tables
-returns-in_ok-view-clause-tables c = λ session.
+pub returns-in_ok-view : goal.returns-in_ok-view
+returns-in_ok-view c = λ session.
     let now = idle_core c.self.inside.limit c.self.inside.loaded c.self.inside.records.items c.self.inside.refused.items c.self.inside.live in
     let is : now ≡ c.args.self.now = idle_view now c.args.self.now c.self.inside.prepared c.self.view_is c.requires.idle in
     let live = subst (λ (s : CoreState). IsLive s c.args.closed.now) (sym is) c.requires.live in
@@ -30,4 +30,4 @@ returns-in_ok-view-clause-tables c = λ session.
     ∙ subst (λ (s : CoreState). own_view c.args.closed.now ≡ newest_tables (with_commit s (record_of s session c.args.closed.now))) is
     (own_is now c.self.inside.newest c.self.inside.places.items c.self.inside.reaches.items c.self.inside.order.items c.self.invariant.0 session c.args.closed.now live
     (sym c.snapshot.ensures ∙ c.if-snapshot-len.true ∙ c.len.ensures ∙ c.self.inside.records.ok.0)
-    (tables_state _ _ (subst (λ (s : Shown). AreTables (layouts_in s.declared) s.state) c.own-own.ensures c.catalog.ensures.tables)))
+    (tables_state _ _ (subst (λ (s : ViewState). AreTables (layouts_in s.declared) s.state) c.own-own.ensures c.catalog.ensures.tables)))

@@ -1,5 +1,5 @@
 use Rattle.std.proofs.Common.{◌≡◌, ◌∙◌, [], sym}
-use Rattle.live.specs.Live.{none_live}
+use Rattle.conflict.specs.Live.{none_live}
 use Rattle.commit.specs.Cores.{reads_kept}
 use Rattle.commit.specs.Kept.{idle_core}
 use Rattle.commit.proofs.Keeping.{empty_kept, same_core}

@@ -32,12 +32,12 @@ returns-clause-answered c =
     (subst (IsAnswered (engine.the_view c.self.inside) c.args.step.now) (sym c.as_answer.ensures)
     (is_answered (engine.the_view c.self.inside) c.args.step.now c.in-Some.place c.index_mut.result.now c.answer_event-answered.new.core c.answer_event-answered.new.seat
     (subst (λ (seats : List Seat). seat_of seats c.args.step.now.session ≡ Some c.in-Some.place) c.as_slice.ensures.value (sym c.in-Some.ensures.found)) (slice_get_read c.self.inside.seats.items (length c.self.inside.seats.items) c.in-Some.place c.index_mut.result.now refl (subst (λ (seats : List Seat). c.in-Some.place < length seats) c.as_slice.ensures.value c.in-Some.ensures.within) c.index_mut.ensures.value)
-    c.answer_event-answered.result c.answer_event-answered.ensures.only_memory c.answer_event-answered.ensures.takes c.answer_event-answered.ensures.answered))
+    c.answer_event-answered.result c.answer_event-answered.ensures.takes c.answer_event-answered.ensures.answered))
 
 pub returns-clause-after : goal.returns-clause-after
 returns-clause-after c =
     is_after (engine.the_view c.self.inside) c.args.step.now c.in-Some.place c.index_mut.result.now c.answer_event-answered.new.core c.answer_event-answered.new.seat
     (subst (λ (seats : List Seat). seat_of seats c.args.step.now.session ≡ Some c.in-Some.place) c.as_slice.ensures.value (sym c.in-Some.ensures.found)) (slice_get_read c.self.inside.seats.items (length c.self.inside.seats.items) c.in-Some.place c.index_mut.result.now refl (subst (λ (seats : List Seat). c.in-Some.place < length seats) c.as_slice.ensures.value c.in-Some.ensures.within) c.index_mut.ensures.value)
-    c.answer_event-answered.result c.answer_event-answered.ensures.only_memory c.answer_event-answered.ensures.known c.answer_event-answered.ensures.commits c.answer_event-answered.ensures.seat c.answer_event-answered.ensures.same
+    c.answer_event-answered.result c.answer_event-answered.ensures.known c.answer_event-answered.ensures.commits c.answer_event-answered.ensures.seat c.answer_event-answered.ensures.same
     (ap (slice_set c.self.inside.seats.items c.in-Some.place) c.index_mut.ensures.value ∙ set-get_or c.self.inside.seats.items c.in-Some.place c.index_mut.result.now)
     ∙ (λ i. after (c.self.view_is i) c.args.step.now (sym c.as_answer.ensures i))

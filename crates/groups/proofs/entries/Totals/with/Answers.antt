@@ -22,6 +22,6 @@ returns-in-Some-None c =
 
 pub returns-in-Some-Some : goal.returns-in-Some-Some
 returns-in-Some-Some c =
-    IfOk-weaker c.replaced.result _ _
+    IfOk-weaker c.after_replacement.result _ _
     (λ (t : Entries) h. λ before after change are within. h before after (rw (c.in-Some-Some.is-0, c.in-Some-Some.is-1) at change) are within)
-    c.replaced.ensures
+    c.after_replacement.ensures

@@ -34,7 +34,7 @@ pub returns-in-Some-Some : goal.returns-in-Some-Some
 returns-in-Some-Some c =
     let old = option_copied c.args.old in
     let new = option_copied c.args.new in
-    IfOk-weaker c.replaced.result _ _
+    IfOk-weaker c.after_replacement.result _ _
     (λ (made : ValueKeys) is. λ key. index-with key c.args.column c.args.key.now old new (Some c.in-Some-Some.gone.now) (Some c.in-Some-Some.come.now) c.args.self made
     (sym c.optional_value-gone.ensures ∙ ap option_copied c.in-Some-Some.is-0) (sym c.optional_value-come.ensures ∙ ap option_copied c.in-Some-Some.is-1) is)
-    c.replaced.ensures
+    c.after_replacement.ensures

@@ -13,25 +13,25 @@ use Rattle.pages.proofs.Parting.{led_within, at_led}
 use Rattle.pages.proofs.nodes.Node.+get.Goals as goal
 
 pub route-requires : goal.route-requires
-route-requires g t c = let whole = subst IsWhole c.in-Inner.is c.self.invariant in subst AreRising (sym c.deref-in-Inner.ensures.value) whole.below.rising
+route-requires g t c = let whole = subst IsWhole c.in-Inner.is c.self.invariant in subst AreRising (sym (c.deref-in-Inner-2.ensures.value ∙ ap (λ v. v.items) c.deref-in-Inner.ensures)) whole.below.rising
 
 pub index-requires : goal.index-requires
 index-requires g t c =
     let nodes : List (Arc (Tree g.row.V.Denot) Global) = c.in-Inner.nodes.items in
     let whole = subst IsWhole c.in-Inner.is c.self.invariant in
-    let leads : Leads c.args.key.now c.in-Inner.seps.items c.route.result = subst (λ ss. Leads c.args.key.now ss c.route.result) c.deref-in-Inner.ensures.value c.route.ensures in
-    omega (arith, c.in-Inner.nodes.ok.0, length-map nodes arc_value, led_within c.args.key.now c.in-Inner.seps.items c.route.result (map arc_value nodes) leads whole.below.parted)
+    let leads : Leads c.args.key.now (arc_value c.in-Inner.seps).items c.route.result = subst (λ ss. Leads c.args.key.now ss c.route.result) (c.deref-in-Inner-2.ensures.value ∙ ap (λ v. v.items) c.deref-in-Inner.ensures) c.route.ensures in
+    omega (arith, c.in-Inner.nodes.ok.0, length-map nodes arc_value, led_within c.args.key.now (arc_value c.in-Inner.seps).items c.route.result (map arc_value nodes) leads whole.below.parted)
 
 pub get-requires : goal.get-requires
 get-requires g t c κs within =
     let nodes : List (Arc (Tree g.row.V.Denot) Global) = c.in-Inner.nodes.items in
     let whole = subst IsWhole c.in-Inner.is c.self.invariant in
-    let leads : Leads c.args.key.now c.in-Inner.seps.items c.route.result = subst (λ ss. Leads c.args.key.now ss c.route.result) c.deref-in-Inner.ensures.value c.route.ensures in
-    let inside : c.route.result < length nodes = omega (arith, length-map nodes arc_value, led_within c.args.key.now c.in-Inner.seps.items c.route.result (map arc_value nodes) leads whole.below.parted) in
-    let lower : c.deref-in-Inner-2.result.now.0.0 < c.args.self.now.0.0 =
+    let leads : Leads c.args.key.now (arc_value c.in-Inner.seps).items c.route.result = subst (λ ss. Leads c.args.key.now ss c.route.result) (c.deref-in-Inner-2.ensures.value ∙ ap (λ v. v.items) c.deref-in-Inner.ensures) c.route.ensures in
+    let inside : c.route.result < length nodes = omega (arith, length-map nodes arc_value, led_within c.args.key.now (arc_value c.in-Inner.seps).items c.route.result (map arc_value nodes) leads whole.below.parted) in
+    let lower : c.deref-in-Inner-3.result.now.0.0 < c.args.self.now.0.0 =
     omega (
       arith,
-      child_lower nodes c.route.result c.index.result.now c.deref-in-Inner-2.result.now inside c.index.ensures c.deref-in-Inner-2.ensures,
+      child_lower nodes c.route.result c.index.result.now c.deref-in-Inner-3.result.now inside c.index.ensures c.deref-in-Inner-3.ensures,
       ap (λ (s : Tree g.row.V.Denot). s.0.0) (ap seen (sym c.in-Inner.is) ∙ c.self.view_is),
     ) in
     (omega (arith, lower, c.decreases), search rules)
@@ -40,9 +40,9 @@ pub returns-in-Inner : goal.returns-in-Inner
 returns-in-Inner g t c =
     let nodes : List (Arc (Tree g.row.V.Denot) Global) = c.in-Inner.nodes.items in
     let whole = subst IsWhole c.in-Inner.is c.self.invariant in
-    let leads : Leads c.args.key.now c.in-Inner.seps.items c.route.result = subst (λ ss. Leads c.args.key.now ss c.route.result) c.deref-in-Inner.ensures.value c.route.ensures in
-    let within : c.route.result < length nodes = omega (arith, length-map nodes arc_value, led_within c.args.key.now c.in-Inner.seps.items c.route.result (map arc_value nodes) leads whole.below.parted) in
+    let leads : Leads c.args.key.now (arc_value c.in-Inner.seps).items c.route.result = subst (λ ss. Leads c.args.key.now ss c.route.result) (c.deref-in-Inner-2.ensures.value ∙ ap (λ v. v.items) c.deref-in-Inner.ensures) c.route.ensures in
+    let within : c.route.result < length nodes = omega (arith, length-map nodes arc_value, led_within c.args.key.now (arc_value c.in-Inner.seps).items c.route.result (map arc_value nodes) leads whole.below.parted) in
     c.get.ensures
-    ∙ ap (at value_cmp key_of c.args.key.now) (child_entries nodes c.route.result c.index.result.now c.deref-in-Inner-2.result.now within c.index.ensures c.deref-in-Inner-2.ensures)
-    ∙ sym (at_led c.args.key.now c.in-Inner.seps.items c.route.result (map arc_value nodes) leads whole.below.parted)
+    ∙ ap (at value_cmp key_of c.args.key.now) (child_entries nodes c.route.result c.index.result.now c.deref-in-Inner-3.result.now within c.index.ensures c.deref-in-Inner-3.ensures)
+    ∙ sym (at_led c.args.key.now (arc_value c.in-Inner.seps).items c.route.result (map arc_value nodes) leads whole.below.parted)
     ∙ ap (λ (s : Tree g.row.V.Denot). at value_cmp key_of c.args.key.now s.1) (ap seen (sym c.in-Inner.is) ∙ c.self.view_is)

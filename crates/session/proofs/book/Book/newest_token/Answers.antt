@@ -20,7 +20,7 @@ returns-clause-view g c =
     let core = c.self.inside.core in
     let at : slice_get c.self.inside.tokens.items (length core.records) ≡ Some c.token_at.result = search rules in
     rw (← c.self.view_is) (ap (λ (x : Item). x.view) (c.self.invariant.tokens.each _ _ at).item
-    ∙ ap (λ (s : State). record { declared = core.declared; state = s }) (newest_at core.declared core.start core.records c.is_log.ensures))
+    ∙ ap (λ (s : State). record { declared = core.declared; state = s }) (newest_at core.declared core.start core.records c.recall_log.ensures))
 
 pub returns-clause-epoch : goal.returns-clause-epoch
 returns-clause-epoch g c =

@@ -1,6 +1,6 @@
 use Rattle.std.proofs.Common.{◌≡◌, ap, ◌∙◌, subst}
 use Rattle.assertion.specs.Declarations.{Declared}
-use Rattle.modes.specs.Modes.{assertion_of}
+use Rattle.alone.specs.Modes.{assertion_of}
 use Rattle.txn.specs.Transactions.{truth_of}
 use Rattle.session.specs.Answers.{IsStanding}
 use Rattle.session.specs.Books.{BookState}
@@ -18,4 +18,4 @@ pub returns : goal.returns
 returns g c =
     let same : c.self.inside.core.declared ≡ c.args.loaded.now.value.view.declared = ap (λ (b : BookState). b.core.declared) c.self.view_is ∙ c.recall_loaded.ensures.declared_is in
     subst (λ (d : Declared). IsStanding (assertion_of c.args.name.now d.assertions) c.verdict.result) same
-    (stands_newest c.self.inside.core c.args.name.now c.is_log.ensures c.is_serializable.ensures c.verdict.result c.verdict.ensures)
+    (stands_newest c.self.inside.core c.args.name.now c.recall_log.ensures c.recall_serializability.ensures c.verdict.result c.verdict.ensures)

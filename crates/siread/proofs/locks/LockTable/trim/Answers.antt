@@ -1,10 +1,10 @@
 use Rattle.std.proofs.Common.{sym, ap, ◌∙◌, subst}
-use Rattle.siread.specs.Locks.{reaching, readers_at, AreAscending}
+use Rattle.siread.specs.Locks.{reads_above, readers_at, AreAscending}
 use Rattle.siread.proofs.Ascending.{trimmed_ascends}
 use Rattle.siread.proofs.locks.LockTable.trim.Goals as goal
 
 pub returns : goal.returns
-returns c = c.keep_reaching.ensures ∙ ap (λ es. reaching c.args.low c.args.reaches.now (readers_at es)) c.self.view_is
+returns c = c.keep_reaching.ensures ∙ ap (λ es. reads_above c.args.low c.args.reaches.now (readers_at es)) c.self.view_is
 
 pub invariant_of-self : goal.invariant_of-self
 invariant_of-self c =

@@ -1,0 +1,112 @@
+//! The mode of each assertion.
+
+ghost use Rattle.std.specs.Prelude.{◌≡◌, ◌<◌, true, length, slice_index_or, IfOk};
+ghost use Rattle.alone.specs.Modes.{all_immediate, initial_modes, is_immediate, mode_of, mode_with, modes_with, named_immediate};
+
+use crate::names::is_named;
+use assertion::Assertion;
+use std::alloc::{AllocError, Global};
+use std::marker::Model;
+use syntax::Mode;
+use value::Text;
+
+/// The modes of a transaction: for each assertion, in the order of their creation, whether it is immediate.
+#[derive(Debug, Drop)]
+pub struct Modes {
+    immediate: Vec<bool>,
+}
+
+impl Model for Modes {
+    ghost use Rattle.alone.specs.Modes.{Immediates};
+
+    ghost Value = { Immediates };
+
+    ghost view = { λ modes. modes.immediate.items };
+}
+
+impl Modes {
+    /// The modes in which a transaction begins.
+    pub fn initial(alloc: Global, assertions: &[Assertion]) -> Result<Modes, AllocError>
+        ensures { IfOk result (λ modes. modes ≡ initial_modes assertions.now) }
+    {
+        let mut immediate = Vec::with_capacity(alloc, assertions.len())?;
+        for assertion in assertions {
+            immediate.push(!assertion.attributes.initially_deferred)?;
+        }
+        Ok(Modes { immediate })
+    }
+
+    /// All assertions are immediate, as COMMIT takes them.
+    pub fn all_immediate(alloc: Global, assertions: &[Assertion]) -> Result<Modes, AllocError>
+        ensures { IfOk result (λ modes. modes ≡ all_immediate assertions.now) }
+    {
+        let mut immediate = Vec::with_capacity(alloc, assertions.len())?;
+        for _assertion in assertions {
+            immediate.push(true)?;
+        }
+        Ok(Modes { immediate })
+    }
+
+    /// The assertions of these names are immediate and no others, as SET CONSTRAINTS .. IMMEDIATE checks them.
+    pub fn named_immediate(
+        alloc: Global,
+        assertions: &[Assertion],
+        names: &[Text],
+    ) -> Result<Modes, AllocError>
+        ensures { IfOk result (λ modes. modes ≡ named_immediate names.now assertions.now) }
+    {
+        let mut immediate = Vec::with_capacity(alloc, assertions.len())?;
+        for assertion in assertions {
+            immediate.push(is_named(names, &assertion.name))?;
+        }
+        Ok(Modes { immediate })
+    }
+
+    /// These modes, of these assertions, with that of some set, by their names.
+    pub fn set(
+        &self,
+        assertions: &[Assertion],
+        names: &[Text],
+        mode: Mode,
+    ) -> Result<Modes, AllocError>
+        requires { length self.now ≡ length assertions.now }
+        ensures { IfOk result (λ modes. modes ≡ modes_with names.now (is_immediate mode) assertions.now self.now) }
+    {
+        let mut immediate = Vec::new(*self.immediate.allocator());
+        for place in 0..assertions.len() {
+            let before = self.immediate[place];
+            immediate.push(mode_after(names, mode, &assertions[place], before))?;
+        }
+        Ok(Modes { immediate })
+    }
+
+    /// The mode of the assertion at this place. It takes no memory.
+    pub fn of(&self, assertion: usize) -> Mode
+        requires { assertion < length self.now }
+        ensures { result ≡ mode_of (slice_index_or self.now assertion true) }
+    {
+        if self.immediate[assertion] {
+            Mode::Immediate
+        } else {
+            Mode::Deferred
+        }
+    }
+
+    /// For each assertion, in the order of their creation, whether it is immediate. It takes no memory.
+    pub fn as_slice(&self) -> &[bool]
+        ensures { result.now ≡ self.now }
+    {
+        self.immediate.as_slice()
+    }
+}
+
+/// Whether an assertion is immediate after the modes of some names are set.
+fn mode_after(names: &[Text], mode: Mode, assertion: &Assertion, before: bool) -> bool
+    ensures { result ≡ mode_with names.now (is_immediate mode) (assertion.now, before) }
+{
+    if is_named(names, &assertion.name) {
+        mode == Mode::Immediate
+    } else {
+        before
+    }
+}

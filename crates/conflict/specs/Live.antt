@@ -1,0 +1,46 @@
+-- Which snapshots are held by open transactions.
+use Rattle.std.specs.Prelude.{◌<◌, ◌+◌, ◌==◌, ◌||◌, ℕ, Bool, not, nat_le, List, [], ◌∷◌, ◌++◌, filter, min, All, if◌then◌else◌}
+use Rattle.std.specs.List.{list_all}
+use Rattle.conflict.specs.declared.open_snapshots.LiveSnapshot.{LiveSnapshot}
+
+-- how many transactions have begun, and the snapshots of those that have not ended, in the order of their begins
+pub record LiveState : Type 0 where
+  pub begun : ℕ
+  pub snapshots : List LiveSnapshot
+
+-- before the first begin
+abbrev pub none_live : LiveState
+none_live = record { begun = 0; snapshots = [] }
+
+-- one transaction more, by the next ticket
+abbrev pub with_begin : (snapshot : ℕ) → (read_only : Bool) → LiveState → LiveState
+with_begin snapshot read_only live = record {
+  begun = live.begun + 1;
+  snapshots = live.snapshots ++ record { ticket = live.begun; snapshot = snapshot; read_only = read_only } ∷ [];
+}
+
+-- whether an open transaction has another ticket
+abbrev pub is_other : (ticket : ℕ) → LiveSnapshot → Bool
+is_other ticket one = not (one.ticket == ticket)
+
+-- one less
+abbrev pub without : (ticket : ℕ) → LiveState → LiveState
+without ticket live = record { begun = live.begun; snapshots = filter (is_other ticket) live.snapshots }
+
+-- the lesser of a number and what the snapshot holds, if that is of one that may write
+abbrev pub least_with : LiveSnapshot → ℕ → ℕ
+least_with one least = if one.read_only then least else min one.snapshot least
+
+-- The least number of commits that the snapshot of one of them that may write holds, or this one where that is less.
+-- What was read is asked for by those that may write alone.
+abbrev pub least_writing : (newest : ℕ) → List LiveSnapshot → ℕ
+least_writing newest [] = newest
+least_writing newest (one ∷ rest) = least_with one (least_writing newest rest)
+
+-- each of them that may write holds at least so many commits
+abbrev pub writers_hold : (snapshot : ℕ) → List LiveSnapshot → Bool
+writers_hold snapshot snapshots = list_all (λ (one : LiveSnapshot). one.read_only || nat_le snapshot one.snapshot) snapshots
+
+-- the tickets are of transactions that have begun
+abbrev pub AreBelow : (begun : ℕ) → List LiveSnapshot → Type 0
+AreBelow begun snapshots = All (λ one. one.ticket < begun) snapshots

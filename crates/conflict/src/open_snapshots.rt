@@ -1,0 +1,135 @@
+//! The snapshots of open transactions.
+
+ghost use Rattle.std.specs.Prelude.{◌≡◌, true, Contains, IfOk, OnErr, OnOk};
+ghost use Rattle.conflict.specs.Held.{is_held};
+ghost use Rattle.conflict.specs.Live.{least_with, least_writing, none_live, with_begin, without, writers_hold};
+
+use std::alloc::{AllocError, Global};
+use std::marker::Model;
+
+/// An open transaction: its ticket, how many commits its snapshot holds, and whether it is read only.
+#[derive(Clone, Copy, Debug, PartialEq, Eq)]
+pub struct LiveSnapshot {
+    pub ticket: u64,
+    pub snapshot: u64,
+    pub read_only: bool,
+}
+
+/// The open transactions, in the order of their begins.
+#[derive(Drop)]
+pub struct Live {
+    begun: u64,
+    snapshots: Vec<LiveSnapshot>,
+}
+
+impl Model for Live {
+    ghost use Rattle.conflict.specs.Live.{LiveState, AreBelow};
+
+    ghost Value = { LiveState };
+
+    ghost view = { λ live. record { begun = live.begun; snapshots = live.snapshots.items } };
+
+    ghost invariant = { λ live. AreBelow live.begun live.snapshots.items };
+}
+
+impl Live {
+    /// No transaction yet. It takes no memory.
+    pub fn new(alloc: Global) -> Live
+        ensures { result ≡ none_live }
+    {
+        Live {
+            begun: 0,
+            snapshots: Vec::new(alloc),
+        }
+    }
+
+    /// The ticket of the next transaction: how many have begun. It takes no memory.
+    pub fn next_ticket(&self) -> u64
+        ensures { result ≡ self.now.begun }
+    {
+        self.begun
+    }
+
+    /// The next transaction begins, with a snapshot that holds so many commits, read only or not.
+    ///
+    /// # Errors
+    ///
+    /// Want of memory, also said where 2^64 - 1 transactions have begun. All is then as it was.
+    pub fn begin(&mut self, snapshot: u64, read_only: bool) -> Result<(), AllocError>
+        ensures begun { OnOk result (self.new ≡ with_begin snapshot read_only self.old) }
+        ensures same { OnErr result (self.new ≡ self.old) }
+    {
+        let ticket = self.begun;
+        let Some(begun) = ticket.checked_add(1) else {
+            return Err(AllocError);
+        };
+        self.snapshots.push(LiveSnapshot {
+            ticket,
+            snapshot,
+            read_only,
+        })?;
+        self.begun = begun;
+        Ok(())
+    }
+
+    /// The transaction with a ticket has ended. It takes no memory.
+    pub fn end(&mut self, ticket: u64)
+        ensures { self.new ≡ without ticket self.old }
+    {
+        self.snapshots.retain(|live| live.ticket != ticket);
+    }
+
+    /// Whether the transaction with a ticket is open, holds this snapshot, and is read only or not as is said. It takes
+    /// no memory.
+    pub fn holds(&self, ticket: u64, snapshot: u64, read_only: bool) -> bool
+        ensures test { result ≡ is_held ticket snapshot read_only self.now.snapshots }
+        ensures held { result ≡ true → Contains self.now.snapshots
+            (record { ticket = ticket; snapshot = snapshot; read_only = read_only }) }
+    {
+        is_held(self.snapshots.as_slice(), ticket, snapshot, read_only)
+    }
+
+    /// The least number of commits that the snapshot of an open transaction that may write holds, or this one where
+    /// that is less. It takes no memory.
+    pub fn least_writing(&self, newest: u64) -> u64
+        ensures { result ≡ least_writing newest self.now.snapshots }
+    {
+        let mut least = newest;
+        for live in &self.snapshots {
+            least = least_with(live, least);
+        }
+        least
+    }
+
+    /// Whether each open transaction that may write has a snapshot that holds at least so many commits. It takes no
+    /// memory.
+    pub fn writers_hold(&self, snapshot: u64) -> bool
+        ensures { result ≡ writers_hold snapshot self.now.snapshots }
+    {
+        self.snapshots
+            .iter()
+            .all(|live| live.read_only || snapshot <= live.snapshot)
+    }
+}
+
+/// The lesser of a number and what the transaction's snapshot holds, if that one may write.
+fn least_with(live: &LiveSnapshot, least: u64) -> u64
+    ensures { result ≡ least_with live.now least }
+{
+    if live.read_only {
+        least
+    } else {
+        live.snapshot.min(least)
+    }
+}
+
+#[tactic(auto, using(crate::proofs::Holding::held_facts))]
+fn is_held(snapshots: &[LiveSnapshot], ticket: u64, snapshot: u64, read_only: bool) -> bool
+    ensures test { result ≡ is_held ticket snapshot read_only snapshots.now }
+    ensures held { result ≡ true → Contains snapshots.now
+        (record { ticket = ticket; snapshot = snapshot; read_only = read_only }) }
+{
+    snapshots.iter().any(|live| {
+        live.ticket == ticket && (live.snapshot == snapshot && live.read_only == read_only)
+    })
+}

@@ -1,7 +1,0 @@
-use Rattle.std.proofs.Common.{◌≡◌, ◌++◌, drop}
-use Rattle.layout.specs.Spelling as spelling
-use Rattle.layout.proofs.writing.Bytes.add_row.Given as goal
-
--- what is written so far, and then what is left
-abbrev pub invariant-loop-value : goal.invariant-loop-value
-invariant-loop-value l = l.self ++ spelling.row (drop l.value-index l.values) ≡ l.initial.self ++ spelling.row l.values

@@ -1,7 +1,0 @@
-use Rattle.std.proofs.Common.{◌≡◌, ◌++◌, drop}
-use Rattle.modes.specs.Modes.{deferrable_names}
-use Rattle.modes.proofs.names.deferrable_names.Given as goal
-
--- the names so far and those of the assertions that are left are those of all
-abbrev pub invariant-loop-assertion : goal.invariant-loop-assertion
-invariant-loop-assertion l = l.names.items ++ deferrable_names (drop l.assertion-index l.assertions) ≡ deferrable_names l.assertions

@@ -1,0 +1,39 @@
+-- What a thread takes beside the manager may cross: a script, and the room for its answers.
+use denote.RattleType.{RattleType}
+use denote.Param.Send.{IsSend, IsSync, sendable}
+use denote.Struct.Tuple.{TupleAt}
+use Rattle.std.proofs.Common.{ℕ, List, [], ◌∷◌}
+use Rattle.std.proofs.Crossing.{crosses}
+use Rattle.value.proofs.refusals.Refusal.TheSendSync as Refusal
+use Rattle.value.proofs.texts.Text.TheSendSync as Text
+use Rattle.alone.proofs.answers.Answer.TheSendSync as Answer
+use Rattle.syntax.proofs.trees.Condition.TheLaws.TheKnot as conditions
+use Rattle.syntax.specs.contracts.trees.Condition as Condition
+use Rattle.syntax.specs.contracts.trees.Expression as Expression
+use Rattle.syntax.specs.contracts.statements.Assignment as Assignment
+use Rattle.syntax.specs.contracts.statements.Step as Step
+use Rattle.threads.specs.contracts.runs.Room as Room
+use Rattle.threads.specs.contracts.scripts.Script as Script
+
+Expression-sync : IsSync Expression.the_field.row
+Expression-sync = search (conditions.crosses, crosses, sendable) depth 60 fits 20000
+
+Condition-sync : IsSync Condition.the_field.row
+Condition-sync = search (conditions.crosses, crosses, sendable) depth 60 fits 20000
+
+Assignment-sync : IsSync Assignment.the_row
+Assignment-sync = search (Expression-sync, crosses, sendable) depth 60 fits 20000
+
+Step-sync : IsSync Step.the_row
+Step-sync = search (Condition-sync, Assignment-sync, Text.the_sync, crosses, sendable) depth 60 fits 20000
+
+pub Script-sync : IsSync Script.the_row
+Script-sync = search (Step-sync, Text.the_sync, crosses, sendable) depth 60 fits 20000
+
+pub Room-send : IsSend Room.the_row
+Room-send = search (Answer.the_send, Refusal.the_send, crosses, sendable) depth 60 fits 20000
+
+-- a closure crosses if its six captures do, whatever its name
+pub six-send : (ν : List ℕ) (A B C D E F : RattleType) → IsSend A → IsSend B → IsSend C → IsSend D → IsSend E → IsSend F
+    → IsSend (TupleAt ν (A ∷ B ∷ C ∷ D ∷ E ∷ F ∷ []))
+six-send ν A B C D E F a b c d e f = search sendable depth 60 fits 20000

@@ -1,0 +1,236 @@
+//! A thread for each script.
+
+ghost use Rattle.std.specs.Prelude.{◌≡◌, ◌≤◌, [], length, map, vec_capacity, IfOk};
+ghost use denote.Param.Send.{IsSend, IsSync};
+ghost use Rattle.session.specs.Books.{IsFresh};
+ghost use Rattle.threads.specs.Scripts.{AreAnswered, IsAnswered, answers_without_thread};
+ghost use Rattle.threads.specs.Steps.{AreTold, IsScriptRun};
+
+use crate::gates::Gate;
+use crate::scripts::{Script, ScriptAnswers};
+use crate::steps::{StepOutcome, end, run_event};
+use alone::Answer;
+use session::{Manager, Named, Session, Txn};
+use sqlite_items::Items;
+use std::alloc::{AllocError, Global};
+use std::sync::Wait;
+use std::thread;
+use std::thread::Threads;
+use syntax::Step;
+use value::Refusal;
+
+/// Where a thread leaves what its script was answered. Until it has run, it says that it got no session.
+#[derive(Drop)]
+struct Room {
+    answers: Vec<Answer>,
+    refusal: Option<Refusal>,
+    rolled_back: bool,
+}
+
+/// Runs each script on a thread of its own, with a session of its name, and gives what each was answered in the
+/// scripts' order. A transaction that is open at a script's end is rolled back. A script that gets no thread, or no
+/// session, is not run; the others are. Gates may hold threads, for which nothing of this call returning is
+/// claimed. An error is that there is no room for all lists of answers. Nothing was then run.
+#[tactic(auto, using(crate::proofs::Lists::all_unrun))]
+pub fn run_sessions<N: Named + Send + Sync, R: Threads + Wait + Sync, G: Gate + Sync>(
+    rt: &R,
+    alloc: Global,
+    manager: &Manager<N>,
+    scripts: &[Script],
+    gate: &G,
+) -> Result<Vec<ScriptAnswers>, AllocError>
+    ensures { IfOk result (λ answered. AreAnswered scripts.now answered.items) }
+{
+    let mut answered = answer_all_unrun(alloc, scripts)?;
+    let mut rooms = make_rooms(alloc, scripts)?;
+    // (the bounds again, since the answer to whether a thread may take the manager can't name them from inside)
+    thread::scope(
+        thread::scope_env(),
+        rt,
+        |scope|
+            requires sends { IsSend N.row }
+            requires shares { IsSync N.row }
+            requires runtime { IsSync R.row }
+            requires gate { IsSync G.row }
+        {
+            for ((at, script), room) in scripts.iter().enumerate().zip(rooms.iter_mut()) {
+                let _ = scope.spawn(move || run_script(rt, manager, script, at, gate, room));
+            }
+        },
+    );
+    settle_all(scripts, &mut answered, rooms);
+    Ok(answered)
+}
+
+/// The answers of scripts that got no thread.
+fn answer_all_unrun(alloc: Global, scripts: &[Script]) -> Result<Vec<ScriptAnswers>, AllocError>
+    ensures { IfOk result (λ answered. answered.items ≡ map answers_without_thread scripts.now) }
+{
+    let mut answered = Vec::with_capacity(alloc, scripts.len())?;
+    for script in scripts {
+        answered.push(answer_unrun(alloc, script)?)?;
+    }
+    Ok(answered)
+}
+
+fn answer_unrun(alloc: Global, script: &Script) -> Result<ScriptAnswers, AllocError>
+    ensures { IfOk result (λ answered. answered ≡ answers_without_thread script.now) }
+{
+    let mut answers = Items::new(alloc);
+    answers.push(Answer::Refused(Refusal::TooManySessions))?;
+    Ok(ScriptAnswers {
+        name: script.name.copy()?,
+        answers,
+        ran: false,
+        rolled_back: false,
+    })
+}
+
+/// Room for an answer to each step of each script.
+fn make_rooms(alloc: Global, scripts: &[Script]) -> Result<Vec<Room>, AllocError> {
+    let mut rooms = Vec::with_capacity(alloc, scripts.len())?;
+    for script in scripts {
+        rooms.push(make_room(alloc, script.steps.len())?)?;
+    }
+    Ok(rooms)
+}
+
+fn make_room(alloc: Global, steps: usize) -> Result<Room, AllocError> {
+    Ok(Room {
+        answers: Vec::with_capacity(alloc, steps)?,
+        refusal: Some(Refusal::TooManySessions),
+        rolled_back: false,
+    })
+}
+
+/// Runs a script in a session of its name. Where it leaves no refusal, its answers chain from outside a transaction.
+fn run_script<N: Named, R: Wait, G: Gate>(
+    rt: &R,
+    manager: &Manager<N>,
+    script: &Script,
+    at: usize,
+    gate: &G,
+    room: &mut Room,
+)
+    ensures { room.new.refusal ≡ None
+        → IsScriptRun (IsFresh (N.shelf manager.now.id) manager.now.id manager.now.epoch)
+        script.now.steps room.new.answers.items room.new.rolled_back }
+{
+    let steps = script.steps.as_slice();
+    room.answers.clear();
+    // (there is room already, which is not known here of what another thread has made)
+    if room.answers.reserve(steps.len()).is_err() {
+        room.refusal = Some(Refusal::NoMemory);
+        return;
+    }
+    let mut session = match manager.session(rt, &script.name) {
+        Ok(session) => session,
+        Err(refusal) => {
+            room.refusal = Some(refusal);
+            return;
+        }
+    };
+    room.refusal = None;
+    let open = run_steps(
+        rt,
+        manager,
+        &mut session,
+        steps,
+        at,
+        gate,
+        &mut room.answers,
+    );
+    room.rolled_back = end(rt, manager, open);
+}
+
+/// Runs the steps of a script in a session that has seen nothing, and notes what each was answered. The transaction
+/// that is open behind the last is handed on.
+fn run_steps<N: Named, R: Wait, G: Gate>(
+    rt: &R,
+    manager: &Manager<N>,
+    session: &mut Session<N>,
+    steps: &[Step],
+    at: usize,
+    gate: &G,
+    answers: &mut Vec<Answer>,
+) -> Option<Txn<N>>
+    requires new { session.old.seen ≡ 0 }
+    requires none { answers.old.items ≡ [] }
+    requires room { length steps.now ≤ vec_capacity answers.old }
+    ensures { AreTold (IsFresh (N.shelf manager.now.id) manager.now.id manager.now.epoch)
+        steps.now 0 None answers.new.items result }
+{
+    let mut open: Option<Txn<N>> = None;
+    for event in steps {
+        let step = answers.len();
+        gate.before(at, step);
+        let outcome = run_event(rt, manager, session, open, &event.event);
+        let StepOutcome { answer, txn: next } = outcome;
+        open = next;
+        answers.push_reserved(answer);
+        gate.after(at, step);
+    }
+    open
+}
+
+/// Takes over what the threads left. What is taken over is looked at again, since nothing is known of what threads
+/// wrote.
+fn settle_all(scripts: &[Script], answered: &mut [ScriptAnswers], rooms: Vec<Room>)
+    requires { AreAnswered scripts.now answered.old }
+    ensures { AreAnswered scripts.now answered.new }
+{
+    for (at, room) in rooms.into_iter().enumerate() {
+        settle_at(scripts, answered, at, room);
+    }
+}
+
+#[tactic(auto, using(crate::proofs::Lists::answered_at, crate::proofs::Lists::answered_set))]
+fn settle_at(scripts: &[Script], answered: &mut [ScriptAnswers], at: usize, room: Room)
+    requires { AreAnswered scripts.now answered.old }
+    ensures { AreAnswered scripts.now answered.new }
+{
+    if at >= scripts.len() || at >= answered.len() {
+        return;
+    }
+    settle(&scripts[at], &mut answered[at], room);
+}
+
+/// Takes over what a thread left: an answer for each step, or the refusal of the session.
+fn settle(script: &Script, answered: &mut ScriptAnswers, room: Room)
+    requires { IsAnswered script.now answered.old }
+    ensures { IsAnswered script.now answered.new }
+{
+    let Room {
+        answers,
+        refusal,
+        rolled_back,
+    } = room;
+    match refusal {
+        None => take_over(script, answered, answers, rolled_back),
+        Some(Refusal::NoMemory) => say_no_memory(script, answered),
+        Some(_) => {}
+    }
+}
+
+fn take_over(script: &Script, answered: &mut ScriptAnswers, answers: Vec<Answer>, rolled_back: bool)
+    requires { IsAnswered script.now answered.old }
+    ensures { IsAnswered script.now answered.new }
+{
+    if answers.len() != script.steps.len() {
+        return;
+    }
+    answered.answers = Items::from_vec(answers);
+    answered.ran = true;
+    answered.rolled_back = rolled_back;
+}
+
+/// Says of a script that was not run that its session found no memory.
+fn say_no_memory(script: &Script, answered: &mut ScriptAnswers)
+    requires { IsAnswered script.now answered.old }
+    ensures { IsAnswered script.now answered.new }
+{
+    if answered.ran || answered.answers.is_empty() {
+        return;
+    }
+    answered.answers.set(0, Answer::Refused(Refusal::NoMemory));
+}
