@@ -23,7 +23,7 @@ PROGRAM = """//! Commits of one row each, with a checkpoint after so many.
 use commit::{{Engine, admit}};
 use parse::{{parse_schema, parse_script}};
 use sqlite_items::Items;
-use syntax::Step;
+use syntax::ScriptLine;
 use std::alloc::Global;
 use value::Refusal;
 
@@ -41,11 +41,11 @@ fn engine(alloc: Global) -> Result<Engine, Refusal> {{
     }}
     let definitions = parse_schema(alloc, text.as_bytes())?;
     let loaded = admit(alloc, definitions.as_slice())?;
-    let steps = transaction(alloc, 0)?;
-    Engine::new(alloc, 4_294_967_295, loaded, steps.as_slice())
+    let lines = transaction(alloc, 0)?;
+    Engine::new(alloc, 4_294_967_295, loaded, lines.as_slice())
 }}
 
-fn transaction(alloc: Global, row: u64) -> Result<Items<Step>, Refusal> {{
+fn transaction(alloc: Global, row: u64) -> Result<Items<ScriptLine>, Refusal> {{
     let text = format!(in alloc; "A: BEGIN; A: UPDATE T SET V = V + 1 WHERE ID = {{row}}; A: COMMIT;")?;
     parse_script(alloc, text.as_bytes())
 }}
@@ -57,9 +57,9 @@ fn run(alloc: Global) -> Result<(), Refusal> {{
     }}
     let mut engine = engine(alloc)?;
     for done in 0..COMMITS {{
-        if let Some(steps) = transactions.get((done % ROWS) as usize) {{
-            for step in steps.as_slice() {{
-                engine.answer(step);
+        if let Some(lines) = transactions.get((done % ROWS) as usize) {{
+            for line in lines.as_slice() {{
+                engine.answer(line);
             }}
         }}
         if EVERY > 0 && (done + 1) % EVERY == 0 {{

@@ -31,11 +31,16 @@ def built():
     return str(folder / "out" / "skewguard")
 
 
-def launched(words, output):
-    """The processor seconds and the peak memory in bytes of a command, which has to end well."""
+def launched(words, output, end=0):
+    """The processor seconds and the peak memory in bytes of a command, which has to end with this status.
+
+    What a command says where it is to end otherwise than well is not shown.
+    """
     command = [sys.executable, "-I", "-S", "-c", LAUNCHER, output, *words]
-    status, seconds, memory = subprocess.run(command, check=True, stdout=subprocess.PIPE, text=True).stdout.split()
-    if status != "0":
+    told = subprocess.DEVNULL if end else None
+    done = subprocess.run(command, check=True, stdout=subprocess.PIPE, stderr=told, text=True)
+    status, seconds, memory = done.stdout.split()
+    if status != str(end):
         sys.exit(f"{' '.join(words)} ended with {status}")
     return Used(float(seconds), int(memory))
 

@@ -106,7 +106,11 @@ class Form:
         yield "\n".join(self.tables) + "\n"
         if self.condition:
             yield f"CREATE ASSERTION RULE CHECK ({self.condition});\n"
-        yield from (f"{text(*one)}\n" for one in self.loaded(rows))
+        yield from self.inserts(rows)
+
+    def inserts(self, rows):
+        """The rows to begin with, as texts."""
+        return (f"{text(*one)}\n" for one in self.loaded(rows))
 
 
 def text(statement, numbers):
@@ -207,7 +211,7 @@ FORMS = [
                 {REFUSE} WHERE NOT EXISTS (SELECT 1 FROM COVER WHERE SHIFT = NEW.ID AND N > 0);
             END""",
             """CREATE TRIGGER DUTY_COMES AFTER INSERT ON DUTY WHEN NEW.ONCALL = 1 BEGIN
-                INSERT INTO COVER VALUES (NEW.SHIFT, 1) ON CONFLICT (SHIFT) DO UPDATE SET N = N + 1;
+                INSERT INTO COVER VALUES (NEW.SHIFT, 1) ON CONFLICT (SHIFT) DO UPDATE SET N = COVER.N + 1;
             END""",
             f"""CREATE TRIGGER DUTY_GOES AFTER DELETE ON DUTY WHEN OLD.ONCALL = 1 BEGIN
                 UPDATE COVER SET N = N - 1 WHERE SHIFT = OLD.SHIFT;
@@ -215,7 +219,8 @@ FORMS = [
                     AND EXISTS (SELECT 1 FROM SHIFTS WHERE ID = OLD.SHIFT);
             END""",
             f"""CREATE TRIGGER DUTY_CHANGES AFTER UPDATE OF SHIFT, ONCALL ON DUTY BEGIN
-                INSERT INTO COVER SELECT NEW.SHIFT, 1 WHERE NEW.ONCALL = 1 ON CONFLICT (SHIFT) DO UPDATE SET N = N + 1;
+                INSERT INTO COVER SELECT NEW.SHIFT, 1 WHERE NEW.ONCALL = 1
+                    ON CONFLICT (SHIFT) DO UPDATE SET N = COVER.N + 1;
                 UPDATE COVER SET N = N - 1 WHERE SHIFT = OLD.SHIFT AND OLD.ONCALL = 1;
                 {REFUSE} FROM COVER WHERE SHIFT = OLD.SHIFT AND N < 1
                     AND EXISTS (SELECT 1 FROM SHIFTS WHERE ID = OLD.SHIFT);
@@ -252,7 +257,8 @@ FORMS = [
         ],
         [
             f"""CREATE TRIGGER ACCT_COMES AFTER INSERT ON ACCT BEGIN
-                INSERT INTO FUNDS VALUES (NEW.OWNER, NEW.BAL) ON CONFLICT (OWNER) DO UPDATE SET TOTAL = TOTAL + NEW.BAL;
+                INSERT INTO FUNDS VALUES (NEW.OWNER, NEW.BAL)
+                    ON CONFLICT (OWNER) DO UPDATE SET TOTAL = FUNDS.TOTAL + NEW.BAL;
                 {REFUSE} FROM FUNDS WHERE OWNER = NEW.OWNER AND TOTAL < 0;
             END""",
             f"""CREATE TRIGGER ACCT_GOES AFTER DELETE ON ACCT BEGIN
@@ -265,7 +271,8 @@ FORMS = [
             END""",
             f"""CREATE TRIGGER OWNER_CHANGES AFTER UPDATE OF OWNER ON ACCT WHEN NEW.OWNER <> OLD.OWNER BEGIN
                 UPDATE FUNDS SET TOTAL = TOTAL - OLD.BAL WHERE OWNER = OLD.OWNER;
-                INSERT INTO FUNDS VALUES (NEW.OWNER, NEW.BAL) ON CONFLICT (OWNER) DO UPDATE SET TOTAL = TOTAL + NEW.BAL;
+                INSERT INTO FUNDS VALUES (NEW.OWNER, NEW.BAL)
+                    ON CONFLICT (OWNER) DO UPDATE SET TOTAL = FUNDS.TOTAL + NEW.BAL;
                 {REFUSE} FROM FUNDS WHERE OWNER IN (OLD.OWNER, NEW.OWNER) AND TOTAL < 0;
             END""",
         ],
@@ -366,15 +373,17 @@ class Files:
     """The files of one form and size."""
 
     def __init__(self, folder, form, rows):
+        self.folder = folder
         self.definitions = written(f"{folder}/defs", form.definitions(rows))
         self.empty = written(f"{folder}/empty", [])
         self.script, self.output = f"{folder}/script", f"{folder}/output"
 
 
-def write_rounds(files, form, rows, rounds):
-    """One transaction, which is rolled back."""
-    texts = (f"A: {text(*one)}\n" for number in range(rounds) for one in form.round(number, rows))
-    written(files.script, ["A: BEGIN;\n", *texts, "A: ROLLBACK;\n"])
+def script_of_rounds(form, rows, rounds, begin="BEGIN"):
+    """One transaction, which is rolled back; with another word in the place of BEGIN each statement is refused."""
+    yield f"A: {begin};\n"
+    yield from (f"A: {text(*one)}\n" for number in range(rounds) for one in form.round(number, rows))
+    yield "A: ROLLBACK;\n"
 
 
 def replayed(program, files, form, rounds):
@@ -406,23 +415,33 @@ def filled(form, rows, how):
     for statement, numbers in form.loaded(rows):
         base.execute(statement, numbers)
     base.execute("COMMIT")
+    add_rule(base, form, how)
+    return base
+
+
+def add_rule(base, form, how):
+    """Adds to the tables of SQLite what keeps the rule in this way."""
     for one in (form.index,) if how == SCRATCH else form.other[2] if how == OTHER else (*form.side, *form.triggers):
         base.execute(one)
-    return base
 
 
 def in_sqlite(form, rows, rounds, how):
     """The processor seconds of the statements in SQLite, which keeps the rule in this way."""
     base = filled(form, rows, how)
     base.execute("ANALYZE")
+    used = in_one_transaction(base, form, [one for number in range(rounds) for one in form.round(number, rows)], how)
+    base.close()
+    return used
+
+
+def in_one_transaction(base, form, statements, how):
+    """The processor seconds of statements in a transaction, which is rolled back."""
     query = f"SELECT {form.condition}" if form.condition and how == SCRATCH else None
-    statements = [one for number in range(rounds) for one in form.round(number, rows)]
     base.execute("BEGIN")
     used = processor_time(base, statements, query)
     if form.condition and how != SCRATCH:
         check_totals(base, form)
     base.execute("ROLLBACK")
-    base.close()
     return used
 
 
@@ -509,7 +528,7 @@ class Figures:
 def measure(program, form, rows, repetitions, folder):
     rounds, fewer = ROUNDS.get(rows, 20_000), ROUNDS_FROM_SCRATCH.get(rows, 4)
     files, figures = Files(folder, form, rows), Figures()
-    write_rounds(files, form, rows, rounds)
+    written(files.script, script_of_rounds(form, rows, rounds))
     for _ in range(repetitions):
         loading, statements = replayed(program, files, form, rounds)
         figures.all_loading.append(loading.seconds)

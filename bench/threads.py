@@ -27,7 +27,6 @@ import argparse
 import os
 import random
 import re
-import shutil
 import sqlite3
 import statistics
 import subprocess
@@ -36,6 +35,7 @@ import tempfile
 import time
 
 from replays import built, digits, machine, table, written
+from servers import Server
 
 MEMBERS = 4  # accounts of an owner
 CONTENDED_OWNERS = 10
@@ -135,22 +135,13 @@ CREATE TRIGGER funds AFTER UPDATE ON acct FOR EACH ROW EXECUTE FUNCTION funds();
 """
 
 
-class Postgres:
-    """A server of its own, in a folder in memory."""
+class Postgres(Server):
+    """A server with the accounts and the rule."""
 
     def __init__(self, folder, keys):
-        self.folder = folder
-        shutil.chown(folder, "postgres") if os.getuid() == 0 else None
-        self.run("initdb", "-D", f"{folder}/data", "-A", "trust", "-U", "postgres")
-        options = "-c fsync=off -c synchronous_commit=off -c full_page_writes=off -c listen_addresses="
-        options += f" -k {folder} -c default_transaction_isolation=serializable -c max_pred_locks_per_transaction=1024"
-        self.run("pg_ctl", "-D", f"{folder}/data", "-w", "-o", options, "-l", f"{folder}/log", "start")
+        super().__init__(folder)
         self.sql("CREATE TABLE acct (id integer PRIMARY KEY, owner integer NOT NULL, bal bigint NOT NULL);"
             f"INSERT INTO acct SELECT i, i / {MEMBERS}, {FIRST} FROM generate_series(0, {keys - 1}) AS i;{RULE}VACUUM ANALYZE acct;")
-
-    def run(self, *words):
-        user = ["runuser", "-u", "postgres", "--"] if os.getuid() == 0 else []
-        return subprocess.run([*user, *words], check=True, stdout=subprocess.PIPE, stderr=subprocess.STDOUT, text=True).stdout
 
     def sql(self, text):
         for statement in text.split("VACUUM"):
@@ -170,9 +161,6 @@ class Postgres:
         failed = re.search(r"number of failed transactions: (\d+)", told)
         refused = int(failed.group(1)) / transactions if failed else 0.0
         return float(re.search(r"tps = ([\d.]+)", told).group(1)), refused
-
-    def stop(self):
-        self.run("pg_ctl", "-D", f"{self.folder}/data", "-m", "immediate", "stop")
 
 
 def middle(figures):

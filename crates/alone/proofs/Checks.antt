@@ -19,7 +19,8 @@ use Rattle.assertion.specs.declared.assertions.Assertion.{Assertion}
 use Rattle.assertion.specs.declared.forms.Form.{Form}
 use Rattle.assertion.specs.Meaning.{State, bad_roots, least_bad_of}
 use Rattle.assertion.specs.Candidates.{candidates_of}
-use Rattle.assertion.specs.Roots.{is_bad_root, IsOrdered, AreChangesOf, state_after_all}
+use Rattle.assertion.specs.Roots.{is_bad_root}
+use Rattle.assertion.specs.Changes.{IsOrdered, AreChangesOf, state_after_all}
 use Rattle.assertion.proofs.ListLemmas.{contains-has}
 use Rattle.assertion.proofs.BadRoots.{has-bad}
 use Rattle.assertion.proofs.KeptTruth.{kept_truth-all}

@@ -12,11 +12,11 @@ use Rattle.value.specs.declared.refusals.Refusal.{Refusal}
 use Rattle.value.specs.ValueOrder.{value_cmp}
 use Rattle.value.specs.Ordered.{AreAbove, IsAscending, by_order}
 use Rattle.value.proofs.ValueOrders.{value_cmp_total}
-use Rattle.table.specs.Rows.{RowValues, Layout, value_in, row_at}
+use Rattle.table.specs.Rows.{RowValues, Layout, value_in, row_at, key_of}
 use Rattle.table.specs.declared.conds.Cond.{Cond}
 use Rattle.table.specs.Eval.{keeps}
-use Rattle.assertion.specs.Meaning.{State, rows_of, key_of}
-use Rattle.assertion.specs.Roots.{state_after_all}
+use Rattle.assertion.specs.Meaning.{State, rows_of}
+use Rattle.assertion.specs.Changes.{state_after_all}
 use Rattle.assertcheck.specs.declared.updates.Setting.{Setting}
 use Rattle.value.specs.Results.{unless}
 use Rattle.siread.specs.declared.keys.Place.{Place}

@@ -10,7 +10,7 @@ use Rattle.value.specs.declared.comparisons.Comparison.TheVariants.{Equal}
 use Rattle.value.specs.declared.truths.Truth.TheVariants.{True, False}
 use Rattle.value.specs.Truths.{is_of}
 use Rattle.table.specs.declared.rows.Change.{Change}
-use Rattle.table.specs.Rows.{RowValues, Layout, value_in, row_at}
+use Rattle.table.specs.Rows.{RowValues, Layout, value_in, row_at, key_of}
 use Rattle.table.specs.Aggregates.{is_there, aggregate, rows_of_group}
 use Rattle.table.specs.declared.conds.Cond.{Cond}
 use Rattle.table.specs.Eval.{truth, keeps}
@@ -20,9 +20,10 @@ use Rattle.assertion.specs.declared.queries.Link.{Link}
 use Rattle.assertion.specs.declared.queries.Whole.{Whole}
 use Rattle.assertion.specs.declared.forms.Form.{Form}
 use Rattle.assertion.specs.declared.forms.Form.TheVariants.{ByRow, ByGroup, Single}
-use Rattle.assertion.specs.Meaning.{State, rows_of, key_of, links, linked_answer, plain_answer, filtered_rows, truth_of_roots, verdict_of, group_roots}
+use Rattle.assertion.specs.Meaning.{State, rows_of, links, linked_answer, plain_answer, filtered_rows, truth_of_roots, verdict_of, group_roots}
 use Rattle.assertion.specs.Candidates.{rows_of_change, linked_values, linked_roots, query_candidates, candidates, candidates_of}
-use Rattle.assertion.specs.Roots.{is_bad_row, is_bad_root, IsOrdered}
+use Rattle.assertion.specs.Roots.{is_bad_row, is_bad_root}
+use Rattle.assertion.specs.Changes.{IsOrdered}
 use Rattle.assertion.proofs.ListLemmas.{filter-filter}
 use Rattle.assertion.proofs.KeptTruth.{links-there, equal_of}
 use Rattle.siread.specs.declared.keys.Place.{Place}

@@ -5,12 +5,12 @@ use Rattle.std.proofs.lemmas.Bool.{cases_lt}
 use Rattle.value.specs.declared.refusals.Refusal.{Refusal}
 use Rattle.value.specs.declared.refusals.Refusal.TheVariants.{KeyUpdate}
 use Rattle.table.specs.declared.rows.Change.{Change}
-use Rattle.table.specs.Rows.{Layout, layouts_of, names_of}
+use Rattle.table.specs.Rows.{Layout, layouts_of, names_of, key_of}
 use Rattle.table.specs.Faults.{row_refusal}
 use Rattle.table.specs.declared.conds.Cond.{Cond}
 use Rattle.assertion.specs.declared.assertions.Assertion.{Assertion}
-use Rattle.assertion.specs.Meaning.{State, key_of, least_bad_of}
-use Rattle.assertion.specs.Roots.{state_after_all}
+use Rattle.assertion.specs.Meaning.{State, least_bad_of}
+use Rattle.assertion.specs.Changes.{state_after_all}
 use Rattle.assertcheck.specs.declared.inserts.NewRow.{NewRow}
 use Rattle.assertcheck.specs.declared.updates.Setting.{Setting}
 use Rattle.value.specs.Results.{unless}

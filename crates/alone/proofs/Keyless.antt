@@ -6,11 +6,10 @@ use Rattle.std.specs.Map.{lookup}
 use Rattle.std.specs.Cmp.Lexicographic.{pointwise}
 use Rattle.std.specs.List.{list_all}
 use Rattle.value.specs.declared.refusals.Refusal.TheVariants.{KeyUpdate, TypeMismatch, TooWide}
-use Rattle.table.specs.Rows.{Layout, Tables, layouts_of, layout_of, position_of, names_of}
+use Rattle.table.specs.Rows.{Layout, Tables, layouts_of, layout_of, position_of, names_of, key_of}
 use Rattle.syntax.specs.declared.trees.Condition.{Condition}
 use Rattle.syntax.specs.declared.statements.Assignment.{Assignment}
 use Rattle.table.specs.Bounds.{is_bounded}
-use Rattle.assertion.specs.Meaning.{key_of}
 use Rattle.form_check.specs.Scopes.{Scope}
 use Rattle.form_check.specs.Queries.{Source, source_named, source_of, row_filter}
 use Rattle.assertcheck.specs.Types.{is_typed_condition}

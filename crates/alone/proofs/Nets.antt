@@ -11,9 +11,9 @@ use Rattle.value.specs.Ordered.{by_order, AreAbove, IsAscending, HasKey, at}
 use Rattle.value.proofs.OrderedLists.{at-put, IsAscending-put}
 use Rattle.value.proofs.ValueOrders.{value_cmp_total, value_exact}
 use Rattle.table.specs.declared.rows.Change.{Change}
-use Rattle.table.specs.Rows.{RowValues, Layout, value_in, row_at}
-use Rattle.assertion.specs.Meaning.{State, rows_of, key_of}
-use Rattle.assertion.specs.Roots.{state_after_all}
+use Rattle.table.specs.Rows.{RowValues, Layout, value_in, row_at, key_of}
+use Rattle.assertion.specs.Meaning.{State, rows_of}
+use Rattle.assertion.specs.Changes.{state_after_all}
 use Rattle.siread.specs.declared.keys.Place.{Place}
 use Rattle.siread.specs.declared.keys.LockKey.{LockKey}
 use Rattle.siread.specs.Keys.{row_under_key, SameUnder, same_value, place_of}

@@ -14,9 +14,9 @@ use Rattle.value.specs.ValueOrder.{value_cmp}
 use Rattle.value.specs.Ordered.{by_order, AreAbove, IsAscending, at}
 use Rattle.value.proofs.ValueOrders.{value_cmp_total, value_exact}
 use Rattle.table.specs.declared.rows.Change.{Change}
-use Rattle.table.specs.Rows.{RowValues, Layout, value_in}
-use Rattle.assertion.specs.Meaning.{State, rows_of, key_of}
-use Rattle.assertion.specs.Roots.{IsOrdered, AreChangesOf, state_after, state_after_all}
+use Rattle.table.specs.Rows.{RowValues, Layout, value_in, key_of}
+use Rattle.assertion.specs.Meaning.{State, rows_of}
+use Rattle.assertion.specs.Changes.{IsOrdered, AreChangesOf, state_after, state_after_all}
 use Rattle.table.specs.declared.conds.Cond.{Cond}
 use Rattle.table.specs.Eval.{keeps}
 use Rattle.siread.specs.declared.keys.Place.{Place}

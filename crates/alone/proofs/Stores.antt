@@ -11,9 +11,9 @@ use Rattle.value.specs.Ordered.{HasKey}
 use Rattle.value.proofs.OrderedLists.{at-put}
 use Rattle.value.proofs.ValueOrders.{value_cmp_total, value_exact}
 use Rattle.table.specs.declared.rows.Change.{Change}
-use Rattle.table.specs.Rows.{RowValues, Layout, value_in, row_at}
-use Rattle.assertion.specs.Meaning.{State, rows_of, key_of}
-use Rattle.assertion.specs.Roots.{IsOrdered, IsChangeOf, state_after, state_after_all}
+use Rattle.table.specs.Rows.{RowValues, Layout, value_in, row_at, key_of}
+use Rattle.assertion.specs.Meaning.{State, rows_of}
+use Rattle.assertion.specs.Changes.{IsOrdered, IsChangeOf, state_after, state_after_all}
 use Rattle.assertion.proofs.KeptTruth.{rows-changed, rows-same, IsOrdered-after}
 use Rattle.siread.specs.declared.keys.Place.{Place}
 use Rattle.siread.specs.declared.keys.LockKey.{LockKey}

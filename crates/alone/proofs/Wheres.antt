@@ -13,7 +13,7 @@ use Rattle.value.proofs.ValueOrders.{value_exact}
 use Rattle.value.specs.declared.truths.Truth.{Truth}
 use Rattle.value.specs.declared.truths.Truth.TheVariants.{True, False, Unknown}
 use Rattle.value.specs.Truths.{and_of, is_of, truth_of_bool}
-use Rattle.table.specs.Rows.{RowValues, Layout, value_in}
+use Rattle.table.specs.Rows.{RowValues, Layout, value_in, key_of}
 use Rattle.table.specs.declared.exprs.Expr.{Expr}
 use Rattle.table.specs.declared.exprs.Expr.TheOpen.{Expr-F}
 use Rattle.table.specs.declared.exprs.Expr.TheFolds.{fold-roll-Expr}
@@ -24,8 +24,8 @@ use Rattle.table.specs.declared.conds.Cond.TheFolds.{fold-roll-Cond}
 use Rattle.table.specs.declared.conds.Cond.TheViews.{out-Cond, roll-Cond, roll-out-Cond}
 use Rattle.table.specs.Eval.{truth, keeps, answer, expr_step, cond_step}
 use Rattle.table.specs.Values.{all_of, comparison_truth}
-use Rattle.assertion.specs.Meaning.{State, key_of}
-use Rattle.assertion.specs.Roots.{IsOrdered}
+use Rattle.assertion.specs.Meaning.{State}
+use Rattle.assertion.specs.Changes.{IsOrdered}
 use Rattle.siread.specs.Keys.{is_under, SameUnder, same_value}
 use Rattle.alone.specs.States.{row_in}
 use Rattle.alone.specs.Reads.{parts_in, top_parts, Equality, sides, equal_sides, equality_in, is_on, first_equality, first_on, key_from, filter_key}

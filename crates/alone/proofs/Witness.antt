@@ -4,8 +4,8 @@ use Rattle.std.proofs.Common.{◌≡◌, ℕ, zero, suc, false, List, [], ◌∷
 use Rattle.std.specs.Prelude.{Contains}
 use Rattle.value.specs.ValueOrder.{value_cmp}
 use Rattle.value.specs.Ordered.{IsAscending}
-use Rattle.table.specs.Rows.{Layout, Tables, value_in, layouts_of}
-use Rattle.assertion.specs.Meaning.{State, rows_of, key_of}
+use Rattle.table.specs.Rows.{Layout, Tables, value_in, layouts_of, key_of}
+use Rattle.assertion.specs.Meaning.{State, rows_of}
 use Rattle.assertion.specs.Declarations.{Declared}
 use Rattle.alone.specs.declared.statements.ResolvedStatement.{ResolvedStatement}
 use Rattle.alone.specs.Alone.{transaction, transaction_keys, IsSound}

@@ -3,10 +3,10 @@ use Rattle.std.specs.Prelude.{◌≡◌, ℕ, Bool, true, false, List, [], ◌�
 use Rattle.value.specs.declared.refusals.Refusal.{Refusal}
 use Rattle.value.specs.declared.refusals.Refusal.TheVariants.{UnknownName, KeyUpdate}
 use Rattle.table.specs.declared.rows.Change.{Change}
-use Rattle.table.specs.Rows.{Layout}
+use Rattle.table.specs.Rows.{Layout, key_of}
 use Rattle.assertion.specs.declared.assertions.Assertion.{Assertion}
-use Rattle.assertion.specs.Meaning.{State, key_of, verdict_of}
-use Rattle.assertion.specs.Roots.{state_after_all}
+use Rattle.assertion.specs.Meaning.{State, verdict_of}
+use Rattle.assertion.specs.Changes.{state_after_all}
 use Rattle.siread.specs.declared.keys.LockKey.{LockKey}
 use Rattle.siread.specs.declared.keys.LockKey.TheVariants.{Row as OneRow, Table as WholeTable}
 use Rattle.alone.specs.Modes.{Immediates, initial_modes, is_immediate, modes_with, immediate_ones, named_ones, assertion_of}

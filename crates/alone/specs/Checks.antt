@@ -6,14 +6,14 @@ use Rattle.value.specs.declared.values.Root.TheVariants.{All, Of}
 use Rattle.value.specs.declared.refusals.Refusal.{Refusal}
 use Rattle.value.specs.declared.refusals.Refusal.TheVariants.{Violated}
 use Rattle.table.specs.declared.rows.Change.{Change}
-use Rattle.table.specs.Rows.{RowValues, Layout, value_in}
+use Rattle.table.specs.Rows.{RowValues, Layout, value_in, key_of}
 use Rattle.table.specs.Aggregates.{is_there}
 use Rattle.assertion.specs.declared.assertions.Assertion.{Assertion}
 use Rattle.assertion.specs.declared.queries.Query.{Query}
 use Rattle.assertion.specs.declared.queries.Link.{Link}
 use Rattle.assertion.specs.declared.forms.Form.{Form}
 use Rattle.assertion.specs.declared.forms.Form.TheVariants.{ByRow, ByGroup, Single}
-use Rattle.assertion.specs.Meaning.{State, key_of, least_bad_of}
+use Rattle.assertion.specs.Meaning.{State, least_bad_of}
 use Rattle.assertion.specs.Candidates.{rows_of_change, linked_values, candidates_of}
 use Rattle.siread.specs.declared.keys.LockKey.{LockKey}
 use Rattle.siread.specs.declared.keys.LockKey.TheVariants.{Row as OneRow, Column as InColumn, Table as WholeTable}

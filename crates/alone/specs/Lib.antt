@@ -12,6 +12,3 @@ pub mod Replay
 pub mod Epoch
 pub mod Answer
 pub mod Safe
-pub use Rattle.assertion.specs.Declarations
-pub use Rattle.assertion.specs.Meaning
-pub use Rattle.assertion.specs.Roots

@@ -9,12 +9,12 @@ use Rattle.value.specs.declared.refusals.Refusal.{Refusal}
 use Rattle.value.specs.declared.refusals.Refusal.TheVariants.{DuplicateKey, TypeMismatch}
 use Rattle.table.specs.declared.schemas.Column.{Column}
 use Rattle.table.specs.declared.rows.Change.{Change}
-use Rattle.table.specs.Rows.{RowValues, Layout, Tables, value_in, layouts_of, names_of}
+use Rattle.table.specs.Rows.{RowValues, Layout, Tables, value_in, layouts_of, names_of, key_of}
 use Rattle.table.specs.Faults.{fault_in, is_typed, row_refusal}
 use Rattle.table.specs.declared.exprs.Expr.{Expr}
 use Rattle.table.specs.declared.conds.Cond.{Cond}
 use Rattle.table.specs.Eval.{answer}
-use Rattle.assertion.specs.Meaning.{State, rows_of, key_of, filtered_rows}
+use Rattle.assertion.specs.Meaning.{State, rows_of, filtered_rows}
 use Rattle.assertcheck.specs.declared.inserts.NewRow.{NewRow}
 use Rattle.assertcheck.specs.declared.updates.Setting.{Setting}
 use Rattle.alone.specs.declared.answers.Reply.{Reply}

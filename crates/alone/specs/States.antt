@@ -7,9 +7,9 @@ use Rattle.value.specs.declared.values.Value.{Value}
 use Rattle.value.specs.ValueOrder.{value_cmp}
 use Rattle.value.specs.Ordered as ordered
 use Rattle.table.specs.declared.rows.Change.{Change}
-use Rattle.table.specs.Rows.{RowValues, Layout, value_in, row_at}
-use Rattle.assertion.specs.Meaning.{State, rows_of, key_of}
-use Rattle.assertion.specs.Roots.{IsOrdered}
+use Rattle.table.specs.Rows.{RowValues, Layout, value_in, row_at, key_of}
+use Rattle.assertion.specs.Meaning.{State, rows_of}
+use Rattle.assertion.specs.Changes.{IsOrdered}
 use Rattle.siread.specs.declared.keys.Place.{Place}
 use Rattle.siread.specs.Keys.{same_value, place_of}
 

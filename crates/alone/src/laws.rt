@@ -4,11 +4,12 @@ ghost use Rattle.std.specs.Prelude.{◌≡◌, ◌⊎◌, ◌<◌, ℕ, true, fa
 ghost use Rattle.std.specs.List.{list_all};
 ghost use Rattle.value.specs.declared.values.Root.{Root};
 ghost use Rattle.table.specs.declared.rows.Change.{Change};
-ghost use Rattle.table.specs.Rows.{Layout, Tables, layouts_of};
+ghost use Rattle.table.specs.Rows.{Layout, Tables, layouts_of, key_of};
 ghost use Rattle.assertion.specs.declared.forms.Form.{Form};
-ghost use Rattle.assertion.specs.Meaning.{State, key_of};
+ghost use Rattle.assertion.specs.Meaning.{State};
 ghost use Rattle.assertion.specs.Candidates.{candidates_of};
-ghost use Rattle.assertion.specs.Roots.{is_bad_root, IsOrdered, AreChangesOf, state_after_all};
+ghost use Rattle.assertion.specs.Roots.{is_bad_root};
+ghost use Rattle.assertion.specs.Changes.{IsOrdered, AreChangesOf, state_after_all};
 ghost use Rattle.table.specs.declared.conds.Cond.{Cond};
 ghost use Rattle.syntax.specs.declared.trees.Condition.{Condition};
 ghost use Rattle.syntax.specs.declared.statements.Assignment.{Assignment};
@@ -20,11 +21,10 @@ ghost use Rattle.siread.specs.declared.keys.Place.{Place};
 ghost use Rattle.siread.specs.Keys.{AlikeUnder, place_of};
 ghost use Rattle.alone.specs.States.{row_in, IsState, is_real, AreDue, AreDifferences, change_between, net_change};
 ghost use Rattle.alone.specs.Checks.{keys_for};
-ghost use Rattle.assertion.specs.Declarations.{Declared};
+ghost use Rattle.assertion.specs.Declarations.{Declared, layouts_in};
 ghost use Rattle.alone.specs.declared.statements.ResolvedStatement.{ResolvedStatement};
 ghost use Rattle.alone.specs.Resolve.{is_read_only, resolution_of};
 ghost use Rattle.alone.specs.Statements.{found_rows, delete_effect, renewal, sets_key};
-ghost use Rattle.assertion.specs.Declarations.{layouts_in};
 ghost use Rattle.alone.specs.Alone.{Standing, ran, joined_runs, transaction, transaction_keys, IsSound};
 
 /// The net change between two states has each row in which they differ, with what stands there before and after, and

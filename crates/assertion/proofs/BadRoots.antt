@@ -15,12 +15,13 @@ use Rattle.value.proofs.OrderedLists.{has, equal_from, AreAbove-below, AreAbove-
 use Rattle.value.proofs.ValueOrders.{value_cmp_total, value_exact}
 use Rattle.value.specs.declared.truths.Truth.TheVariants.{False}
 use Rattle.value.specs.Truths.{is_of}
-use Rattle.table.specs.Rows.{RowValues, Layout, value_in, row_at}
+use Rattle.table.specs.Rows.{RowValues, Layout, value_in, row_at, key_of}
 use Rattle.table.specs.Aggregates.{rows_of_group}
 use Rattle.assertion.specs.declared.forms.Form.{Form}
 use Rattle.assertion.specs.declared.forms.Form.TheVariants.{ByRow, ByGroup, Single}
-use Rattle.assertion.specs.Meaning.{State, rows_of, key_of, filtered_rows, lists_row, lists_group, single_truth, bad_roots}
-use Rattle.assertion.specs.Roots.{is_bad_row, is_bad_root, IsOrdered}
+use Rattle.assertion.specs.Meaning.{State, rows_of, filtered_rows, lists_row, lists_group, single_truth, bad_roots}
+use Rattle.assertion.specs.Roots.{is_bad_row, is_bad_root}
+use Rattle.assertion.specs.Changes.{IsOrdered}
 
 -- whether a row, if there is one, passes
 abbrev pub passes : (RowValues → Bool) → Option RowValues → Bool

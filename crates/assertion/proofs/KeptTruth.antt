@@ -19,7 +19,7 @@ use Rattle.value.proofs.ValueOrders.{value_cmp_total, value_exact}
 use Rattle.value.specs.declared.truths.Truth.TheVariants.{True, False}
 use Rattle.value.specs.Truths.{is_of, truth_of_bool}
 use Rattle.table.specs.declared.rows.Change.{Change}
-use Rattle.table.specs.Rows.{RowValues, Layout, value_in, row_at, put_row}
+use Rattle.table.specs.Rows.{RowValues, Layout, value_in, row_at, put_row, key_of}
 use Rattle.table.specs.Aggregates.{is_there, aggregate, rows_of_group}
 use Rattle.table.specs.declared.conds.Cond.{Cond}
 use Rattle.table.specs.Eval.{truth, keeps}
@@ -29,9 +29,10 @@ use Rattle.assertion.specs.declared.queries.Link.{Link}
 use Rattle.assertion.specs.declared.queries.Whole.{Whole}
 use Rattle.assertion.specs.declared.forms.Form.{Form}
 use Rattle.assertion.specs.declared.forms.Form.TheVariants.{ByRow, ByGroup, Single}
-use Rattle.assertion.specs.Meaning.{State, rows_of, key_of, links, linked_answer, plain_answer, filtered_rows}
+use Rattle.assertion.specs.Meaning.{State, rows_of, links, linked_answer, plain_answer, filtered_rows}
 use Rattle.assertion.specs.Candidates.{rows_of_change, linked_values, linked_roots, group_candidates, query_candidates, is_named, candidates, candidates_of}
-use Rattle.assertion.specs.Roots.{is_bad_row, is_bad_root, IsOrdered, IsChangeOf, AreChangesOf, state_after, state_after_all}
+use Rattle.assertion.specs.Roots.{is_bad_row, is_bad_root}
+use Rattle.assertion.specs.Changes.{IsOrdered, IsChangeOf, AreChangesOf, state_after, state_after_all}
 use Rattle.assertion.proofs.BadRoots.{passes, has-row}
 use Rattle.assertion.proofs.ListLemmas.{has-append, has-neither, filter-filter, Drops, DropsAll, DropsAll-two, filter-put, at-key}
 

@@ -16,7 +16,8 @@ use Rattle.assertion.specs.declared.forms.Form.{Form}
 use Rattle.assertion.specs.declared.forms.Form.TheVariants.{ByRow, ByGroup, Single}
 use Rattle.assertion.specs.Meaning.{State, bad_roots, single_truth, truth_of_roots, verdict_of, least_bad_of}
 use Rattle.assertion.specs.Candidates.{candidates, candidates_of}
-use Rattle.assertion.specs.Roots.{is_bad_root, AreBad, IsOrdered, state_after, state_after_all}
+use Rattle.assertion.specs.Roots.{is_bad_root, AreBad}
+use Rattle.assertion.specs.Changes.{IsOrdered, state_after, state_after_all}
 use Rattle.assertion.specs.Laws as law
 use Rattle.assertion.proofs.ListLemmas.{has-contains, contains-has, has-missing}
 use Rattle.assertion.proofs.KeptTruth.{kept_truth, kept_truth-all}

@@ -6,13 +6,13 @@ use Rattle.value.specs.declared.values.Root.{Root}
 use Rattle.value.specs.declared.values.Root.TheVariants.{All, Of}
 use Rattle.value.specs.ValueOrder.{value_cmp}
 use Rattle.table.specs.declared.rows.Change.{Change}
-use Rattle.table.specs.Rows.{RowValues, Layout, value_in}
+use Rattle.table.specs.Rows.{RowValues, Layout, value_in, key_of}
 use Rattle.table.specs.Aggregates.{is_there}
 use Rattle.assertion.specs.declared.queries.Query.{Query}
 use Rattle.assertion.specs.declared.queries.Link.{Link}
 use Rattle.assertion.specs.declared.forms.Form.{Form}
 use Rattle.assertion.specs.declared.forms.Form.TheVariants.{ByRow, ByGroup, Single}
-use Rattle.assertion.specs.Meaning.{State, key_of, rows_of}
+use Rattle.assertion.specs.Meaning.{State, rows_of}
 
 -- the rows of a change: the old one and the new one, where there is one
 abbrev pub rows_of_change : Change → List RowValues

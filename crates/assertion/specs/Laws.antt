@@ -9,7 +9,8 @@ use Rattle.table.specs.Rows.{Layout}
 use Rattle.assertion.specs.declared.forms.Form.{Form}
 use Rattle.assertion.specs.declared.forms.Form.TheVariants.{ByRow, ByGroup, Single}
 use Rattle.assertion.specs.Meaning.{State, bad_roots, truth_of_roots, verdict_of, least_bad_of}
-use Rattle.assertion.specs.Roots.{is_bad_root, AreBad, IsOrdered, IsChangeOf, AreChangesOf, state_after, state_after_all}
+use Rattle.assertion.specs.Roots.{is_bad_root, AreBad}
+use Rattle.assertion.specs.Changes.{IsOrdered, IsChangeOf, AreChangesOf, state_after, state_after_all}
 use Rattle.assertion.specs.Candidates.{candidates, candidates_of}
 
 -- a root that is no candidate of a change is bad after it exactly where it was bad before

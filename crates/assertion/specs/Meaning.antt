@@ -10,7 +10,7 @@ use Rattle.value.specs.declared.truths.Truth.{Truth}
 use Rattle.value.specs.declared.truths.Truth.TheVariants.{True, False}
 use Rattle.value.specs.Truths.{is_of}
 use Rattle.table.specs.declared.aggregates.Aggregate.{Aggregate}
-use Rattle.table.specs.Rows.{RowValues, Layout, value_in}
+use Rattle.table.specs.Rows.{key_of, RowValues, Layout, value_in}
 use Rattle.table.specs.Aggregates.{aggregate, rows_of_group}
 use Rattle.table.specs.declared.conds.Cond.{Cond}
 use Rattle.table.specs.Eval.{truth, keeps}
@@ -28,10 +28,6 @@ State = List (List RowValues)
 -- the rows of the table at a place; none where there is no such table
 abbrev pub rows_of : ℕ → State → List RowValues
 rows_of table state = slice_index_or state table []
-
--- the place of a table's key column
-abbrev pub key_of : ℕ → List Layout → ℕ
-key_of table layouts = (slice_index_or layouts table (record { columns = []; key = 0 })).key
 
 -- the link of a subquery, outer = inner: whether it is true of a row and one of the subquery's table
 abbrev pub links : Link → RowValues → RowValues → Bool

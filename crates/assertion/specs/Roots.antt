@@ -1,22 +1,21 @@
--- Whether a single root is bad, and what a change of a state is.
-use Rattle.std.specs.Prelude.{◌≡◌, ℕ, ◌<◌, Bool, false, ◌&&◌, nat_lt, List, [], ◌∷◌, length, Option, Some, None, is_some, slice_set}
+-- Whether a single root is bad.
+use Rattle.std.specs.Prelude.{◌≡◌, ℕ, Bool, false, ◌&&◌, nat_lt, List, length, Option, Some, None, is_some}
 use Rattle.value.specs.declared.values.Value.{Value}
 use Rattle.value.specs.declared.values.Root.{Root}
 use Rattle.value.specs.declared.values.Root.TheVariants.{All, Of}
-use Rattle.value.specs.ValueOrder.{value_cmp, root_cmp}
+use Rattle.value.specs.ValueOrder.{root_cmp}
 use Rattle.value.specs.Ordered as ordered
 use Rattle.value.specs.Truths.{is_of}
 use Rattle.value.specs.declared.truths.Truth.TheVariants.{False}
 use Rattle.table.specs.declared.aggregates.Aggregate.{Aggregate}
-use Rattle.table.specs.declared.rows.Change.{Change}
-use Rattle.table.specs.Rows.{RowValues, Layout, value_in, row_at, put_row}
+use Rattle.table.specs.Rows.{RowValues, Layout, row_at, key_of}
 use Rattle.table.specs.Aggregates.{rows_of_group}
 use Rattle.table.specs.declared.conds.Cond.{Cond}
 use Rattle.assertion.specs.declared.queries.Query.{Query}
 use Rattle.assertion.specs.declared.queries.Link.{Link}
 use Rattle.assertion.specs.declared.forms.Form.{Form}
 use Rattle.assertion.specs.declared.forms.Form.TheVariants.{ByRow, ByGroup, Single}
-use Rattle.assertion.specs.Meaning.{State, rows_of, key_of, filtered_rows, lists_row, lists_group, single_truth}
+use Rattle.assertion.specs.Meaning.{State, rows_of, filtered_rows, lists_row, lists_group, single_truth}
 
 -- whether there is a row and it is listed
 abbrev pub is_bad_row : State → Cond → List (Query Link) → Option RowValues → Bool
@@ -47,31 +46,3 @@ is_among r roots = is_some (ordered.at root_cmp (λ k. k) r roots)
 pub record AreBad (layouts : List Layout) (form : Form) (state : State) (bad : List Root) : Type 0 where
   pub in_order : ordered.IsAscending root_cmp (λ k. k) bad
   pub exact : (r : Root) → is_among r bad ≡ is_bad_root layouts form state r
-
--- each table's rows are in key order
-abbrev pub IsOrdered : List Layout → State → Type 0
-IsOrdered layouts state =
-    (table : ℕ) → ordered.IsAscending value_cmp (value_in (key_of table layouts)) (rows_of table state)
-
--- the change is of a table of the state: its old row stands under its key, and its new row has that key
-pub record IsChangeOf (layouts : List Layout) (change : Change) (state : State) : Type 0 where
-  pub table_in : change.table < length state
-  pub stands : row_at (key_of change.table layouts) change.key (rows_of change.table state) ≡ change.old
-  pub keyed : ordered.HasKey value_cmp (value_in (key_of change.table layouts)) change.key change.new
-
--- the state after a change
-abbrev pub state_after : List Layout → Change → State → State
-state_after layouts change state =
-    slice_set state change.table
-    (put_row (key_of change.table layouts) change.key change.new (rows_of change.table state))
-
--- the state after changes one after the other
-abbrev pub state_after_all : List Layout → List Change → State → State
-state_after_all layouts [] state = state
-state_after_all layouts (change ∷ changes) state = state_after_all layouts changes (state_after layouts change state)
-
--- each change is one of the state that those before it leave
-abbrev pub AreChangesOf : List Layout → List Change → State → Type 0
-AreChangesOf layouts [] state = Unit {0}
-AreChangesOf layouts (change ∷ changes) state =
-    IsChangeOf layouts change state × AreChangesOf layouts changes (state_after layouts change state)

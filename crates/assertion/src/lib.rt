@@ -5,9 +5,9 @@
 //! is this project's choice):
 //!
 //! - `Form::ByRow`: `NOT EXISTS (SELECT * FROM t r WHERE c)`. The condition sees the columns of one row of `t` and, in
-//!   its slots, the row's subqueries: `EXISTS (SELECT * FROM d WHERE d.x = r.y AND f)`, which asks whether a COUNT(*) is
-//!   above 0, and `(SELECT aggregate FROM d WHERE d.x = r.y AND f)`. The equality is the *link*; neither side need be a
-//!   key.
+//!   its slots, the row's subqueries: `EXISTS (SELECT * FROM d WHERE d.x = r.y AND f)`, which asks whether a COUNT(*)
+//!   is above 0, and `(SELECT aggregate FROM d WHERE d.x = r.y AND f)`. The equality is the *link*; neither side need
+//!   be a key.
 //! - `Form::ByGroup`: `NOT EXISTS (SELECT k FROM t WHERE f GROUP BY k HAVING h)`. The condition `h` sees the group's
 //!   value in column 0 and, in its slots, the aggregates of the group's rows.
 //! - `Form::Single`: a condition that sees no row, and in its slots the subqueries `(SELECT aggregate FROM t WHERE f)`.
@@ -23,9 +23,9 @@
 //!
 //! **Candidates.** A change of one row can turn an assertion only at few roots, its *candidates*:
 //!
-//! - by rows, the key of the changed row if it is of `t`, and, if it is of a subquery's table, for each value other than
-//!   NULL that `x` has in the old or the new row, the value itself where `y` is the key of `t`, and else the keys of the
-//!   rows of `t` that have it in `y` after the change;
+//! - by rows, the key of the changed row if it is of `t`, and, if it is of a subquery's table, for each value other
+//!   than NULL that `x` has in the old or the new row, the value itself where `y` is the key of `t`, and else the keys
+//!   of the rows of `t` that have it in `y` after the change;
 //! - by groups, the value of `k` in the old and in the new row, if it is of `t`;
 //! - of a single condition, the whole, if it is of one of its tables.
 //!

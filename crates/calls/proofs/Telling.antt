@@ -19,7 +19,7 @@ module _ (Is : Event → Type 0) (event : Event) (old new : Database) (r : Respo
   such None told = told
   such (Some name) (inl told) = inl told
   such (Some name) (inr told) = inr (record {
-    step = told.step;
+    script_line = told.script_line;
     session_is = told.session_is;
     event_is = subst Is (sym told.event_is) is;
     answer = told.answer;

@@ -9,7 +9,7 @@ use Rattle.table.specs.declared.schemas.Column.{Column}
 use Rattle.token.specs.Bytes.{name_of}
 use Rattle.syntax.specs.declared.statements.Event.{Event}
 use Rattle.syntax.specs.declared.statements.Event.TheVariants as event
-use Rattle.syntax.specs.declared.statements.Step.{Step}
+use Rattle.syntax.specs.declared.statements.ScriptLine.{ScriptLine}
 use Rattle.syntax.specs.declared.statements.Statement.TheVariants as statement
 use Rattle.syntax.specs.declared.definitions.Definition.{Definition}
 use Rattle.syntax.specs.StatementGrammar.{IsEvent}
@@ -21,8 +21,8 @@ use Rattle.commit.specs.Epochs.{IsNextEpoch, is_any_open}
 use Rattle.commit.specs.Admission.{admission_of}
 use Rattle.commit.specs.Events.{EngineState, IsAnswered, after}
 use Rattle.commit.specs.Runs.{beginning, seats_with}
-use Rattle.commit.specs.Views.{ViewState}
-use Rattle.commit.specs.Written.{AreWritten}
+use Rattle.delta.specs.Views.{ViewState}
+use Rattle.definitions.specs.Written.{AreWritten}
 use Rattle.replay.specs.Reports.{closing_part_of}
 use Rattle.replay.specs.Texts.{IsRead, IsUnread}
 use Rattle.prepared.specs.declared.faults.FillFault.{FillFault}
@@ -135,13 +135,13 @@ ClosesSession number old new r = ClosesNamed (session_name number old.sessions) 
 
 -- the engine answers an event in the seat of the session's name
 pub record IsAnsweredIn (name : List ℕ) (Is : Event → Type 0) (old new : Database) (r : Response) : Type 0 where
-  pub step : Step
-  pub session_is : step.session ≡ name
-  pub event_is : Is step.event
+  pub script_line : ScriptLine
+  pub session_is : script_line.session ≡ name
+  pub event_is : Is script_line.event
   pub answer : Answer
-  pub answered : IsAnswered old.engine step answer
-  pub leaves : new ≡ record old { engine = after old.engine step answer }
-  pub told : r ≡ response.Answered step answer
+  pub answered : IsAnswered old.engine script_line answer
+  pub leaves : new ≡ record old { engine = after old.engine script_line answer }
+  pub told : r ≡ response.Answered script_line answer
 
 -- an event of the session of this name is answered; without a name no session has the number
 abbrev pub AnswersNamed : Option (List ℕ) → (Event → Type 0) → Database → Database → Response → Type 0
@@ -239,7 +239,7 @@ is_change (response.Session n) = true
 is_change (response.Prepared n parameters) = true
 is_change response.SessionClosed = true
 is_change response.Forgotten = true
-is_change (response.Answered step answer) = true
+is_change (response.Answered script_line answer) = true
 is_change (response.Closing bytes) = false
 is_change (response.Changed bytes) = true
 is_change (response.Refused source refusal) = false
@@ -334,7 +334,7 @@ columns_of other now = []
 
 -- the columns of the table of the SELECT that was answered, for the reply
 abbrev pub all_columns : Response → Database → List Column
-all_columns (response.Answered step answer) now = columns_of step.event now
+all_columns (response.Answered script_line answer) now = columns_of script_line.event now
 all_columns other now = []
 
 -- ---- the beginning

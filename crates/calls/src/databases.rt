@@ -19,7 +19,7 @@ use prepared::{FillFault, prepare};
 use replay::add_closing_part;
 use report::Report;
 use std::alloc::{AllocError, Global};
-use syntax::{Event, Statement, Step};
+use syntax::{Event, ScriptLine, Statement};
 use table::Column;
 use value::{Refusal, Text, Value};
 
@@ -30,9 +30,6 @@ pub struct Database {
     pub sessions: Sessions,
     pub statements: Statements,
 }
-
-/// Lets a value go. Its type is a parameter here, so that the caller's proof does not go over its fields.
-pub fn let_go<T: Drop>(_value: T) {}
 
 fn refusal_response(source: Source, refusal: Refusal) -> Response
     ensures { result ≡ spec.refusal_response source refusal }
@@ -137,9 +134,9 @@ fn read_changes(alloc: Global, request: &[u8]) -> Result<RuleChanges, Response>
 fn closing_part(alloc: Global, core: &Core) -> Result<Text, AllocError>
     ensures { IfOk result (λ text. text ≡ closing_part_of core.now) }
 {
-    let mut lines = Report::new(alloc);
-    add_closing_part(alloc, core, &mut lines)?;
-    let bytes = Vec::from_slice(alloc, lines.as_bytes())?;
+    let mut report = Report::new(alloc);
+    add_closing_part(alloc, core, &mut report)?;
+    let bytes = Vec::from_slice(alloc, report.as_bytes())?;
     Text::new(bytes)
 }
 
@@ -232,11 +229,11 @@ impl Database {
             return Response::Misused(Misuse::NoSession);
         };
         let Session { number: _, name } = session;
-        let step = Step {
+        let script_line = ScriptLine {
             session: name,
             event: Event::Rollback,
         };
-        let_go(self.engine.answer(&step));
+        drop(self.engine.answer(&script_line));
         Response::SessionClosed
     }
 
@@ -262,7 +259,7 @@ impl Database {
         match self.statements.remove(number) {
             None => Response::Misused(Misuse::NoStatement),
             Some(prepared) => {
-                let_go(prepared);
+                drop(prepared);
                 Response::Forgotten
             }
         }
@@ -319,7 +316,7 @@ impl Database {
     {
         match read_only_number(request) {
             None => {
-                let_go(event);
+                drop(event);
                 Response::Misused(Misuse::BadRequest)
             }
             Some(session) => self.answer(session, event),
@@ -331,17 +328,20 @@ impl Database {
         ensures { spec.AnswersEvent (λ e. e ≡ event) session self.old self.new result }
     {
         let Some(name) = self.sessions.name(session) else {
-            let_go(event);
+            drop(event);
             return Response::Misused(Misuse::NoSession);
         };
         match name.copy() {
             Ok(session) => {
-                let step = Step { session, event };
-                let answer = self.engine.answer(&step);
-                Response::Answered { step, answer }
+                let script_line = ScriptLine { session, event };
+                let answer = self.engine.answer(&script_line);
+                Response::Answered {
+                    script_line,
+                    answer,
+                }
             }
             Err(_) => {
-                let_go(event);
+                drop(event);
                 refusal_response(Source::Statement, Refusal::NoMemory)
             }
         }
@@ -376,11 +376,11 @@ impl Database {
         };
         match self.engine.checkpoint(&changes.dropped, &changes.created) {
             Ok(before) => {
-                let_go(before);
+                drop(before);
                 Response::Changed(text)
             }
             Err(refusal) => {
-                let_go(text);
+                drop(text);
                 refusal_response(Source::Rules, refusal)
             }
         }
@@ -391,7 +391,7 @@ impl Database {
         ensures { result.now ≡ spec.all_columns response.now self.now }
     {
         match response {
-            Response::Answered { step, .. } => self.columns_of(&step.event),
+            Response::Answered { script_line, .. } => self.columns_of(&script_line.event),
             _ => &[],
         }
     }

@@ -5,7 +5,7 @@ ghost use Rattle.messages.specs.Replies as messages;
 ghost use Rattle.calls.specs.States as spec;
 ghost use Rattle.calls.specs.States.{IsCalled, IsOpened, IsReplied, overwritten};
 
-use crate::databases::{Database, let_go};
+use crate::databases::Database;
 use messages::{
     Bytes, Misuse, Operation, Response, Source, line_bytes, operation_of, read_number,
     response_bytes, status_number, status_of, status_without_reply,
@@ -141,7 +141,7 @@ impl Library {
     fn respond(&mut self, response: Response)
         ensures { self.new ≡ record self.old { response = response } }
     {
-        let_go(mem::replace(&mut self.response, response));
+        drop(mem::replace(&mut self.response, response));
     }
 
     fn operate(&mut self, alloc: Global, operation: Operation, request: &[u8]) -> Response

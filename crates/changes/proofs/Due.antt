@@ -4,15 +4,15 @@ use Rattle.std.specs.Prelude.{All}
 use Rattle.std.proofs.lemmas.List.Elements.{All-nil, All-cons, All-head, All-tail}
 use Rattle.value.specs.Ordered.{HoldsOf}
 use Rattle.table.specs.declared.rows.Change.{Change}
-use Rattle.table.specs.Rows.{RowValues, Layout, FitsColumns}
+use Rattle.table.specs.Rows.{RowValues, Layout, FitsColumns, key_of, layout_at}
 use Rattle.table.specs.declared.conds.Cond.{Cond}
-use Rattle.alone.specs.Meaning.{State, rows_of, key_of, filtered_rows}
+use Rattle.assertion.specs.Meaning.{State, rows_of, filtered_rows}
 use Rattle.assertcheck.specs.declared.updates.Setting.{Setting}
 use Rattle.alone.specs.States.{IsState, AreDue}
 use Rattle.alone.specs.Statements.{removal, renewal, row_after_settings, sets_key, delete_effect}
 use Rattle.alone.proofs.Effects.{delete_doable, update_doable}
 use Rattle.alone.proofs.Orders.{found_in_order, due_from}
-use Rattle.delta.specs.Views.{IsFitting, layout_at}
+use Rattle.delta.specs.Views.{IsFitting}
 use Rattle.changes.proofs.Walks.{all_made}
 
 module _ (layouts : List Layout) (state : State) (fit : IsState layouts state) (table key : ℕ) (restriction : Cond) (rows : List RowValues) (made : List Change) (k : key_of table layouts ≡ key) (r : rows_of table state ≡ rows) where

@@ -13,7 +13,7 @@ use Rattle.value.proofs.ValueOrders.{value_cmp_total}
 use Rattle.table.specs.Rows.{RowValues, value_in, row_at}
 use Rattle.table.specs.declared.conds.Cond.{Cond}
 use Rattle.table.specs.Eval.{keeps}
-use Rattle.alone.specs.Meaning.{filtered_rows}
+use Rattle.assertion.specs.Meaning.{filtered_rows}
 use Rattle.siread.specs.Keys.{is_under, same_value}
 use Rattle.alone.specs.Reads.{Equality, first_on, first_equality, key_from, top_parts}
 use Rattle.siread.proofs.KeyOrder.{same_value-true}

@@ -5,7 +5,7 @@ use Rattle.std.proofs.lemmas.Bool.{and_right, not-false}
 use Rattle.value.specs.Ordered.{AreAbove, IsAscending}
 use Rattle.table.specs.declared.rows.Change.{Change}
 use Rattle.table.specs.Rows.{RowValues, Layout}
-use Rattle.alone.specs.Meaning.{State}
+use Rattle.assertion.specs.Meaning.{State}
 use Rattle.siread.specs.declared.keys.Place.{Place}
 use Rattle.siread.specs.Keys.{same_value, place_of}
 use Rattle.alone.specs.States.{row_in, same_row, is_real, change_between, place_cmp, net_change, AreInOrder, AreDifferences, IsState}

@@ -6,8 +6,8 @@ use Rattle.table.specs.Rows.{RowValues, Layout, value_in, row_at}
 use Rattle.table.specs.Faults.{row_refusal}
 use Rattle.siread.specs.declared.keys.Place.{Place}
 use Rattle.syntax.specs.declared.statements.Insert.{Insert}
-use Rattle.alone.specs.Declarations.{layouts_in}
-use Rattle.alone.specs.Roots.{state_after_all}
+use Rattle.assertion.specs.Declarations.{layouts_in}
+use Rattle.assertion.specs.Changes.{state_after_all}
 use Rattle.assertcheck.specs.Statements.{insert_of}
 use Rattle.alone.specs.Statements.{Effect, inserted_at, insert_effect}
 use Rattle.delta.specs.Views.{ViewState}

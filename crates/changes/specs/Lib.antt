@@ -2,4 +2,3 @@ pub mod Nets
 pub mod Shown
 pub mod Insertions
 pub mod Lookups
-pub use Rattle.alone.specs.Statements

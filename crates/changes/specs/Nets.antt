@@ -2,7 +2,7 @@
 use Rattle.std.specs.Prelude.{◌≡◌, ◌⊎◌, List, [], ◌∷◌, Option, Some, None, Contains, if◌then◌else◌}
 use Rattle.table.specs.declared.rows.Change.{Change}
 use Rattle.table.specs.Rows.{Layout}
-use Rattle.alone.specs.Meaning.{State}
+use Rattle.assertion.specs.Meaning.{State}
 use Rattle.siread.specs.declared.keys.Place.{Place}
 use Rattle.alone.specs.States.{row_in, is_real, change_between}
 

@@ -6,7 +6,7 @@ ghost use Rattle.std.specs.Option.{option_copied};
 ghost use Rattle.assertion.specs.declared.assertions.Assertion.{Assertion as AnyAssertion};
 ghost use Rattle.assertion.specs.Candidates.{linked_values};
 ghost use Rattle.assertion.specs.Declarations.{layouts_in};
-ghost use Rattle.assertion.specs.Meaning.{key_of};
+ghost use Rattle.table.specs.Rows.{key_of};
 ghost use Rattle.siread.specs.declared.keys.LockKey.TheVariants.{Column as InColumn, Table as WholeTable};
 ghost use Rattle.alone.specs.States.{row_in};
 ghost use Rattle.alone.specs.Modes.{immediate_ones};

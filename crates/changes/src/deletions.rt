@@ -3,9 +3,9 @@
 ghost use Rattle.std.specs.Prelude.{◌≡◌, [], All, List, length, IfOk, IsTrue};
 ghost use Rattle.value.specs.Ordered.{IsAscending};
 ghost use Rattle.value.specs.ValueOrder.{value_cmp};
-ghost use Rattle.table.specs.Rows.{Layout, value_in};
+ghost use Rattle.table.specs.Rows.{Layout, value_in, key_of};
 ghost use Rattle.table.specs.Bounds.{IsSmallRow, is_bounded};
-ghost use Rattle.alone.specs.Meaning.{State, key_of, filtered_rows, rows_of};
+ghost use Rattle.assertion.specs.Meaning.{State, filtered_rows, rows_of};
 ghost use Rattle.alone.specs.declared.answers.Reply.TheVariants.{Deleted};
 ghost use Rattle.alone.specs.States.{AreDue, IsState};
 ghost use Rattle.alone.specs.Statements.{delete_effect, removal};
@@ -13,9 +13,8 @@ ghost use Rattle.delta.specs.Views.{IsFitting};
 
 use crate::filtered::filtered_rows;
 use mvrows::Rows;
-use roots::value_at;
 use std::alloc::{AllocError, Global};
-use table::{Change, Cond, Row};
+use table::{Change, Cond, Row, value_at};
 
 /// The changes of a DELETE: that each row of a table which the condition keeps is taken out, in key order. `table` is
 /// the table's place, `key` that of its key column, and `rows` are those that stand in it now.

@@ -6,7 +6,7 @@ ghost use Rattle.value.specs.Ordered.{IsAscending};
 ghost use Rattle.value.specs.ValueOrder.{value_cmp};
 ghost use Rattle.table.specs.Rows.{value_in};
 ghost use Rattle.table.specs.Bounds.{IsSmallRow, is_bounded};
-ghost use Rattle.alone.specs.Meaning.{filtered_rows};
+ghost use Rattle.assertion.specs.Meaning.{filtered_rows};
 
 use crate::lookups::{RowsToTest, look_through};
 use mvrows::Rows;
@@ -26,7 +26,7 @@ impl<'a> Model for FilteredRows<'a> {
     ghost use Rattle.std.specs.Prelude.{[], All, IsTrue, List};
     ghost use Rattle.table.specs.Rows.{RowValues};
     ghost use Rattle.table.specs.Bounds.{IsSmallRow, is_bounded};
-    ghost use Rattle.alone.specs.Meaning.{filtered_rows};
+    ghost use Rattle.assertion.specs.Meaning.{filtered_rows};
 
     ghost Value = { List RowValues };
 

@@ -23,9 +23,6 @@
 //! stands under its key, and each new row fits the columns; so they may be put in one after the other. The rows
 //! themselves aren't changed.
 //!
-//! [`schema_at`] and [`name_at`] are the schema and the name of a table by its place, which is how checked statements
-//! name their tables.
-//!
 //! The definitions are those of `alone`; `specs/Insertions` has INSERT as a whole on what a view shows.
 //!
 //! # Reads
@@ -69,7 +66,6 @@ mod insertions;
 mod lookups;
 mod net;
 mod real;
-mod schemas;
 mod selections;
 mod settings;
 mod touched;
@@ -81,7 +77,6 @@ pub use deletions::removals;
 pub use insertions::insertion;
 pub use net::{is_same_there, net_change, row_in};
 pub use real::real_changes;
-pub use schemas::{name_at, schema_at};
 pub use selections::selected_rows;
 pub use touched::TouchedPlaces;
 pub use updates::renewals;

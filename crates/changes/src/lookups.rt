@@ -7,7 +7,7 @@ ghost use Rattle.value.specs.ValueOrder.{value_cmp};
 ghost use Rattle.table.specs.declared.schemas.Column.{Column};
 ghost use Rattle.table.specs.Rows.{FitsColumns, value_in};
 ghost use Rattle.table.specs.Bounds.{IsSmallRow};
-ghost use Rattle.alone.specs.Meaning.{filtered_rows};
+ghost use Rattle.assertion.specs.Meaning.{filtered_rows};
 
 use crate::wheres::equality_on;
 use mvrows::{RowIter, Rows};

@@ -2,7 +2,7 @@
 
 ghost use Rattle.std.specs.Prelude.{◌≡◌, ◌<◌, IfOk};
 ghost use Rattle.std.specs.Option.{option_copied};
-ghost use Rattle.alone.specs.Declarations.{layouts_in};
+ghost use Rattle.assertion.specs.Declarations.{layouts_in};
 ghost use Rattle.alone.specs.States.{net_change, row_in, same_row, same_there};
 ghost use Rattle.changes.specs.Nets.{DifferAt, difference_at, differences_at};
 

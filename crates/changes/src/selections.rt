@@ -2,14 +2,13 @@
 
 ghost use Rattle.std.specs.Prelude.{◌≡◌, ◌<◌, [], length, IfOk, IsTrue};
 ghost use Rattle.table.specs.Bounds.{is_bounded};
-ghost use Rattle.alone.specs.Meaning.{filtered_rows, rows_of};
+ghost use Rattle.assertion.specs.Meaning.{filtered_rows, rows_of};
 ghost use Rattle.alone.specs.Statements.{selected_rows, selected_values};
 
 use crate::filtered::filtered_rows;
 use delta::View;
-use roots::value_at;
 use std::alloc::{AllocError, Global};
-use table::{Cond, Row};
+use table::{Cond, Row, value_at};
 
 /// What a SELECT lists: of each row of a table that the condition keeps, in key order, what stands in these columns, in
 /// their order. A row that has no such column lists NULL there. The view knows the table's key, under which its rows

@@ -3,22 +3,21 @@
 ghost use Rattle.std.specs.Prelude.{◌≡◌, ◌≢◌, ◌<◌, false, [], All, List, length, IfOk, IfErr, IsTrue, OnOk, Ok, Err, Some, None, slice_get, slice_set};
 ghost use Rattle.value.specs.declared.refusals.Refusal.TheVariants.{NoMemory};
 ghost use Rattle.value.specs.Ordered.{HoldsOf};
-ghost use Rattle.table.specs.Rows.{FitsColumns, IsTable, Layout};
+ghost use Rattle.table.specs.Rows.{FitsColumns, IsTable, Layout, key_of, layout_at};
 ghost use Rattle.table.specs.Bounds.{IsSmallRow, is_bounded};
-ghost use Rattle.alone.specs.Meaning.{State, key_of, filtered_rows, rows_of};
+ghost use Rattle.assertion.specs.Meaning.{State, filtered_rows, rows_of};
 ghost use Rattle.assertcheck.specs.Updates.{IsBoundedSetting};
 ghost use Rattle.alone.specs.declared.answers.Reply.TheVariants.{Updated};
 ghost use Rattle.alone.specs.States.{AreDue, IsState};
 ghost use Rattle.alone.specs.Statements.{given_fault, given_value, renewal, sets_key, settings_fault, update_effect, row_after_settings};
-ghost use Rattle.delta.specs.Views.{IsFitting, layout_at};
+ghost use Rattle.delta.specs.Views.{IsFitting};
 
 use crate::filtered::filtered_rows;
 use crate::settings::given_value;
 use assertcheck::Setting;
 use mvrows::Rows;
-use roots::value_at;
 use std::alloc::{AllocError, Global};
-use table::{Change, Column, Cond, Row, Schema};
+use table::{Change, Column, Cond, Row, Schema, value_at};
 use value::{Refusal, Value};
 
 /// The changes of an UPDATE: that each row of a table which the condition keeps gets what is assigned, in key order.

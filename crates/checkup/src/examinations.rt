@@ -9,7 +9,7 @@ use parse::{parse_schema, parse_script};
 use replay::MOST_SESSIONS;
 use sqlite_items::Items;
 use std::alloc::{AllocError, Global};
-use syntax::{Definition, Event, Step};
+use syntax::{Definition, Event, ScriptLine};
 use value::{Refusal, Root, Text};
 
 /// What is said of too many sessions.
@@ -52,7 +52,7 @@ pub fn examine(
     }
     if let Some(script) = script {
         match parse_script(alloc, script) {
-            Ok(steps) => look_at_steps(alloc, script, steps.as_slice(), &mut found)?,
+            Ok(lines) => look_at_lines(alloc, script, lines.as_slice(), &mut found)?,
             Err(refusal) => push_grammar(alloc, Which::Script, script, &refusal, &mut found)?,
         }
     }
@@ -139,14 +139,14 @@ fn bad_row(
 }
 
 /// Counts the sessions of a script, and looks for statements that are always refused.
-fn look_at_steps(
+fn look_at_lines(
     alloc: Global,
     bytes: &[u8],
-    steps: &[Step],
+    lines: &[ScriptLine],
     found: &mut Examination,
 ) -> Result<(), AllocError> {
-    found.events = steps.len();
-    found.sessions = session_count(alloc, steps)?;
+    found.events = lines.len();
+    found.sessions = session_count(alloc, lines)?;
     if found.sessions > MOST_SESSIONS {
         let sessions = found.sessions;
         let what = format!(in alloc;
@@ -159,7 +159,7 @@ fn look_at_steps(
     }
     let mut notes = Vec::new(alloc);
     if let Some(view) = &found.view {
-        push_notes(alloc, bytes, steps, view, &mut notes)?;
+        push_notes(alloc, bytes, lines, view, &mut notes)?;
     }
     found.notes = notes;
     Ok(())
@@ -169,12 +169,12 @@ fn look_at_steps(
 fn push_notes(
     alloc: Global,
     bytes: &[u8],
-    steps: &[Step],
+    lines: &[ScriptLine],
     view: &View,
     notes: &mut Vec<Diagnosis>,
 ) -> Result<(), AllocError> {
-    for (place, step) in steps.iter().enumerate() {
-        if let Event::Run(statement) = &step.event {
+    for (place, line) in lines.iter().enumerate() {
+        if let Event::Run(statement) = &line.event {
             if let Some(note) = diagnose_statement(alloc, bytes, place, statement, view)? {
                 notes.push(note)?;
                 if notes.len() >= MOST_NOTES {
@@ -187,10 +187,10 @@ fn push_notes(
 }
 
 /// How many sessions there are.
-fn session_count(alloc: Global, steps: &[Step]) -> Result<usize, AllocError> {
+fn session_count(alloc: Global, lines: &[ScriptLine]) -> Result<usize, AllocError> {
     let mut names = Vec::new(alloc);
-    for step in steps {
-        names.push(&step.session)?;
+    for line in lines {
+        names.push(&line.session)?;
     }
     names.sort_unstable();
     let mut count = 0usize;

@@ -8,7 +8,7 @@ use Rattle.table.specs.declared.rows.Change.{Change}
 use Rattle.table.specs.Rows.{names_of}
 use Rattle.assertion.specs.Declarations.{Declared, layouts_in}
 use Rattle.assertion.specs.Meaning.{State}
-use Rattle.assertion.specs.Roots.{AreChangesOf, state_after_all}
+use Rattle.assertion.specs.Changes.{AreChangesOf, state_after_all}
 use Rattle.siread.specs.Keys.{place_of}
 use Rattle.alone.specs.Alone.{run_on}
 use Rattle.alone.specs.States.{AreDue, AreInOrder, IsPut, IsState, net_change, row_in}
@@ -30,7 +30,7 @@ use Rattle.alone.proofs.Semantics.{history_nets}
 use Rattle.conflict.specs.Ordered.{numbers_of}
 use Rattle.txn.specs.Transactions.{OpenTransaction, transaction_at_begin, outcome_of, own_view}
 use Rattle.commit.specs.Cores.{CoreState, IsLive, core_after_commit, log_of, newest_tables, record_of, with_begun, with_commit}
-use Rattle.commit.proofs.Tickets.{fewer}
+use Rattle.commit.proofs.BeginNumbers.{fewer}
 use Rattle.commit.proofs.Recording.{begin_live, changes_are, epoch_next, log_with, newest_at}
 use Rattle.commit.specs.Kept.{IsCore}
 
@@ -131,5 +131,5 @@ module _ (now : CoreState) (tables : ViewState) (places reaches order : List ℕ
               ∙ ap (λ log. numbers_of (serial_order log)) (sym (log_with records commit));
           within = (let within = core.within in let long = length-append records (commit ∷ []) in let other = eqb-false _ _ room in omega arith);
           small = core.small;
-          tickets = fewer now.live t.ticket core.tickets;
+          begin_numbers = fewer now.live t.begin_number core.begin_numbers;
         }

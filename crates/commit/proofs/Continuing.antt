@@ -122,7 +122,7 @@ pub live_after : (dropped : List (List ℕ)) (created : List NewAssertion) (befo
 live_after dropped created before after seats (Ok old) closed live next same = subst (λ (c : CoreState). AreLive c seats) (sym next.empty) (record {
   each = λ place t e. absurd (none_open seats closed place t e);
   apart = λ place other t u e f same. absurd (none_open seats closed place t e);
-  begun = All-nil (λ (one : LiveSnapshot). one.ticket < none_live.begun);
+  begun = All-nil (λ (one : LiveSnapshot). one.begin_number < none_live.begun);
   idle = refl;
 })
 live_after dropped created before after seats (Err refusal) closed live next same = subst (λ (c : CoreState). AreLive c seats) (sym same) live

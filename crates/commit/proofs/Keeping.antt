@@ -12,7 +12,7 @@ use Rattle.commit.specs.declared.prepared.Prepared.{Prepared}
 use Rattle.commit.specs.Cores.{CoreState, reads_kept}
 use Rattle.commit.specs.Kept.{IsCore, IsKept, idle_core, pending_of}
 use Rattle.commit.proofs.Locking.{kept_ended}
-use Rattle.commit.proofs.Tickets.{fewer}
+use Rattle.commit.proofs.BeginNumbers.{fewer}
 
 pub none_pending : (prepared : Option Prepared) → pending_of prepared ≡ None → prepared ≡ None
 none_pending None e = refl
@@ -42,7 +42,7 @@ module _ (core : CoreState) (newest : ViewState) (places reaches order : List �
   -- open transactions and refused commits leave what is kept of the commits as it is
   pub same_commits : (live : LiveState) (refused : List RefusedCommit) → AreBelow live.begun live.snapshots → IsCore core newest places reaches order
       → IsCore (record core { live = live; refused = refused }) newest places reaches order
-  same_commits live refused tickets h = record {
+  same_commits live refused begin_numbers h = record {
     epoch = h.epoch;
     newest_is = h.newest_is;
     places_are = h.places_are;
@@ -50,7 +50,7 @@ module _ (core : CoreState) (newest : ViewState) (places reaches order : List �
     order_is = h.order_is;
     within = h.within;
     small = h.small;
-    tickets = tickets;
+    begin_numbers = begin_numbers;
   }
 
 -- the same of what is equal
@@ -62,17 +62,17 @@ same_core core core' newest newest' places places' reaches reaches' order order'
 
 -- what is kept as a transaction has ended: of the readers, those that an open one may still ask for
 pub kept_left : (core : CoreState) (newest : ViewState) (places reaches order : List ℕ) (locks : Reads) (Room Room' : Type 0) (prepared : Option Prepared)
-    (ticket : ℕ) (live : LiveState) (refused : List RefusedCommit) (count : ℕ) (after : Reads)
-    → prepared ≡ None → live ≡ without ticket core.live → count ≡ length core.records
+    (begin_number : ℕ) (live : LiveState) (refused : List RefusedCommit) (count : ℕ) (after : Reads)
+    → prepared ≡ None → live ≡ without begin_number core.live → count ≡ length core.records
     → after ≡ reads_above (least_writing count live.snapshots) reaches locks → IsKept core newest places reaches order locks prepared Room
     → IsKept (record core { live = live; refused = refused }) newest places reaches order after prepared Room'
-kept_left core newest places reaches order locks Room Room' prepared ticket live refused count after idle e same f kept =
+kept_left core newest places reaches order locks Room Room' prepared begin_number live refused count after idle e same f kept =
     let left : after ≡ reads_kept (record core { live = live; refused = refused }) =
     f ∙ (λ i. reads_above (least_writing (same i) (e i).snapshots) (kept.0.reaches_are i) (locks_idle core newest places reaches order locks Room prepared idle kept i))
-    ∙ kept_ended core.live core.records ticket ∙ (λ i. reads_kept (record core { live = sym e i; refused = refused })) in
+    ∙ kept_ended core.live core.records begin_number ∙ (λ i. reads_kept (record core { live = sym e i; refused = refused })) in
     kept_idle (record core { live = live; refused = refused }) newest places reaches order after Room' prepared idle
     (same_commits core newest places reaches order locks Room live refused
-    (subst (λ (l : LiveState). AreBelow l.begun l.snapshots) (sym e) (fewer core.live ticket kept.0.tickets)) kept.0)
+    (subst (λ (l : LiveState). AreBelow l.begun l.snapshots) (sym e) (fewer core.live begin_number kept.0.begin_numbers)) kept.0)
     left
 
 -- before the first commit
@@ -85,5 +85,5 @@ empty_kept limit loaded sound within = record {
   order_is = refl;
   within = omega arith;
   small = within;
-  tickets = All-nil (λ (one : LiveSnapshot). one.ticket < 0);
+  begin_numbers = All-nil (λ (one : LiveSnapshot). one.begin_number < 0);
 }

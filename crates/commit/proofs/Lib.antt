@@ -1,4 +1,4 @@
-pub mod Tickets
+pub mod BeginNumbers
 pub mod Locking
 pub mod Recording
 pub mod Accepting

@@ -3,37 +3,40 @@ use Rattle.std.proofs.Common.{◌≡◌, ◌<◌, Bool, ℕ, zero, suc, true, fa
 use Rattle.std.specs.Prelude.{◌⊎◌, slice_get, slice_set, OnOk, OnErr, IfOk}
 use Rattle.std.proofs.lemmas.Bool.{cases_eq}
 use Rattle.std.proofs.lemmas.List.{length-append}
+use Rattle.std.proofs.lemmas.List.Elements.{All-nil}
 use Rattle.value.specs.Ordered.{HoldsOf}
 use Rattle.value.specs.declared.refusals.Refusal.{Refusal}
 use Rattle.value.specs.declared.refusals.Refusal.TheVariants.{NoMemory}
-use Rattle.syntax.specs.declared.statements.Step.{Step}
+use Rattle.syntax.specs.declared.statements.ScriptLine.{ScriptLine}
 use Rattle.syntax.specs.declared.statements.Event.{Event}
 use Rattle.syntax.specs.declared.statements.Event.TheVariants.{Begin, BeginReadOnly, Commit, Rollback, Run}
 use Rattle.alone.specs.declared.answers.Answer.{Answer}
 use Rattle.alone.specs.declared.answers.Answer.TheVariants.{Begun, Committed, Refused, Replied, RolledBack}
+use Rattle.conflict.specs.declared.open_snapshots.LiveSnapshot.{LiveSnapshot}
 use Rattle.conflict.specs.Live.{AreBelow}
+use Rattle.delta.specs.Views.{ViewState}
 use Rattle.alone.specs.Epoch.{newest, state_of}
 use Rattle.alone.proofs.Replays.{held_same}
 use Rattle.alone.specs.declared.records.Record.{Record}
 use Rattle.txn.specs.Transactions.{OpenTransaction}
 use Rattle.commit.specs.declared.seats.Seat.{Seat}
 use Rattle.commit.specs.Cores.{CoreState, IsLive, core_after_commit, core_after_end, log_of, record_of, refused_to, with_begun}
-use Rattle.commit.specs.Runs.{seats_with_all, free_seat, seats_with, unless_seated}
+use Rattle.commit.specs.Runs.{empty_core, seats_with_all, free_seat, seats_with, unless_seated}
 use Rattle.commit.specs.Events.{AreLive, EngineState, IsAnswered, IsAnsweredAt, IsReply, after, after_at, core_after, decided_core, found_no_memory, seat_of, seats_set, as_answer, takes_memory, takes_memory_at, txn_after, txn_of}
 use Rattle.commit.proofs.Recording.{log_with}
-use Rattle.commit.proofs.Tickets.{fewer, held_more, held_other, one_more, ticket_below}
+use Rattle.commit.proofs.BeginNumbers.{fewer, held_more, held_other, one_more, begin_number_below}
 
 live_begun : (c : CoreState) (read_only : Bool) (other : OpenTransaction) → IsLive c other → IsLive (with_begun read_only c) other
 live_begun c read_only other l = record {
-  held = held_more c.live (length c.records) read_only (record { ticket = other.ticket; snapshot = other.snapshot; read_only = other.read_only }) l.held;
+  held = held_more c.live (length c.records) read_only (record { begin_number = other.begin_number; snapshot = other.snapshot; read_only = other.read_only }) l.held;
   declared_is = l.declared_is;
   within = l.within;
   start_is = l.start_is;
 }
 
-live_ended : (c : CoreState) (t other : OpenTransaction) → (other.ticket ≡ t.ticket → ⊥) → IsLive c other → IsLive (core_after_end c t) other
+live_ended : (c : CoreState) (t other : OpenTransaction) → (other.begin_number ≡ t.begin_number → ⊥) → IsLive c other → IsLive (core_after_end c t) other
 live_ended c t other apart l = record {
-  held = held_other c.live t.ticket (record { ticket = other.ticket; snapshot = other.snapshot; read_only = other.read_only }) apart l.held;
+  held = held_other c.live t.begin_number (record { begin_number = other.begin_number; snapshot = other.snapshot; read_only = other.read_only }) apart l.held;
   declared_is = l.declared_is;
   within = l.within;
   start_is = l.start_is;
@@ -46,23 +49,23 @@ tables_stay c commit snapshot later =
     ap (newest c.declared c.start) (sym (held_same snapshot commit (log_of c) later))
     ∙ ap (λ log. state_of c.declared c.start log snapshot) (sym (log_with c.records commit))
 
-live_committed : (c : CoreState) (session : List ℕ) (t other : OpenTransaction) → (other.ticket ≡ t.ticket → ⊥) → IsLive c other → IsLive (core_after_commit c session t) other
+live_committed : (c : CoreState) (session : List ℕ) (t other : OpenTransaction) → (other.begin_number ≡ t.begin_number → ⊥) → IsLive c other → IsLive (core_after_commit c session t) other
 live_committed c session t other apart l = record {
-  held = held_other c.live t.ticket (record { ticket = other.ticket; snapshot = other.snapshot; read_only = other.read_only }) apart l.held;
+  held = held_other c.live t.begin_number (record { begin_number = other.begin_number; snapshot = other.snapshot; read_only = other.read_only }) apart l.held;
   declared_is = l.declared_is;
   within = (let within = l.within in let long = length-append c.records (record_of c session t ∷ []) in omega arith);
   start_is = l.start_is ∙ tables_stay c (record_of c session t) other.snapshot (let within = l.within in omega arith);
 }
 
-live_refused : (c : CoreState) (session : List ℕ) (t : OpenTransaction) (refusal : Refusal) (other : OpenTransaction) → (other.ticket ≡ t.ticket → ⊥) → IsLive c other → IsLive (refused_to c session t refusal) other
+live_refused : (c : CoreState) (session : List ℕ) (t : OpenTransaction) (refusal : Refusal) (other : OpenTransaction) → (other.begin_number ≡ t.begin_number → ⊥) → IsLive c other → IsLive (refused_to c session t refusal) other
 live_refused c session t refusal other apart l = record {
-  held = held_other c.live t.ticket (record { ticket = other.ticket; snapshot = other.snapshot; read_only = other.read_only }) apart l.held;
+  held = held_other c.live t.begin_number (record { begin_number = other.begin_number; snapshot = other.snapshot; read_only = other.read_only }) apart l.held;
   declared_is = l.declared_is;
   within = l.within;
   start_is = l.start_is;
 }
 
-live_decided : (c : CoreState) (session : List ℕ) (t : OpenTransaction) (answer : Answer) (other : OpenTransaction) → (other.ticket ≡ t.ticket → ⊥) → IsLive c other → IsLive (decided_core c session t answer) other
+live_decided : (c : CoreState) (session : List ℕ) (t : OpenTransaction) (answer : Answer) (other : OpenTransaction) → (other.begin_number ≡ t.begin_number → ⊥) → IsLive c other → IsLive (decided_core c session t answer) other
 live_decided c session t (Begun number) other apart l = l
 live_decided c session t (Replied reply) other apart l = l
 live_decided c session t (Committed number) other apart l = live_committed c session t other apart l
@@ -71,7 +74,7 @@ live_decided c session t (Refused refusal) other apart l = live_refused c sessio
 
 -- another transaction than the one of a seat
 abbrev IsApart : Option OpenTransaction → OpenTransaction → Type 0
-IsApart txn other = (t : OpenTransaction) → txn ≡ Some t → other.ticket ≡ t.ticket → ⊥
+IsApart txn other = (t : OpenTransaction) → txn ≡ Some t → other.begin_number ≡ t.begin_number → ⊥
 
 -- as an event is answered
 live_after : (c : CoreState) (session : List ℕ) (event : Event) (txn : Option OpenTransaction) (answer : Answer) (other : OpenTransaction) → IsApart txn other → IsLive c other → IsLive (core_after c session event txn answer) other
@@ -89,9 +92,9 @@ below_decided : (c : CoreState) (session : List ℕ) (t : OpenTransaction) (answ
     → AreBelow (decided_core c session t answer).live.begun (decided_core c session t answer).live.snapshots
 below_decided c session t (Begun number) below = below
 below_decided c session t (Replied reply) below = below
-below_decided c session t (Committed number) below = fewer c.live t.ticket below
+below_decided c session t (Committed number) below = fewer c.live t.begin_number below
 below_decided c session t RolledBack below = below
-below_decided c session t (Refused refusal) below = fewer c.live t.ticket below
+below_decided c session t (Refused refusal) below = fewer c.live t.begin_number below
 
 below_after : (c : CoreState) (session : List ℕ) (event : Event) (txn : Option OpenTransaction) (answer : Answer) → AreBelow c.live.begun c.live.snapshots
     → AreBelow (core_after c session event txn answer).live.begun (core_after c session event txn answer).live.snapshots
@@ -103,7 +106,7 @@ below_after c session (Run statement) txn answer below = below
 below_after c session Commit None answer below = below
 below_after c session Commit (Some t) answer below = below_decided c session t answer below
 below_after c session Rollback None answer below = below
-below_after c session Rollback (Some t) answer below = fewer c.live t.ticket below
+below_after c session Rollback (Some t) answer below = fewer c.live t.begin_number below
 
 idle_decided : (c : CoreState) (session : List ℕ) (t : OpenTransaction) (answer : Answer) → c.prepared ≡ None → (decided_core c session t answer).prepared ≡ None
 idle_decided c session t (Begun number) idle = idle
@@ -123,21 +126,21 @@ idle_after c session Commit (Some t) answer idle = idle_decided c session t answ
 idle_after c session Rollback None answer idle = idle
 idle_after c session Rollback (Some t) answer idle = idle
 
-abbrev ticket_or : ℕ → Option OpenTransaction → ℕ
-ticket_or n None = n
-ticket_or n (Some t) = t.ticket
+abbrev begin_number_or : ℕ → Option OpenTransaction → ℕ
+begin_number_or n None = n
+begin_number_or n (Some t) = t.begin_number
 
--- what is open after an event has just begun, or its ticket is that of what was open before
+-- what is open after an event has just begun, or its begin number is that of what was open before
 abbrev IsFrom : CoreState → Option OpenTransaction → OpenTransaction → Type 0
-IsFrom c txn t = (t.ticket ≡ c.live.begun) ⊎ ((old : OpenTransaction) × (txn ≡ Some old) × (old.ticket ≡ t.ticket))
+IsFrom c txn t = (t.begin_number ≡ c.live.begun) ⊎ ((old : OpenTransaction) × (txn ≡ Some old) × (old.begin_number ≡ t.begin_number))
 
 is_from : (c : CoreState) (event : Event) (txn : Option OpenTransaction) (t : OpenTransaction) → txn_after c event txn ≡ Some t → IsFrom c txn t
-is_from c Begin None t e = inl (sym (ap (ticket_or 0) e))
-is_from c Begin (Some old) t e = inr (old, refl, ap (ticket_or 0) e)
-is_from c BeginReadOnly None t e = inl (sym (ap (ticket_or 0) e))
-is_from c BeginReadOnly (Some old) t e = inr (old, refl, ap (ticket_or 0) e)
+is_from c Begin None t e = inl (sym (ap (begin_number_or 0) e))
+is_from c Begin (Some old) t e = inr (old, refl, ap (begin_number_or 0) e)
+is_from c BeginReadOnly None t e = inl (sym (ap (begin_number_or 0) e))
+is_from c BeginReadOnly (Some old) t e = inr (old, refl, ap (begin_number_or 0) e)
 is_from c (Run statement) None t e = let no : ⊥ = cc in absurd no
-is_from c (Run statement) (Some old) t e = inr (old, refl, ap (ticket_or 0) e)
+is_from c (Run statement) (Some old) t e = inr (old, refl, ap (begin_number_or 0) e)
 is_from c Commit txn t e = let no : ⊥ = cc in absurd no
 is_from c Rollback txn t e = let no : ⊥ = cc in absurd no
 
@@ -172,7 +175,7 @@ each_set P seats place left within each own i t h = go (cases_eq i place)
     go (inr other) = each i t (sym (ap txn_of (set_elsewhere seats i place left other)) ∙ h)
 
 -- What an event leaves, whose session has this seat.
-module _ (now : EngineState) (step : Step) (place : ℕ) (seat : Seat) (core : CoreState) (left : Seat) where
+module _ (now : EngineState) (line : ScriptLine) (place : ℕ) (seat : Seat) (core : CoreState) (left : Seat) where
   module _ (live : AreLive now.core now.seats) (within : place < length now.seats) (there : slice_get now.seats place ≡ Some seat) where
     -- the transaction of this seat
     here : (i : ℕ) (t : OpenTransaction) → i ≡ place → txn_of (slice_get (slice_set now.seats place left) i) ≡ Some t → left.txn ≡ Some t
@@ -185,73 +188,73 @@ module _ (now : EngineState) (step : Step) (place : ℕ) (seat : Seat) (core : C
     seat_txn : (old : OpenTransaction) → seat.txn ≡ Some old → txn_of (slice_get now.seats place) ≡ Some old
     seat_txn old e = ap txn_of there ∙ e
 
-    none_of : (i j : ℕ) (t u : OpenTransaction) → (j ≡ place → ⊥) → txn_of (slice_get now.seats j) ≡ Some u → t.ticket ≡ u.ticket → IsFrom now.core seat.txn t → ⊥
+    none_of : (i j : ℕ) (t u : OpenTransaction) → (j ≡ place → ⊥) → txn_of (slice_get now.seats j) ≡ Some u → t.begin_number ≡ u.begin_number → IsFrom now.core seat.txn t → ⊥
     none_of i j t u apart g e (inl new) =
-        let low = ticket_below now.core.live (record { ticket = u.ticket; snapshot = u.snapshot; read_only = u.read_only }) live.begun (live.each j u g).held in
+        let low = begin_number_below now.core.live (record { begin_number = u.begin_number; snapshot = u.snapshot; read_only = u.read_only }) live.begun (live.each j u g).held in
         omega (arith, low, new, e)
     none_of i j t u apart g e (inr old) = apart (sym (live.apart place j old.0 u (seat_txn old.0 old.1) g (old.2 ∙ e)))
 
-    -- no other has the ticket of what is open in this seat then
+    -- no other has the begin number of what is open in this seat then
     no_other : (from : (t : OpenTransaction) → left.txn ≡ Some t → IsFrom now.core seat.txn t) (i j : ℕ) (t u : OpenTransaction) → i ≡ place → (j ≡ place → ⊥)
-        → left.txn ≡ Some t → txn_of (slice_get now.seats j) ≡ Some u → t.ticket ≡ u.ticket → ⊥
+        → left.txn ≡ Some t → txn_of (slice_get now.seats j) ≡ Some u → t.begin_number ≡ u.begin_number → ⊥
     no_other from i j t u at apart h g e = none_of i j t u apart g e (from t h)
 
-    case_each : (answer : Answer) → core ≡ core_after now.core step.session step.event seat.txn answer → HoldsOf (IsLive core) left.txn
+    case_each : (answer : Answer) → core ≡ core_after now.core line.session line.event seat.txn answer → HoldsOf (IsLive core) left.txn
         → (i : ℕ) (t : OpenTransaction) → txn_of (slice_get (slice_set now.seats place left) i) ≡ Some t → (i ≡ place) ⊎ (i ≡ place → ⊥) → IsLive core t
     case_each answer e own i t h (inl same) = holds_at (IsLive core) left.txn t own (here i t same h)
     case_each answer e own i t h (inr other) =
         let was = there_still i t other h in
-        subst (λ c. IsLive c t) (sym e) (live_after now.core step.session step.event seat.txn answer t
+        subst (λ c. IsLive c t) (sym e) (live_after now.core line.session line.event seat.txn answer t
         (λ u is same. other (live.apart i place t u was (seat_txn u is) same)) (live.each i t was))
 
     case_apart : (from : (t : OpenTransaction) → left.txn ≡ Some t → IsFrom now.core seat.txn t) (i j : ℕ) (t u : OpenTransaction)
-        → txn_of (slice_get (slice_set now.seats place left) i) ≡ Some t → txn_of (slice_get (slice_set now.seats place left) j) ≡ Some u → t.ticket ≡ u.ticket
+        → txn_of (slice_get (slice_set now.seats place left) i) ≡ Some t → txn_of (slice_get (slice_set now.seats place left) j) ≡ Some u → t.begin_number ≡ u.begin_number
         → (i ≡ place) ⊎ (i ≡ place → ⊥) → (j ≡ place) ⊎ (j ≡ place → ⊥) → i ≡ j
     case_apart from i j t u h g same (inl at) (inl also) = at ∙ sym also
     case_apart from i j t u h g same (inl at) (inr other) = absurd (no_other from i j t u at other (here i t at h) (there_still j u other g) same)
     case_apart from i j t u h g same (inr other) (inl at) = absurd (no_other from j i u t at other (here j u at g) (there_still i t other h) (sym same))
     case_apart from i j t u h g same (inr other) (inr also) = live.apart i j t u (there_still i t other h) (there_still j u also g) same
 
-    pub all_answered : (answer : Answer) → core ≡ core_after now.core step.session step.event seat.txn answer → left ≡ record seat { txn = txn_after now.core step.event seat.txn }
+    pub all_answered : (answer : Answer) → core ≡ core_after now.core line.session line.event seat.txn answer → left ≡ record seat { txn = txn_after now.core line.event seat.txn }
         → HoldsOf (IsLive core) left.txn → AreLive core (slice_set now.seats place left)
     all_answered answer e f own =
-        let from : (t : OpenTransaction) → left.txn ≡ Some t → IsFrom now.core seat.txn t = λ t h. is_from now.core step.event seat.txn t (sym (ap (λ (s : Seat). s.txn) f) ∙ h) in
+        let from : (t : OpenTransaction) → left.txn ≡ Some t → IsFrom now.core seat.txn t = λ t h. is_from now.core line.event seat.txn t (sym (ap (λ (s : Seat). s.txn) f) ∙ h) in
         record {
           each = λ i t h. case_each answer e own i t h (cases_eq i place);
           apart = λ i j t u h g same. case_apart from i j t u h g same (cases_eq i place) (cases_eq j place);
-          begun = subst (λ (c : CoreState). AreBelow c.live.begun c.live.snapshots) (sym e) (below_after now.core step.session step.event seat.txn answer live.begun);
-          idle = ap (λ (c : CoreState). c.prepared) e ∙ idle_after now.core step.session step.event seat.txn answer live.idle;
+          begun = subst (λ (c : CoreState). AreBelow c.live.begun c.live.snapshots) (sym e) (below_after now.core line.session line.event seat.txn answer live.begun);
+          idle = ap (λ (c : CoreState). c.prepared) e ∙ idle_after now.core line.session line.event seat.txn answer live.idle;
         }
 
-    pub all_live : {E : Type 0} (answered : Result Answer E) → IfOk answered (λ answer. core ≡ core_after now.core step.session step.event seat.txn answer)
-        → OnOk answered (left ≡ record seat { txn = txn_after now.core step.event seat.txn })
+    pub all_live : {E : Type 0} (answered : Result Answer E) → IfOk answered (λ answer. core ≡ core_after now.core line.session line.event seat.txn answer)
+        → OnOk answered (left ≡ record seat { txn = txn_after now.core line.event seat.txn })
         → OnErr answered ((core ≡ now.core) × (left ≡ seat)) → slice_set now.seats place seat ≡ now.seats
         → HoldsOf (IsLive core) left.txn → AreLive core (slice_set now.seats place left)
     all_live (Ok answer) e f g unchanged own = all_answered answer e f own
     all_live (Err refusal) e f g unchanged own =
         subst (λ c. AreLive c (slice_set now.seats place left)) (sym g.0) (subst (AreLive now.core) (sym (ap (slice_set now.seats place) g.1 ∙ unchanged)) live)
 
-  module _ (seated : seat_of now.seats step.session ≡ Some place) (there : slice_get now.seats place ≡ Some seat) where
-    pub is_answered : {E : Type 0} (answered : Result Answer E) → OnErr answered (takes_memory step.event seat.txn ≡ true)
-        → IfOk answered (IsReply now.core step.session step.event seat.txn) → IsAnswered now step (as_answer answered)
+  module _ (seated : seat_of now.seats line.session ≡ Some place) (there : slice_get now.seats place ≡ Some seat) where
+    pub is_answered : {E : Type 0} (answered : Result Answer E) → OnErr answered (takes_memory line.event seat.txn ≡ true)
+        → IfOk answered (IsReply now.core line.session line.event seat.txn) → IsAnswered now line (as_answer answered)
     is_answered (Ok answer) takes reply =
-        inr (subst (λ p. IsAnsweredAt now step.session step.event p answer) (sym seated) (subst (λ s. IsReply now.core step.session step.event (txn_of s) answer) (sym there) reply))
+        inr (subst (λ p. IsAnsweredAt now line.session line.event p answer) (sym seated) (subst (λ s. IsReply now.core line.session line.event (txn_of s) answer) (sym there) reply))
     is_answered (Err error) takes reply = inl (record {
-      takes = ap (takes_memory_at now step.event) seated ∙ ap (λ s. takes_memory step.event (txn_of s)) there ∙ takes;
+      takes = ap (takes_memory_at now line.event) seated ∙ ap (λ s. takes_memory line.event (txn_of s)) there ∙ takes;
       is = refl;
     })
 
     pub is_after : {E : Type 0} (answered : Result Answer E) → IfOk answered (λ answer. found_no_memory answer ≡ false)
-        → IfOk answered (λ answer. core ≡ core_after now.core step.session step.event seat.txn answer)
-        → OnOk answered (left ≡ record seat { txn = txn_after now.core step.event seat.txn })
+        → IfOk answered (λ answer. core ≡ core_after now.core line.session line.event seat.txn answer)
+        → OnOk answered (left ≡ record seat { txn = txn_after now.core line.event seat.txn })
         → OnErr answered ((core ≡ now.core) × (left ≡ seat))
         → slice_set now.seats place seat ≡ now.seats
-        → record { core = core; seats = slice_set now.seats place left } ≡ after now step (as_answer answered)
+        → record { core = core; seats = slice_set now.seats place left } ≡ after now line (as_answer answered)
     is_after (Ok answer) known commits seats same unchanged =
         (λ i. record { core = commits i; seats = slice_set now.seats place (seats i) })
-        ∙ ap (λ s. record { core = core_after now.core step.session step.event (txn_of s) answer; seats = seats_set now.seats place (txn_after now.core step.event (txn_of s)) s }) (sym there)
-        ∙ ap (λ p. after_at now step.session step.event p answer) (sym seated)
-        ∙ ap (λ b. cond b now (after_at now step.session step.event (seat_of now.seats step.session) answer)) (sym known)
+        ∙ ap (λ s. record { core = core_after now.core line.session line.event (txn_of s) answer; seats = seats_set now.seats place (txn_after now.core line.event (txn_of s)) s }) (sym there)
+        ∙ ap (λ p. after_at now line.session line.event p answer) (sym seated)
+        ∙ ap (λ b. cond b now (after_at now line.session line.event (seat_of now.seats line.session) answer)) (sym known)
     is_after (Err error) known commits seats same unchanged =
         λ i. record { core = same.0 i; seats = (ap (slice_set now.seats place) same.1 ∙ unchanged) i }
 
@@ -269,18 +272,26 @@ seated_free : (seats : List Seat) (session : List ℕ) (place : Option ℕ) → 
 seated_free seats session None free = one_seated seats session free
 seated_free seats session (Some place) free = free
 
-pub all_free : (seats : List Seat) (steps : List Step) → AreFree seats → AreFree (seats_with_all seats steps)
+pub all_free : (seats : List Seat) (lines : List ScriptLine) → AreFree seats → AreFree (seats_with_all seats lines)
 all_free seats [] free = free
-all_free seats (step ∷ rest) free = all_free (seats_with seats step.session) rest (seated_free seats step.session (seat_of seats step.session) free)
+all_free seats (line ∷ rest) free = all_free (seats_with seats line.session) rest (seated_free seats line.session (seat_of seats line.session) free)
 
-pub all_seated_live : (core : CoreState) (steps : List Step) → AreBelow core.live.begun core.live.snapshots → core.prepared ≡ None → AreLive core (seats_with_all [] steps)
-all_seated_live core steps below idle =
-    let free = all_free [] steps (λ place. refl) in record {
+pub all_seated_live : (core : CoreState) (lines : List ScriptLine) → AreBelow core.live.begun core.live.snapshots → core.prepared ≡ None → AreLive core (seats_with_all [] lines)
+all_seated_live core lines below idle =
+    let free = all_free [] lines (λ place. refl) in record {
       each = λ place t h. let e = free place in let no : ⊥ = cc in absurd no;
       apart = λ place other t u h g same. let e = free place in let no : ⊥ = cc in absurd no;
       begun = below;
       idle = idle;
     }
+
+-- before the first event no transaction is open
+pub live_at_beginning : (limit : ℕ) (loaded : ViewState) (core : CoreState) (lines : List ScriptLine) (seats : List Seat)
+    → core ≡ empty_core limit loaded → seats ≡ seats_with_all [] lines → AreLive core seats
+live_at_beginning limit loaded core lines seats new seated =
+    subst (AreLive core) (sym seated) (all_seated_live core lines
+    (subst (λ (s : CoreState). AreBelow s.live.begun s.live.snapshots) (sym new) (All-nil (λ (one : LiveSnapshot). one.begin_number < 0)))
+    (ap (λ (s : CoreState). s.prepared) new))
 
 -- a free seat more opens no transaction
 open_before : (seats : List Seat) (session : List ℕ) (place : ℕ) (t : OpenTransaction) → txn_of (slice_get (seats ++ free_seat session ∷ []) place) ≡ Some t

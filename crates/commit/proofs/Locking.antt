@@ -17,7 +17,7 @@ pub readers_above : (core : CoreState) (t : OpenTransaction) (locks : Reads) →
     → HasReaders locks (map reach core.records) core.records t.snapshot
 readers_above core t locks live writes e = record {
   low = least_writing (length core.records) core.live.snapshots;
-  within = least_up_to (length core.records) core.live.snapshots (record { ticket = t.ticket; snapshot = t.snapshot; read_only = t.read_only }) live.held writes;
+  within = least_up_to (length core.records) core.live.snapshots (record { begin_number = t.begin_number; snapshot = t.snapshot; read_only = t.read_only }) live.held writes;
   are = e;
 }
 
@@ -31,16 +31,16 @@ module _ (live : LiveState) (commits : List Record) where
   kept_begun read_only = ap (λ low. reads_above low far (reads_of commits)) (least_begun (length commits) live.begun read_only live.snapshots)
 
   -- as one ends, some may
-  pub kept_ended : (ticket : ℕ)
-      → reads_above (least_writing (length commits) (without ticket live).snapshots) far (reads_above (least_writing (length commits) live.snapshots) far (reads_of commits))
-      ≡ reads_above (least_writing (length commits) (without ticket live).snapshots) far (reads_of commits)
-  kept_ended ticket = reaching_twice _ _ far (least_grows (length commits) (length commits) (is_other ticket) live.snapshots (omega arith)) (reads_of commits)
+  pub kept_ended : (begin_number : ℕ)
+      → reads_above (least_writing (length commits) (without begin_number live).snapshots) far (reads_above (least_writing (length commits) live.snapshots) far (reads_of commits))
+      ≡ reads_above (least_writing (length commits) (without begin_number live).snapshots) far (reads_of commits)
+  kept_ended begin_number = reaching_twice _ _ far (least_grows (length commits) (length commits) (is_other begin_number) live.snapshots (omega arith)) (reads_of commits)
 
   -- and as one is committed
-  pub kept_committed : (ticket : ℕ) (c : Record) → Each (λ (w : Record). w.number < length commits + 1) (reverse commits)
-      → reads_above (least_writing (length (commits ++ c ∷ [])) (without ticket live).snapshots) (map reach (commits ++ c ∷ []))
+  pub kept_committed : (begin_number : ℕ) (c : Record) → Each (λ (w : Record). w.number < length commits + 1) (reverse commits)
+      → reads_above (least_writing (length (commits ++ c ∷ [])) (without begin_number live).snapshots) (map reach (commits ++ c ∷ []))
       (with_reader c.number c.reads (reads_above (least_writing (length commits) live.snapshots) far (reads_of commits)))
-      ≡ reads_above (least_writing (length (commits ++ c ∷ [])) (without ticket live).snapshots) (map reach (commits ++ c ∷ [])) (reads_of (commits ++ c ∷ []))
-  kept_committed ticket c below =
+      ≡ reads_above (least_writing (length (commits ++ c ∷ [])) (without begin_number live).snapshots) (map reach (commits ++ c ∷ [])) (reads_of (commits ++ c ∷ []))
+  kept_committed begin_number c below =
       reaching_more _ _ commits c
-      (least_grows (length commits) (length (commits ++ c ∷ [])) (is_other ticket) live.snapshots (let long = length-append commits (c ∷ []) in omega arith)) below
+      (least_grows (length commits) (length (commits ++ c ∷ [])) (is_other begin_number) live.snapshots (let long = length-append commits (c ∷ []) in omega arith)) below

@@ -17,7 +17,7 @@ use Rattle.alone.proofs.Ranks.{numbers_below}
 use Rattle.alone.proofs.Replays.{held_all}
 use Rattle.txn.specs.Transactions.{OpenTransaction, transaction_at_begin, keys_of as all_read, outcome_of}
 use Rattle.commit.specs.Cores.{CoreState, IsLive, log_of, newest_tables, record_of, with_begun}
-use Rattle.commit.proofs.Tickets.{held_last}
+use Rattle.commit.proofs.BeginNumbers.{held_last}
 
 pub log_with : (records : List Record) (commit : Record) → reverse (records ++ commit ∷ []) ≡ commit ∷ reverse records
 log_with records commit = reverse-append records (commit ∷ [])

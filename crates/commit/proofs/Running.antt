@@ -11,7 +11,7 @@ use Rattle.std.proofs.lemmas.Option.{slice_get-get_or}
 use Rattle.value.specs.Ordered.{HoldsOf}
 use Rattle.value.specs.declared.refusals.Refusal.{Refusal}
 use Rattle.syntax.specs.declared.statements.Statement.{Statement}
-use Rattle.syntax.specs.declared.statements.Step.{Step}
+use Rattle.syntax.specs.declared.statements.ScriptLine.{ScriptLine}
 use Rattle.syntax.specs.declared.statements.Event.{Event}
 use Rattle.syntax.specs.declared.statements.Event.TheVariants.{Begin, BeginReadOnly, Commit, Rollback, Run}
 use Rattle.alone.specs.declared.answers.Answer.{Answer}
@@ -147,45 +147,45 @@ has_seat seats session place e =
     record { seat = get_or seats place some; within = found.0; there = slice_get-get_or seats place some found.0; own = found.1 }
 
 -- an event of a session that has a seat
-module _ (now : EngineState) (step : Step) (answer : Answer) where
+module _ (now : EngineState) (line : ScriptLine) (answer : Answer) where
   -- what it leaves, by what stands in the seat
   abbrev pub left_by : ℕ → Option Seat → EngineState
   left_by place seat = record {
-    core = core_after now.core step.session step.event (txn_of seat) answer;
-    seats = seats_set now.seats place (txn_after now.core step.event (txn_of seat)) seat;
+    core = core_after now.core line.session line.event (txn_of seat) answer;
+    seats = seats_set now.seats place (txn_after now.core line.event (txn_of seat)) seat;
   }
 
-  running_seated : (place : ℕ) (seat : Seat) → place < length now.seats → slice_get now.seats place ≡ Some seat → IsRunning now → IsReply now.core step.session step.event seat.txn answer
+  running_seated : (place : ℕ) (seat : Seat) → place < length now.seats → slice_get now.seats place ≡ Some seat → IsRunning now → IsReply now.core line.session line.event seat.txn answer
       → IsRunning (left_by place (Some seat))
   running_seated place seat within there h reply =
       let own = seat_live now place seat.txn h.live (ap txn_of there) in
       let reads = seat_reads_only now place seat.txn h.reads_only (ap txn_of there) in record {
-        commits = epoch_after now.core step.session step.event seat.txn answer h.commits own reads reply;
-        live = all_answered now step place seat (core_after now.core step.session step.event seat.txn answer) (record seat { txn = txn_after now.core step.event seat.txn })
-            h.live within there answer refl refl (own_live now.core step.session step.event seat.txn answer h.commits own);
-        reads_only = each_set ReadsOnly now.seats place (record seat { txn = txn_after now.core step.event seat.txn }) within h.reads_only (own_reads_only now.core step.event seat.txn reads);
+        commits = epoch_after now.core line.session line.event seat.txn answer h.commits own reads reply;
+        live = all_answered now line place seat (core_after now.core line.session line.event seat.txn answer) (record seat { txn = txn_after now.core line.event seat.txn })
+            h.live within there answer refl refl (own_live now.core line.session line.event seat.txn answer h.commits own);
+        reads_only = each_set ReadsOnly now.seats place (record seat { txn = txn_after now.core line.event seat.txn }) within h.reads_only (own_reads_only now.core line.event seat.txn reads);
       }
 
-  running_at : (place : Option ℕ) → seat_of now.seats step.session ≡ place → IsRunning now → IsAnsweredAt now step.session step.event place answer → IsRunning (after_at now step.session step.event place answer)
+  running_at : (place : Option ℕ) → seat_of now.seats line.session ≡ place → IsRunning now → IsAnsweredAt now line.session line.event place answer → IsRunning (after_at now line.session line.event place answer)
   running_at None e h reply = h
   running_at (Some place) e h reply =
-      let seat = has_seat now.seats step.session place e in
+      let seat = has_seat now.seats line.session place e in
       subst (λ s. IsRunning (left_by place s)) (sym seat.there)
-      (running_seated place seat.seat seat.within seat.there h (subst (λ s. IsReply now.core step.session step.event (txn_of s) answer) seat.there reply))
+      (running_seated place seat.seat seat.within seat.there h (subst (λ s. IsReply now.core line.session line.event (txn_of s) answer) seat.there reply))
 
-  pub running_after : IsRunning now → IsAnswered now step answer → IsRunning (after now step answer)
+  pub running_after : IsRunning now → IsAnswered now line answer → IsRunning (after now line answer)
   running_after h answered = go (found_no_memory answer) refl answered
     where
-      go : (b : Bool) → found_no_memory answer ≡ b → IsAnswered now step answer → IsRunning (cond b now (after_at now step.session step.event (seat_of now.seats step.session) answer))
+      go : (b : Bool) → found_no_memory answer ≡ b → IsAnswered now line answer → IsRunning (cond b now (after_at now line.session line.event (seat_of now.seats line.session) answer))
       go true e a = h
       go false e (inl none) = let yes : found_no_memory answer ≡ true = ap found_no_memory none.is in let no : ⊥ = cc in absurd no
-      go false e (inr at) = running_at (seat_of now.seats step.session) refl h at
+      go false e (inr at) = running_at (seat_of now.seats line.session) refl h at
 
 -- before the first event
-pub running_first : (limit : ℕ) (loaded : ViewState) (all : List Step) → IsSound loaded.declared loaded.state → IsRunning (beginning limit loaded all)
+pub running_first : (limit : ℕ) (loaded : ViewState) (all : List ScriptLine) → IsSound loaded.declared loaded.state → IsRunning (beginning limit loaded all)
 running_first limit loaded all sound = record {
   commits = record { epoch = record { admitted = sound; accepted = tt; history = tt }; within = omega arith };
-  live = all_seated_live (empty_core limit loaded) all (All-nil (λ (one : LiveSnapshot). one.ticket < 0)) refl;
+  live = all_seated_live (empty_core limit loaded) all (All-nil (λ (one : LiveSnapshot). one.begin_number < 0)) refl;
   reads_only = λ place t h. let e = all_free [] all (λ place. refl) place in let no : ⊥ = cc in absurd no;
 }
 
@@ -212,18 +212,18 @@ loaded_after core session Commit (Some t) answer = loaded_decided core session t
 loaded_after core session Rollback None answer = refl
 loaded_after core session Rollback (Some t) answer = refl
 
-loaded_at : (now : EngineState) (step : Step) (answer : Answer) (place : Option ℕ) → loaded_of (after_at now step.session step.event place answer).core ≡ loaded_of now.core
-loaded_at now step answer None = refl
-loaded_at now step answer (Some place) = loaded_after now.core step.session step.event (txn_of (slice_get now.seats place)) answer
+loaded_at : (now : EngineState) (line : ScriptLine) (answer : Answer) (place : Option ℕ) → loaded_of (after_at now line.session line.event place answer).core ≡ loaded_of now.core
+loaded_at now line answer None = refl
+loaded_at now line answer (Some place) = loaded_after now.core line.session line.event (txn_of (slice_get now.seats place)) answer
 
-loaded_step : (now : EngineState) (step : Step) (answer : Answer) → loaded_of (after now step answer).core ≡ loaded_of now.core
-loaded_step now step answer = go (found_no_memory answer)
+loaded_over_line : (now : EngineState) (line : ScriptLine) (answer : Answer) → loaded_of (after now line answer).core ≡ loaded_of now.core
+loaded_over_line now line answer = go (found_no_memory answer)
   where
-    go : (b : Bool) → loaded_of (cond b now (after_at now step.session step.event (seat_of now.seats step.session) answer)).core ≡ loaded_of now.core
+    go : (b : Bool) → loaded_of (cond b now (after_at now line.session line.event (seat_of now.seats line.session) answer)).core ≡ loaded_of now.core
     go true = refl
-    go false = loaded_at now step answer (seat_of now.seats step.session)
+    go false = loaded_at now line answer (seat_of now.seats line.session)
 
-pub loaded_led : (now : EngineState) (steps : List Step) (answers : List Answer) → loaded_of (led_to now steps answers).core ≡ loaded_of now.core
+pub loaded_led : (now : EngineState) (lines : List ScriptLine) (answers : List Answer) → loaded_of (led_to now lines answers).core ≡ loaded_of now.core
 loaded_led now [] answers = refl
-loaded_led now (step ∷ rest) [] = refl
-loaded_led now (step ∷ rest) (answer ∷ more) = loaded_led (after now step answer) rest more ∙ loaded_step now step answer
+loaded_led now (line ∷ rest) [] = refl
+loaded_led now (line ∷ rest) (answer ∷ more) = loaded_led (after now line answer) rest more ∙ loaded_over_line now line answer

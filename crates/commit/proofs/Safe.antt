@@ -85,17 +85,17 @@ module _ (c : CoreState) (session : List ℕ) (t : OpenTransaction) (log : IsLog
 abbrev holds : ℕ → LiveSnapshot → Bool
 holds snapshot one = one.read_only || nat_le snapshot one.snapshot
 
-hold_fewer : (snapshot ticket : ℕ) (all : List LiveSnapshot) → writers_hold snapshot all ≡ true → writers_hold snapshot (filter (is_other ticket) all) ≡ true
-hold_fewer snapshot ticket [] h = refl
-hold_fewer snapshot ticket (one ∷ rest) h =
+hold_fewer : (snapshot begin_number : ℕ) (all : List LiveSnapshot) → writers_hold snapshot all ≡ true → writers_hold snapshot (filter (is_other begin_number) all) ≡ true
+hold_fewer snapshot begin_number [] h = refl
+hold_fewer snapshot begin_number (one ∷ rest) h =
     let parts = and_parts (holds snapshot one) (list_all (holds snapshot) rest) h in
-    let more = hold_fewer snapshot ticket rest parts.1 in
-    let go : (b : Bool) → writers_hold snapshot (cond b (one ∷ filter (is_other ticket) rest) (filter (is_other ticket) rest)) ≡ true
-    = λ b. elim b as (λ b. writers_hold snapshot (cond b (one ∷ filter (is_other ticket) rest) (filter (is_other ticket) rest)) ≡ true) [
+    let more = hold_fewer snapshot begin_number rest parts.1 in
+    let go : (b : Bool) → writers_hold snapshot (cond b (one ∷ filter (is_other begin_number) rest) (filter (is_other begin_number) rest)) ≡ true
+    = λ b. elim b as (λ b. writers_hold snapshot (cond b (one ∷ filter (is_other begin_number) rest) (filter (is_other begin_number) rest)) ≡ true) [
       | true ↦ and_from _ _ parts.0 more
       | false ↦ more
     ] in
-    go (is_other ticket one)
+    go (is_other begin_number one)
 
 hold_each : (snapshot : ℕ) (all : List LiveSnapshot) (one : LiveSnapshot) → writers_hold snapshot all ≡ true → Contains all one → holds snapshot one ≡ true
 hold_each snapshot [] one h m = absurd (not_in_nil one m)
@@ -109,7 +109,7 @@ hold_each snapshot (first ∷ rest) one h m =
 -- a transaction that may write began no earlier
 began_later : (c : CoreState) (snapshot : ℕ) (u : OpenTransaction) → writers_hold snapshot c.live.snapshots ≡ true → IsLive c u → u.read_only ≡ false → snapshot ≤ u.snapshot
 began_later c snapshot u alone live writes =
-    let held = hold_each snapshot c.live.snapshots (record { ticket = u.ticket; snapshot = u.snapshot; read_only = u.read_only }) alone live.held in
+    let held = hold_each snapshot c.live.snapshots (record { begin_number = u.begin_number; snapshot = u.snapshot; read_only = u.read_only }) alone live.held in
     leb-true snapshot u.snapshot (sym (ap (λ b. b || nat_le snapshot u.snapshot) writes) ∙ held)
 
 module _ (c : CoreState) (t : OpenTransaction) (live : IsLive c t) (safe : IsSafeReader c t) where
@@ -117,17 +117,17 @@ module _ (c : CoreState) (t : OpenTransaction) (live : IsLive c t) (safe : IsSaf
   safe_begun read_only = record {
     reads = safe.reads;
     alone =
-        let new : LiveSnapshot = record { ticket = c.live.begun; snapshot = length c.records; read_only = read_only } in
+        let new : LiveSnapshot = record { begin_number = c.live.begun; snapshot = length c.records; read_only = read_only } in
         list_all-append (holds t.snapshot) c.live.snapshots (new ∷ [])
         ∙ and_from _ _ safe.alone (and_from _ _ (or_right read_only (nat_le t.snapshot (length c.records)) (le-leb _ _ live.within)) refl);
     snapshot = safe.snapshot;
   }
 
   pub safe_ended : (u : OpenTransaction) → IsSafeReader (core_after_end c u) t
-  safe_ended u = record { reads = safe.reads; alone = hold_fewer t.snapshot u.ticket c.live.snapshots safe.alone; snapshot = safe.snapshot }
+  safe_ended u = record { reads = safe.reads; alone = hold_fewer t.snapshot u.begin_number c.live.snapshots safe.alone; snapshot = safe.snapshot }
 
   pub safe_refused : (session : List ℕ) (u : OpenTransaction) (refusal : Refusal) → IsSafeReader (refused_to c session u refusal) t
-  safe_refused session u refusal = record { reads = safe.reads; alone = hold_fewer t.snapshot u.ticket c.live.snapshots safe.alone; snapshot = safe.snapshot }
+  safe_refused session u refusal = record { reads = safe.reads; alone = hold_fewer t.snapshot u.begin_number c.live.snapshots safe.alone; snapshot = safe.snapshot }
 
   pub safe_committed : (session : List ℕ) (u : OpenTransaction) → IsLog (log_of (core_after_commit c session u)) → IsLive c u → IsSafeReader (core_after_commit c session u) t
   safe_committed session u log other =
@@ -136,7 +136,7 @@ module _ (c : CoreState) (t : OpenTransaction) (live : IsLive c t) (safe : IsSaf
       let within = live.within in
       record {
         reads = safe.reads;
-        alone = hold_fewer t.snapshot u.ticket c.live.snapshots safe.alone;
+        alone = hold_fewer t.snapshot u.begin_number c.live.snapshots safe.alone;
         snapshot = subst (λ log. IsSafe log t.snapshot) (sym whole)
             (stays_safe (log_of c) commit t.snapshot (subst IsLog whole log) (omega arith) (began_later c t.snapshot u safe.alone other) safe.snapshot);
       }

@@ -2,7 +2,7 @@
 use Rattle.std.proofs.Common.{◌≡◌, ◌≤◌, ◌<◌, ℕ, false, nat_le, List, [], ◌∷◌, length, Option, Some, None, ap, arith}
 use Rattle.std.proofs.lemmas.Bool.{lt-leb}
 use Rattle.std.proofs.lemmas.List.{length-append}
-use Rattle.syntax.specs.declared.statements.Step.{Step}
+use Rattle.syntax.specs.declared.statements.ScriptLine.{ScriptLine}
 use Rattle.commit.specs.declared.seats.Seat.{Seat}
 use Rattle.commit.specs.Events.{seat_of}
 use Rattle.commit.specs.Runs.{seats_with_all, free_seat, seats_with, unless_seated}
@@ -12,17 +12,17 @@ unless_grows : (place : Option ℕ) (seats : List Seat) (session : List ℕ) →
 unless_grows None seats session = let more = length-append seats (free_seat session ∷ []) in omega (arith, more)
 unless_grows (Some place) seats session = omega arith
 
-pub seats_grow : (seats : List Seat) (steps : List Step) → length seats ≤ length (seats_with_all seats steps)
+pub seats_grow : (seats : List Seat) (lines : List ScriptLine) → length seats ≤ length (seats_with_all seats lines)
 seats_grow seats [] = omega arith
-seats_grow seats (step ∷ rest) =
-    let one = unless_grows (seat_of seats step.session) seats step.session in
-    let others = seats_grow (seats_with seats step.session) rest in
+seats_grow seats (line ∷ rest) =
+    let one = unless_grows (seat_of seats line.session) seats line.session in
+    let others = seats_grow (seats_with seats line.session) rest in
     omega (arith, one, others)
 
 -- where there are too many seats already, there are too many in the end
-pub too_many : (seats : List Seat) (rest steps : List Step) (most : ℕ) → seats_with_all seats rest ≡ seats_with_all [] steps → most < length seats
-    → nat_le (length (seats_with_all [] steps)) most ≡ false
-too_many seats rest steps most same many =
+pub too_many : (seats : List Seat) (rest lines : List ScriptLine) (most : ℕ) → seats_with_all seats rest ≡ seats_with_all [] lines → most < length seats
+    → nat_le (length (seats_with_all [] lines)) most ≡ false
+too_many seats rest lines most same many =
     let grown = seats_grow seats rest in
-    let long : length (seats_with_all seats rest) ≡ length (seats_with_all [] steps) = ap length same in
-    lt-leb (length (seats_with_all [] steps)) most (omega (arith, grown, many, long))
+    let long : length (seats_with_all seats rest) ≡ length (seats_with_all [] lines) = ap length same in
+    lt-leb (length (seats_with_all [] lines)) most (omega (arith, grown, many, long))

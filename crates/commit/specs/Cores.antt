@@ -53,7 +53,7 @@ order_of c = map (λ (r : Record). r.number) (serial_order (log_of c))
 -- a transaction that began on the tables after so many commits, and has not ended
 pub record IsLive (c : CoreState) (t : OpenTransaction) : Type 0 where
   pub held : Contains c.live.snapshots
-      (record { ticket = t.ticket; snapshot = t.snapshot; read_only = t.read_only })
+      (record { begin_number = t.begin_number; snapshot = t.snapshot; read_only = t.read_only })
   pub declared_is : t.declared ≡ c.declared
   pub within : t.snapshot ≤ length c.records
   pub start_is : t.start ≡ state_of c.declared c.start (log_of c) t.snapshot
@@ -110,7 +110,7 @@ with_begun read_only c = record c { live = with_begin (length c.records) read_on
 
 -- a transaction less among those that are live
 abbrev pub core_after_end : CoreState → OpenTransaction → CoreState
-core_after_end c t = record c { live = without t.ticket c.live }
+core_after_end c t = record c { live = without t.begin_number c.live }
 
 -- one commit more, or one refused commit more
 abbrev pub with_commit : CoreState → Record → CoreState

@@ -47,13 +47,13 @@ next_start_of dropped created now =
 pub record IsOutcome (limit : ℕ) (before : ViewState) (epoch : Epoch) (outcome : Outcome) : Type 0 where
   pub start : ViewState
   pub starts : next_start epoch.dropped.items epoch.created.items before ≡ Ok start
-  pub within : length outcome.answers.items ≤ length epoch.steps
-  pub answers : AreAnswers (beginning limit start epoch.steps)
-      (take (length outcome.answers.items) epoch.steps) outcome.answers.items
-  pub left : outcome.engine ≡ led_to (beginning limit start epoch.steps)
-      (take (length outcome.answers.items) epoch.steps) outcome.answers.items
+  pub within : length outcome.answers.items ≤ length epoch.lines
+  pub answers : AreAnswers (beginning limit start epoch.lines)
+      (take (length outcome.answers.items) epoch.lines) outcome.answers.items
+  pub left : outcome.engine ≡ led_to (beginning limit start epoch.lines)
+      (take (length outcome.answers.items) epoch.lines) outcome.answers.items
   pub serializable : IsSerializable outcome.engine.core
-  pub told : WereToldAlone outcome.engine.core (take (length outcome.answers.items) epoch.steps)
+  pub told : WereToldAlone outcome.engine.core (take (length outcome.answers.items) epoch.lines)
       outcome.answers.items
   pub fit : AllFit outcome.engine
 
@@ -71,7 +71,7 @@ AreOutcomes limit before (epoch ∷ epochs) (outcome ∷ rest) =
 
 -- each event of an epoch was answered
 abbrev pub IsWhole : Epoch → Outcome → Type 0
-IsWhole epoch outcome = length outcome.answers.items ≡ length epoch.steps
+IsWhole epoch outcome = length outcome.answers.items ≡ length epoch.lines
 
 -- an epoch more has passed, each of whose events was answered or not
 pub record IsOneMore (limit : ℕ) (before : ViewState) (epoch : Epoch) (outcomes more : List Outcome) (whole : Bool) :

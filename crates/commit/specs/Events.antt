@@ -5,7 +5,7 @@ use Rattle.std.specs.Str.{bytes_eq}
 use Rattle.value.specs.declared.refusals.Refusal.{Refusal}
 use Rattle.value.specs.declared.refusals.Refusal.TheVariants.{NoMemory, NoTransaction, TooManySessions, TransactionOpen}
 use Rattle.syntax.specs.declared.statements.Statement.{Statement}
-use Rattle.syntax.specs.declared.statements.Step.{Step}
+use Rattle.syntax.specs.declared.statements.ScriptLine.{ScriptLine}
 use Rattle.syntax.specs.declared.statements.Event.{Event}
 use Rattle.syntax.specs.declared.statements.Event.TheVariants.{Begin, BeginReadOnly, Commit, Rollback, Run}
 use Rattle.alone.specs.declared.answers.Answer.{Answer}
@@ -32,11 +32,11 @@ txn_of None = None
 txn_of (Some seat) = seat.txn
 
 -- Each open transaction began on the tables after some number of commits, and has not ended; no two have one
--- ticket; and no commit is prepared.
+-- begin number; and no commit is prepared.
 pub record AreLive (core : CoreState) (seats : List Seat) : Type 0 where
   pub each : (place : ℕ) (t : OpenTransaction) → txn_of (slice_get seats place) ≡ Some t → IsLive core t
   pub apart : (place other : ℕ) (t u : OpenTransaction) → txn_of (slice_get seats place) ≡ Some t
-      → txn_of (slice_get seats other) ≡ Some u → t.ticket ≡ u.ticket → place ≡ other
+      → txn_of (slice_get seats other) ≡ Some u → t.begin_number ≡ u.begin_number → place ≡ other
   pub begun : AreBelow core.live.begun core.live.snapshots
   pub idle : core.prepared ≡ None
 
@@ -172,16 +172,16 @@ takes_memory_at now event None = false
 takes_memory_at now event (Some place) = takes_memory event (txn_of (slice_get now.seats place))
 
 -- an event that takes memory may find none
-pub record FindsNoMemory (now : EngineState) (step : Step) (answer : Answer) : Type 0 where
-  pub takes : takes_memory_at now step.event (seat_of now.seats step.session) ≡ true
+pub record FindsNoMemory (now : EngineState) (line : ScriptLine) (answer : Answer) : Type 0 where
+  pub takes : takes_memory_at now line.event (seat_of now.seats line.session) ≡ true
   pub is : answer ≡ Refused NoMemory
 
 -- what an event of a session is answered
-abbrev pub IsAnswered : EngineState → Step → Answer → Type 0
-IsAnswered now step answer =
-    FindsNoMemory now step answer ⊎ IsAnsweredAt now step.session step.event (seat_of now.seats step.session) answer
+abbrev pub IsAnswered : EngineState → ScriptLine → Answer → Type 0
+IsAnswered now line answer =
+    FindsNoMemory now line answer ⊎ IsAnsweredAt now line.session line.event (seat_of now.seats line.session) answer
 
 -- what it leaves; where it found no memory, all as it was
-abbrev pub after : EngineState → Step → Answer → EngineState
-after now step answer =
-    if found_no_memory answer then now else after_at now step.session step.event (seat_of now.seats step.session) answer
+abbrev pub after : EngineState → ScriptLine → Answer → EngineState
+after now line answer =
+    if found_no_memory answer then now else after_at now line.session line.event (seat_of now.seats line.session) answer

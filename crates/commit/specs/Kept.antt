@@ -41,7 +41,7 @@ pub record IsCore (c : CoreState) (newest : ViewState) (places reaches order : L
   pub order_is : order ≡ order_of c
   pub within : length c.records ≤ c.limit
   pub small : c.limit ≤ 4294967295
-  pub tickets : AreBelow c.live.begun c.live.snapshots
+  pub begin_numbers : AreBelow c.live.begun c.live.snapshots
 
 -- What is prepared may be the next commit: no assertion is false on its own view, the epoch has room, and the
 -- commits before it let it join them; if it is read only, it has changed nothing. The tables are those after it, and

@@ -8,7 +8,3 @@ pub mod Told
 pub mod Fitting
 pub mod Safe
 pub mod Epochs
-pub use Rattle.alone.specs.Alone
-pub use Rattle.delta.specs.Views
-pub use Rattle.definitions.specs.Written
-pub use Rattle.txn.specs.Transactions

@@ -2,7 +2,7 @@
 use Rattle.std.specs.Prelude.{◌≡◌, ℕ, List, [], ◌∷◌, ◌++◌, take, slice_get, Some, Result, Ok, Err, Contains, if◌then◌else◌}
 use Rattle.std.specs.Str.{bytes_eq}
 use Rattle.value.specs.declared.refusals.Refusal.{Refusal}
-use Rattle.syntax.specs.declared.statements.Step.{Step}
+use Rattle.syntax.specs.declared.statements.ScriptLine.{ScriptLine}
 use Rattle.syntax.specs.declared.statements.Event.{Event}
 use Rattle.syntax.specs.declared.statements.Event.TheVariants.{Begin, BeginReadOnly, Commit, Rollback, Run}
 use Rattle.alone.specs.declared.answers.Answer.{Answer}
@@ -42,31 +42,31 @@ replies_with Commit answer replies = replies
 replies_with Rollback answer replies = replies
 
 -- if it is an event of this session
-abbrev pub replies_by : (session : List ℕ) → Step → Answer → Replies → Replies
-replies_by session step answer replies =
-    if bytes_eq step.session session then replies_with step.event answer replies else replies
+abbrev pub replies_by : (session : List ℕ) → ScriptLine → Answer → Replies → Replies
+replies_by session line answer replies =
+    if bytes_eq line.session session then replies_with line.event answer replies else replies
 
 -- what a session was told since its last BEGIN, by some events more
-abbrev pub replies_after : (session : List ℕ) → Replies → List Step → List Answer → Replies
+abbrev pub replies_after : (session : List ℕ) → Replies → List ScriptLine → List Answer → Replies
 replies_after session replies [] answers = replies
-replies_after session replies (step ∷ rest) [] = replies
-replies_after session replies (step ∷ rest) (answer ∷ more) =
-    replies_after session (replies_by session step answer replies) rest more
+replies_after session replies (line ∷ rest) [] = replies
+replies_after session replies (line ∷ rest) (answer ∷ more) =
+    replies_after session (replies_by session line answer replies) rest more
 
 -- what a session was told since its last BEGIN
-abbrev pub replies_to : (session : List ℕ) → List Step → List Answer → Replies
-replies_to session steps answers = replies_after session [] steps answers
+abbrev pub replies_to : (session : List ℕ) → List ScriptLine → List Answer → Replies
+replies_to session lines answers = replies_after session [] lines answers
 
 -- The COMMIT of a record stands among the events, was answered with its number, and up to there its session was told
 -- these replies.
-pub record WasTold (steps : List Step) (answers : List Answer) (commit : Record) (replies : Replies) : Type 0 where
+pub record WasTold (lines : List ScriptLine) (answers : List Answer) (commit : Record) (replies : Replies) : Type 0 where
   pub place : ℕ
-  pub asked : slice_get steps place ≡ Some (record { session = commit.session; event = Commit })
+  pub asked : slice_get lines place ≡ Some (record { session = commit.session; event = Commit })
   pub accepted : slice_get answers place ≡ Some (Committed commit.number)
-  pub told : replies_to commit.session (take place steps) (take place answers) ≡ replies
+  pub told : replies_to commit.session (take place lines) (take place answers) ≡ replies
 
 -- Each committed transaction was told what it answers alone on the tables of its snapshot. (It answers this in the
 -- serial replay too: `AnswersAgain` of `alone` speaks of the same outcome.)
-abbrev pub WereToldAlone : CoreState → List Step → List Answer → Type 0
-WereToldAlone c steps answers = (commit : Record) → Contains (log_of c) commit
-    → WasTold steps answers commit (outcome_on_snapshot c.declared c.start (log_of c) commit).replies
+abbrev pub WereToldAlone : CoreState → List ScriptLine → List Answer → Type 0
+WereToldAlone c lines answers = (commit : Record) → Contains (log_of c) commit
+    → WasTold lines answers commit (outcome_on_snapshot c.declared c.start (log_of c) commit).replies

@@ -2,7 +2,7 @@
 
 ghost use Rattle.std.specs.Prelude.{◌≡◌, ◌↔◌, ◌≢◌, ◌≤◌, ◌<◌, ◌+◌, ◌++◌, ◌∷◌, [], ℕ, List, length, true, false, vec_capacity, vec_len, Contains, IfOk, IfErr, IfSome, IfNone, OnErr, OnOk, Ok, Err, None, Some};
 ghost use Rattle.value.specs.declared.refusals.Refusal.TheVariants.{NoMemory};
-ghost use Rattle.txn.specs.Modes.{assertion_of};
+ghost use Rattle.alone.specs.Modes.{assertion_of};
 ghost use Rattle.siread.specs.Locks.{IsCount, reads_above, readers_at};
 ghost use Rattle.conflict.specs.Held.{is_held};
 ghost use Rattle.conflict.specs.Live.{least_writing, without};
@@ -44,8 +44,8 @@ pub struct Core {
     order: Vec<u64>,
     refused: Vec<RefusedCommit>,
     live: Live,
-    /// Who read what, of the commits that reach past the snapshot of some open transaction that may write, and of the one
-    /// that is prepared.
+    /// Who read what, of the commits that reach past the snapshot of some open transaction that may write, and of the
+    /// one that is prepared.
     locks: LockTable,
     prepared: Option<Prepared>,
 }
@@ -89,7 +89,7 @@ impl Drop for Core {
             prepared,
         } = self;
         if let Some(prepared) = prepared {
-            let_go(give_up(prepared).into_parts());
+            drop(give_up(prepared).into_parts());
         }
     }
 }
@@ -221,7 +221,7 @@ impl Core {
             place,
         } = prepared;
         let number = self.records.len() as u64 + 1;
-        let ticket = closed.ticket();
+        let begin_number = closed.begin_number();
         let snapshot = closed.snapshot();
         let read_only = closed.is_read_only();
         let record = record_of(number, snapshot, read_only, session, closed.into_parts());
@@ -236,7 +236,7 @@ impl Core {
             &mut self.live,
             &mut self.locks,
             self.reaches.as_slice(),
-            ticket,
+            begin_number,
             number,
         );
     }
@@ -268,10 +268,10 @@ impl Core {
             &mut self.live,
             &mut self.locks,
             self.reaches.as_slice(),
-            txn.ticket(),
+            txn.begin_number(),
             newest,
         );
-        let_go(txn.abandon());
+        drop(txn.abandon());
     }
 
     /// The truth of the assertion of a name on the newest tables; none where no assertion has it. It takes no memory.
@@ -336,18 +336,18 @@ impl Core {
         self.order.as_slice()
     }
 
-    /// Whether a transaction with this ticket and this snapshot, read only or not as is said, has begun and has not
-    /// ended. It takes no memory.
-    pub fn holds(&self, ticket: u64, snapshot: u64, read_only: bool) -> bool
-        ensures test { result ≡ is_held ticket snapshot read_only self.now.live.snapshots }
+    /// Whether a transaction with this begin number and this snapshot, read only or not as is said, has begun and has
+    /// not ended. It takes no memory.
+    pub fn holds(&self, begin_number: u64, snapshot: u64, read_only: bool) -> bool
+        ensures test { result ≡ is_held begin_number snapshot read_only self.now.live.snapshots }
         ensures held { result ≡ true → Contains self.now.live.snapshots
-            (record { ticket = ticket; snapshot = snapshot; read_only = read_only }) }
+            (record { begin_number = begin_number; snapshot = snapshot; read_only = read_only }) }
     {
-        self.live.holds(ticket, snapshot, read_only)
+        self.live.holds(begin_number, snapshot, read_only)
     }
 
-    /// Whether an open transaction is safe: it is read only, and is never refused any more for what others read and wrote
-    /// (`safe_readers_are_never_refused`). It takes no memory.
+    /// Whether an open transaction is safe: it is read only, and is never refused any more for what others read and
+    /// wrote (`safe_readers_are_never_refused`). It takes no memory.
     pub fn is_safe(&self, txn: &Txn) -> bool
         requires live { IsLive self.now txn.now }
         requires idle { self.now.prepared ≡ None }
@@ -410,13 +410,13 @@ impl Core {
         let snapshot = self.records.len() as u64;
         let txn = Txn::begin(
             alloc,
-            self.live.next_ticket(),
+            self.live.next_begin_number(),
             snapshot,
             read_only,
             &self.newest,
         )?;
         if let Err(_) = self.live.begin(snapshot, read_only) {
-            let_go(txn.abandon());
+            drop(txn.abandon());
             return Err(AllocError);
         }
         Ok(txn)
@@ -583,22 +583,22 @@ impl Core {
             &mut self.live,
             &mut self.locks,
             self.reaches.as_slice(),
-            closed.ticket(),
+            closed.begin_number(),
             newest,
         );
-        let_go(closed.into_parts());
+        drop(closed.into_parts());
         CommitFailure { refusal, txn: None }
     }
 }
 
-/// A transaction has ended: its snapshot is held no more, and readers go that reach no further than the snapshots of all
-/// that may write.
-fn forget(live: &mut Live, locks: &mut LockTable, reaches: &[u64], ticket: u64, newest: u64)
-    ensures live { live.new ≡ without ticket live.old }
+/// A transaction has ended: its snapshot is held no more, and readers go that reach no further than the snapshots of
+/// all that may write.
+fn forget(live: &mut Live, locks: &mut LockTable, reaches: &[u64], begin_number: u64, newest: u64)
+    ensures live { live.new ≡ without begin_number live.old }
     ensures locks { readers_at locks.new
         ≡ reads_above (least_writing newest live.new.snapshots) reaches.now (readers_at locks.old) }
 {
-    live.end(ticket);
+    live.end(begin_number);
     locks.trim(live.least_writing(newest), reaches);
 }
 
@@ -681,6 +681,3 @@ fn give_back(closed: ClosedTransaction) -> CommitFailure
         txn: Some(closed.reopen()),
     }
 }
-
-/// Lets a value go. Its type is a parameter here, so that the caller's proof does not go over its fields.
-fn let_go<T: Drop>(_value: T) {}

@@ -1,24 +1,24 @@
 //! Events of many sessions, one after the other.
 
-ghost use Rattle.std.specs.Prelude.{◌≡◌, ◌≤◌, ◌≢◌, [], true, false, length, take, IfOk, IfErr, OnErr, OnOk, Err};
+ghost use Rattle.std.specs.Prelude.{◌≡◌, ◌≤◌, ◌≢◌, [], true, false, is_some, length, nat_le, take, IfOk, IfErr, IfSome, OnErr, OnOk, Err};
 ghost use Rattle.value.specs.declared.refusals.Refusal.TheVariants.{NoMemory};
 ghost use Rattle.alone.specs.Alone.{IsSound};
 ghost use Rattle.commit.specs.Cores.{IsSerializable};
 ghost use Rattle.commit.specs.Epochs.{IsNextEpoch, is_any_open, next_start_of};
 ghost use Rattle.commit.specs.Events.{IsAnswered, after, as_answer};
 ghost use Rattle.commit.specs.Fitting.{AllFit};
-ghost use Rattle.commit.specs.Runs.{AreAnswers, IsNext, beginning, led_to, seats_with};
+ghost use Rattle.commit.specs.Runs.{AreAnswers, IsNext, beginning, led_to, seats_with, seats_with_all};
 ghost use Rattle.commit.specs.Told.{WereToldAlone};
 
 use crate::cores::Core;
 use crate::laws::answers_lead_to_a_serial_order;
-use crate::seats::{Seat, answer_event, find_seat, make_seats, seat_session};
+use crate::seats::{Seat, answer_event, find_seat, make_seats, seat_few, seat_session};
 use alone::Answer;
 use definitions::NewAssertion;
 use delta::View;
 use std::alloc::{AllocError, Global};
 use std::marker::Model;
-use syntax::Step;
+use syntax::ScriptLine;
 use value::{Refusal, Text};
 
 /// What stands between two events: the committed transactions, and the sessions with the open ones.
@@ -57,13 +57,54 @@ impl Engine {
         alloc: Global,
         limit: u64,
         loaded: View,
-        steps: &[Step],
+        lines: &[ScriptLine],
     ) -> Result<Engine, AllocError>
         requires sound { IsSound loaded.declared loaded.state }
         requires within { limit ≤ 4294967295 }
-        ensures { IfOk result (λ engine. engine ≡ beginning limit loaded steps.now) }
+        ensures { IfOk result (λ engine. engine ≡ beginning limit loaded lines.now) }
     {
-        let seats = make_seats(alloc, steps)?;
+        let seats = make_seats(alloc, lines)?;
+        Engine::seated(alloc, limit, loaded, lines, seats)
+    }
+
+    /// As [`Engine::new`]; or none where the events are of more than so many sessions, and the tables are let go then.
+    pub fn with_few_sessions(
+        alloc: Global,
+        limit: u64,
+        loaded: View,
+        lines: &[ScriptLine],
+        most: usize,
+    ) -> Result<Option<Engine>, AllocError>
+        requires sound { IsSound loaded.declared loaded.state }
+        requires within { limit ≤ 4294967295 }
+        ensures engine { IfOk result (λ made. IfSome made (λ engine. engine ≡ beginning limit loaded lines.now)) }
+        ensures few { IfOk result (λ made. is_some made ≡ nat_le (length (seats_with_all [] lines.now)) most) }
+    {
+        match seat_few(alloc, lines, most)? {
+            Some(seats) => {
+                let engine = Engine::seated(alloc, limit, loaded, lines, seats)?;
+                Ok(Some(engine))
+            }
+            None => {
+                drop(loaded);
+                Ok(None)
+            }
+        }
+    }
+
+    /// Before the first of these events, of which these are the seats. (Only clauses look at the events.)
+    fn seated(
+        alloc: Global,
+        limit: u64,
+        loaded: View,
+        _lines: &[ScriptLine],
+        seats: Vec<Seat>,
+    ) -> Result<Engine, AllocError>
+        requires sound { IsSound loaded.declared loaded.state }
+        requires within { limit ≤ 4294967295 }
+        requires seats { seats.items ≡ seats_with_all [] _lines.now }
+        ensures { IfOk result (λ engine. engine ≡ beginning limit loaded _lines.now) }
+    {
         let core = Core::new(alloc, limit, loaded)?;
         Ok(Engine { core, seats })
     }
@@ -79,14 +120,14 @@ impl Engine {
 
     /// Answers an event. Where no memory is found, that is the answer, and nothing has changed. That can come only to
     /// BEGIN outside a transaction, and to a statement or COMMIT inside one: everything else takes none.
-    pub fn answer(&mut self, step: &Step) -> Answer
-        ensures answered { IsAnswered self.old step.now result }
-        ensures after { self.new ≡ after self.old step.now result }
+    pub fn answer(&mut self, line: &ScriptLine) -> Answer
+        ensures answered { IsAnswered self.old line.now result }
+        ensures after { self.new ≡ after self.old line.now result }
     {
-        let Some(place) = find_seat(self.seats.as_slice(), &step.session) else {
+        let Some(place) = find_seat(self.seats.as_slice(), &line.session) else {
             return Answer::Refused(Refusal::TooManySessions);
         };
-        let answered = answer_event(&mut self.core, &mut self.seats[place], step);
+        let answered = answer_event(&mut self.core, &mut self.seats[place], line);
         as_answer(answered)
     }
 
@@ -134,54 +175,59 @@ impl Engine {
 /// Answers events of any sessions, one after the other, from tables on which no assertion is false, with at most so
 /// many commits, from none to 4,294,967,295. Should the answers themselves find no memory, the run ends there, and what
 /// is answered is the beginning of the list. An error is that memory ran out before the first event.
-pub fn run(alloc: Global, limit: u64, loaded: View, steps: &[Step]) -> Result<Outcome, AllocError>
+pub fn run(
+    alloc: Global,
+    limit: u64,
+    loaded: View,
+    lines: &[ScriptLine],
+) -> Result<Outcome, AllocError>
     requires sound { IsSound loaded.declared loaded.state }
     requires within { limit ≤ 4294967295 }
-    ensures within { IfOk result (λ outcome. length outcome.answers.items ≤ length steps.now) }
+    ensures within { IfOk result (λ outcome. length outcome.answers.items ≤ length lines.now) }
     ensures answers { IfOk result (λ outcome.
-        AreAnswers (beginning limit loaded steps.now) (take (length outcome.answers.items) steps.now)
+        AreAnswers (beginning limit loaded lines.now) (take (length outcome.answers.items) lines.now)
         outcome.answers.items) }
     ensures left { IfOk result (λ outcome.
         outcome.engine
-        ≡ led_to (beginning limit loaded steps.now) (take (length outcome.answers.items) steps.now)
+        ≡ led_to (beginning limit loaded lines.now) (take (length outcome.answers.items) lines.now)
         outcome.answers.items) }
     ensures serializable { IfOk result (λ outcome. IsSerializable outcome.engine.core) }
     ensures told { IfOk result (λ outcome.
-        WereToldAlone outcome.engine.core (take (length outcome.answers.items) steps.now) outcome.answers.items) }
+        WereToldAlone outcome.engine.core (take (length outcome.answers.items) lines.now) outcome.answers.items) }
     ensures fit { IfOk result (λ outcome. AllFit outcome.engine) }
 {
     // (that the loaded rows fit is known of a view where its catalog is lent)
     let _ = loaded.catalog();
-    let mut engine = Engine::new(alloc, limit, loaded, steps)?;
+    let mut engine = Engine::new(alloc, limit, loaded, lines)?;
     let mut answers = Vec::new(alloc);
-    answer_all(&mut engine, steps, &mut answers);
+    answer_all(&mut engine, lines, &mut answers);
     answers_lead_to_a_serial_order();
     Ok(Outcome { answers, engine })
 }
 
 /// Answers events up to the first for whose answer there is no room.
-fn answer_all(engine: &mut Engine, steps: &[Step], answers: &mut Vec<Answer>)
+fn answer_all(engine: &mut Engine, lines: &[ScriptLine], answers: &mut Vec<Answer>)
     requires { answers.old.items ≡ [] }
-    ensures within { length answers.new.items ≤ length steps.now }
-    ensures answers { AreAnswers engine.old (take (length answers.new.items) steps.now) answers.new.items }
-    ensures left { engine.new ≡ led_to engine.old (take (length answers.new.items) steps.now) answers.new.items }
+    ensures within { length answers.new.items ≤ length lines.now }
+    ensures answers { AreAnswers engine.old (take (length answers.new.items) lines.now) answers.new.items }
+    ensures left { engine.new ≡ led_to engine.old (take (length answers.new.items) lines.now) answers.new.items }
 {
-    for step in steps {
-        if !answer_next(engine, step, answers) {
+    for line in lines {
+        if !answer_next(engine, line, answers) {
             return;
         }
     }
 }
 
 /// Answers an event, if there is room for the answer.
-fn answer_next(engine: &mut Engine, step: &Step, answers: &mut Vec<Answer>) -> bool
-    ensures answered { result ≡ true → IsNext engine.old step.now answers.old.items engine.new answers.new.items }
+fn answer_next(engine: &mut Engine, line: &ScriptLine, answers: &mut Vec<Answer>) -> bool
+    ensures answered { result ≡ true → IsNext engine.old line.now answers.old.items engine.new answers.new.items }
     ensures same { result ≡ false → (engine.new ≡ engine.old) × (answers.new.items ≡ answers.old.items) }
 {
     if answers.reserve(1).is_err() {
         return false;
     }
-    let answer = engine.answer(step);
+    let answer = engine.answer(line);
     answers.push_reserved(answer);
     true
 }

@@ -16,7 +16,7 @@ use delta::View;
 use sqlite_items::Items;
 use std::alloc::Global;
 use std::mem;
-use syntax::Step;
+use syntax::ScriptLine;
 use value::{Refusal, Text};
 
 /// How the assertions change when an epoch begins, and the events in it.
@@ -26,7 +26,7 @@ pub struct Epoch {
     pub dropped: Vec<Text>,
     /// The assertions that are then created.
     pub created: Vec<NewAssertion>,
-    pub steps: Items<Step>,
+    pub lines: Items<ScriptLine>,
 }
 
 /// What epochs led to, one after the other, and why the next did not begin, if they ended early.
@@ -147,8 +147,8 @@ fn run_next(
     let before = tables_left(loaded, outcomes.as_slice());
     let start = readmit(alloc, before, &epoch.dropped, &epoch.created)?;
     outcomes.reserve(1)?;
-    let outcome = run(alloc, limit, start, epoch.steps.as_slice())?;
-    let is_whole = outcome.answers.len() == epoch.steps.len();
+    let outcome = run(alloc, limit, start, epoch.lines.as_slice())?;
+    let is_whole = outcome.answers.len() == epoch.lines.len();
     outcomes.push_reserved(outcome);
     Ok(is_whole)
 }

@@ -18,8 +18,8 @@ use alone::{commits_have_an_order, replay_answers_again, runs_are_joined};
 /// alone: none at its BEGIN, and one more with each statement. So what a record's trace answers on its snapshot is
 /// what its session was told.
 pub fn replies_are_those_alone()
-    ensures first { (ticket snapshot : ℕ) (read_only : Bool) (shown : ViewState)
-        → (run_of (transaction_at_begin ticket snapshot read_only shown)).replies ≡ [] }
+    ensures first { (begin_number snapshot : ℕ) (read_only : Bool) (shown : ViewState)
+        → (run_of (transaction_at_begin begin_number snapshot read_only shown)).replies ≡ [] }
     ensures next { (t : OpenTransaction) (statement : ResolvedStatement)
         → (run_of (with_statement t statement)).replies ≡ (run_of t).replies ++ (step_of t statement).reply ∷ [] }
 {
@@ -52,9 +52,9 @@ pub fn safe_readers_are_never_refused()
 /// to its COMMIT, what it answers alone on the tables of its snapshot, and so in the serial replay too; and where the
 /// rows that were loaded fit their columns, those of all committed tables and of each open transaction's own view do.
 pub fn answers_lead_to_a_serial_order()
-    ensures serializable { InEachRun (λ loaded steps answers left. IsSerializable left.core) }
-    ensures told { InEachRun (λ loaded steps answers left. WereToldAlone left.core steps answers) }
-    ensures fit { InEachRun (λ loaded steps answers left. ShownFit loaded → AllFit left) }
+    ensures serializable { InEachRun (λ loaded lines answers left. IsSerializable left.core) }
+    ensures told { InEachRun (λ loaded lines answers left. WereToldAlone left.core lines answers) }
+    ensures fit { InEachRun (λ loaded lines answers left. ShownFit loaded → AllFit left) }
 {
     replies_are_those_alone();
     commits_have_an_order();

@@ -19,11 +19,11 @@
 //! - COMMIT ends the transaction, accepted or refused; ROLLBACK ends it, and nothing of it is kept.
 //! - An event that finds no memory is answered so, and nothing has changed.
 //!
-//! [`run`] answers a list of events. Its contract is the headline of the whole: each answer is one that
-//! `specs/Events` allows after those before it; no committed tables make an assertion false; the serial order has
-//! each commit once; and the committed transactions, run alone in it, answer what they answered and leave the
-//! newest tables (`IsSerializable` in `specs/Cores`). What each of them was told, out of the list of events and answers,
-//! is what it answers alone (`specs/Told`). The law behind it speaks of the definitions alone
+//! [`run`] answers a list of events. Its contract is the headline of the whole: each answer is one that `specs/Events`
+//! allows after those before it; no committed tables make an assertion false; the serial order has each commit once;
+//! and the committed transactions, run alone in it, answer what they answered and leave the newest tables
+//! (`IsSerializable` in `specs/Cores`). What each of them was told, out of the list of events and answers, is what it
+//! answers alone (`specs/Told`). The law behind it speaks of the definitions alone
 //! ([`answers_lead_to_a_serial_order`]).
 //!
 //! How it works. What a core keeps at hand (the newest tables, the least conflict out of each commit, the order) is

@@ -1,6 +1,6 @@
 //! The sessions' seats, and what an event does in one.
 
-ghost use Rattle.std.specs.Prelude.{◌≡◌, ◌<◌, [], false, true, length, nat_le, is_none, IfSome, IfOk, OnErr, OnOk, Some, None};
+ghost use Rattle.std.specs.Prelude.{◌≡◌, ◌<◌, [], false, true, length, nat_le, is_none, is_some, IfSome, IfOk, OnErr, OnOk, Some, None};
 ghost use Rattle.value.specs.Ordered.{HoldsOf};
 ghost use Rattle.commit.specs.Cores.{IsLive};
 ghost use Rattle.syntax.specs.declared.statements.Event.TheVariants.{Commit, Rollback, Run};
@@ -11,7 +11,7 @@ use crate::cores::{CommitFailure, Core};
 use alone::Answer;
 use std::alloc::{AllocError, Global};
 use std::mem;
-use syntax::{Event, Statement, Step};
+use syntax::{Event, ScriptLine, Statement};
 use txn::Txn;
 use value::{Refusal, Text};
 
@@ -25,14 +25,11 @@ impl Drop for Seat {
     fn drop(self) {
         let Seat { session: _, txn } = self;
         match txn {
-            Some(txn) => let_go(txn.abandon()),
+            Some(txn) => drop(txn.abandon()),
             None => {}
         }
     }
 }
-
-/// Lets a value go. Its type is a parameter here, so that the caller's proof does not go over its fields.
-fn let_go<T: Drop>(_value: T) {}
 
 /// Seats a transaction, or none. One that was open is rolled back.
 fn set_txn(seat: &mut Seat, txn: Option<Txn>)
@@ -40,42 +37,62 @@ fn set_txn(seat: &mut Seat, txn: Option<Txn>)
 {
     match mem::replace(&mut seat.txn, txn) {
         None => {}
-        Some(old) => let_go(old.abandon()),
+        Some(old) => drop(old.abandon()),
     }
 }
 
 /// A seat for each session of some events, in the order of their first events.
-pub fn make_seats(alloc: Global, steps: &[Step]) -> Result<Vec<Seat>, AllocError>
-    ensures { IfOk result (λ seats. seats.items ≡ seats_with_all [] steps.now) }
+pub fn make_seats(alloc: Global, lines: &[ScriptLine]) -> Result<Vec<Seat>, AllocError>
+    ensures { IfOk result (λ seats. seats.items ≡ seats_with_all [] lines.now) }
 {
     let mut seats = Vec::new(alloc);
-    seat_all(&mut seats, steps)?;
+    seat_all(&mut seats, lines)?;
     Ok(seats)
 }
 
-fn seat_all(seats: &mut Vec<Seat>, steps: &[Step]) -> Result<(), AllocError>
-    ensures { OnOk result (seats.new.items ≡ seats_with_all seats.old.items steps.now) }
+fn seat_all(seats: &mut Vec<Seat>, lines: &[ScriptLine]) -> Result<(), AllocError>
+    ensures { OnOk result (seats.new.items ≡ seats_with_all seats.old.items lines.now) }
 {
-    for step in steps {
-        seat_session(seats, &step.session)?;
+    for line in lines {
+        seat_session(seats, &line.session)?;
     }
     Ok(())
 }
 
-/// Whether events are of so many sessions or fewer. It goes no further than the first session that is one too many, so
-/// its time does not grow with the square of a long script.
+/// A seat for each session of some events, in the order of their first events, or none where they are of more than so
+/// many sessions. It goes no further than the first session that is one too many, so its time does not grow with the
+/// square of a long script.
 #[tactic(auto, using(crate::proofs::Seating::too_many))]
-pub fn has_few_sessions(alloc: Global, steps: &[Step], most: usize) -> Result<bool, AllocError>
-    ensures { IfOk result (λ few. few ≡ nat_le (length (seats_with_all [] steps.now)) most) }
+pub fn seat_few(
+    alloc: Global,
+    lines: &[ScriptLine],
+    most: usize,
+) -> Result<Option<Vec<Seat>>, AllocError>
+    ensures seats { IfOk result (λ found. IfSome found (λ seats. seats.items ≡ seats_with_all [] lines.now)) }
+    ensures few { IfOk result (λ found. is_some found ≡ nat_le (length (seats_with_all [] lines.now)) most) }
 {
     let mut seats = Vec::new(alloc);
-    for step in steps {
+    for line in lines {
         if seats.len() > most {
-            return Ok(false);
+            return Ok(None);
         }
-        seat_session(&mut seats, &step.session)?;
+        seat_session(&mut seats, &line.session)?;
     }
-    Ok(seats.len() <= most)
+    if seats.len() > most {
+        return Ok(None);
+    }
+    Ok(Some(seats))
+}
+
+/// Whether events are of so many sessions or fewer.
+pub fn has_few_sessions(
+    alloc: Global,
+    lines: &[ScriptLine],
+    most: usize,
+) -> Result<bool, AllocError>
+    ensures { IfOk result (λ few. few ≡ nat_le (length (seats_with_all [] lines.now)) most) }
+{
+    Ok(seat_few(alloc, lines, most)?.is_some())
 }
 
 /// A seat for a session, if it has none.
@@ -100,23 +117,27 @@ pub fn find_seat(seats: &[Seat], session: &Text) -> Option<usize>
 }
 
 /// Answers an event of the session in a seat.
-pub fn answer_event(core: &mut Core, seat: &mut Seat, step: &Step) -> Result<Answer, AllocError>
+pub fn answer_event(
+    core: &mut Core,
+    seat: &mut Seat,
+    line: &ScriptLine,
+) -> Result<Answer, AllocError>
     requires live { HoldsOf (IsLive core.old) seat.old.txn }
     requires idle { core.old.prepared ≡ None }
-    ensures answered { IfOk result (IsReply core.old step.now.session step.now.event seat.old.txn) }
+    ensures answered { IfOk result (IsReply core.old line.now.session line.now.event seat.old.txn) }
     ensures known { IfOk result (λ answer. found_no_memory answer ≡ false) }
-    ensures takes { OnErr result (takes_memory step.now.event seat.old.txn ≡ true) }
+    ensures takes { OnErr result (takes_memory line.now.event seat.old.txn ≡ true) }
     ensures commits { IfOk result (λ answer.
-        core.new ≡ core_after core.old step.now.session step.now.event seat.old.txn answer) }
-    ensures seat { OnOk result (seat.new ≡ record seat.old { txn = txn_after core.old step.now.event seat.old.txn }) }
+        core.new ≡ core_after core.old line.now.session line.now.event seat.old.txn answer) }
+    ensures seat { OnOk result (seat.new ≡ record seat.old { txn = txn_after core.old line.now.event seat.old.txn }) }
     ensures same { OnErr result ((core.new ≡ core.old) × (seat.new ≡ seat.old)) }
     ensures live { HoldsOf (IsLive core.new) seat.new.txn }
 {
-    match &step.event {
+    match &line.event {
         Event::Begin => begin(core, seat, false),
         Event::BeginReadOnly => begin(core, seat, true),
         Event::Run(statement) => run(seat, statement),
-        Event::Commit => commit(core, seat, &step.session),
+        Event::Commit => commit(core, seat, &line.session),
         Event::Rollback => Ok(roll_back(core, seat)),
     }
 }

@@ -4,8 +4,8 @@ use Rattle.std.proofs.lemmas.Bool.{or_parts}
 use Rattle.syntax.specs.declared.trees.Expression.{Expression}
 use Rattle.syntax.specs.declared.wants.Want.{Want}
 use Rattle.syntax.specs.declared.wants.PartInParentheses.{PartInParentheses}
-use Rattle.leaf_parser.specs.Language.{Lexemes, kind_at}
-use Rattle.leaf_parser.specs.Reading.{Reader, Done, and_then, pure}
+use Rattle.syntax.specs.Language.{Lexemes, kind_at}
+use Rattle.syntax.specs.Reading.{Reader, Done, and_then, pure}
 use Rattle.syntax.specs.Grammar.{product_of, sum_of}
 use Rattle.syntax.specs.Readers.{is_star, is_sign, product_item, product_after, sum_item, sum_after, expr_after}
 use Rattle.leaf_parser.proofs.Turns.{many_stops}

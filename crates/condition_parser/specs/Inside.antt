@@ -2,7 +2,7 @@
 use Rattle.std.specs.Prelude.{ℕ, zero, suc}
 use Rattle.syntax.specs.declared.wants.PartInParentheses.{PartInParentheses}
 use Rattle.syntax.specs.declared.wants.Want.{Want}
-use Rattle.leaf_parser.specs.Reading.{Reader, refuse}
+use Rattle.syntax.specs.Reading.{Reader, refuse}
 use Rattle.syntax.specs.Readers.{read}
 
 -- reads what stands in parentheses, where so many might be opened before them; where none might, it refuses

@@ -5,7 +5,7 @@ use denote.Ref.{MutBor}
 use Rattle.syntax.specs.declared.wants.PartInParentheses.{PartInParentheses}
 use Rattle.syntax.specs.declared.wants.Want.{Want}
 use Rattle.leaf_parser.specs.declared.stops.Stop.{Stop}
-use Rattle.leaf_parser.specs.Language.{Lexemes}
+use Rattle.syntax.specs.Language.{Lexemes}
 use Rattle.syntax.specs.Readers.{read}
 use Rattle.leaf_parser.specs.Reads.{Reads}
 

@@ -2,7 +2,7 @@
 
 ghost use Rattle.std.specs.Prelude.{◌≡◌, IfOk};
 ghost use Rattle.token.specs.declared.kinds.Kind.TheVariants as kinds;
-ghost use Rattle.leaf_parser.specs.Reading as rd;
+ghost use Rattle.syntax.specs.Reading as rd;
 ghost use Rattle.syntax.specs.Readers as reader;
 ghost use Rattle.condition_parser.specs.Inside.{inside};
 ghost use Rattle.condition_parser.specs.Nests.{Nests};

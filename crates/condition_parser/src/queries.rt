@@ -1,6 +1,6 @@
 //! Queries, and what is wanted.
 
-ghost use Rattle.leaf_parser.specs.Reading as rd;
+ghost use Rattle.syntax.specs.Reading as rd;
 ghost use Rattle.syntax.specs.Readers as reader;
 ghost use Rattle.condition_parser.specs.Inside.{inside};
 ghost use Rattle.condition_parser.specs.Nests.{Nests};

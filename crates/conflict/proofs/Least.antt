@@ -30,12 +30,12 @@ least_next newest all index d within =
     ∙ ap (least_writing newest) (sym (drop_more all index d within))
 
 -- it stays where a transaction begins on the newest tables
-pub least_begun : (newest ticket : ℕ) (read_only : Bool) (all : List LiveSnapshot)
-    → least_writing newest (all ++ record { ticket = ticket; snapshot = newest; read_only = read_only } ∷ [])
+pub least_begun : (newest begin_number : ℕ) (read_only : Bool) (all : List LiveSnapshot)
+    → least_writing newest (all ++ record { begin_number = begin_number; snapshot = newest; read_only = read_only } ∷ [])
     ≡ least_writing newest all
-least_begun newest ticket true [] = refl
-least_begun newest ticket false [] = omega arith
-least_begun newest ticket read_only (one ∷ rest) = ap (least_with one) (least_begun newest ticket read_only rest)
+least_begun newest begin_number true [] = refl
+least_begun newest begin_number false [] = omega arith
+least_begun newest begin_number read_only (one ∷ rest) = ap (least_with one) (least_begun newest begin_number read_only rest)
 
 with_more : (one : LiveSnapshot) (n m : ℕ) → n ≤ m → least_with one n ≤ least_with one m
 with_more one n m h = go one.read_only

@@ -12,20 +12,20 @@ pub record LiveState : Type 0 where
 abbrev pub none_live : LiveState
 none_live = record { begun = 0; snapshots = [] }
 
--- one transaction more, by the next ticket
+-- one transaction more, by the next begin number
 abbrev pub with_begin : (snapshot : ℕ) → (read_only : Bool) → LiveState → LiveState
 with_begin snapshot read_only live = record {
   begun = live.begun + 1;
-  snapshots = live.snapshots ++ record { ticket = live.begun; snapshot = snapshot; read_only = read_only } ∷ [];
+  snapshots = live.snapshots ++ record { begin_number = live.begun; snapshot = snapshot; read_only = read_only } ∷ [];
 }
 
--- whether an open transaction has another ticket
-abbrev pub is_other : (ticket : ℕ) → LiveSnapshot → Bool
-is_other ticket one = not (one.ticket == ticket)
+-- whether an open transaction has another begin number
+abbrev pub is_other : (begin_number : ℕ) → LiveSnapshot → Bool
+is_other begin_number one = not (one.begin_number == begin_number)
 
 -- one less
-abbrev pub without : (ticket : ℕ) → LiveState → LiveState
-without ticket live = record { begun = live.begun; snapshots = filter (is_other ticket) live.snapshots }
+abbrev pub without : (begin_number : ℕ) → LiveState → LiveState
+without begin_number live = record { begun = live.begun; snapshots = filter (is_other begin_number) live.snapshots }
 
 -- the lesser of a number and what the snapshot holds, if that is of one that may write
 abbrev pub least_with : LiveSnapshot → ℕ → ℕ
@@ -41,6 +41,6 @@ least_writing newest (one ∷ rest) = least_with one (least_writing newest rest)
 abbrev pub writers_hold : (snapshot : ℕ) → List LiveSnapshot → Bool
 writers_hold snapshot snapshots = list_all (λ (one : LiveSnapshot). one.read_only || nat_le snapshot one.snapshot) snapshots
 
--- the tickets are of transactions that have begun
+-- the begin numbers are of transactions that have begun
 abbrev pub AreBelow : (begun : ℕ) → List LiveSnapshot → Type 0
-AreBelow begun snapshots = All (λ one. one.ticket < begun) snapshots
+AreBelow begun snapshots = All (λ one. one.begin_number < begun) snapshots

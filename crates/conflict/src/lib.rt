@@ -26,7 +26,7 @@
 //! transactions is compared again.
 //!
 //! [`Live`] knows which snapshots are held (`specs/Live`). A transaction holds the tables after so many commits from
-//! its begin to its end, and is known in between by its ticket. What a commit read can matter only to a transaction
+//! its begin to its end, and is known in between by its number. What a commit read can matter only to a transaction
 //! that may write and began before that commit; so reads are kept as long as such a one is open, and the least snapshot
 //! that one of them holds tells which may go. One that is read only keeps nothing, however long it is open.
 #![tactic(auto)]

@@ -7,10 +7,10 @@ ghost use Rattle.conflict.specs.Live.{least_with, least_writing, none_live, with
 use std::alloc::{AllocError, Global};
 use std::marker::Model;
 
-/// An open transaction: its ticket, how many commits its snapshot holds, and whether it is read only.
+/// An open transaction: its begin number, how many commits its snapshot holds, and whether it is read only.
 #[derive(Clone, Copy, Debug, PartialEq, Eq)]
 pub struct LiveSnapshot {
-    pub ticket: u64,
+    pub begin_number: u64,
     pub snapshot: u64,
     pub read_only: bool,
 }
@@ -43,8 +43,8 @@ impl Live {
         }
     }
 
-    /// The ticket of the next transaction: how many have begun. It takes no memory.
-    pub fn next_ticket(&self) -> u64
+    /// The begin number of the next transaction: how many have begun. It takes no memory.
+    pub fn next_begin_number(&self) -> u64
         ensures { result ≡ self.now.begun }
     {
         self.begun
@@ -59,12 +59,12 @@ impl Live {
         ensures begun { OnOk result (self.new ≡ with_begin snapshot read_only self.old) }
         ensures same { OnErr result (self.new ≡ self.old) }
     {
-        let ticket = self.begun;
-        let Some(begun) = ticket.checked_add(1) else {
+        let begin_number = self.begun;
+        let Some(begun) = begin_number.checked_add(1) else {
             return Err(AllocError);
         };
         self.snapshots.push(LiveSnapshot {
-            ticket,
+            begin_number,
             snapshot,
             read_only,
         })?;
@@ -72,21 +72,22 @@ impl Live {
         Ok(())
     }
 
-    /// The transaction with a ticket has ended. It takes no memory.
-    pub fn end(&mut self, ticket: u64)
-        ensures { self.new ≡ without ticket self.old }
+    /// The transaction with a begin number has ended. It takes no memory.
+    pub fn end(&mut self, begin_number: u64)
+        ensures { self.new ≡ without begin_number self.old }
     {
-        self.snapshots.retain(|live| live.ticket != ticket);
+        self.snapshots
+            .retain(|live| live.begin_number != begin_number);
     }
 
-    /// Whether the transaction with a ticket is open, holds this snapshot, and is read only or not as is said. It takes
-    /// no memory.
-    pub fn holds(&self, ticket: u64, snapshot: u64, read_only: bool) -> bool
-        ensures test { result ≡ is_held ticket snapshot read_only self.now.snapshots }
+    /// Whether the transaction with a begin number is open, holds this snapshot, and is read only or not as is said. It
+    /// takes no memory.
+    pub fn holds(&self, begin_number: u64, snapshot: u64, read_only: bool) -> bool
+        ensures test { result ≡ is_held begin_number snapshot read_only self.now.snapshots }
         ensures held { result ≡ true → Contains self.now.snapshots
-            (record { ticket = ticket; snapshot = snapshot; read_only = read_only }) }
+            (record { begin_number = begin_number; snapshot = snapshot; read_only = read_only }) }
     {
-        is_held(self.snapshots.as_slice(), ticket, snapshot, read_only)
+        is_held(self.snapshots.as_slice(), begin_number, snapshot, read_only)
     }
 
     /// The least number of commits that the snapshot of an open transaction that may write holds, or this one where
@@ -124,12 +125,13 @@ fn least_with(live: &LiveSnapshot, least: u64) -> u64
 }
 
 #[tactic(auto, using(crate::proofs::Holding::held_facts))]
-fn is_held(snapshots: &[LiveSnapshot], ticket: u64, snapshot: u64, read_only: bool) -> bool
-    ensures test { result ≡ is_held ticket snapshot read_only snapshots.now }
+fn is_held(snapshots: &[LiveSnapshot], begin_number: u64, snapshot: u64, read_only: bool) -> bool
+    ensures test { result ≡ is_held begin_number snapshot read_only snapshots.now }
     ensures held { result ≡ true → Contains snapshots.now
-        (record { ticket = ticket; snapshot = snapshot; read_only = read_only }) }
+        (record { begin_number = begin_number; snapshot = snapshot; read_only = read_only }) }
 {
     snapshots.iter().any(|live| {
-        live.ticket == ticket && (live.snapshot == snapshot && live.read_only == read_only)
+        live.begin_number == begin_number
+            && (live.snapshot == snapshot && live.read_only == read_only)
     })
 }

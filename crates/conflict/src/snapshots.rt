@@ -8,7 +8,8 @@ ghost use Rattle.alone.specs.Safe.{IsSafe};
 use alone::Record;
 
 /// Whether the snapshot that holds so many commits is safe among those committed: none past it conflicts to one that it
-/// holds, but for those that are read only. `places` are the least conflicts out of those committed. It takes no memory.
+/// holds, but for those that are read only. `places` are the least conflicts out of those committed. It takes no
+/// memory.
 pub fn is_safe(committed: &[Record], places: &[u64], snapshot: u64) -> bool
     requires log { IsLog (reverse committed.now) }
     requires places { places.now ≡ map (least_out (reverse committed.now)) committed.now }

@@ -3,11 +3,11 @@ use Rattle.std.proofs.Common.{◌≡◌, ℕ, ◌+◌, ◌<◌, zero, suc, List,
 use Rattle.std.specs.Prelude.{◌^◌}
 use Rattle.std.proofs.lemmas.List.{map-append, length-append}
 use Rattle.std.proofs.lemmas.List.Elements.{All-nil, All-cons, All-append}
-use Rattle.table.specs.Rows.{RowValues, Layout, Tables, FitsColumns, IsTable, layouts_of}
+use Rattle.table.specs.Rows.{RowValues, Layout, Tables, FitsColumns, IsTable, layouts_of, layout_at}
 use Rattle.assertion.specs.declared.assertions.Assertion.{Assertion}
 use Rattle.assertion.specs.Bounded.{IsBounded}
 use Rattle.assertion.specs.Meaning.{State, rows_of}
-use Rattle.delta.specs.Views.{AreBounded, layout_at}
+use Rattle.delta.specs.Views.{AreBounded}
 use Rattle.delta.specs.Maintained.{IsGood}
 
 empty_is_table : (layout : Layout) → IsTable layout []

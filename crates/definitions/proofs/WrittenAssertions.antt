@@ -14,10 +14,10 @@ use Rattle.syntax.specs.declared.definitions.Definition.{Definition}
 use Rattle.syntax.specs.declared.definitions.Definition.TheVariants as definition
 use Rattle.assertion.specs.declared.assertions.Assertion.{Assertion}
 use Rattle.assertion.specs.Declarations.{Declared, layouts_in}
-use Rattle.assertion.specs.Roots.{state_after_all}
+use Rattle.assertion.specs.Changes.{state_after_all}
 use Rattle.assertcheck.specs.Assertions.{checked_assertion}
 use Rattle.assertcheck.specs.Statements.{insert_of}
-use Rattle.changes.specs.Statements.{insert_effect}
+use Rattle.alone.specs.Statements.{insert_effect}
 use Rattle.meaning.specs.Laws.{IsWritten, Pairs}
 use Rattle.meaning.proofs.Checked.{StaysWritten-law}
 use Rattle.delta.specs.Views.{ViewState}

@@ -74,14 +74,11 @@ fn read_new(definition: Definition) -> Result<NewAssertion, Refusal>
     match NewAssertion::of(definition) {
         Ok(new) => Ok(new),
         Err(other) => {
-            let_go(other);
+            drop(other);
             Err(Refusal::OutsideClass)
         }
     }
 }
-
-/// Lets a value go. Its type is a parameter here, so that the caller's proof does not go over its fields.
-fn let_go<T: Drop>(_value: T) {}
 
 /// The view of the same tables without the assertions of some names and with new ones behind those that are left. A
 /// name that is dropped may be given anew. Whether they are satisfied is not asked, and the view
@@ -128,7 +125,7 @@ fn drop_assertion(view: &View, name: &Text) -> Result<View, Refusal>
     if !is_asserted(view.assertions(), name) {
         return Err(Refusal::UnknownName { name: name.copy()? });
     }
-    view.without_assertion(name)
+    Ok(view.without_assertion(name)?)
 }
 
 /// The view with these new assertions behind the others.
@@ -162,5 +159,5 @@ fn create_assertion(alloc: Global, view: &View, new: &NewAssertion) -> Result<Vi
         &new.condition,
         new.attributes,
     )?;
-    view.with_assertion(assertion)
+    Ok(view.with_assertion(assertion)?)
 }

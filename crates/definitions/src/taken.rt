@@ -1,26 +1,26 @@
 //! Definitions are taken in one after the other.
 
-ghost use Rattle.std.specs.Prelude.{◌≡◌, ◌≢◌, ◌<◌, [], ◌∷◌, IfOk, IfErr, IsOkUnless, Ok, Err, length};
+ghost use Rattle.std.specs.Prelude.{◌≡◌, ◌≢◌, ◌<◌, [], ◌∷◌, IfOk, IfErr, Ok, Err, length};
 ghost use Rattle.value.specs.declared.refusals.Refusal.TheVariants.{NoMemory};
 ghost use Rattle.definitions.specs.Taken.{is_asserted, empty_database, view_of_definitions, with_assertion, with_definition, with_table};
 ghost use Rattle.definitions.specs.Written.{AreWritten};
 ghost use Rattle.assertion.specs.Declarations.{layouts_in};
-ghost use Rattle.assertion.specs.Roots.{IsChangeOf, state_after};
+ghost use Rattle.assertion.specs.Changes.{IsChangeOf, state_after};
 ghost use Rattle.alone.specs.declared.answers.Reply.TheVariants.{Inserted};
-ghost use Rattle.changes.specs.Statements.{insert_effect};
+ghost use Rattle.alone.specs.Statements.{insert_effect};
 ghost use Rattle.changes.specs.Insertions.{tables_after_insert};
 ghost use Rattle.delta.specs.Views.{IsFitting};
 
 use crate::tables::schema_of;
 use assertcheck::{NewRow, check, check_insert};
 use assertion::Assertion;
-use changes::{insertion, name_at, schema_at};
+use changes::insertion;
 use delta::{View, copy_assertions, copy_catalog, put_change};
 use mvrows::Rows;
 use std::alloc::{AllocError, Global};
 use std::marker::Model;
 use syntax::{Attributes, ColumnDefinition, Condition, Definition, Insert};
-use table::{Catalog, Change, Row};
+use table::{Catalog, Change, Row, name_at, schema_at};
 use value::{Refusal, Text};
 
 /// What definitions define: tables, assertions over them, and the rows that the tables begin with.
@@ -77,9 +77,8 @@ impl Definitions {
 
     /// What a view shows, as if it were defined by a schema: so that what one run left is what another begins with. The
     /// rows are shared with the view. Only memory can fail.
-    pub fn of(alloc: Global, view: &View) -> Result<Definitions, Refusal>
-        ensures only_memory { IsOkUnless result NoMemory }
-        ensures equal { IfOk result (λ made. made ≡ view.now) }
+    pub fn of(alloc: Global, view: &View) -> Result<Definitions, AllocError>
+        ensures { IfOk result (λ made. made ≡ view.now) }
     {
         Ok(Definitions {
             catalog: copy_catalog(alloc, view.catalog())?,

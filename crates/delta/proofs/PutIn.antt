@@ -7,7 +7,7 @@ use Rattle.table.specs.declared.rows.Change.{Change}
 use Rattle.table.specs.Rows.{Layout}
 use Rattle.assertion.specs.Declarations.{Declared, layouts_in}
 use Rattle.assertion.specs.Meaning.{State}
-use Rattle.assertion.specs.Roots.{IsChangeOf, AreChangesOf, state_after, state_after_all}
+use Rattle.assertion.specs.Changes.{IsChangeOf, AreChangesOf, state_after, state_after_all}
 use Rattle.delta.specs.Views.{ViewState, IsFitting}
 
 -- changes that are left may be put into a view

@@ -8,14 +8,14 @@ use Rattle.value.specs.Ordered.{HoldsOf}
 use Rattle.value.proofs.ValueOrders.{value_cmp_total}
 use Rattle.value.proofs.OrderedLists.{All-at, All-put, IsAscending-put}
 use Rattle.table.specs.declared.rows.Change.{Change}
-use Rattle.table.specs.Rows.{RowValues, Layout, FitsColumns, IsTable, value_in, put_row}
+use Rattle.table.specs.Rows.{RowValues, Layout, FitsColumns, IsTable, value_in, put_row, key_of, layout_at}
 use Rattle.table.specs.Bounds.{IsSmallRow}
 use Rattle.table.proofs.SmallRows.{IsSmallRow-fits}
-use Rattle.assertion.specs.Meaning.{State, rows_of, key_of}
-use Rattle.assertion.specs.Roots.{IsOrdered, IsChangeOf, state_after}
+use Rattle.assertion.specs.Meaning.{State, rows_of}
+use Rattle.assertion.specs.Changes.{IsOrdered, IsChangeOf, state_after}
 use Rattle.assertion.proofs.KeptTruth.{rows-changed, rows-same, equal_of}
 use Rattle.roots.specs.Maintained.{IsSmallState}
-use Rattle.delta.specs.Views.{IsFitting, layout_at}
+use Rattle.delta.specs.Views.{IsFitting}
 use Rattle.delta.specs.Maintained.{IsGood, IsStep}
 
 -- tables are in key order, with numbers within the bounds of a column

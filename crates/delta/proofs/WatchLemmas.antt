@@ -9,7 +9,7 @@ use Rattle.table.specs.Rows.{Layout}
 use Rattle.assertion.specs.declared.assertions.Assertion.{Assertion}
 use Rattle.assertion.specs.declared.forms.Form.{Form}
 use Rattle.assertion.specs.Meaning.{State}
-use Rattle.assertion.specs.Roots.{IsOrdered, state_after}
+use Rattle.assertion.specs.Changes.{IsOrdered, state_after}
 use Rattle.table.specs.declared.rows.Change.{Change}
 use Rattle.roots.specs.Maintained.{IsStepOf}
 use Rattle.roots.specs.Over.{is_over}

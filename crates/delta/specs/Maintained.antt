@@ -5,7 +5,8 @@ use Rattle.table.specs.Rows.{Layout, Tables, layouts_of}
 use Rattle.assertion.specs.declared.assertions.Assertion.{Assertion}
 use Rattle.assertion.specs.declared.forms.Form.{Form}
 use Rattle.assertion.specs.Meaning.{State, rows_of, verdict_of}
-use Rattle.assertion.specs.Roots.{AreBad, IsChangeOf, state_after}
+use Rattle.assertion.specs.Roots.{AreBad}
+use Rattle.assertion.specs.Changes.{IsChangeOf, state_after}
 use Rattle.roots.specs.Maintained.{AreMaintained}
 use Rattle.delta.specs.declared.watches.Watch.{Watch}
 use Rattle.delta.specs.Views.{AreTables, AreBounded, IsFitting}

@@ -1,9 +1,9 @@
 -- What contracts see of a view, and what may be put into it.
-use Rattle.std.specs.Prelude.{◌≡◌, ◌++◌, ℕ, List, [], ◌∷◌, All, filter, length, not, slice_index_or}
+use Rattle.std.specs.Prelude.{◌≡◌, ◌++◌, ℕ, List, [], ◌∷◌, All, filter, length, not}
 use Rattle.std.specs.Str.{bytes_eq}
 use Rattle.value.specs.Ordered.{HoldsOf}
 use Rattle.table.specs.declared.rows.Change.{Change}
-use Rattle.table.specs.Rows.{Layout, FitsColumns, IsTable}
+use Rattle.table.specs.Rows.{layout_at, Layout, FitsColumns, IsTable}
 use Rattle.assertion.specs.declared.assertions.Assertion.{Assertion}
 use Rattle.assertion.specs.Bounded.{IsBounded}
 use Rattle.assertion.specs.Declarations.{Declared}
@@ -13,10 +13,6 @@ use Rattle.assertion.specs.Meaning.{State, rows_of}
 pub record ViewState : Type 0 where
   pub declared : Declared
   pub state : State
-
--- what the table at a place shows of its columns
-abbrev pub layout_at : ℕ → List Layout → Layout
-layout_at table layouts = slice_index_or layouts table (record { columns = []; key = 0 })
 
 -- for each layout there are the rows of a table of it
 pub record AreTables (layouts : List Layout) (state : State) : Type 0 where

@@ -1,13 +1,11 @@
 //! What all versions of a view share.
 
-ghost use Rattle.std.specs.Prelude.{◌≡◌, ◌++◌, ◌∷◌, [], IfOk, IsOkUnless};
+ghost use Rattle.std.specs.Prelude.{◌≡◌, ◌++◌, ◌∷◌, [], IfOk};
 ghost use Rattle.table.specs.Rows.{layouts_of};
-ghost use Rattle.value.specs.declared.refusals.Refusal.TheVariants.{NoMemory};
 
 use assertion::Assertion;
 use std::alloc::{AllocError, Global};
 use table::{Catalog, Schema};
-use value::Refusal;
 
 /// The tables that there are, and the assertions on them.
 #[derive(Drop)]
@@ -32,15 +30,14 @@ pub fn schemas_of(alloc: Global, catalog: &Catalog) -> Result<Vec<Schema>, Alloc
 }
 
 /// A catalog equal to this one.
-pub fn copy_catalog(alloc: Global, catalog: &Catalog) -> Result<Catalog, Refusal>
-    ensures only_memory { IsOkUnless result NoMemory }
-    ensures equal { IfOk result (λ copy. copy ≡ catalog.now) }
+pub fn copy_catalog(alloc: Global, catalog: &Catalog) -> Result<Catalog, AllocError>
+    ensures { IfOk result (λ copy. copy ≡ catalog.now) }
 {
     let mut copy = Catalog::new(alloc);
     for table in 0..catalog.len() {
         if let Some(name) = catalog.name(table) {
             if let Some(schema) = catalog.at(table) {
-                copy.add(name.copy()?, schema.copy()?)?;
+                copy.add_new(name.copy()?, schema.copy()?)?;
             }
         }
     }

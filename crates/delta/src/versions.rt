@@ -5,20 +5,19 @@ ghost use Rattle.std.specs.Arc.{arc_value};
 ghost use Rattle.std.specs.Str.{bytes_eq};
 ghost use Rattle.value.specs.Ordered.{HasKey, IsAscending};
 ghost use Rattle.value.specs.ValueOrder.{value_cmp};
-ghost use Rattle.table.specs.Rows.{Layout, value_in};
-ghost use Rattle.assertion.specs.Meaning.{key_of, rows_of};
-ghost use Rattle.assertion.specs.Roots.{IsChangeOf};
+ghost use Rattle.table.specs.Rows.{Layout, value_in, key_of};
+ghost use Rattle.assertion.specs.Meaning.{rows_of};
+ghost use Rattle.assertion.specs.Changes.{IsChangeOf};
 ghost use Rattle.delta.specs.Maintained.{AreShort, AreWatched, IsGood, IsStep};
 ghost use Rattle.delta.specs.Views.{AreBounded, IsFitting};
 
 use crate::watches::{Watch, watch_after};
 use assertion::{Assertion, Form, Link, Query};
 use mvrows::Rows;
-use roots::key_column;
 use std::alloc::{AllocError, Global};
 use std::mem;
 use std::sync::Arc;
-use table::{Change, Schema};
+use table::{Change, Schema, key_column};
 use value::Text;
 
 /// What is maintained for the assertions on these tables.

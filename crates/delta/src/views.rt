@@ -1,19 +1,18 @@
 //! Versions of the tables, with the maintained verdicts of the assertions.
 
-ghost use Rattle.std.specs.Prelude.{◌≡◌, ◌<◌, length, map, slice_index_or, All, IfOk, IsOkUnless};
+ghost use Rattle.std.specs.Prelude.{◌≡◌, ◌<◌, length, map, slice_index_or, All, IfOk};
 ghost use Rattle.std.specs.Arc.{arc_value};
 ghost use Rattle.std.specs.Option.{option_copied};
-ghost use Rattle.table.specs.Rows.{IsTable, layouts_of, row_at};
+ghost use Rattle.table.specs.Rows.{IsTable, layouts_of, row_at, key_of, layout_at};
 ghost use Rattle.table.specs.Bounds.{IsSmallRow};
 ghost use Rattle.assertion.specs.Bounded.{IsBounded};
 ghost use Rattle.assertion.specs.declared.assertions.Assertion.{Assertion as AnyAssertion};
 ghost use Rattle.assertion.specs.Candidates.{candidates_of};
 ghost use Rattle.assertion.specs.Declarations.{layouts_in};
-ghost use Rattle.assertion.specs.Meaning.{key_of, least_bad_of, rows_of, verdict_of};
-ghost use Rattle.assertion.specs.Roots.{AreChangesOf, IsChangeOf, state_after, state_after_all};
+ghost use Rattle.assertion.specs.Meaning.{least_bad_of, rows_of, verdict_of};
+ghost use Rattle.assertion.specs.Changes.{AreChangesOf, IsChangeOf, state_after, state_after_all};
 ghost use Rattle.delta.specs.Maintained.{AreShort, AreWatched, IsGood};
-ghost use Rattle.delta.specs.Views.{AreBounded, AreTables, IsFitting, layout_at, with_assertion, without_assertion};
-ghost use Rattle.value.specs.declared.refusals.Refusal.TheVariants.{NoMemory};
+ghost use Rattle.delta.specs.Views.{AreBounded, AreTables, IsFitting, with_assertion, without_assertion};
 
 use crate::declarations::{Declarations, copy_assertions, copy_catalog, schemas_of};
 use crate::versions::{
@@ -23,12 +22,12 @@ use crate::versions::{
 use crate::watches::Watch;
 use assertion::Assertion;
 use mvrows::Rows;
-use roots::{candidates, key_column, row_under};
+use roots::{candidates, row_under};
 use std::alloc::{AllocError, Global};
 use std::marker::Model;
 use std::sync::Arc;
-use table::{Catalog, Change, Row, Schema};
-use value::{Refusal, Root, Text, Truth, Value};
+use table::{Catalog, Change, Row, Schema, key_column};
+use value::{Root, Text, Truth, Value};
 
 /// The rows of each table, with the maintained verdicts of the assertions on them. It never changes.
 #[derive(Drop)]
@@ -159,10 +158,9 @@ impl View {
     /// The view of the same tables with an assertion behind the others. One pass is made over the tables for it, and
     /// one for each index that its links ask for; what is maintained for the others is shared with this view, which
     /// stays as it is. Only memory can fail.
-    pub fn with_assertion(&self, assertion: Assertion) -> Result<View, Refusal>
+    pub fn with_assertion(&self, assertion: Assertion) -> Result<View, AllocError>
         requires bounded { IsBounded assertion.form }
-        ensures only_memory { IsOkUnless result NoMemory }
-        ensures declared { IfOk result (λ view. view
+        ensures { IfOk result (λ view. view
             ≡ record self.now { declared = with_assertion assertion self.now.declared }) }
     {
         let alloc = *self.tables.allocator();
@@ -185,9 +183,8 @@ impl View {
 
     /// The view of the same tables without the assertions of a name. What is maintained for the others is shared with
     /// this view, which stays as it is; so are the indexes of the tables. Only memory can fail.
-    pub fn without_assertion(&self, name: &Text) -> Result<View, Refusal>
-        ensures only_memory { IsOkUnless result NoMemory }
-        ensures declared { IfOk result (λ view. view
+    pub fn without_assertion(&self, name: &Text) -> Result<View, AllocError>
+        ensures { IfOk result (λ view. view
             ≡ record self.now { declared = without_assertion name.now self.now.declared }) }
     {
         let alloc = *self.tables.allocator();
@@ -209,14 +206,13 @@ impl View {
         alloc: Global,
         tables: Vec<Rows>,
         watched: WatchedAssertions,
-    ) -> Result<View, Refusal>
+    ) -> Result<View, AllocError>
         requires tables { tables.items ≡ self.now.state }
         requires short { AreShort tables.items }
         requires bounded { AreBounded watched.assertions.items }
         requires watched { AreWatched (layouts_in self.now.declared) self.now.state watched.assertions.items
             (length watched.assertions.items) (map arc_value watched.watches.items) }
-        ensures only_memory { IsOkUnless result NoMemory }
-        ensures declared { IfOk result (λ view. view ≡ record self.now {
+        ensures { IfOk result (λ view. view ≡ record self.now {
           declared = record self.now.declared { assertions = watched.assertions.items };
         }) }
     {

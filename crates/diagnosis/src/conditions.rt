@@ -15,7 +15,7 @@ use syntax::Condition;
 use table::Catalog;
 use value::{Refusal, Text};
 
-/// A definition or step of a text, and the tables that there are where it stands.
+/// A definition or a line of a script, and the tables that there are where it stands.
 #[derive(Clone, Copy)]
 pub struct Context<'a> {
     pub which: Which,

@@ -22,7 +22,7 @@ use syntax::{Assignment, Condition, Statement, UpdateSource, Which as Listed};
 use table::Catalog;
 use value::{Refusal, Text};
 
-/// Why a statement, at a place among the steps of a script, is refused in every transaction, if it is.
+/// Why a statement, at a place among the lines of a script, is refused in every transaction, if it is.
 pub fn diagnose_statement(
     alloc: Global,
     bytes: &[u8],

@@ -7,7 +7,7 @@ use alone::Answer;
 use history::{End, Happening, Read, Transaction, add_bytes, add_change, add_key};
 use report::Report;
 use std::alloc::{AllocError, Global};
-use syntax::Step;
+use syntax::ScriptLine;
 use table::Change;
 
 /// Adds an event: its number, its line, its text, its answer as `replay` prints it, and what that rests on.
@@ -17,13 +17,13 @@ pub fn add_event(
     event: usize,
     out: &mut String,
 ) -> Result<(), AllocError> {
-    let Some(step) = story.history.steps.as_slice().get(event) else {
+    let Some(script_line) = story.history.lines.as_slice().get(event) else {
         return Ok(());
     };
     let Some(happening) = story.history.events.as_slice().get(event) else {
         return Ok(());
     };
-    add_heading(alloc, story, event, step, happening, out)?;
+    add_heading(alloc, story, event, script_line, happening, out)?;
     match &happening.answer {
         Answer::Refused(refusal) => add_refusal(alloc, story, event, happening, refusal, out)?,
         _ => add_done(alloc, story, event, happening, out)?,
@@ -36,7 +36,7 @@ fn add_heading(
     alloc: Global,
     story: Story<'_>,
     event: usize,
-    step: &Step,
+    script_line: &ScriptLine,
     happening: &Happening,
     out: &mut String,
 ) -> Result<(), AllocError> {
@@ -46,7 +46,7 @@ fn add_heading(
     story.events.add_piece(story.script, event, out)?;
     out.push_str("\n")?;
     let mut report = Report::new(alloc);
-    report.add_answer(step, &happening.answer)?;
+    report.add_answer(script_line, &happening.answer)?;
     add_bytes(report.as_bytes(), out)
 }
 

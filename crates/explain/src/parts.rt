@@ -9,10 +9,9 @@ use assertion::{Form, Link, Query};
 use delta::View;
 use groups::{Member, Totals};
 use mvrows::Rows;
-use roots::value_at;
 use siread::is_same;
 use std::alloc::{AllocError, Global};
-use table::{Aggregate, Cond, Row, SlotValue, Slots, is_bounded, keeps, passes};
+use table::{Aggregate, Cond, Row, SlotValue, Slots, is_bounded, keeps, passes, value_at};
 use value::{Root, Value};
 
 /// Which rows of a table go to a root.

@@ -10,7 +10,7 @@ use value::Refusal;
 pub enum At {
     /// At these bytes.
     Bytes(Span),
-    /// Somewhere in this definition or step.
+    /// Somewhere in this definition or line of a script.
     Definition(Span),
     /// Nowhere in the text.
     Nowhere,

@@ -34,7 +34,7 @@ fn grammar_fault(alloc: Global, which: Which, text: &[u8]) -> Result<Option<Refu
 }
 
 /// The kinds of tokens that may stand at an offset of a text, which has no fault before it. `start` is where the
-/// definition or step begins in which the offset is. None where it is too long to be asked about.
+/// definition or line of a script begins in which the offset is. None where it is too long to be asked about.
 pub fn kinds_at(
     alloc: Global,
     which: Which,

@@ -42,7 +42,7 @@ fn too_deep(alloc: Global, which: Which, at: usize) -> Result<Diagnosis, AllocEr
     )?)
 }
 
-/// The tokens of a definition or step that stand before an offset, and the token there, if one is left.
+/// The tokens of a definition or line of a script that stand before an offset, and the token there, if one is left.
 struct Around {
     start: usize,
     before: Vec<Token>,

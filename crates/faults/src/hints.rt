@@ -12,7 +12,7 @@ use token::{Kind, Token};
 pub struct Stop<'a> {
     pub which: Which,
     pub text: &'a [u8],
-    /// The tokens of its definition or step that stand before it.
+    /// The tokens of its definition or line that stand before it.
     pub before: &'a [Token],
     pub token: Token,
     /// The kinds of tokens that may stand there.
@@ -30,7 +30,7 @@ impl<'a> Stop<'a> {
         self.before.last().map_or(Kind::End, |token| token.kind)
     }
 
-    /// The kind of the first token of its definition or step.
+    /// The kind of the first token of its definition or line.
     fn first(&self) -> Kind {
         self.before.first().map_or(Kind::End, |token| token.kind)
     }

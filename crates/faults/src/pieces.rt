@@ -1,4 +1,4 @@
-//! The tokens of one definition or step, and which of them are the leaves of its tree.
+//! The tokens of one definition or line of a script, and which of them are the leaves of its tree.
 //!
 //! Trees keep no places. What stands at a part of a tree is found by counting: some kinds of tokens, the *leaves*,
 //! stand in the text in the order in which the tree has them, each once. They are names, numbers and texts, the words
@@ -9,7 +9,7 @@ use crate::places::{Span, between};
 use std::alloc::{AllocError, Global};
 use token::{Kind, Token, read_tokens};
 
-/// One definition or step: its text, all of its tokens without the semicolon, and its leaves.
+/// One definition or line of a script: its text, all of its tokens without the semicolon, and its leaves.
 #[derive(Drop)]
 pub struct Piece<'a> {
     pub text: &'a [u8],
@@ -18,7 +18,7 @@ pub struct Piece<'a> {
 }
 
 impl<'a> Piece<'a> {
-    /// The definition or step at a place of a text, from 0.
+    /// The definition or line of a script at a place of a text, from 0.
     pub fn at(alloc: Global, text: &'a [u8], place: usize) -> Result<Piece<'a>, AllocError> {
         let all = read_tokens(alloc, text)?;
         let mut tokens = Vec::new(alloc);

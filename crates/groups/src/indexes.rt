@@ -24,8 +24,8 @@ use std::marker::Model;
 use table::Row;
 use value::{Value, order};
 
-/// For each value in a column of a table the keys of the rows that have it there, in order. NULL has no keys. A change
-/// makes a new index, which shares all but the changed paths.
+/// For each value in a column of a table the keys of the rows that have it there, in order. NULL has no keys. A copy
+/// shares all of it, and a change copies the paths that are still shared.
 #[derive(Debug, Drop)]
 pub struct Index {
     /// The keys of each value that has any.

@@ -10,7 +10,8 @@ use std::alloc::{AllocError, Global};
 use std::marker::Model;
 use value::{Copied, Value};
 
-/// Keys in order, each once. A change makes a new set, which shares all but the changed path.
+/// Keys in order, each once. A copy shares all of it, and a change copies the path that
+/// is still shared.
 #[derive(Debug, Drop)]
 pub struct KeySet {
     pages: Pages<()>,

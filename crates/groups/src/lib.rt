@@ -14,7 +14,7 @@
 //! - `Totals` has a `Total` for each group that has a row, and nothing for one that has none. `Totals::with` makes
 //!   the totals after one row goes and one comes, each a `Member`: its group and its value. A row that moves between
 //!   groups, or whose value changes, is both. It is told for which set function the totals are: what that one asks for
-//!   is carried on. The old totals stay whole.
+//!   is carried on. It takes the old totals, and changes in place what no copy shares.
 //! - `Totals::get` lends the total of a group, `Totals::answer` and `Total::answer` what a set function gives by totals
 //!   that are carried on for it.
 //!
@@ -36,15 +36,15 @@
 //! more or less). The set functions themselves are `table/specs/Aggregates`.
 //!
 //! Totals stand under their groups in `pages::Pages`, and so do the values of a multiset, each with its number: a
-//! change makes the path to one group anew, and for MIN and MAX that to one value, and shares the rest.
+//! change copies at most the path to one group, and for MIN and MAX that to one value, and shares the rest.
 //!
 //! Beside totals, which say how many rows a group has, an [`Index`] says which ones: for each value in a column the
 //! keys of the rows that have it there, in order. It is a *secondary index* (Comer, "The Ubiquitous B-Tree", 1979):
 //! where a column is to be equal to a value, the rows of which this holds are found without reading the others. NULL is
 //! equal to nothing, so rows that have it there are under no value.
 //!
-//! - `Index::with` makes the index after the row under a key becomes another; where its value stays as it is, all is
-//!   shared. `Index::with_row` puts one row more behind the others, so that an index is made in one pass over a table.
+//! - `Index::with` makes the index after the row under a key becomes another; where its value stays as it is, nothing
+//!   changes. `Index::with_row` puts one row more behind the others, so that an index is made in one pass over a table.
 //! - `Index::keys` lends the keys of a value, one after the other ([`Keys`]). It takes no memory.
 //!
 //! What the layer above may rest on: the index of a table's rows is, after `with`, that of the rows with that change
@@ -53,8 +53,8 @@
 //! to its original; and rows have one index, which is the law [`rows_have_one_index`]. Calls fail only where memory
 //! runs out, and none has a premise.
 //!
-//! Values with keys stand in `pages::Pages`, and the keys of each in one more: a change makes the path to one value and
-//! the path to one key anew, or two of each, and shares the rest. The steps are in `specs/IndexSteps`.
+//! Values with keys stand in `pages::Pages`, and the keys of each in one more: a change copies at most the path to
+//! one value and the path to one key, or two of each, and shares the rest. The steps are in `specs/IndexSteps`.
 #![tactic(auto)]
 
 mod counts;

@@ -4,7 +4,7 @@ use alone::Answer;
 use delta::View;
 use siread::LockKey;
 use sqlite_items::Items;
-use syntax::Step;
+use syntax::ScriptLine;
 use table::Change;
 use value::Text;
 
@@ -84,7 +84,7 @@ pub struct Happening {
 pub struct History {
     /// The tables before the first event.
     pub loaded: View,
-    pub steps: Items<Step>,
+    pub lines: Items<ScriptLine>,
     /// One for each event, in their order.
     pub events: Vec<Happening>,
     /// In the order in which they began.

@@ -10,7 +10,7 @@ use delta::View;
 use sqlite_items::Items;
 use std::alloc::{AllocError, Global};
 use std::mem;
-use syntax::{Event, Mode, Statement, Step};
+use syntax::{Event, Mode, ScriptLine, Statement};
 use txn::{CloseFailure, ClosedTransaction, Txn};
 use value::Refusal;
 
@@ -37,7 +37,7 @@ pub fn follow(
     engine: &Engine,
     mirror: &mut Mirror,
     event: usize,
-    step: &Step,
+    line: &ScriptLine,
     happening: &mut Happening,
     notes: &mut Notes,
 ) -> Result<(), AllocError> {
@@ -46,13 +46,13 @@ pub fn follow(
         Answer::Refused(Refusal::NoMemory) => Err(AllocError),
         Answer::Begun(snapshot) => {
             let snapshot = *snapshot;
-            let read_only = matches!(step.event, Event::BeginReadOnly);
+            let read_only = matches!(line.event, Event::BeginReadOnly);
             let txn = Txn::begin(alloc, 0, snapshot, read_only, core.newest())?;
             follow_begin(alloc, txn, mirror, event, happening, notes)
         }
         _ => {
             let commits = core.records().len() as u64;
-            follow_inside(alloc, commits, mirror, event, step, happening, notes)
+            follow_inside(alloc, commits, mirror, event, line, happening, notes)
         }
     }
 }
@@ -63,7 +63,7 @@ fn follow_inside(
     commits: u64,
     mirror: &mut Mirror,
     event: usize,
-    step: &Step,
+    line: &ScriptLine,
     happening: &mut Happening,
     notes: &mut Notes,
 ) -> Result<(), AllocError> {
@@ -75,7 +75,7 @@ fn follow_inside(
     };
     happening.transaction = Some(mirror.transaction);
     transaction.ended = event;
-    match &step.event {
+    match &line.event {
         Event::Begin | Event::BeginReadOnly => Ok(()),
         Event::Run(statement) => follow_statement(
             alloc,
@@ -266,7 +266,7 @@ fn follow_commit(
         }
     }
     let noted = note_closed(alloc, &closed, event, happening, transaction);
-    let_go(closed.into_parts());
+    drop(closed.into_parts());
     noted
 }
 
@@ -297,7 +297,7 @@ fn note_closed(
 /// The transaction could not be taken to COMMIT for want of memory.
 fn give_up(unclosed: CloseFailure) -> AllocError {
     let CloseFailure { txn } = unclosed;
-    let_go(txn.abandon());
+    drop(txn.abandon());
     AllocError
 }
 
@@ -305,9 +305,6 @@ fn give_up(unclosed: CloseFailure) -> AllocError {
 fn set_txn(seat: &mut Seat, txn: Option<Txn>) {
     match mem::replace(&mut seat.txn, txn) {
         None => {}
-        Some(old) => let_go(old.abandon()),
+        Some(old) => drop(old.abandon()),
     }
 }
-
-/// Lets a value go. Its type is a parameter here, so that the caller's proof does not go over its fields.
-fn let_go<T: Drop>(_value: T) {}

@@ -9,7 +9,7 @@ use commit::{Engine, Seat};
 use replay::{ProgramFault, begin_run};
 use sqlite_items::Items;
 use std::alloc::{AllocError, Global};
-use syntax::Step;
+use syntax::ScriptLine;
 use value::Text;
 
 /// What happens when a script of any sessions is run on definitions, with at most so many commits.
@@ -26,15 +26,15 @@ pub fn read_history(
 ) -> Result<History, ProgramFault>
     requires within { max_commits ≤ 4294967295 }
 {
-    let (engine, steps) = begin_run(alloc, defs, script, max_commits)?;
-    match record(alloc, engine, steps) {
+    let (engine, lines) = begin_run(alloc, defs, script, max_commits)?;
+    match record(alloc, engine, lines) {
         Ok(history) => Ok(history),
         Err(_) => Err(ProgramFault::Stopped),
     }
 }
 
 /// Runs the events, and notes what happened.
-fn record(alloc: Global, engine: Engine, steps: Items<Step>) -> Result<History, AllocError> {
+fn record(alloc: Global, engine: Engine, lines: Items<ScriptLine>) -> Result<History, AllocError> {
     let mut engine = engine;
     let mut mirrors = make_mirrors(alloc, engine.seats())?;
     let mut notes = Notes {
@@ -45,7 +45,7 @@ fn record(alloc: Global, engine: Engine, steps: Items<Step>) -> Result<History, 
         alloc,
         &mut engine,
         &mut mirrors,
-        steps.as_slice(),
+        lines.as_slice(),
         &mut notes,
     )?;
     let loaded = engine.core().loaded().copy()?;
@@ -57,7 +57,7 @@ fn record(alloc: Global, engine: Engine, steps: Items<Step>) -> Result<History, 
     } = notes;
     Ok(History {
         loaded,
-        steps,
+        lines,
         events,
         transactions,
         order,
@@ -95,28 +95,28 @@ fn record_all(
     alloc: Global,
     engine: &mut Engine,
     mirrors: &mut Vec<Mirror>,
-    steps: &[Step],
+    lines: &[ScriptLine],
     notes: &mut Notes,
 ) -> Result<(), AllocError> {
-    for (event, step) in steps.iter().enumerate() {
-        record_step(alloc, engine, mirrors, event, step, notes)?;
+    for (event, line) in lines.iter().enumerate() {
+        record_line(alloc, engine, mirrors, event, line, notes)?;
     }
     Ok(())
 }
 
 /// Runs an event, and notes what happened.
-fn record_step(
+fn record_line(
     alloc: Global,
     engine: &mut Engine,
     mirrors: &mut Vec<Mirror>,
     event: usize,
-    step: &Step,
+    line: &ScriptLine,
     notes: &mut Notes,
 ) -> Result<(), AllocError> {
-    let answer = engine.answer(step);
+    let answer = engine.answer(line);
     let found = mirrors
         .iter()
-        .position(|it| it.seat.session == step.session);
+        .position(|it| it.seat.session == line.session);
     let Some(session) = found else {
         return Ok(());
     };
@@ -130,7 +130,7 @@ fn record_step(
         changes: Vec::new(alloc),
         view: None,
     };
-    follow(alloc, engine, mirror, event, step, &mut happening, notes)?;
+    follow(alloc, engine, mirror, event, line, &mut happening, notes)?;
     notes.events.push(happening)?;
     Ok(())
 }

@@ -1,6 +1,6 @@
 //! What shows that a call which found no memory has changed nothing: all that can be seen before it and after it.
 
-use crate::driver::{Seat, let_go};
+use crate::driver::Seat;
 use alone::ResolvedStatement;
 use commit::Core;
 use delta::View;
@@ -67,13 +67,13 @@ pub fn show_newest<N: Named, R: Wait>(
 ) -> Result<(), Fail> {
     let txn = begin_again(rt, manager, session)?;
     if let Err(fail) = show_found(rt, manager, &txn, text) {
-        let_go(txn.abandon());
+        drop(txn.abandon());
         return Err(fail);
     }
     match manager.rollback(rt, txn) {
         Ok(()) => Ok(()),
         Err((refusal, txn)) => {
-            let_go(txn.abandon());
+            drop(txn.abandon());
             Err(Fail::from(refusal))
         }
     }

@@ -3,8 +3,8 @@
 ghost use Rattle.std.specs.Prelude.{◌≡◌};
 
 use crate::again::{for_ever, is_same, shown};
-use crate::driver::{Seat, Sessions, equal, let_go};
-use crate::printed::{Opening, make_opening, open, steps_of};
+use crate::driver::{Seat, Sessions, equal};
+use crate::printed::{Opening, lines_of, make_opening, open};
 use crate::rows::FUNDS_DEFERRABLE;
 use crate::strangers::{is_stranger, refused, unrolled};
 use definitions::{Definitions, NewAssertion, new_assertions};
@@ -42,7 +42,7 @@ const OPENED_ANEW: &str =
     "F: BEGIN; F: SELECT BAL FROM ACCT; F: UPDATE ACCT SET BAL = -7 WHERE ID = 3;
     F: COMMIT;";
 
-const LINES: &str = "A: BEGIN 0\nA: INSERT 1\nA: COMMIT 1\nB: BEGIN 1\nB: UPDATE 1\nD: BEGIN 1\n\
+const REPORT: &str = "A: BEGIN 0\nA: INSERT 1\nA: COMMIT 1\nB: BEGIN 1\nB: UPDATE 1\nD: BEGIN 1\n\
     CHECKPOINT: REFUSED 21 - FUNDS 'KIM'\nB: COMMIT 2\nA: BEGIN 2\nA: REFUSED 17 - EPOCH FULL\n\
     C: BEGIN 0\nC: REFUSED 10 23000 FUNDS 'KIM'\nC: INSERT 1\nC: COMMIT 1\n\
     E: BEGIN 0\nE: REFUSED 10 23000 FUNDS 'KIM'\nE: UPDATE 1\nE: COMMIT 1\n\
@@ -80,7 +80,7 @@ fn goes_on<N: Named, R: Wait + Abort>(
     has(rt, &last, sessions.receipts.as_slice(), 4, 5);
     let anew = opens_anew::<N, R>(rt, alloc, &last, second)?;
     runs(rt, alloc, &anew, &mut sessions, OPENED_ANEW)?;
-    assert_eq!(rt; sessions.lines.as_bytes(), LINES.as_bytes());
+    assert_eq!(rt; sessions.report.as_bytes(), REPORT.as_bytes());
     Ok(())
 }
 
@@ -96,7 +96,7 @@ fn begins<N: Named, R: Wait + Abort>(
     runs(rt, alloc, manager, sessions, BEFORE)?;
     match checkpoint(rt, alloc, manager, &mut sessions.seats, &[], &created)? {
         Ok(_history) => assert!(rt; false, "a rule that is broken"),
-        Err(refusal) => sessions.lines.add_refusal("CHECKPOINT", &refusal)?,
+        Err(refusal) => sessions.report.add_refusal("CHECKPOINT", &refusal)?,
     }
     equal(rt, manager.verdict(rt, &funds), None);
     runs(rt, alloc, manager, sessions, MENDED)?;
@@ -137,7 +137,7 @@ fn are_strangers<N: Named, R: Wait + Abort>(
     let txn = refused(manager.commit(rt, &mut seat.session, txn))?;
     let txn = refused(manager.commit(rt, &mut session, txn))?;
     let txn = unrolled(manager.rollback(rt, txn))?;
-    let_go(txn.abandon());
+    drop(txn.abandon());
     Ok(())
 }
 
@@ -188,8 +188,8 @@ fn runs<N: Named, R: Wait>(
     sessions: &mut Sessions<N>,
     script: &str,
 ) -> Result<(), Fail> {
-    let steps = steps_of(alloc, script)?;
-    sessions.run(rt, manager, steps.as_slice())
+    let lines = lines_of(alloc, script)?;
+    sessions.run(rt, manager, lines.as_slice())
 }
 
 /// The assertions that a text creates.

@@ -1,4 +1,4 @@
-//! Runs the steps of a script on a manager, one after the other.
+//! Runs the lines of a script on a manager, one after the other.
 
 ghost use Rattle.std.specs.Prelude.{◌<◌, length, IfOk, IfSome};
 
@@ -12,7 +12,7 @@ use std::mem;
 use std::process::Abort;
 use std::sync::Wait;
 use std::test::Fail;
-use syntax::{Event, Statement, Step};
+use syntax::{Event, ScriptLine, Statement};
 use value::{Refusal, Text};
 
 /// A session with its open transaction, if one is open. One that is let go is abandoned.
@@ -25,15 +25,11 @@ impl<N: Named> Drop for Seat<N> {
     fn drop(self) {
         let Seat { session: _, txn } = self;
         match txn {
-            Some(txn) => let_go(txn.abandon()),
+            Some(txn) => drop(txn.abandon()),
             None => {}
         }
     }
 }
-
-/// Lets a value go. Here and below the type is a parameter: what is done with a large value is then not proved at each
-/// of its parts.
-pub fn let_go<T: Drop>(_value: T) {}
 
 /// Ends the test where another value is found than the wanted one.
 pub fn equal<T: Copy + PartialEq + Debug>(rt: &impl Abort, found: T, wanted: T) {
@@ -44,7 +40,7 @@ pub fn equal<T: Copy + PartialEq + Debug>(rt: &impl Abort, found: T, wanted: T) 
 #[derive(Drop)]
 pub struct Sessions<N: Named> {
     pub seats: Vec<Seat<N>>,
-    pub lines: Report,
+    pub report: Report,
     pub receipts: Vec<Receipt<N>>,
 }
 
@@ -52,35 +48,40 @@ impl<N: Named> Sessions<N> {
     pub fn new(alloc: Global) -> Sessions<N> {
         Sessions {
             seats: Vec::new(alloc),
-            lines: Report::new(alloc),
+            report: Report::new(alloc),
             receipts: Vec::new(alloc),
         }
     }
 
-    /// Runs steps, and notes the answers.
+    /// Runs the lines of a script, and notes the answers.
     pub fn run<R: Wait>(
         &mut self,
         rt: &R,
         manager: &Manager<N>,
-        steps: &[Step],
+        lines: &[ScriptLine],
     ) -> Result<(), Fail> {
-        for step in steps {
-            self.run_step(rt, manager, step)?;
+        for line in lines {
+            self.run_line(rt, manager, line)?;
         }
         Ok(())
     }
 
-    /// Runs a step, and notes the answer.
-    fn run_step<R: Wait>(&mut self, rt: &R, manager: &Manager<N>, step: &Step) -> Result<(), Fail> {
-        let answer = match seat_again(rt, manager, &mut self.seats, &step.session) {
+    /// Runs a line of a script, and notes the answer.
+    fn run_line<R: Wait>(
+        &mut self,
+        rt: &R,
+        manager: &Manager<N>,
+        line: &ScriptLine,
+    ) -> Result<(), Fail> {
+        let answer = match seat_again(rt, manager, &mut self.seats, &line.session) {
             Ok(place) => {
                 let seat = &mut self.seats[place];
-                answer_again(rt, manager, seat, &step.event, &mut self.receipts)?
+                answer_again(rt, manager, seat, &line.event, &mut self.receipts)?
             }
             Err(refusal) => Answer::Refused(refusal),
         };
-        let noted = self.lines.add_answer(step, &answer);
-        let_go(answer);
+        let noted = self.report.add_answer(line, &answer);
+        drop(answer);
         noted?;
         Ok(())
     }
@@ -89,7 +90,7 @@ impl<N: Named> Sessions<N> {
     pub fn leave_open(&mut self) -> Result<(), Fail> {
         for seat in self.seats.as_slice() {
             if seat.txn.is_some() {
-                self.lines.add_left_open(seat.session.name())?;
+                self.report.add_left_open(seat.session.name())?;
             }
         }
         Ok(())
@@ -285,6 +286,6 @@ fn roll_back<N: Named, R: Wait>(rt: &R, manager: &Manager<N>, seat: &mut Seat<N>
 fn set_txn<N: Named>(seat: &mut Seat<N>, txn: Option<Txn<N>>) {
     match mem::replace(&mut seat.txn, txn) {
         None => {}
-        Some(old) => let_go(old.abandon()),
+        Some(old) => drop(old.abandon()),
     }
 }

@@ -4,14 +4,13 @@ ghost use Rattle.std.specs.Prelude.{◌≡◌, IfOk};
 ghost use Rattle.alone.specs.Alone.{IsSound};
 
 use crate::again::{for_ever, is_same, page, show, show_core, show_newest, show_run};
-use crate::driver::{Seat, equal, found, let_go, unless_memory};
-use crate::printed::{
-    COVER, Case, KIM, Opening, SEVEN, TABLES, make_opening, open, prints, run_script, steps_of,
-};
+use crate::driver::{Seat, equal, found, unless_memory};
+use crate::printed::{Case, Opening, lines_of, make_opening, open, prints, run_script};
 use crate::rows::FUNDS_DEFERRABLE;
 use alone::Answer;
 use commit::{Core, Engine, admit};
 use delta::View;
+use histories::{COVER, KIM, SEVEN, TABLES};
 use parse::parse_schema;
 use report::Report;
 use session::{CommitFault, Manager, Named};
@@ -20,7 +19,7 @@ use std::marker::Brand;
 use std::process::Abort;
 use std::sync::Wait;
 use std::test::Fail;
-use syntax::Step;
+use syntax::ScriptLine;
 
 /// Each takes the same one off call; the second is refused, and its COMMIT has an entry to make for that.
 const SCRIPT: &str = "A: BEGIN; B: BEGIN; A: UPDATE DUTY SET ONCALL = 0 WHERE ID = 1;
@@ -115,10 +114,10 @@ fn null_group(rt: HostRuntime) -> Result<(), Fail> {
 }
 
 fn answers_row<R: Abort>(rt: &R, alloc: Global, row: &Row) -> Result<(), Fail> {
-    let steps = steps_of(alloc, row.script)?;
-    let mut engine = engine(alloc, row.more, steps.as_slice())?;
-    let lines = answers(alloc, &mut engine, steps.as_slice())?;
-    assert_eq!(rt; lines.as_bytes(), row.answers.as_bytes());
+    let lines = lines_of(alloc, row.script)?;
+    let mut engine = engine(alloc, row.more, lines.as_slice())?;
+    let report = answers(alloc, &mut engine, lines.as_slice())?;
+    assert_eq!(rt; report.as_bytes(), row.answers.as_bytes());
     ended(rt, engine.core(), row);
     Ok(())
 }
@@ -146,7 +145,7 @@ fn rolls_back<N: Named, R: Wait + Abort>(rt: &R, alloc: Global, on: Opening) -> 
     let commits = usize::from(commits_or_rolls_back(rt, &manager, &mut seat)?);
     let mut newest = page(alloc)?;
     show_newest(rt, &manager, &mut seat.session, &mut newest)?;
-    let_go(seat);
+    drop(seat);
     let history = manager.close()?;
     equal(rt, history.core().records().len(), commits);
     equal(rt, history.core().refused().len(), 0);
@@ -185,30 +184,30 @@ fn rolls_back_fault<N: Named, R: Wait>(
     match manager.rollback(rt, txn) {
         Ok(()) => Ok(false),
         Err((_, txn)) => {
-            let_go(txn.abandon());
+            drop(txn.abandon());
             Err(Fail::from("what COMMIT gave back is no transaction of the manager"))
         }
     }
 }
 
-/// The lines of what steps are answered.
-fn answers(alloc: Global, engine: &mut Engine, steps: &[Step]) -> Result<Report, Fail> {
-    let mut lines = Report::new(alloc);
-    for step in steps {
-        add_answer(alloc, engine, step, &mut lines)?;
+/// The report of what the lines of a script are answered.
+fn answers(alloc: Global, engine: &mut Engine, lines: &[ScriptLine]) -> Result<Report, Fail> {
+    let mut report = Report::new(alloc);
+    for line in lines {
+        add_answer(alloc, engine, line, &mut report)?;
     }
-    Ok(lines)
+    Ok(report)
 }
 
 fn add_answer(
     alloc: Global,
     engine: &mut Engine,
-    step: &Step,
-    lines: &mut Report,
+    line: &ScriptLine,
+    report: &mut Report,
 ) -> Result<(), Fail> {
-    let answer = answer_again(alloc, engine, step)?;
-    let added = lines.add_answer(step, &answer);
-    let_go(answer);
+    let answer = answer_again(alloc, engine, line)?;
+    let added = report.add_answer(line, &answer);
+    drop(answer);
     added?;
     Ok(())
 }
@@ -224,21 +223,21 @@ fn load(alloc: Global, more: &str) -> Result<View, Fail>
 }
 
 /// An engine over these definitions. One that finds no memory is made once more.
-fn engine(alloc: Global, more: &str, steps: &[Step]) -> Result<Engine, Fail> {
-    match Engine::new(alloc, 10, load(alloc, more)?, steps) {
+fn engine(alloc: Global, more: &str, lines: &[ScriptLine]) -> Result<Engine, Fail> {
+    match Engine::new(alloc, 10, load(alloc, more)?, lines) {
         Ok(engine) => Ok(engine),
-        Err(_) => Engine::new(alloc, 10, load(alloc, more)?, steps).map_err(|_| for_ever()),
+        Err(_) => Engine::new(alloc, 10, load(alloc, more)?, lines).map_err(|_| for_ever()),
     }
 }
 
 /// Answers an event. One that finds no memory has changed nothing that can be seen, and is answered once more.
-fn answer_again(alloc: Global, engine: &mut Engine, step: &Step) -> Result<Answer, Fail> {
+fn answer_again(alloc: Global, engine: &mut Engine, line: &ScriptLine) -> Result<Answer, Fail> {
     let before = shown(alloc, engine)?;
-    if let Some(first) = unless_memory(engine.answer(step)) {
+    if let Some(first) = unless_memory(engine.answer(line)) {
         return Ok(first);
     }
     is_same(&before, &shown(alloc, engine)?)?;
-    found(engine.answer(step))
+    found(engine.answer(line))
 }
 
 fn shown(alloc: Global, engine: &Engine) -> Result<String, Fail> {
@@ -257,7 +256,7 @@ fn show_seat(core: &Core, seat: &commit::Seat, text: &mut String) -> Result<(), 
         return Ok(());
     };
     show(
-        &core.holds(txn.ticket(), txn.snapshot(), txn.is_read_only()),
+        &core.holds(txn.begin_number(), txn.snapshot(), txn.is_read_only()),
         text,
     )?;
     show_run(txn.snapshot(), txn.trace(), txn.reads(), txn.own(), text)

@@ -6,14 +6,15 @@ ghost use Rattle.table.specs.Slots.{kinds_of};
 ghost use Rattle.siread.specs.Locks.{no_reads, readers_at};
 ghost use Rattle.commit.specs.Cores.{IsLive};
 
-use crate::driver::{equal, let_go};
-use crate::printed::{COVER, SEVEN, TABLES, defined, steps_of};
+use crate::driver::equal;
+use crate::printed::{defined, lines_of};
 use crate::without_memory::{ask_in_vain, end_memory};
 use alone::Modes;
 use commit::{CommitFailure, Core, admit, find_first_false};
 use conflict::{Candidate, Judgment, Live, is_safe, judge, share_row, touch_any};
 use delta::View;
 use groups::{Member, Totals};
+use histories::{COVER, SEVEN, TABLES};
 use mvrows::Rows;
 use pages::Pages;
 use parse::parse_schema;
@@ -23,7 +24,7 @@ use std::alloc::{AllocError, Global};
 use std::cmp::Ordering;
 use std::process::Abort;
 use std::test::Fail;
-use syntax::{Event, Mode, Step};
+use syntax::{Event, Mode, ScriptLine};
 use table::{Aggregate, Change, Cond, Expr, Row, Slots, bound, eval, is_bounded};
 use txn::{CloseFailure, ClosedTransaction, Txn};
 use value::{Comparison, Root, Text, Truth, Value, compare, order};
@@ -195,7 +196,7 @@ fn snapshots(rt: HostRuntime) -> Result<(), Fail> {
     live.begin(1, true)?;
     live.begin(3, false)?;
     assert!(rt; end_memory(rt.alloc()));
-    equal(&rt, live.next_ticket(), 2);
+    equal(&rt, live.next_begin_number(), 2);
     assert!(rt; live.holds(0, 1, true) && !live.holds(1, 1, false));
     assert!(rt; live.writers_hold(3));
     equal(&rt, live.least_writing(4), 3);
@@ -243,7 +244,7 @@ fn judged(locks: &LockTable, reads: &[LockKey], changes: &[Change]) -> Judgment
 }
 
 /// Takes one of two off call.
-const STEP: &str = "A: UPDATE DUTY SET ONCALL = 0 WHERE ID = 1;";
+const LINE: &str = "A: UPDATE DUTY SET ONCALL = 0 WHERE ID = 1;";
 
 fn core(alloc: Global) -> Result<Core, Fail>
     ensures { IfOk result (λ core. core.prepared ≡ None) }
@@ -267,11 +268,11 @@ fn run(core: &mut Core, event: &Event) -> Result<Txn, Fail>
     let mut txn = core.begin()?;
     match txn.execute(statement) {
         Ok(reply) => {
-            let_go(reply);
+            drop(reply);
             Ok(txn)
         }
         Err(refusal) => {
-            let_go(txn.abandon());
+            drop(txn.abandon());
             Err(Fail::from(refusal))
         }
     }
@@ -283,19 +284,19 @@ fn close(txn: Txn) -> Result<ClosedTransaction, Fail>
     match txn.close_check() {
         Ok(closed) => Ok(closed),
         Err(CloseFailure { txn }) => {
-            let_go(txn.abandon());
+            drop(txn.abandon());
             Err(Fail::from(AllocError))
         }
     }
 }
 
-/// Prepares the commit of a transaction that runs these steps.
-fn prepare(core: &mut Core, steps: &[Step]) -> Result<(), Fail>
+/// Prepares the commit of a transaction that runs these lines.
+fn prepare(core: &mut Core, lines: &[ScriptLine]) -> Result<(), Fail>
     requires { core.old.prepared ≡ None }
 {
-    let step = steps.first().ok_or("no step")?;
-    let closed = close(run(core, &step.event)?)?;
-    match core.prepare(&step.session, closed) {
+    let line = lines.first().ok_or("no line")?;
+    let closed = close(run(core, &line.event)?)?;
+    match core.prepare(&line.session, closed) {
         Ok(_number) => Ok(()),
         Err(fault) => Err(unprepared(fault)),
     }
@@ -304,7 +305,7 @@ fn prepare(core: &mut Core, steps: &[Step]) -> Result<(), Fail>
 fn unprepared(fault: CommitFailure) -> Fail {
     let CommitFailure { refusal, txn } = fault;
     if let Some(txn) = txn {
-        let_go(txn.abandon());
+        drop(txn.abandon());
     }
     Fail::from(refusal)
 }
@@ -312,9 +313,9 @@ fn unprepared(fault: CommitFailure) -> Fail {
 #[test]
 fn a_commit_is_made(rt: HostRuntime) -> Result<(), Fail> {
     let cover = Text::from_str(rt.alloc(), "COVER")?;
-    let steps = steps_of(rt.alloc(), STEP)?;
+    let lines = lines_of(rt.alloc(), LINE)?;
     let mut core = core(rt.alloc())?;
-    prepare(&mut core, steps.as_slice())?;
+    prepare(&mut core, lines.as_slice())?;
     assert!(rt; end_memory(rt.alloc()));
     assert!(rt; core.prepared().is_some());
     core.finish();
@@ -333,9 +334,9 @@ fn has_one<R: Abort>(rt: &R, core: &Core, cover: &Text) {
 #[test]
 fn a_commit_is_given_up(rt: HostRuntime) -> Result<(), Fail> {
     let cover = Text::from_str(rt.alloc(), "COVER")?;
-    let steps = steps_of(rt.alloc(), STEP)?;
+    let lines = lines_of(rt.alloc(), LINE)?;
     let mut core = core(rt.alloc())?;
-    prepare(&mut core, steps.as_slice())?;
+    prepare(&mut core, lines.as_slice())?;
     assert!(rt; end_memory(rt.alloc()));
     match core.cancel() {
         Some(closed) => reopens(&rt, closed, &cover),
@@ -352,21 +353,21 @@ fn reopens<R: Abort>(rt: &R, closed: ClosedTransaction, cover: &Text) {
     assert!(rt; closed.refused().is_none() && !closed.reads().is_empty());
     let txn = closed.reopen();
     equal(rt, txn.verdict(cover), Some(Truth::True));
-    equal(rt, (txn.ticket(), txn.snapshot()), (0, 0));
+    equal(rt, (txn.begin_number(), txn.snapshot()), (0, 0));
     equal(rt, txn.trace().len(), 1);
     assert!(rt; !txn.reads().is_empty());
-    let_go(txn.abandon());
+    drop(txn.abandon());
 }
 
 /// Rolled back before it was closed.
 #[test]
 fn a_transaction_ends(rt: HostRuntime) -> Result<(), Fail> {
-    let steps = steps_of(rt.alloc(), STEP)?;
-    let step = steps.as_slice().first().ok_or("no step")?;
+    let lines = lines_of(rt.alloc(), LINE)?;
+    let line = lines.as_slice().first().ok_or("no line")?;
     let mut core = core(rt.alloc())?;
-    let txn = run(&mut core, &step.event)?;
+    let txn = run(&mut core, &line.event)?;
     assert!(rt; end_memory(rt.alloc()));
-    assert!(rt; core.holds(txn.ticket(), txn.snapshot(), false));
+    assert!(rt; core.holds(txn.begin_number(), txn.snapshot(), false));
     assert!(rt; !txn.is_read_only() && !core.is_safe(&txn));
     core.end(txn);
     assert!(rt; !core.holds(0, 0, false));

@@ -3,9 +3,10 @@
 ghost use Rattle.std.specs.Prelude.{◌≡◌};
 
 use crate::again::for_ever;
-use crate::driver::{Sessions, equal, let_go};
+use crate::driver::{Sessions, equal};
 use commit::Core;
 use definitions::Definitions;
+use histories::TABLES;
 use parse::{parse_schema, parse_script};
 use report::Report;
 use session::{History, Limits, Manager, Named, Receipt, Shelf};
@@ -15,30 +16,8 @@ use std::marker::Brand;
 use std::process::Abort;
 use std::sync::Wait;
 use std::test::Fail;
-use syntax::Step;
+use syntax::ScriptLine;
 use value::{Refusal, Text, Truth};
-
-/// Shifts, who is on duty in them, and accounts.
-pub const TABLES: &str = "CREATE TABLE SHIFTS (ID INTEGER PRIMARY KEY);
-    CREATE TABLE DUTY (ID INTEGER PRIMARY KEY, SHIFT INTEGER, ONCALL INTEGER);
-    CREATE TABLE ACCT (ID INTEGER PRIMARY KEY, OWNER VARCHAR(10), BAL INTEGER);";
-
-/// Someone is on call in each shift.
-pub const COVER: &str =
-    "CREATE ASSERTION COVER CHECK (NOT EXISTS (SELECT * FROM SHIFTS S WHERE NOT EXISTS
-    (SELECT * FROM DUTY D WHERE D.SHIFT = S.ID AND D.ONCALL = 1)));";
-
-/// Shift 7, with two on call.
-pub const SEVEN: &str = "INSERT INTO SHIFTS VALUES (7);
-    INSERT INTO DUTY VALUES (1, 7, 1); INSERT INTO DUTY VALUES (2, 7, 1);";
-
-/// Shift 8, with two on call.
-pub const EIGHT: &str = "INSERT INTO SHIFTS VALUES (8);
-    INSERT INTO DUTY VALUES (3, 8, 1); INSERT INTO DUTY VALUES (4, 8, 1);";
-
-/// Two accounts of one owner.
-pub const KIM: &str =
-    "INSERT INTO ACCT VALUES (1, 'KIM', 100); INSERT INTO ACCT VALUES (2, 'KIM', 50);";
 
 /// A script, and what is to come of it.
 #[derive(Drop)]
@@ -60,9 +39,9 @@ pub fn defined(alloc: Global, more: &str) -> Result<Definitions, Fail> {
     Ok(taken)
 }
 
-pub fn steps_of(alloc: Global, script: &str) -> Result<Items<Step>, Fail> {
-    let steps = parse_script(alloc, script.as_bytes())?;
-    Ok(steps)
+pub fn lines_of(alloc: Global, script: &str) -> Result<Items<ScriptLine>, Fail> {
+    let lines = parse_script(alloc, script.as_bytes())?;
+    Ok(lines)
 }
 
 /// What a manager is opened on.
@@ -155,7 +134,7 @@ fn prints_through<N: Named, R: Wait + Abort>(
     manager: Manager<N>,
     case: &Case,
 ) -> Result<(), Fail> {
-    let_go(serves(rt, alloc, manager, case)?);
+    drop(serves(rt, alloc, manager, case)?);
     Ok(())
 }
 
@@ -179,10 +158,10 @@ pub fn serves<N: Named, R: Wait + Abort>(
     let history = manager.close()?;
     finds(rt, &history, sessions.receipts.as_slice(), case.receipts)?;
     stands(rt, alloc, history.core(), verdicts.as_slice())?;
-    ends(rt, alloc, history.core(), &mut sessions.lines, case)?;
+    ends(rt, alloc, history.core(), &mut sessions.report, case)?;
     let Sessions {
         seats: _,
-        lines: _,
+        report: _,
         receipts,
     } = sessions;
     Ok(Left { history, receipts })
@@ -195,9 +174,9 @@ pub fn run_script<N: Named, R: Wait>(
     manager: &Manager<N>,
     script: &str,
 ) -> Result<Sessions<N>, Fail> {
-    let steps = steps_of(alloc, script)?;
+    let lines = lines_of(alloc, script)?;
     let mut sessions = Sessions::new(alloc);
-    sessions.run(rt, manager, steps.as_slice())?;
+    sessions.run(rt, manager, lines.as_slice())?;
     Ok(sessions)
 }
 
@@ -206,11 +185,11 @@ fn ends<R: Abort>(
     rt: &R,
     alloc: Global,
     core: &Core,
-    lines: &mut Report,
+    report: &mut Report,
     case: &Case,
 ) -> Result<(), Fail> {
-    close(alloc, core, lines)?;
-    assert_eq!(rt; lines.as_bytes(), case.want.as_bytes());
+    close(alloc, core, report)?;
+    assert_eq!(rt; report.as_bytes(), case.want.as_bytes());
     assert_eq!(rt; core.locks(), case.locks);
     Ok(())
 }
@@ -260,13 +239,13 @@ fn finds<N: Named, R: Abort>(
 }
 
 /// Adds the closing part.
-fn close(alloc: Global, core: &Core, lines: &mut Report) -> Result<(), Fail> {
+fn close(alloc: Global, core: &Core, report: &mut Report) -> Result<(), Fail> {
     let newest = core.newest();
     let mut truths = Vec::new(alloc);
     for place in 0..newest.assertions().len() {
         truths.push(newest.verdict(place))?;
     }
-    lines.add_closing_part(
+    report.add_closing_part(
         core.records(),
         core.serial_order(),
         core.refused(),

@@ -1,6 +1,11 @@
 //! Scripts of several sessions.
 
-use crate::printed::{COVER, Case, EIGHT, KIM, SEVEN, make_opening, prints, prints_on};
+use crate::printed::{Case, make_opening, prints, prints_on};
+use histories::{
+    COVER, DISJOINT_SHIFTS, EIGHT, HARMLESS_PIVOT, History, KIM, LATE_READER, LEDGER_WRITE_SKEW,
+    PIVOT_REFUSED, READ_ONLY_INSERT, READ_ONLY_READER_PASSES, READ_ONLY_READER_REFUSED,
+    READER_BEFORE_WRITER, READER_REFUSED, SAME_KEY_INSERTED_TWICE, SEVEN, SHIFT_WRITE_SKEW,
+};
 use session::Limits;
 use std::alloc::Global;
 use std::process::Abort;
@@ -39,102 +44,17 @@ fn sum_is_known_after_a_commit(rt: HostRuntime) -> Result<(), Fail> {
     prints(&rt, rt.alloc(), CAP, &case)
 }
 
-/// Each of two goes off call, since the other one is on call.
-#[test]
-fn shift_write_skew(rt: HostRuntime) -> Result<(), Fail> {
-    let more = format!(in rt.alloc(); "{COVER}{SEVEN}")?;
-    let case = Case {
-        script: "A: BEGIN; B: BEGIN; A: UPDATE DUTY SET ONCALL = 0 WHERE ID = 1;
-            B: UPDATE DUTY SET ONCALL = 0 WHERE ID = 2; A: COMMIT; B: COMMIT;",
-        want: "A: BEGIN 0\nB: BEGIN 0\nA: UPDATE 1\nB: UPDATE 1\nA: COMMIT 1\n\
-            B: REFUSED 13 40001 READER 1 PIVOT THIS WRITER 1\n\
-            COMMITS 1\n1 A SNAPSHOT 0 ROWS 1\nSERIAL 1\nREFUSED 1\n\
-            B 13 40001 READER 1 PIVOT THIS WRITER 1\nASSERTIONS 1\nCOVER TRUE\n",
-        receipts: &[1, 1, 1],
-        locks: 0,
-    };
-    prints(&rt, rt.alloc(), more.as_str(), &case)
-}
-
-#[test]
-fn disjoint_shifts(rt: HostRuntime) -> Result<(), Fail> {
-    let more = format!(in rt.alloc(); "{COVER}{SEVEN}{EIGHT}")?;
-    let case = Case {
-        script: "A: BEGIN; B: BEGIN; A: UPDATE DUTY SET ONCALL = 0 WHERE ID = 1;
-            B: UPDATE DUTY SET ONCALL = 0 WHERE ID = 3; A: COMMIT; B: COMMIT;",
-        want: "A: BEGIN 0\nB: BEGIN 0\nA: UPDATE 1\nB: UPDATE 1\nA: COMMIT 1\nB: COMMIT 2\n\
-            COMMITS 2\n1 A SNAPSHOT 0 ROWS 1\n2 B SNAPSHOT 0 ROWS 1\nSERIAL 1 2\nREFUSED 0\n\
-            ASSERTIONS 1\nCOVER TRUE\n",
-        receipts: &[1, 2],
-        locks: 0,
-    };
-    prints(&rt, rt.alloc(), more.as_str(), &case)
-}
-
-#[test]
-fn ledger_write_skew(rt: HostRuntime) -> Result<(), Fail> {
-    let case = Case {
-        script: "A: BEGIN; B: BEGIN;
-            A: SELECT BAL FROM ACCT WHERE ID = 1; A: SELECT BAL FROM ACCT WHERE ID = 2;
-            B: SELECT BAL FROM ACCT WHERE ID = 1; B: SELECT BAL FROM ACCT WHERE ID = 2;
-            A: UPDATE ACCT SET BAL = BAL - 120 WHERE ID = 1; A: COMMIT;
-            B: UPDATE ACCT SET BAL = BAL - 120 WHERE ID = 2; B: COMMIT;",
-        want: "A: BEGIN 0\nB: BEGIN 0\nA: SELECT 1\n  100\nA: SELECT 1\n  50\n\
-            B: SELECT 1\n  100\nB: SELECT 1\n  50\nA: UPDATE 1\nA: COMMIT 1\nB: UPDATE 1\n\
-            B: REFUSED 13 40001 READER 1 PIVOT THIS WRITER 1\n\
-            COMMITS 1\n1 A SNAPSHOT 0 ROWS 1\nSERIAL 1\nREFUSED 1\n\
-            B 13 40001 READER 1 PIVOT THIS WRITER 1\nASSERTIONS 0\n",
-        receipts: &[1, 1, 1],
-        locks: 0,
-    };
-    prints(&rt, rt.alloc(), KIM, &case)
-}
-
-#[test]
-fn reader_before_writer(rt: HostRuntime) -> Result<(), Fail> {
-    let case = Case {
-        script: "A: BEGIN; A: SELECT BAL FROM ACCT WHERE ID = 1;
-            B: BEGIN; B: UPDATE ACCT SET BAL = 0 WHERE ID = 1; B: COMMIT; A: COMMIT;",
-        want: "A: BEGIN 0\nA: SELECT 1\n  100\nB: BEGIN 0\nB: UPDATE 1\nB: COMMIT 1\nA: COMMIT 2\n\
-            COMMITS 2\n1 B SNAPSHOT 0 ROWS 1\n2 A SNAPSHOT 0 ROWS 0\nSERIAL 2 1\nREFUSED 0\n\
-            ASSERTIONS 0\n",
-        receipts: &[1, 2],
-        locks: 0,
-    };
-    prints(&rt, rt.alloc(), KIM, &case)
-}
-
-/// X reads what P writes, and P reads what Y writes; they commit in this order.
-fn prints_commits<R: Wait + Abort>(
+/// The history's lines in the script's order, receipts of these numbers, and no key that is kept at the end.
+fn prints_history<R: Wait + Abort>(
     rt: &R,
     alloc: Global,
-    commits: &str,
-    want: &str,
+    history: &History,
     receipts: &[u64],
 ) -> Result<(), Fail> {
-    prints_commits_of(rt, alloc, "X: BEGIN;", commits, want, receipts)
-}
-
-fn prints_commits_of<R: Wait + Abort>(
-    rt: &R,
-    alloc: Global,
-    begin: &str,
-    commits: &str,
-    want: &str,
-    receipts: &[u64],
-) -> Result<(), Fail> {
-    let more = format!(in alloc; "{COVER}{SEVEN}{KIM}")?;
-    let script = format!(in alloc;
-        "{begin} P: BEGIN; Y: BEGIN; X: SELECT ONCALL FROM DUTY WHERE ID = 1;
-        P: SELECT BAL FROM ACCT WHERE ID = 1; P: UPDATE DUTY SET ONCALL = 0 WHERE ID = 1;
-        Y: UPDATE ACCT SET BAL = 0 WHERE ID = 1; {commits}"
-    )?;
-    let want = format!(in alloc;
-        "X: BEGIN 0\nP: BEGIN 0\nY: BEGIN 0\nX: SELECT 1\n  1\nP: SELECT 1\n  100\nP: UPDATE 1\n\
-        Y: UPDATE 1\n{want}ASSERTIONS 1\nCOVER TRUE\n"
-    )?;
+    let more = joined(alloc, history.more)?;
+    let want = format!(in alloc; "{}{}", history.answers, history.closing)?;
     let case = Case {
-        script: script.as_str(),
+        script: history.script,
         want: want.as_str(),
         receipts,
         locks: 0,
@@ -142,121 +62,72 @@ fn prints_commits_of<R: Wait + Abort>(
     prints(rt, alloc, more.as_str(), &case)
 }
 
+fn joined(alloc: Global, texts: &[&str]) -> Result<String, Fail> {
+    let mut all = String::new(alloc);
+    for text in texts {
+        all.push_str(text)?;
+    }
+    Ok(all)
+}
+
+#[test]
+fn shift_write_skew(rt: HostRuntime) -> Result<(), Fail> {
+    prints_history(&rt, rt.alloc(), &SHIFT_WRITE_SKEW, &[1, 1, 1])
+}
+
+#[test]
+fn disjoint_shifts(rt: HostRuntime) -> Result<(), Fail> {
+    prints_history(&rt, rt.alloc(), &DISJOINT_SHIFTS, &[1, 2])
+}
+
+#[test]
+fn ledger_write_skew(rt: HostRuntime) -> Result<(), Fail> {
+    prints_history(&rt, rt.alloc(), &LEDGER_WRITE_SKEW, &[1, 1, 1])
+}
+
+#[test]
+fn reader_before_writer(rt: HostRuntime) -> Result<(), Fail> {
+    prints_history(&rt, rt.alloc(), &READER_BEFORE_WRITER, &[1, 2])
+}
+
 #[test]
 fn harmless_pivot(rt: HostRuntime) -> Result<(), Fail> {
-    prints_commits(
-        &rt,
-        rt.alloc(),
-        "X: COMMIT; Y: COMMIT; P: COMMIT;",
-        "X: COMMIT 1\nY: COMMIT 2\nP: COMMIT 3\n\
-            COMMITS 3\n1 X SNAPSHOT 0 ROWS 0\n2 Y SNAPSHOT 0 ROWS 1\n3 P SNAPSHOT 0 ROWS 1\n\
-            SERIAL 1 3 2\nREFUSED 0\n",
-        &[1, 2, 3],
-    )
+    prints_history(&rt, rt.alloc(), &HARMLESS_PIVOT, &[1, 2, 3])
 }
 
 #[test]
 fn pivot_refused(rt: HostRuntime) -> Result<(), Fail> {
-    prints_commits(
-        &rt,
-        rt.alloc(),
-        "Y: COMMIT; X: COMMIT; P: COMMIT;",
-        "Y: COMMIT 1\nX: COMMIT 2\nP: REFUSED 13 40001 READER 2 PIVOT THIS WRITER 1\n\
-            COMMITS 2\n1 Y SNAPSHOT 0 ROWS 1\n2 X SNAPSHOT 0 ROWS 0\nSERIAL 1 2\nREFUSED 1\n\
-            P 13 40001 READER 2 PIVOT THIS WRITER 1\n",
-        &[1, 2, 2, 1],
-    )
+    prints_history(&rt, rt.alloc(), &PIVOT_REFUSED, &[1, 2, 2, 1])
 }
 
 #[test]
 fn reader_refused(rt: HostRuntime) -> Result<(), Fail> {
-    prints_commits(
-        &rt,
-        rt.alloc(),
-        "Y: COMMIT; P: COMMIT; X: COMMIT;",
-        "Y: COMMIT 1\nP: COMMIT 2\nX: REFUSED 13 40001 READER THIS PIVOT 2 WRITER 1\n\
-            COMMITS 2\n1 Y SNAPSHOT 0 ROWS 1\n2 P SNAPSHOT 0 ROWS 1\nSERIAL 2 1\nREFUSED 1\n\
-            X 13 40001 READER THIS PIVOT 2 WRITER 1\n",
-        &[1, 2, 2, 1],
-    )
+    prints_history(&rt, rt.alloc(), &READER_REFUSED, &[1, 2, 2, 1])
 }
 
 #[test]
 fn late_reader(rt: HostRuntime) -> Result<(), Fail> {
-    let more = format!(in rt.alloc(); "{COVER}{SEVEN}{KIM}")?;
-    let case = Case {
-        script: "P: BEGIN; Y: BEGIN; P: SELECT BAL FROM ACCT WHERE ID = 1;
-            P: UPDATE DUTY SET ONCALL = 0 WHERE ID = 1; Y: UPDATE ACCT SET BAL = 0 WHERE ID = 1;
-            Y: COMMIT; X: BEGIN; X: SELECT ONCALL FROM DUTY WHERE ID = 1; X: COMMIT; P: COMMIT;",
-        want: "P: BEGIN 0\nY: BEGIN 0\nP: SELECT 1\n  100\nP: UPDATE 1\nY: UPDATE 1\nY: COMMIT 1\n\
-            X: BEGIN 1\nX: SELECT 1\n  1\nX: COMMIT 2\n\
-            P: REFUSED 13 40001 READER 2 PIVOT THIS WRITER 1\n\
-            COMMITS 2\n1 Y SNAPSHOT 0 ROWS 1\n2 X SNAPSHOT 1 ROWS 0\nSERIAL 1 2\nREFUSED 1\n\
-            P 13 40001 READER 2 PIVOT THIS WRITER 1\nASSERTIONS 1\nCOVER TRUE\n",
-        receipts: &[1, 2, 2, 1],
-        locks: 0,
-    };
-    prints(&rt, rt.alloc(), more.as_str(), &case)
+    prints_history(&rt, rt.alloc(), &LATE_READER, &[1, 2, 2, 1])
 }
 
 #[test]
 fn read_only_reader_passes(rt: HostRuntime) -> Result<(), Fail> {
-    prints_commits_of(
-        &rt,
-        rt.alloc(),
-        "X: BEGIN READ ONLY;",
-        "Y: COMMIT; X: COMMIT; P: COMMIT;",
-        "Y: COMMIT 1\nX: COMMIT 2\nP: COMMIT 3\n\
-            COMMITS 3\n1 Y SNAPSHOT 0 ROWS 1\n2 X SNAPSHOT 0 ROWS 0\n3 P SNAPSHOT 0 ROWS 1\n\
-            SERIAL 2 3 1\nREFUSED 0\n",
-        &[1, 2, 3],
-    )
+    prints_history(&rt, rt.alloc(), &READ_ONLY_READER_PASSES, &[1, 2, 3])
 }
 
 #[test]
 fn read_only_reader_refused(rt: HostRuntime) -> Result<(), Fail> {
-    let more = format!(in rt.alloc(); "{COVER}{SEVEN}{KIM}")?;
-    let case = Case {
-        script: "P: BEGIN; Y: BEGIN; P: SELECT BAL FROM ACCT WHERE ID = 1;
-            P: UPDATE DUTY SET ONCALL = 0 WHERE ID = 1; Y: UPDATE ACCT SET BAL = 0 WHERE ID = 1;
-            Y: COMMIT; X: BEGIN READ ONLY; P: COMMIT; X: SELECT ONCALL FROM DUTY WHERE ID = 1; X: COMMIT;",
-        want: "P: BEGIN 0\nY: BEGIN 0\nP: SELECT 1\n  100\nP: UPDATE 1\nY: UPDATE 1\nY: COMMIT 1\n\
-            X: BEGIN 1\nP: COMMIT 2\nX: SELECT 1\n  1\n\
-            X: REFUSED 13 40001 READER THIS PIVOT 2 WRITER 1\n\
-            COMMITS 2\n1 Y SNAPSHOT 0 ROWS 1\n2 P SNAPSHOT 0 ROWS 1\nSERIAL 2 1\nREFUSED 1\n\
-            X 13 40001 READER THIS PIVOT 2 WRITER 1\nASSERTIONS 1\nCOVER TRUE\n",
-        receipts: &[1, 2, 2, 1],
-        locks: 0,
-    };
-    prints(&rt, rt.alloc(), more.as_str(), &case)
+    prints_history(&rt, rt.alloc(), &READ_ONLY_READER_REFUSED, &[1, 2, 2, 1])
 }
 
 #[test]
 fn read_only_insert(rt: HostRuntime) -> Result<(), Fail> {
-    let case = Case {
-        script: "A: BEGIN READ ONLY; A: INSERT INTO SHIFTS VALUES (1); A: COMMIT;",
-        want: "A: BEGIN 0\nA: REFUSED 23 - READ ONLY\nA: COMMIT 1\n\
-            COMMITS 1\n1 A SNAPSHOT 0 ROWS 0\nSERIAL 1\nREFUSED 0\nASSERTIONS 0\n",
-        receipts: &[1],
-        locks: 0,
-    };
-    prints(&rt, rt.alloc(), "", &case)
+    prints_history(&rt, rt.alloc(), &READ_ONLY_INSERT, &[1])
 }
 
 #[test]
 fn same_key_inserted_twice(rt: HostRuntime) -> Result<(), Fail> {
-    let case = Case {
-        script: "A: BEGIN; B: BEGIN; B: SELECT * FROM ACCT WHERE ID = 9;
-            A: INSERT INTO ACCT VALUES (9, 'KIM', 1); B: INSERT INTO ACCT VALUES (9, 'KIM', 1);
-            A: COMMIT; B: COMMIT;",
-        want: "A: BEGIN 0\nB: BEGIN 0\nB: SELECT 0\nA: INSERT 1\nB: INSERT 1\nA: COMMIT 1\n\
-            B: REFUSED 12 40001 ACCT 9 BY 1\n\
-            COMMITS 1\n1 A SNAPSHOT 0 ROWS 1\nSERIAL 1\nREFUSED 1\nB 12 40001 ACCT 9 BY 1\n\
-            ASSERTIONS 0\n",
-        receipts: &[1, 1],
-        locks: 0,
-    };
-    prints(&rt, rt.alloc(), "", &case)
+    prints_history(&rt, rt.alloc(), &SAME_KEY_INSERTED_TWICE, &[1, 1])
 }
 
 /// An account below zero is let in while its assertion is deferred; neither its check nor COMMIT lets it stay.

@@ -2,8 +2,8 @@
 
 ghost use Rattle.std.specs.Prelude.{◌≡◌};
 
-use crate::driver::let_go;
-use crate::printed::{COVER, Case, KIM, Left, Opening, SEVEN, make_opening, open, serves};
+use crate::printed::{Case, Left, Opening, make_opening, open, serves};
+use histories::{COVER, KIM, SEVEN};
 use session::{CommitFault, Manager, Named, Receipt, Txn};
 use std::alloc::Global;
 use std::marker::Brand;
@@ -77,7 +77,7 @@ fn meet<N: Named, R: Wait + Abort>(
 pub fn is_stranger<N: Named>(begun: Result<Txn<N>, Refusal>) -> bool {
     match begun {
         Ok(txn) => {
-            let_go(txn.abandon());
+            drop(txn.abandon());
             false
         }
         Err(refusal) => matches!(refusal, Refusal::Stranger),
@@ -115,7 +115,7 @@ pub fn is_ended<N: Named>(outcome: Result<(), (Refusal, Txn<N>)>) -> bool {
     match outcome {
         Ok(()) => true,
         Err((_, txn)) => {
-            let_go(txn.abandon());
+            drop(txn.abandon());
             false
         }
     }
@@ -126,7 +126,7 @@ fn back<N: Named>(txn: Txn<N>, refusal: Refusal, shows: bool) -> Result<Txn<N>, 
     if matches!(refusal, Refusal::Stranger) && !shows {
         return Ok(txn);
     }
-    let_go(txn.abandon());
+    drop(txn.abandon());
     Err(Fail::from(refusal))
 }
 

@@ -2,8 +2,8 @@
 
 ghost use Rattle.std.specs.Prelude.{◌≡◌};
 
-use crate::driver::{equal, let_go};
-use crate::printed::{Opening, make_opening, open, steps_of};
+use crate::driver::equal;
+use crate::printed::{Opening, lines_of, make_opening, open};
 use alone::Reply;
 use session::{CloseFailure, ClosedTransaction, CommitFault, Manager, Named, Receipt, Txn};
 use std::alloc::Global;
@@ -11,7 +11,7 @@ use std::marker::Brand;
 use std::process::Abort;
 use std::sync::Wait;
 use std::test::Fail;
-use syntax::{Event, Step};
+use syntax::{Event, ScriptLine};
 use value::{Refusal, Text, Truth};
 
 /// Someone is on call in each shift, when a transaction ends.
@@ -32,8 +32,8 @@ fn violates<N: Named, R: Wait + Abort>(rt: &R, alloc: Global, on: Opening) -> Re
 {
     let manager = open::<N, R>(rt, alloc, 1, on)?;
     let cover = Text::from_str(alloc, "COVER")?;
-    let steps = steps_of(alloc, "A: INSERT INTO SHIFTS VALUES (7);")?;
-    commits_in_vain(rt, &manager, steps.as_slice(), &cover)?;
+    let lines = lines_of(alloc, "A: INSERT INTO SHIFTS VALUES (7);")?;
+    commits_in_vain(rt, &manager, lines.as_slice(), &cover)?;
     assert_eq!(rt; manager.verdict(rt, &cover), Some(Truth::True));
     let history = manager.close()?;
     assert_eq!(rt; history.core().refused().len(), 1);
@@ -43,13 +43,13 @@ fn violates<N: Named, R: Wait + Abort>(rt: &R, alloc: Global, on: Opening) -> Re
 fn commits_in_vain<N: Named, R: Wait + Abort>(
     rt: &R,
     manager: &Manager<N>,
-    steps: &[Step],
+    lines: &[ScriptLine],
     cover: &Text,
 ) -> Result<(), Fail> {
     let mut session = manager.session(rt, cover)?;
     let mut txn = manager.begin(rt, &mut session)?;
-    for step in steps {
-        insert(rt, &mut txn, &step.event);
+    for line in lines {
+        insert(rt, &mut txn, &line.event);
     }
     open_tells(rt, &txn, cover);
     let txn = reopened(rt, txn);
@@ -83,7 +83,7 @@ fn reopened<N: Named, R: Abort>(rt: &R, txn: Txn<N>) -> Txn<N> {
             closed.reopen()
         }
         Err(CloseFailure { refusal, txn }) => {
-            let_go(refusal);
+            drop(refusal);
             txn
         }
     }
@@ -114,7 +114,7 @@ fn has_ended<N: Named>(fault: CommitFault<N>) -> bool {
     let shows = shown.iter().any(|shown| shown.is_some());
     match txn {
         Some(txn) => {
-            let_go(txn.abandon());
+            drop(txn.abandon());
             false
         }
         None => matches!(refusal, Refusal::Violated { .. }) && !shows,

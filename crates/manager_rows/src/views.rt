@@ -2,14 +2,15 @@
 
 ghost use Rattle.std.specs.Prelude.{◌≡◌, ◌<◌, length, IfOk};
 ghost use Rattle.table.specs.Rows.{row_at};
-ghost use Rattle.alone.specs.Declarations.{layouts_in};
-ghost use Rattle.alone.specs.Meaning.{rows_of};
-ghost use Rattle.alone.specs.Roots.{IsChangeOf};
+ghost use Rattle.assertion.specs.Declarations.{layouts_in};
+ghost use Rattle.assertion.specs.Meaning.{rows_of};
+ghost use Rattle.assertion.specs.Changes.{IsChangeOf};
 ghost use Rattle.delta.specs.Views.{IsFitting};
 
 use crate::again::{for_ever, is_same, page, show_view};
-use crate::printed::{COVER, SEVEN, defined};
+use crate::printed::defined;
 use delta::View;
+use histories::{COVER, SEVEN};
 use std::alloc::{AllocError, Global};
 use std::test::Fail;
 use table::{Change, Row, Schema};

@@ -2,10 +2,11 @@
 
 ghost use Rattle.std.specs.Prelude.{◌≡◌};
 
-use crate::driver::{Seat, equal, let_go};
-use crate::printed::{COVER, Opening, SEVEN, make_opening, open, run_script};
+use crate::driver::{Seat, equal};
+use crate::printed::{Opening, make_opening, open, run_script};
 use crate::strangers::is_ended;
 use commit::find_first_false;
+use histories::{COVER, SEVEN};
 use session::{CloseFailure, ClosedTransaction, History, Manager, Named, Receipt, Txn};
 use std::alloc::Global;
 use std::marker::Brand;
@@ -18,7 +19,7 @@ use value::{Text, Truth};
 const MARK: usize = 7_654_321;
 
 /// A commit, and then three transactions that are left open: each takes the same one of two off call.
-const STEPS: &str = "A: BEGIN; A: UPDATE ACCT SET BAL = 0; A: COMMIT;
+const SCRIPT: &str = "A: BEGIN; A: UPDATE ACCT SET BAL = 0; A: COMMIT;
     A: BEGIN; A: UPDATE DUTY SET ONCALL = 0 WHERE ID = 1; B: BEGIN; B: UPDATE DUTY SET ONCALL = 0 WHERE ID = 1;
     C: BEGIN; C: UPDATE DUTY SET ONCALL = 0 WHERE ID = 1;";
 
@@ -36,7 +37,7 @@ fn answers<N: Named, R: Wait + Abort>(rt: &R, alloc: Global, on: Opening) -> Res
 {
     let manager = open::<N, R>(rt, alloc, 1, on)?;
     let cover = Text::from_str(alloc, "COVER")?;
-    let mut sessions = run_script(rt, alloc, &manager, STEPS)?;
+    let mut sessions = run_script(rt, alloc, &manager, SCRIPT)?;
     let closed = last_closed(&mut sessions.seats)?;
     assert!(rt; end_memory(alloc));
     reopens(rt, closed);
@@ -70,7 +71,7 @@ fn last_closed<N: Named>(seats: &mut Vec<Seat<N>>) -> Result<ClosedTransaction<N
     match txn.close_check() {
         Ok(closed) => Ok(closed),
         Err(CloseFailure { refusal, txn }) => {
-            let_go(txn.abandon());
+            drop(txn.abandon());
             Err(Fail::from(refusal))
         }
     }
@@ -83,7 +84,7 @@ pub fn end_memory(alloc: Global) -> bool {
 
 /// Asks for a byte. Where memory has ended this is refused, and nothing before it is to have asked for any.
 pub fn ask_in_vain(alloc: Global) {
-    let_go(Vec::<u8>::with_capacity(alloc, 1).is_ok());
+    drop(Vec::<u8>::with_capacity(alloc, 1).is_ok());
 }
 
 fn ends<N: Named, R: Wait + Abort>(
@@ -115,7 +116,7 @@ fn reopens<N: Named, R: Abort>(rt: &R, closed: ClosedTransaction<N>) {
     equal(rt, closed.own().assertions().len(), 1);
     let txn = closed.reopen();
     equal(rt, txn.snapshot(), 1);
-    let_go(txn.abandon());
+    drop(txn.abandon());
 }
 
 fn leaves<N: Named, R: Abort>(rt: &R, history: &History<N>, receipt: &Receipt<N>, cover: &Text) {

@@ -4,7 +4,7 @@ use Rattle.std.specs.Prelude.{◌==◌, is_some, unwrap_or, filter, flat_map, if
 use Rattle.value.specs.declared.values.Value.{Value}
 use Rattle.value.specs.declared.refusals.Refusal.{Refusal}
 use Rattle.table.specs.declared.rows.Change.{Change}
-use Rattle.table.specs.Rows.{RowValues, Layout, Tables, layout_of, layouts_of, position_of, row_at, value_in}
+use Rattle.table.specs.Rows.{RowValues, Layout, Tables, layout_of, layouts_of, position_of, row_at, value_in, key_of}
 use Rattle.table.specs.Aggregates.{is_there}
 use Rattle.table.specs.declared.aggregates.Aggregate.{Aggregate}
 use Rattle.table.specs.declared.aggregates.Aggregate.TheVariants.{CountRows}
@@ -15,7 +15,7 @@ use Rattle.assertion.specs.declared.queries.Link.{Link}
 use Rattle.assertion.specs.declared.queries.Whole.{Whole}
 use Rattle.assertion.specs.declared.forms.Form.{Form}
 use Rattle.assertion.specs.declared.forms.Form.TheVariants.{ByRow, ByGroup}
-use Rattle.assertion.specs.Meaning.{State, key_of, rows_of}
+use Rattle.assertion.specs.Meaning.{State, rows_of}
 use Rattle.assertion.specs.Candidates.{rows_of_change, linked_values}
 use Rattle.syntax.specs.declared.trees.ColumnName.{ColumnName}
 use Rattle.syntax.specs.declared.trees.Condition.{Condition}

@@ -2,12 +2,11 @@
 use Rattle.std.proofs.Common.{◌≡◌, ℕ, Option, Some, None, Result, Ok, Err, List, [], ◌∷◌, refl, ap, ◌∙◌, subst}
 use Rattle.value.specs.declared.refusals.Refusal.{Refusal}
 use Rattle.value.specs.declared.refusals.Refusal.TheVariants.{KeyUpdate}
-use Rattle.table.specs.Rows.{Tables, layouts_of}
+use Rattle.table.specs.Rows.{Tables, layouts_of, key_of}
 use Rattle.table.specs.declared.conds.Cond.{Cond}
 use Rattle.syntax.specs.declared.trees.Condition.{Condition}
 use Rattle.assertion.specs.Declarations.{Declared, layouts_in}
-use Rattle.assertion.specs.Meaning.{key_of}
-use Rattle.assertion.specs.Roots.{state_after_all}
+use Rattle.assertion.specs.Changes.{state_after_all}
 use Rattle.form_check.specs.Queries.{Source, source_of, row_filter}
 use Rattle.assertcheck.specs.declared.deletes.Delete.{Delete}
 use Rattle.assertcheck.specs.declared.selects.Select.{Select}

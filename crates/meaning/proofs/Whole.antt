@@ -10,9 +10,9 @@ use Rattle.value.proofs.ValueOrders.{root_cmp_total, root_exact}
 use Rattle.value.specs.declared.truths.Truth.{Truth}
 use Rattle.value.specs.declared.truths.Truth.TheVariants.{False}
 use Rattle.value.specs.Truths.{not_of, is_of, truth_of_bool}
-use Rattle.table.specs.Rows.{Layout, Tables, layout_of, position_of, layouts_of}
+use Rattle.table.specs.Rows.{Layout, Tables, layout_of, position_of, layouts_of, key_of}
 use Rattle.assertion.specs.declared.forms.Form.{Form}
-use Rattle.assertion.specs.Meaning.{State, rows_of, key_of, bad_roots, verdict_of, truth_of_roots, row_roots}
+use Rattle.assertion.specs.Meaning.{State, rows_of, bad_roots, verdict_of, truth_of_roots, row_roots}
 use Rattle.assertion.proofs.ListLemmas.{has-contains, contains-has}
 use Rattle.assertion.proofs.RootLists.{has-least_of, least-lowest, least-only}
 use Rattle.syntax.specs.declared.trees.ColumnName.{ColumnName}

@@ -6,7 +6,7 @@ use Rattle.syntax.specs.declared.statements.Which.TheVariants as which
 use Rattle.syntax.specs.declared.statements.Statement.TheVariants as statement
 use Rattle.syntax.specs.declared.statements.Event.{Event}
 use Rattle.syntax.specs.declared.statements.Event.TheVariants as event
-use Rattle.syntax.specs.declared.statements.Step.{Step}
+use Rattle.syntax.specs.declared.statements.ScriptLine.{ScriptLine}
 use Rattle.alone.specs.declared.answers.Reply.{Reply}
 use Rattle.alone.specs.declared.answers.Reply.TheVariants as reply
 use Rattle.alone.specs.declared.answers.Answer.{Answer}
@@ -58,12 +58,12 @@ abbrev pub refused_reply : (at_commit : Bool) → Refusal → (line : List ℕ) 
 refused_reply at_commit refusal line = 15 ∷ (refusal_parts at_commit refusal ++ text line)
 
 -- the reply of an event's answer; a refusal has its line at the end
-abbrev pub answer_bytes : List Column → Step → Answer → (line : List ℕ) → List ℕ
-answer_bytes all step (answer.Begun n) line = number_reply 5 n
-answer_bytes all step (answer.Replied reply) line = reply_bytes all step.event reply
-answer_bytes all step (answer.Committed n) line = number_reply 6 n
-answer_bytes all step answer.RolledBack line = 7 ∷ []
-answer_bytes all step (answer.Refused refusal) line = refused_reply (is_commit step.event) refusal line
+abbrev pub answer_bytes : List Column → ScriptLine → Answer → (line : List ℕ) → List ℕ
+answer_bytes all script_line (answer.Begun n) line = number_reply 5 n
+answer_bytes all script_line (answer.Replied reply) line = reply_bytes all script_line.event reply
+answer_bytes all script_line (answer.Committed n) line = number_reply 6 n
+answer_bytes all script_line answer.RolledBack line = 7 ∷ []
+answer_bytes all script_line (answer.Refused refusal) line = refused_reply (is_commit script_line.event) refusal line
 
 -- the word for what was refused, in front of the line of its refusal
 abbrev pub source_name : Source → List ℕ
@@ -74,7 +74,7 @@ source_name source.Rules = codes "RULES"
 
 -- the line of an answer or of a refusal; empty for any other response
 abbrev pub line_of : Response → List ℕ
-line_of (response.Answered step answer) = answer_line step answer
+line_of (response.Answered script_line answer) = answer_line script_line answer
 line_of (response.Refused source refusal) = refusal_line (source_name source) refusal
 line_of other = []
 
@@ -85,7 +85,7 @@ is_refused other = false
 
 -- whether a response is of an event or a call that was refused
 abbrev pub is_refusal : Response → Bool
-is_refusal (response.Answered step answer) = is_refused answer
+is_refusal (response.Answered script_line answer) = is_refused answer
 is_refusal (response.Refused source refusal) = true
 is_refusal other = false
 
@@ -96,7 +96,7 @@ response_with all (response.Session n) line = number_reply 2 n
 response_with all (response.Prepared n parameters) line = statement_reply n parameters
 response_with all response.SessionClosed line = 4 ∷ []
 response_with all response.Forgotten line = 4 ∷ []
-response_with all (response.Answered step answer) line = answer_bytes all step answer line
+response_with all (response.Answered script_line answer) line = answer_bytes all script_line answer line
 response_with all (response.Closing bytes) line = text_reply bytes
 response_with all (response.Changed bytes) line = text_reply bytes
 response_with all (response.Refused source refusal) line = refused_reply false refusal line

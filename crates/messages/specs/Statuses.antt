@@ -49,7 +49,7 @@ status_of_misuse misuse.Closed = status.Closed
 
 -- where the bytes of the reply were written
 abbrev pub status_of : Response → Status
-status_of (response.Answered step answer) = status_of_answer answer
+status_of (response.Answered script_line answer) = status_of_answer answer
 status_of (response.Refused source refusal) = status_of_refusal refusal
 status_of (response.Misused misuse) = status_of_misuse misuse
 status_of other = status.Done

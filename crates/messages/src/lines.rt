@@ -25,7 +25,10 @@ pub fn line_of(alloc: Global, response: &Response) -> Result<Report, AllocError>
 {
     let mut line = Report::new(alloc);
     match response {
-        Response::Answered { step, answer } => line.add_answer(step, answer)?,
+        Response::Answered {
+            script_line,
+            answer,
+        } => line.add_answer(script_line, answer)?,
         Response::Refused { source, refusal } => line.add_refusal(source_name(*source), refusal)?,
         _ => {}
     }

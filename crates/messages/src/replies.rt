@@ -9,7 +9,7 @@ use crate::responses::{Misuse, Response};
 use crate::writing::Bytes;
 use alone::{Answer, Reply};
 use std::alloc::{AllocError, Global};
-use syntax::{Event, Statement, Step, Which};
+use syntax::{Event, ScriptLine, Statement, Which};
 use table::Column;
 use value::Refusal;
 
@@ -152,18 +152,23 @@ fn add_refused(
 fn add_answer(
     bytes: &mut Bytes,
     columns: &[Column],
-    step: &Step,
+    script_line: &ScriptLine,
     answer: &Answer,
     line: &[u8],
 ) -> Result<(), AllocError>
-    ensures { OnOk result (bytes.new ≡ bytes.old ++ spec.answer_bytes columns.now step.now answer.now line.now) }
+    ensures { OnOk result (bytes.new ≡ bytes.old ++ spec.answer_bytes columns.now script_line.now answer.now line.now) }
 {
     match answer {
         Answer::Begun(commits) => add_numbered(bytes, BEGUN, *commits),
-        Answer::Replied(reply) => add_reply(bytes, columns, &step.event, reply),
+        Answer::Replied(reply) => add_reply(bytes, columns, &script_line.event, reply),
         Answer::Committed(number) => add_numbered(bytes, COMMITTED, *number),
         Answer::RolledBack => bytes.add_byte(ROLLED_BACK),
-        Answer::Refused(refusal) => add_refused(bytes, is_commit(&step.event), refusal, line),
+        Answer::Refused(refusal) => add_refused(
+            bytes,
+            is_commit(&script_line.event),
+            refusal,
+            line,
+        ),
     }
 }
 
@@ -195,7 +200,10 @@ fn add_response(
         Response::Prepared { number, parameters } => add_statement(bytes, *number, *parameters),
         Response::SessionClosed => bytes.add_byte(CHANGED),
         Response::Forgotten => bytes.add_byte(CHANGED),
-        Response::Answered { step, answer } => add_answer(bytes, columns, step, answer, line),
+        Response::Answered {
+            script_line,
+            answer,
+        } => add_answer(bytes, columns, script_line, answer, line),
         Response::Closing(text) => add_text(bytes, text.as_bytes()),
         Response::Changed(text) => add_text(bytes, text.as_bytes()),
         Response::Refused { refusal, .. } => add_refused(bytes, false, refusal, line),

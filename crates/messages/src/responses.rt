@@ -4,7 +4,7 @@ ghost use Rattle.std.specs.Prelude.{◌≡◌};
 ghost use Rattle.messages.specs.Statuses as spec;
 
 use alone::Answer;
-use syntax::Step;
+use syntax::ScriptLine;
 use value::{Refusal, Text};
 
 /// What was refused as a whole, and not as an event of a session.
@@ -45,18 +45,27 @@ pub enum Response {
     /// The session was opened, under this number.
     Session(u64),
     /// The statement was prepared, under this number, and takes so many values.
-    Prepared { number: u64, parameters: usize },
+    Prepared {
+        number: u64,
+        parameters: usize,
+    },
     /// The session was closed.
     SessionClosed,
     /// The statement was forgotten.
     Forgotten,
     /// The engine answered an event.
-    Answered { step: Step, answer: Answer },
+    Answered {
+        script_line: ScriptLine,
+        answer: Answer,
+    },
     /// The closing part of a report.
     Closing(Text),
     /// The rules have changed; and the closing part of the epoch before.
     Changed(Text),
-    Refused { source: Source, refusal: Refusal },
+    Refused {
+        source: Source,
+        refusal: Refusal,
+    },
     Misused(Misuse),
 }
 

@@ -21,7 +21,7 @@ use pages::Pages;
 use std::alloc::{AllocError, Global};
 use std::cmp::Ordering;
 use std::marker::Model;
-use table::{Change, Row};
+use table::{Change, Row, value_at};
 use value::{Value, order};
 
 /// One version of the rows of a table, in the order of their keys. Each is kept under its key, which stands in the
@@ -204,7 +204,7 @@ impl Rows {
         let mut keys = Vec::new(alloc);
         for row in self.iter() {
             if order_key(value, row, column) == Ordering::Equal {
-                keys.push(key_of(row, key_column)?)?;
+                keys.push(value_at(row, key_column)?)?;
             }
         }
         Ok(keys)
@@ -352,21 +352,11 @@ fn keyed_by(pages: &Pages<Row>, key_column: usize) -> Result<Pages<Row>, AllocEr
     let mut made = Pages::new(pages.allocator());
     for at in 0..pages.len() {
         let row = row_from(pages, at);
-        let key = key_of(row, key_column)?;
+        let key = value_at(row, key_column)?;
         let row = row.copy()?;
         made.put(&key, Some(row))?;
     }
     Ok(made)
-}
-
-/// The key of a row in a column; NULL where it has no such column.
-fn key_of(row: &Row, key_column: usize) -> Result<Value, AllocError>
-    ensures { IfOk result (λ key. key ≡ value_in key_column row.now) }
-{
-    match row.values().get(key_column) {
-        Some(value) => value.copy(),
-        None => Ok(Value::Null),
-    }
 }
 
 /// The row at a place.

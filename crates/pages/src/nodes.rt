@@ -18,8 +18,8 @@ use std::marker::Model;
 use std::sync::Arc;
 use value::{Copied, Value};
 
-/// The most entries of a page, and the most nodes below a node: a copied page of totals, whose entries have 64 bytes,
-/// is then a block that `malloc` still takes from a list of its size.
+/// The most entries of a page, and the most nodes below a node. A smaller number makes versions cheaper, and changes in
+/// place and loading dearer (docs/PERFORMANCE.md).
 pub const MOST: usize = 15;
 
 /// A node.

@@ -126,6 +126,9 @@ fn cut<V: Copied>(
     ensures within { IfOk result (λ at. at < length nodes.new.items) }
     ensures room { IfOk result (λ at. IsSoAt IsNarrow (map arc_value nodes.new.items) at) }
 {
+    if let Some(own) = Arc::get_mut(seps) {
+        return cut_at(alloc, own, nodes, at, key);
+    }
     let mut parted = Arc::new(alloc, copy_keys(alloc, seps)?)?;
     let place = match Arc::get_mut(&mut parted) {
         Some(parted) => cut_at(alloc, parted, nodes, at, key)?,

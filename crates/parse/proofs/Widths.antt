@@ -8,8 +8,8 @@ use Rattle.value.specs.declared.values.ColType.TheVariants as kind_of
 use Rattle.leaf_parser.specs.declared.stops.Stop.{Stop}
 use Rattle.leaf_parser.specs.declared.stops.Stop.TheVariants as stop
 use Rattle.leaf_parser.specs.Reads.{Stops}
-use Rattle.leaf_parser.specs.Language.{Lexeme, Lexemes, head}
-use Rattle.leaf_parser.specs.Reading.{Reader, Outcome, Done, Fail, Deep, same_kind, expect, expect_where, ◌<$>◌}
+use Rattle.syntax.specs.Language.{Lexeme, Lexemes, head}
+use Rattle.syntax.specs.Reading.{Reader, Outcome, Done, Fail, Deep, same_kind, expect, expect_where, ◌<$>◌}
 use Rattle.syntax.specs.Grammar.{digits_value}
 use Rattle.syntax.specs.SchemaGrammar.{is_width, varchar_of}
 use Rattle.parse.specs.Widths.{width_of}

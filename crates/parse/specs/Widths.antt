@@ -1,8 +1,8 @@
 -- The number of VARCHAR.
 use Rattle.std.specs.Prelude.{ℕ, ◌&&◌, if◌then◌else◌, Option, Some, None}
 use Rattle.token.specs.declared.kinds.Kind.TheVariants as k
-use Rattle.leaf_parser.specs.Language.{Lexeme}
-use Rattle.leaf_parser.specs.Reading.{same_kind}
+use Rattle.syntax.specs.Language.{Lexeme}
+use Rattle.syntax.specs.Reading.{same_kind}
 use Rattle.syntax.specs.Grammar.{digits_value}
 use Rattle.syntax.specs.SchemaGrammar.{is_width}
 

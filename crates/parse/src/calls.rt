@@ -2,7 +2,7 @@
 
 ghost use Rattle.std.specs.Prelude.{List, length, IfOk, IfErr};
 ghost use Rattle.syntax.specs.declared.statements.Event.{Event};
-ghost use Rattle.syntax.specs.declared.statements.Step.{Step};
+ghost use Rattle.syntax.specs.declared.statements.ScriptLine.{ScriptLine};
 ghost use Rattle.syntax.specs.declared.definitions.Definition.{Definition};
 ghost use Rattle.syntax.specs.StatementGrammar.{IsEvent};
 ghost use Rattle.syntax.specs.SchemaGrammar.{IsSchema, IsScript};
@@ -13,7 +13,7 @@ ghost use Rattle.parse.specs.Told.{most_open, IsRefusalOf, Gave};
 use crate::wholes::{event_of, schema_of, script_of};
 use sqlite_items::Items;
 use std::alloc::Global;
-use syntax::{Definition, Event, Step};
+use syntax::{Definition, Event, ScriptLine};
 use token::read_tokens;
 use value::Refusal;
 
@@ -52,14 +52,14 @@ pub fn parse_statement(alloc: Global, text: &[u8]) -> Result<Event, Refusal>
     event_of(alloc, text, &tokens, MOST_OPEN)
 }
 
-/// The steps of a text: `{ name ":" event ";" }`. The empty text has none.
+/// The lines of a script: `{ name ":" event ";" }`. The empty text has none.
 ///
 /// The refusals are those of [`parse_schema`], with scripts for schemas.
-pub fn parse_script(alloc: Global, text: &[u8]) -> Result<Items<Step>, Refusal>
+pub fn parse_script(alloc: Global, text: &[u8]) -> Result<Items<ScriptLine>, Refusal>
     // A list is given only where the grammar relates it to the text, and no parenthesis opens while 64 are open.
     ensures found { IfOk result (λ s. IsScript (lexemes text.now) s × Fits most_open (lexemes text.now)) }
     // There it is given, unless memory runs out.
-    ensures only { (s : List Step) → IsScript (lexemes text.now) s → Fits most_open (lexemes text.now) → Gave s result }
+    ensures only { (s : List ScriptLine) → IsScript (lexemes text.now) s → Fits most_open (lexemes text.now) → Gave s result }
     // A refusal names the first wrong token, or the first parenthesis too many.
     ensures refused { IfErr result (IsRefusalOf IsScript most_open (lexemes text.now) (length text.now)) }
 {

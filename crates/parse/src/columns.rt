@@ -5,7 +5,7 @@ ghost use Rattle.parse.specs.Widths as spec;
 ghost use Rattle.syntax.specs.SchemaGrammar as grammar;
 ghost use Rattle.syntax.specs.SchemaReaders as reader;
 ghost use Rattle.token.specs.declared.kinds.Kind.TheVariants as k;
-ghost use Rattle.leaf_parser.specs.Reading as rd;
+ghost use Rattle.syntax.specs.Reading as rd;
 ghost use Rattle.leaf_parser.specs.Reads.{Reads};
 
 use leaf_parser::{
@@ -35,7 +35,7 @@ struct Width;
 
 impl Part for Width {
     ghost use Rattle.token.specs.declared.kinds.Kind.TheVariants as k;
-    ghost use Rattle.leaf_parser.specs.Reading as rd;
+    ghost use Rattle.syntax.specs.Reading as rd;
     ghost use Rattle.syntax.specs.SchemaGrammar as grammar;
 
     type Tree = ColType;

@@ -2,7 +2,7 @@
 
 ghost use Rattle.syntax.specs.StatementReaders as reader;
 ghost use Rattle.token.specs.declared.kinds.Kind.TheVariants as k;
-ghost use Rattle.leaf_parser.specs.Reading as rd;
+ghost use Rattle.syntax.specs.Reading as rd;
 ghost use Rattle.leaf_parser.specs.Reads.{Reads};
 
 use crate::statements::parse_statement;

@@ -3,7 +3,7 @@
 ghost use Rattle.syntax.specs.StatementGrammar as grammar;
 ghost use Rattle.syntax.specs.StatementReaders as reader;
 ghost use Rattle.token.specs.declared.kinds.Kind.TheVariants as k;
-ghost use Rattle.leaf_parser.specs.Reading as rd;
+ghost use Rattle.syntax.specs.Reading as rd;
 ghost use Rattle.leaf_parser.specs.Reads.{Reads};
 
 use leaf_parser::{

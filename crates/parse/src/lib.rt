@@ -35,7 +35,7 @@
 //!
 //! Lists, loops and parentheses are those of `leaf_parser`: what stands in them is a `Part` here. A loop
 //! goes on by the kind of the next token, a comma, or the first word of a definition, or a name for a
-//! step of a script.
+//! line of a script.
 //!
 //! [`parse_definitions`], [`parse_event`] and [`parse_script`] are for the layer that reads whole texts: none of them
 //! asks whether anything stands behind what it has read.

@@ -3,7 +3,7 @@
 ghost use Rattle.std.specs.Prelude.{◌-◌};
 ghost use Rattle.syntax.specs.Readers as condition;
 ghost use Rattle.syntax.specs.SchemaReaders as reader;
-ghost use Rattle.leaf_parser.specs.Reading as rd;
+ghost use Rattle.syntax.specs.Reading as rd;
 ghost use Rattle.leaf_parser.specs.Reads.{Reads};
 
 use crate::attributes::parse_attributes;

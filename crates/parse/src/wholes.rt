@@ -15,7 +15,7 @@ use crate::scripts::parse_script;
 use leaf_parser::{Cursor, Stop};
 use sqlite_items::Items;
 use std::alloc::Global;
-use syntax::{Definition, Event, Step};
+use syntax::{Definition, Event, ScriptLine};
 use token::Token;
 use value::Refusal;
 
@@ -64,7 +64,7 @@ fn parse_whole_script(
     alloc: Global,
     cursor: &mut Cursor<'_>,
     depth: usize,
-) -> Result<Items<Step>, Stop>
+) -> Result<Items<ScriptLine>, Stop>
     ensures { Reads (rd.whole (schema.script depth) cursor.old) result cursor.new }
 {
     let found = parse_script(alloc, cursor, depth)?;
@@ -107,14 +107,14 @@ pub fn schema_of(
     }
 }
 
-/// The steps of these tokens, where so many parentheses may be open.
+/// The lines of a script of these tokens, where so many parentheses may be open.
 #[tactic(auto, using(crate::proofs::Telling::stops_told))]
 pub fn script_of(
     alloc: Global,
     text: &[u8],
     tokens: &[Token],
     depth: usize,
-) -> Result<Items<Step>, Refusal>
+) -> Result<Items<ScriptLine>, Refusal>
     ensures { IsOutcomeAs (rd.whole (schema.script depth) (map (lexeme text.now) tokens.now)) (length text.now) result }
 {
     let mut cursor = Cursor::new(text, tokens);

@@ -1,8 +1,8 @@
 //! Says of texts whether they are of the language, and where they stop being so.
 //!
-//! `parse_text script FILE` reads a file as one script and prints how many steps it has. `parse_text lines FILE`
-//! reads each line of a file by itself and prints an answer for each: a line is a letter (S a script, D definitions,
-//! E an event), a space and the text.
+//! `parse_text script FILE` reads a file as one script and prints how many lines it has, an event each. `parse_text
+//! lines FILE` reads each line of a file by itself and prints an answer for each: a line is a letter (S a script, D
+//! definitions, E an event), a space and the text.
 //!
 //! The program `skewguard` stands on the same parser. This one shows what the parser alone says of a text, and its
 //! run in the gate holds that parser against a plain recogniser that tries every way on at once
@@ -62,12 +62,12 @@ fn answer_file<R: Files + Print + Eprint + AllocGlobal>(rt: &R, how: &str, path:
     }
 }
 
-/// Prints how many steps the script has, or why it is none.
+/// Prints how many lines the script has, or why it is none.
 fn answer_script<R: Print + Eprint + AllocGlobal>(rt: &R, text: &[u8]) -> u8
     ensures { result ≤ 3 }
 {
     match parse_script(rt.alloc(), text) {
-        Ok(steps) => status_of(rt.println(steps.len()), READ),
+        Ok(lines) => status_of(rt.println(lines.len()), READ),
         Err(refusal) => status_of(rt.eprintln(refusal), REFUSED),
     }
 }

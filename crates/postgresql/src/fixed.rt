@@ -166,8 +166,8 @@ END
 $skewguard$;
 "#;
 
-/// What stands at the end: the rules hold on the rows as PostgreSQL evaluates them too. A trigger of one's own on a table
-/// of one's own could otherwise hand rows to a function that changes totals.
+/// What stands at the end: the rules hold on the rows as PostgreSQL evaluates them too. A trigger of one's own on a
+/// table of one's own could otherwise hand rows to a function that changes totals.
 pub const END: &str = r#"
 -- The functions of the triggers have the rights of the rules' owner: nobody else puts them on a table of his own.
 DO $skewguard$

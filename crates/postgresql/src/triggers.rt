@@ -1,8 +1,8 @@
 //! The triggers of a table.
 //!
 //! After each statement they go by the rules in the order of their creation, on all that the statement has changed
-//! together. A rule that is immediate is checked at its candidates. Of one that is deferred the candidates are noted, and
-//! it is called: by a row in `skewguard_due`, on which a constraint trigger of the rule's name stands, so that
+//! together. A rule that is immediate is checked at its candidates. Of one that is deferred the candidates are noted,
+//! and it is called: by a row in `skewguard_due`, on which a constraint trigger of the rule's name stands, so that
 //! PostgreSQL's own modes say when (`fixed::CALLS`).
 
 use crate::candidates::{add_candidates, is_over};
@@ -186,7 +186,8 @@ fn add_checks(
     Ok(())
 }
 
-/// Adds the head of a deferrable rule's part: where it is deferred its candidates are noted, and else its check follows.
+/// Adds the head of a deferrable rule's part: where it is deferred its candidates are noted, and else its check
+/// follows.
 fn add_note(
     sql: &mut String,
     view: &View,

@@ -14,9 +14,6 @@ use syntax::{
 };
 use value::{Text, Truth, Value};
 
-/// Lets a value go. Here its type is a parameter: that a large one may be dropped is proved dearly.
-fn let_go<T: Drop>(_value: T) {}
-
 // ---- a tree as a text of one form, with each part in brackets
 
 fn show_name(out: &mut String, name: &Text) -> Result<(), AllocError> {
@@ -240,8 +237,8 @@ fn filled(alloc: Global, text: &str, values: &[Value]) -> Result<String, AllocEr
         Ok(event) => show_event(alloc, event),
         Err(fault) => format!(in alloc; "{fault}"),
     };
-    let_go(answer);
-    let_go(prepared);
+    drop(answer);
+    drop(prepared);
     shown
 }
 
@@ -250,7 +247,7 @@ fn count(alloc: Global, text: &str) -> Option<usize> {
     match prepare(alloc, text.as_bytes()) {
         Ok(prepared) => {
             let count = prepared.parameter_count();
-            let_go(prepared);
+            drop(prepared);
             Some(count)
         }
         Err(_) => None,
@@ -282,7 +279,7 @@ fn parsed(alloc: Global, text: &str) -> Result<String, AllocError> {
         Ok(event) => show_event(alloc, event),
         Err(refusal) => format!(in alloc; "{refusal}"),
     };
-    let_go(answer);
+    drop(answer);
     shown
 }
 

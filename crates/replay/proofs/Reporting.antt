@@ -2,7 +2,7 @@
 use Rattle.std.proofs.Common.{◌≡◌, ℕ, List, Option, Result, Ok, Err, refl, subst}
 use Rattle.std.specs.Prelude.{OnOk, IfErr}
 use Rattle.std.specs.Io.KnownBytes.{Appends}
-use Rattle.syntax.specs.declared.statements.Step.{Step}
+use Rattle.syntax.specs.declared.statements.ScriptLine.{ScriptLine}
 use Rattle.commit.specs.Events.{EngineState}
 use Rattle.commit.specs.Cores.{IsSerializable}
 use Rattle.commit.specs.Runs.{AreAnswers, InEachRun, beginning, led_to}
@@ -15,45 +15,45 @@ use Rattle.replay.proofs.Late.{late_faults}
 use Rattle.replay.specs.Replay.{IsBeginning, WritesBeginning, WritesReport}
 use Rattle.replay.specs.Writing.{PrintsBeginning, PrintsRun}
 
-module _ (defs script : List ℕ) (limit : ℕ) (engine : EngineState) (steps : List Step) (begun : IsBeginning defs script limit engine steps) where
-  reported : InEachRun (λ loaded steps answers left. IsSerializable left.core) → InEachRun (λ loaded steps answers left. WereToldAlone left.core steps answers)
-      → (old new : Option (List ℕ)) → PrintsRun engine steps old new → WritesReport defs script limit old new
+module _ (defs script : List ℕ) (limit : ℕ) (engine : EngineState) (lines : List ScriptLine) (begun : IsBeginning defs script limit engine lines) where
+  reported : InEachRun (λ loaded lines answers left. IsSerializable left.core) → InEachRun (λ loaded lines answers left. WereToldAlone left.core lines answers)
+      → (old new : Option (List ℕ)) → PrintsRun engine lines old new → WritesReport defs script limit old new
   reported serializable told old new p =
-      let answered : AreAnswers (beginning limit begun.shown steps) steps p.answers = subst (λ e. AreAnswers e steps p.answers) begun.is p.answered in record {
-        bytes = report steps p.answers (led_to (beginning limit begun.shown steps) steps p.answers);
+      let answered : AreAnswers (beginning limit begun.shown lines) lines p.answers = subst (λ e. AreAnswers e lines p.answers) begun.is p.answered in record {
+        bytes = report lines p.answers (led_to (beginning limit begun.shown lines) lines p.answers);
         is = record {
           shown = begun.shown;
-          steps = steps;
+          lines = lines;
           answers = p.answers;
           ready = begun.ready;
           answered = answered;
-          serializable = serializable limit begun.shown steps steps p.answers begun.sound answered;
-          told = told limit begun.shown steps steps p.answers begun.sound answered;
+          serializable = serializable limit begun.shown lines lines p.answers begun.sound answered;
+          told = told limit begun.shown lines lines p.answers begun.sound answered;
           prints = refl;
         };
-        written = subst (λ e. Appends old new (report steps p.answers (led_to e steps p.answers))) begun.is p.written;
+        written = subst (λ e. Appends old new (report lines p.answers (led_to e lines p.answers))) begun.is p.written;
       }
 
-  pub reports : InEachRun (λ loaded steps answers left. IsSerializable left.core) → InEachRun (λ loaded steps answers left. WereToldAlone left.core steps answers)
-      → {A : Type 0} (printed : Result A ProgramFault) (old new : Option (List ℕ)) → OnOk printed (PrintsRun engine steps old new) → OnOk printed (WritesReport defs script limit old new)
+  pub reports : InEachRun (λ loaded lines answers left. IsSerializable left.core) → InEachRun (λ loaded lines answers left. WereToldAlone left.core lines answers)
+      → {A : Type 0} (printed : Result A ProgramFault) (old new : Option (List ℕ)) → OnOk printed (PrintsRun engine lines old new) → OnOk printed (WritesReport defs script limit old new)
   reports serializable told (Ok done) old new p = reported serializable told old new p
   reports serializable told (Err fault) old new p = tt
 
-  begins_only : (old new : Option (List ℕ)) → PrintsBeginning engine steps old new → WritesBeginning defs script limit old new
+  begins_only : (old new : Option (List ℕ)) → PrintsBeginning engine lines old new → WritesBeginning defs script limit old new
   begins_only old new p = record {
     shown = begun.shown;
-    steps = steps;
+    lines = lines;
     ready = begun.ready;
-    prints = subst (λ e. PrintsBeginning e steps old new) begun.is p;
+    prints = subst (λ e. PrintsBeginning e lines old new) begun.is p;
   }
 
-  pub stopped : {A : Type 0} (printed : Result A ProgramFault) (old new : Option (List ℕ)) → IfErr printed (λ fault. fault ≡ Stopped → PrintsBeginning engine steps old new)
+  pub stopped : {A : Type 0} (printed : Result A ProgramFault) (old new : Option (List ℕ)) → IfErr printed (λ fault. fault ≡ Stopped → PrintsBeginning engine lines old new)
       → IfErr printed (λ fault. fault ≡ Stopped → WritesBeginning defs script limit old new)
   stopped (Ok done) old new p = tt
   stopped (Err fault) old new p = λ e. begins_only old new (p e)
 
   run : IsRun defs script
-  run = record { shown = begun.shown; steps = steps; ready = begun.ready }
+  run = record { shown = begun.shown; lines = lines; ready = begun.ready }
 
   pub first_fault : {A : Type 0} (printed : Result A ProgramFault) → IfErr printed IsInTheRun → IfErr printed (IsFirstFault defs script)
   first_fault printed h = late_faults defs script run printed h

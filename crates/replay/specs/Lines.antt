@@ -1,12 +1,12 @@
 -- The lines that a script prints.
 use Rattle.std.specs.Prelude.{ℕ, List, [], ◌∷◌, ◌++◌, Option, Some, None}
-use Rattle.syntax.specs.declared.statements.Step.{Step}
+use Rattle.syntax.specs.declared.statements.ScriptLine.{ScriptLine}
 use Rattle.alone.specs.declared.answers.Answer.{Answer}
-use Rattle.commit.specs.Transactions.{OpenTransaction}
+use Rattle.txn.specs.Transactions.{OpenTransaction}
 use Rattle.commit.specs.declared.seats.Seat.{Seat}
 use Rattle.commit.specs.Events.{EngineState}
 use Rattle.report.specs.Report.{left_open_line}
-use Rattle.replay.specs.Reports.{closing_part_of, lines}
+use Rattle.replay.specs.Reports.{answer_lines, closing_part_of}
 
 -- the line of a session whose transaction is open in the end
 abbrev pub left_line : List ℕ → Option OpenTransaction → List ℕ
@@ -22,6 +22,6 @@ left_lines (seat ∷ seats) = left_line seat.session seat.txn ++ left_lines seat
 abbrev pub ending : EngineState → List ℕ
 ending left = left_lines left.seats ++ closing_part_of left.core
 
--- the whole report: what the steps were answered, and what they leave
-abbrev pub report : List Step → List Answer → EngineState → List ℕ
-report steps answers left = lines steps answers ++ ending left
+-- the whole report: what a script's lines were answered, and what they leave
+abbrev pub report : List ScriptLine → List Answer → EngineState → List ℕ
+report lines answers left = answer_lines lines answers ++ ending left

@@ -4,18 +4,18 @@ use Rattle.value.specs.declared.truths.Truth.{Truth}
 use Rattle.assertion.specs.declared.assertions.Assertion.{Assertion}
 use Rattle.assertion.specs.Declarations.{layouts_in}
 use Rattle.assertion.specs.Meaning.{verdict_of}
-use Rattle.syntax.specs.declared.statements.Step.{Step}
+use Rattle.syntax.specs.declared.statements.ScriptLine.{ScriptLine}
 use Rattle.alone.specs.declared.answers.Answer.{Answer}
 use Rattle.delta.specs.Views.{ViewState}
 use Rattle.commit.specs.Cores.{CoreState, newest_tables, order_of}
 use Rattle.report.specs.Report.{answer_line}
 use Rattle.report.specs.Closing.{closing_part}
 
--- the lines of the answers to some steps
-abbrev pub lines : List Step → List Answer → List ℕ
-lines [] answers = []
-lines (step ∷ rest) [] = []
-lines (step ∷ rest) (answer ∷ more) = answer_line step answer ++ lines rest more
+-- the lines that a report has of the answers to the lines of a script
+abbrev pub answer_lines : List ScriptLine → List Answer → List ℕ
+answer_lines [] answers = []
+answer_lines (line ∷ rest) [] = []
+answer_lines (line ∷ rest) (answer ∷ more) = answer_line line answer ++ answer_lines rest more
 
 -- the truth of each assertion on some tables
 abbrev pub truths : ViewState → List Truth

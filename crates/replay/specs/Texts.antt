@@ -2,15 +2,15 @@
 use Rattle.std.specs.Prelude.{◌≡◌, ◌≤◌, ◌<◌, ℕ, Bool, true, false, List, [], Ok, Err, length, ⊤, ◌⊎◌}
 use Rattle.value.specs.declared.refusals.Refusal.{Refusal}
 use Rattle.value.specs.declared.refusals.Refusal.TheVariants.{TooManySessions}
-use Rattle.parse.specs.Language.{Language}
-use Rattle.parse.specs.Lexemes.{lexemes}
-use Rattle.parse.specs.Answer.{Fits}
+use Rattle.syntax.specs.Language.{Language}
+use Rattle.syntax.specs.Lexemes.{lexemes}
+use Rattle.syntax.specs.Answer.{Fits}
 use Rattle.syntax.specs.declared.definitions.Definition.{Definition}
-use Rattle.syntax.specs.declared.statements.Step.{Step}
+use Rattle.syntax.specs.declared.statements.ScriptLine.{ScriptLine}
 use Rattle.syntax.specs.SchemaGrammar.{IsSchema, IsScript}
 use Rattle.parse.specs.Told.{IsRefusalOf, most_open}
 use Rattle.delta.specs.Views.{ViewState}
-use Rattle.commit.specs.Written.{AreWritten}
+use Rattle.definitions.specs.Written.{AreWritten}
 use Rattle.commit.specs.Admission.{admission_of}
 use Rattle.commit.specs.Runs.{seats_with_all}
 use Rattle.replay.specs.declared.faults.ProgramFault.{ProgramFault}
@@ -26,14 +26,14 @@ abbrev pub IsUnread : {A : Type 0} → Language A → List ℕ → Refusal → T
 IsUnread L text refusal = IsRefusalOf L most_open (lexemes text) (length text) refusal
 
 -- both texts are read
-pub record AreRead (defs script : List ℕ) (definitions : List Definition) (steps : List Step) : Type 0 where
+pub record AreRead (defs script : List ℕ) (definitions : List Definition) (lines : List ScriptLine) : Type 0 where
   pub defs_read : IsRead IsSchema defs definitions
-  pub script_read : IsRead IsScript script steps
+  pub script_read : IsRead IsScript script lines
 
 -- both texts are read, and the definitions are admitted; each assertion means what they write
-pub record AreAdmitted (defs script : List ℕ) (shown : ViewState) (steps : List Step) : Type 0 where
+pub record AreAdmitted (defs script : List ℕ) (shown : ViewState) (lines : List ScriptLine) : Type 0 where
   pub definitions : List Definition
-  pub read : AreRead defs script definitions steps
+  pub read : AreRead defs script definitions lines
   pub admits : admission_of definitions ≡ Ok shown
   pub written : AreWritten definitions shown.declared
 
@@ -42,23 +42,23 @@ abbrev pub most_sessions : ℕ
 most_sessions = 256
 
 -- a script has no more sessions than it may have
-abbrev pub HasFewSessions : List Step → Type 0
-HasFewSessions steps = length (seats_with_all [] steps) ≤ most_sessions
+abbrev pub HasFewSessions : List ScriptLine → Type 0
+HasFewSessions lines = length (seats_with_all [] lines) ≤ most_sessions
 
 -- a script has more sessions than it may have
-abbrev pub HasManySessions : List Step → Type 0
-HasManySessions steps = most_sessions < length (seats_with_all [] steps)
+abbrev pub HasManySessions : List ScriptLine → Type 0
+HasManySessions lines = most_sessions < length (seats_with_all [] lines)
 
 -- both texts are read, the definitions are admitted, and the script has few sessions
-pub record AreReady (defs script : List ℕ) (shown : ViewState) (steps : List Step) : Type 0 where
-  pub admitted : AreAdmitted defs script shown steps
-  pub few : HasFewSessions steps
+pub record AreReady (defs script : List ℕ) (shown : ViewState) (lines : List ScriptLine) : Type 0 where
+  pub admitted : AreAdmitted defs script shown lines
+  pub few : HasFewSessions lines
 
 -- both texts are read, and the definitions are refused so
 pub record AreRefused (defs script : List ℕ) (refusal : Refusal) : Type 0 where
   pub definitions : List Definition
-  pub steps : List Step
-  pub read : AreRead defs script definitions steps
+  pub lines : List ScriptLine
+  pub read : AreRead defs script definitions lines
   pub refused : admission_of definitions ≡ Err refusal
 
 -- the definitions are read, and the script is no text of its grammar
@@ -70,16 +70,16 @@ pub record IsNoScript (defs script : List ℕ) (refusal : Refusal) : Type 0 wher
 -- the definitions are admitted, and the script has too many sessions
 pub record HasTooManySessions (defs script : List ℕ) (refusal : Refusal) : Type 0 where
   pub shown : ViewState
-  pub steps : List Step
-  pub taken : AreAdmitted defs script shown steps
-  pub many : HasManySessions steps
+  pub lines : List ScriptLine
+  pub taken : AreAdmitted defs script shown lines
+  pub many : HasManySessions lines
   pub refused : refusal ≡ TooManySessions
 
 -- the script is run
 pub record IsRun (defs script : List ℕ) : Type 0 where
   pub shown : ViewState
-  pub steps : List Step
-  pub ready : AreReady defs script shown steps
+  pub lines : List ScriptLine
+  pub ready : AreReady defs script shown lines
 
 -- Why the run did not come to its end, by the first fault in the order of the work: the definitions are no text of
 -- their grammar; or they are, and the script is none of its own; or both are read, and the definitions have a

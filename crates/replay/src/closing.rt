@@ -14,13 +14,13 @@ use value::Truth;
 /// # Errors
 ///
 /// `AllocError` where no memory is left, and then the report is as it was.
-pub fn add_closing_part(alloc: Global, core: &Core, lines: &mut Report) -> Result<(), AllocError>
-    ensures closed { OnOk result (lines.new ≡ lines.old ++ closing_part_of core.now) }
-    ensures same { OnErr result (lines.new ≡ lines.old) }
+pub fn add_closing_part(alloc: Global, core: &Core, report: &mut Report) -> Result<(), AllocError>
+    ensures closed { OnOk result (report.new ≡ report.old ++ closing_part_of core.now) }
+    ensures same { OnErr result (report.new ≡ report.old) }
 {
     let newest = core.newest();
     let truths = list_truths(alloc, newest)?;
-    lines.add_closing_part(
+    report.add_closing_part(
         core.records(),
         core.serial_order(),
         core.refused(),

@@ -22,10 +22,10 @@
 //! # Two texts, and the closing part
 //!
 //! On this rests each way to run a script. The definitions say what there is, and the script what sessions do. Both are
-//! read whole before anything runs ([`read_all`], [`read_texts`]). A [`ProgramFault`] is the first fault in the order of the work, which `specs/Texts`
-//! says of the two texts alone: the definitions' grammar, the script's, the definitions themselves, too many sessions;
-//! and then memory or the writer. Behind the replies stands the closing part of the committed transactions
-//! ([`add_closing_part`], `specs/Reports`), however they came to be.
+//! read whole before anything runs ([`read_all`], [`read_texts`]). A [`ProgramFault`] is the first fault in the order
+//! of the work, which `specs/Texts` says of the two texts alone: the definitions' grammar, the script's, the
+//! definitions themselves, too many sessions; and then memory or the writer. Behind the replies stands the closing part
+//! of the committed transactions ([`add_closing_part`], `specs/Reports`), however they came to be.
 #![tactic(auto)]
 
 mod closing;
@@ -37,7 +37,7 @@ mod writing;
 ghost use Rattle.std.specs.Prelude.{◌≡◌, ◌≢◌, ◌≤◌, ◌++◌, true, IfOk, IfErr, OnOk};
 ghost use Rattle.std.specs.Io.KnownBytes.{Appends};
 ghost use Rattle.value.specs.declared.refusals.Refusal.TheVariants.{NoMemory, TooManySessions};
-ghost use Rattle.commit.specs.Alone.{IsSound};
+ghost use Rattle.alone.specs.Alone.{IsSound};
 ghost use Rattle.commit.specs.Runs.{beginning};
 ghost use Rattle.report.specs.Report.{answer_line};
 ghost use Rattle.replay.specs.Texts.{HasFewSessions, HasManySessions, IsFirstFault, IsInTheRun, is_before_the_run};
@@ -48,7 +48,7 @@ ghost use Rattle.replay.specs.Writing.{PrintsAnswer, PrintsAnswers, PrintsBeginn
 
 use alone::Answer;
 pub use closing::add_closing_part;
-use commit::{Engine, Seat, admit, answers_lead_to_a_serial_order, has_few_sessions};
+use commit::{Engine, Seat, admit, answers_lead_to_a_serial_order};
 use delta::View;
 pub use faults::ProgramFault;
 pub use files::{ReadFault, fault_of, read_all};
@@ -56,7 +56,7 @@ use report::Report;
 use sqlite_items::Items;
 use std::alloc::{AllocError, Global};
 use std::io::Write;
-use syntax::Step;
+use syntax::ScriptLine;
 pub use texts::{MOST_SESSIONS, read_texts};
 use value::Refusal;
 pub use writing::{flush, write_all};
@@ -94,11 +94,11 @@ pub fn replay_into<W: Write>(
     ensures stopped { IfErr result (λ fault. fault ≡ Stopped
         → WritesBeginning defs.now script.now max_commits (W.contents out.old) (W.contents out.new)) }
 {
-    let (mut engine, steps) = begin_run(alloc, defs, script, max_commits)?;
+    let (mut engine, lines) = begin_run(alloc, defs, script, max_commits)?;
     answers_lead_to_a_serial_order();
-    let printed = print_run(alloc, &mut engine, steps.as_slice(), out);
-    let_go(engine);
-    let_go(steps);
+    let printed = print_run(alloc, &mut engine, lines.as_slice(), out);
+    drop(engine);
+    drop(lines);
     printed
 }
 
@@ -112,78 +112,77 @@ pub fn begin_run(
     defs: &[u8],
     script: &[u8],
     limit: u64,
-) -> Result<(Engine, Items<Step>), ProgramFault>
+) -> Result<(Engine, Items<ScriptLine>), ProgramFault>
     requires within { limit ≤ 4294967295 }
     ensures begun { IfOk result (λ made. IsBeginning defs.now script.now limit made.0 made.1) }
     ensures refused { IfErr result (IsFirstFault defs.now script.now) }
     ensures before { IfErr result (λ fault. is_before_the_run fault ≡ true) }
 {
-    let (definitions, steps) = read_texts(alloc, defs, script)?;
+    let (definitions, lines) = read_texts(alloc, defs, script)?;
     let view = match admit(alloc, definitions.as_slice()) {
         Ok(view) => view,
         Err(refusal) => return Err(ProgramFault::Defs(refusal)),
     };
-    match seat_sessions(alloc, limit, view, steps.as_slice()) {
-        Ok(engine) => Ok((engine, steps)),
+    match seat_sessions(alloc, limit, view, lines.as_slice()) {
+        Ok(engine) => Ok((engine, lines)),
         Err(refusal) => Err(ProgramFault::Script(refusal)),
     }
 }
 
 /// The engine before the first of some events, if they are of 256 sessions or fewer.
-fn seat_sessions(alloc: Global, limit: u64, view: View, steps: &[Step]) -> Result<Engine, Refusal>
+fn seat_sessions(
+    alloc: Global,
+    limit: u64,
+    view: View,
+    lines: &[ScriptLine],
+) -> Result<Engine, Refusal>
     requires sound { IsSound view.declared view.state }
     requires within { limit ≤ 4294967295 }
-    ensures begun { IfOk result (λ engine. engine ≡ beginning limit view steps.now) }
-    ensures few { IfOk result (λ _. HasFewSessions steps.now) }
+    ensures begun { IfOk result (λ engine. engine ≡ beginning limit view lines.now) }
+    ensures few { IfOk result (λ _. HasFewSessions lines.now) }
     ensures refused { IfErr result (λ refusal.
-        refusal ≢ NoMemory → HasManySessions steps.now × (refusal ≡ TooManySessions)) }
+        refusal ≢ NoMemory → HasManySessions lines.now × (refusal ≡ TooManySessions)) }
 {
-    // (before a seat is made for each: looking for each among so many would take the square of a long script)
-    if !has_few_sessions(alloc, steps, MOST_SESSIONS)? {
-        let_go(view);
-        return Err(Refusal::TooManySessions);
+    match Engine::with_few_sessions(alloc, limit, view, lines, MOST_SESSIONS)? {
+        Some(engine) => Ok(engine),
+        None => Err(Refusal::TooManySessions),
     }
-    let engine = Engine::new(alloc, limit, view, steps)?;
-    Ok(engine)
 }
-
-/// Lets a value go. Its type is a parameter here, so that the caller's proof does not go over its fields.
-fn let_go<T: Drop>(_value: T) {}
 
 /// Runs the events one after the other, and writes what each is answered, and then what they leave.
 #[tactic(auto, using(crate::proofs::Printing::closes, crate::proofs::Printing::stops_last))]
 fn print_run<W: Write>(
     alloc: Global,
     engine: &mut Engine,
-    steps: &[Step],
+    lines: &[ScriptLine],
     out: &mut W,
 ) -> Result<(), ProgramFault>
-    ensures written { OnOk result (PrintsRun engine.old steps.now (W.contents out.old) (W.contents out.new)) }
+    ensures written { OnOk result (PrintsRun engine.old lines.now (W.contents out.old) (W.contents out.new)) }
     ensures late { IfErr result IsInTheRun }
     ensures stopped { IfErr result (λ fault. fault ≡ Stopped
-        → PrintsBeginning engine.old steps.now (W.contents out.old) (W.contents out.new)) }
+        → PrintsBeginning engine.old lines.now (W.contents out.old) (W.contents out.new)) }
 {
-    let mut lines = Report::new(alloc);
-    print_answers(engine, steps, &mut lines, out)?;
-    print_ending(alloc, engine, &mut lines, out)
+    let mut report = Report::new(alloc);
+    print_answers(engine, lines, &mut report, out)?;
+    print_ending(alloc, engine, &mut report, out)
 }
 
 /// Runs the events one after the other, and writes what each is answered.
 #[tactic(auto, using(crate::proofs::Printing::begins, crate::proofs::Printing::goes_on, crate::proofs::Printing::ends))]
 fn print_answers<W: Write>(
     engine: &mut Engine,
-    steps: &[Step],
-    lines: &mut Report,
+    lines: &[ScriptLine],
+    report: &mut Report,
     out: &mut W,
 ) -> Result<(), ProgramFault>
     ensures written { OnOk result
-        (PrintsAnswers engine.old steps.now engine.new (W.contents out.old) (W.contents out.new)) }
+        (PrintsAnswers engine.old lines.now engine.new (W.contents out.old) (W.contents out.new)) }
     ensures late { IfErr result IsInTheRun }
     ensures stopped { IfErr result (λ fault. fault ≡ Stopped
-        → PrintsBeginning engine.old steps.now (W.contents out.old) (W.contents out.new)) }
+        → PrintsBeginning engine.old lines.now (W.contents out.old) (W.contents out.new)) }
 {
-    for step in steps {
-        print_answer(engine, step, lines, out)?;
+    for line in lines {
+        print_answer(engine, line, report, out)?;
     }
     Ok(())
 }
@@ -191,56 +190,56 @@ fn print_answers<W: Write>(
 /// Runs an event, and writes what it is answered.
 fn print_answer<W: Write>(
     engine: &mut Engine,
-    step: &Step,
-    lines: &mut Report,
+    line: &ScriptLine,
+    report: &mut Report,
     out: &mut W,
 ) -> Result<(), ProgramFault>
     ensures written { OnOk result
-        (PrintsAnswer engine.old step.now engine.new (W.contents out.old) (W.contents out.new)) }
+        (PrintsAnswer engine.old line.now engine.new (W.contents out.old) (W.contents out.new)) }
     ensures late { IfErr result IsInTheRun }
     ensures stopped { IfErr result (λ fault. fault ≡ Stopped → out.new ≡ out.old) }
 {
-    let answer = engine.answer(step);
-    let written = write_answer(step, &answer, lines, out);
-    let_go(answer);
+    let answer = engine.answer(line);
+    let written = write_answer(line, &answer, report, out);
+    drop(answer);
     written
 }
 
 /// Writes the lines of an answer.
 fn write_answer<W: Write>(
-    step: &Step,
+    line: &ScriptLine,
     answer: &Answer,
-    lines: &mut Report,
+    report: &mut Report,
     out: &mut W,
 ) -> Result<(), ProgramFault>
     ensures written { OnOk result
-        (Appends (W.contents out.old) (W.contents out.new) (answer_line step.now answer.now)) }
+        (Appends (W.contents out.old) (W.contents out.new) (answer_line line.now answer.now)) }
     ensures late { IfErr result IsInTheRun }
     ensures stopped { IfErr result (λ fault. fault ≡ Stopped → out.new ≡ out.old) }
 {
-    lines.clear();
-    if lines.add_answer(step, answer).is_err() {
+    report.clear();
+    if report.add_answer(line, answer).is_err() {
         return Err(ProgramFault::Stopped);
     }
-    write_all(lines.as_bytes(), out)
+    write_all(report.as_bytes(), out)
 }
 
 /// Writes a line for each transaction that is open in the end, and the closing part, and flushes the writer.
 fn print_ending<W: Write>(
     alloc: Global,
     engine: &Engine,
-    lines: &mut Report,
+    report: &mut Report,
     out: &mut W,
 ) -> Result<(), ProgramFault>
     ensures written { OnOk result (Appends (W.contents out.old) (W.contents out.new) (ending engine.now)) }
     ensures late { IfErr result IsInTheRun }
     ensures stopped { IfErr result (λ fault. fault ≡ Stopped → out.new ≡ out.old) }
 {
-    lines.clear();
-    if add_ending(alloc, engine, lines).is_err() {
+    report.clear();
+    if add_ending(alloc, engine, report).is_err() {
         return Err(ProgramFault::Stopped);
     }
-    write_all(lines.as_bytes(), out)?;
+    write_all(report.as_bytes(), out)?;
     flush(out)
 }
 
@@ -248,29 +247,29 @@ fn print_ending<W: Write>(
 ///
 /// # Errors
 ///
-/// `AllocError` where no memory is left. The lines may then have gained some of those of open transactions.
-pub fn add_ending(alloc: Global, engine: &Engine, lines: &mut Report) -> Result<(), AllocError>
-    ensures { OnOk result (lines.new ≡ lines.old ++ ending engine.now) }
+/// `AllocError` where no memory is left. The report may then have gained some of the lines of open transactions.
+pub fn add_ending(alloc: Global, engine: &Engine, report: &mut Report) -> Result<(), AllocError>
+    ensures { OnOk result (report.new ≡ report.old ++ ending engine.now) }
 {
-    leave_open(engine.seats(), lines)?;
-    add_closing_part(alloc, engine.core(), lines)
+    leave_open(engine.seats(), report)?;
+    add_closing_part(alloc, engine.core(), report)
 }
 
 /// Adds a line for each transaction that is open.
-fn leave_open(seats: &[Seat], lines: &mut Report) -> Result<(), AllocError>
-    ensures { OnOk result (lines.new ≡ lines.old ++ left_lines seats.now) }
+fn leave_open(seats: &[Seat], report: &mut Report) -> Result<(), AllocError>
+    ensures { OnOk result (report.new ≡ report.old ++ left_lines seats.now) }
 {
     for seat in seats {
-        leave_seat(seat, lines)?;
+        leave_seat(seat, report)?;
     }
     Ok(())
 }
 
-fn leave_seat(seat: &Seat, lines: &mut Report) -> Result<(), AllocError>
-    ensures { OnOk result (lines.new ≡ lines.old ++ left_line seat.now.session seat.now.txn) }
+fn leave_seat(seat: &Seat, report: &mut Report) -> Result<(), AllocError>
+    ensures { OnOk result (report.new ≡ report.old ++ left_line seat.now.session seat.now.txn) }
 {
     if seat.txn.is_some() {
-        lines.add_left_open(&seat.session)?;
+        report.add_left_open(&seat.session)?;
     }
     Ok(())
 }

@@ -7,7 +7,7 @@ use crate::faults::ProgramFault;
 use parse::{parse_schema, parse_script};
 use sqlite_items::Items;
 use std::alloc::Global;
-use syntax::{Definition, Step};
+use syntax::{Definition, ScriptLine};
 
 /// At most so many sessions in one script.
 pub const MOST_SESSIONS: usize = 256;
@@ -22,7 +22,7 @@ pub fn read_texts(
     alloc: Global,
     defs: &[u8],
     script: &[u8],
-) -> Result<(Items<Definition>, Items<Step>), ProgramFault>
+) -> Result<(Items<Definition>, Items<ScriptLine>), ProgramFault>
     ensures read { IfOk result (λ trees. AreRead defs.now script.now trees.0 trees.1) }
     ensures refused { IfErr result (IsFirstFault defs.now script.now) }
     ensures before { IfErr result (λ fault. is_before_the_run fault ≡ true) }
@@ -32,7 +32,7 @@ pub fn read_texts(
         Err(refusal) => return Err(ProgramFault::Defs(refusal)),
     };
     match parse_script(alloc, script) {
-        Ok(steps) => Ok((definitions, steps)),
+        Ok(lines) => Ok((definitions, lines)),
         Err(refusal) => Err(ProgramFault::Script(refusal)),
     }
 }

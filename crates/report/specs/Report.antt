@@ -20,7 +20,7 @@ use Rattle.alone.specs.declared.answers.Answer.TheVariants.{Begun, Replied, Comm
 use Rattle.syntax.specs.declared.statements.Statement.TheVariants as statement
 use Rattle.syntax.specs.declared.statements.Event.{Event}
 use Rattle.syntax.specs.declared.statements.Event.TheVariants as event
-use Rattle.syntax.specs.declared.statements.Step.{Step}
+use Rattle.syntax.specs.declared.statements.ScriptLine.{ScriptLine}
 
 -- a quote twice, every other byte once
 abbrev pub quoted_byte : ℕ → List ℕ
@@ -137,8 +137,8 @@ answer_text event RolledBack = codes "ROLLBACK"
 answer_text event (Refused refusal) = codes "REFUSED " ++ fault_text (is_commit event) refusal
 
 -- the line of an event's answer: the session, what was answered, and a line feed
-abbrev pub answer_line : Step → Answer → List ℕ
-answer_line step answer = step.session ++ codes ": " ++ answer_text step.event answer ++ codes "\n"
+abbrev pub answer_line : ScriptLine → Answer → List ℕ
+answer_line script_line answer = script_line.session ++ codes ": " ++ answer_text script_line.event answer ++ codes "\n"
 
 -- the line of a transaction that is open when its session's events end
 abbrev pub left_open_line : List ℕ → List ℕ

@@ -1,8 +1,8 @@
 //! The bytes of the report: a line for each event's answer, and the closing part.
 //!
-//! A script is a list of steps, each an event of a named session, and the engine answers each of them. A [`Report`]
-//! grows by the line of each answer, and in the end by the closing part. The lines of answers, with one line feed
-//! behind each:
+//! A script is a list of lines, each an event of a named session, and the engine answers each of them. A [`Report`]
+//! grows by a line of its own for each answer, and in the end by the closing part. The lines of answers, with one line
+//! feed behind each:
 //!
 //! | what was answered | line |
 //! |---|---|

@@ -11,7 +11,7 @@ use alone::{Answer, Reply};
 use itoa::Buffer;
 use std::alloc::{AllocError, Global};
 use std::marker::Model;
-use syntax::{Event, Statement, Step};
+use syntax::{Event, ScriptLine, Statement};
 use table::Row;
 use value::{Excess, Party, Refusal, Root, Text, Value};
 
@@ -68,14 +68,18 @@ impl Lines {
         self.bytes.clear();
     }
 
-    /// The line of a step's answer.
-    pub fn add_answer(&mut self, step: &Step, answer: &Answer) -> Result<(), AllocError>
-        ensures grown { OnOk result (self.new ≡ self.old ++ answer_line step.now answer.now) }
+    /// The line of the answer to a line of a script.
+    pub fn add_answer(
+        &mut self,
+        script_line: &ScriptLine,
+        answer: &Answer,
+    ) -> Result<(), AllocError>
+        ensures grown { OnOk result (self.new ≡ self.old ++ answer_line script_line.now answer.now) }
         ensures front { KeepsFront self.old self.new }
     {
-        self.add_text(&step.session)?;
+        self.add_text(&script_line.session)?;
         self.add_word(": ")?;
-        self.add_event_answer(&step.event, answer)?;
+        self.add_event_answer(&script_line.event, answer)?;
         self.add_word("\n")
     }
 

@@ -11,7 +11,7 @@ use alone::{Answer, Record, RefusedCommit};
 use assertion::Assertion;
 use std::alloc::{AllocError, Global};
 use std::marker::Model;
-use syntax::Step;
+use syntax::ScriptLine;
 use value::{Refusal, Text, Truth};
 
 /// Lines as they grow, in a contract the list of their bytes. A call that finds no memory answers `AllocError`, and the
@@ -53,17 +53,21 @@ impl Report {
         self.lines.clear();
     }
 
-    /// Adds the line of a step's answer.
+    /// Adds the line of the answer to a line of a script.
     ///
     /// # Errors
     ///
     /// `AllocError` where no memory is left, and then the report is as it was.
-    pub fn add_answer(&mut self, step: &Step, answer: &Answer) -> Result<(), AllocError>
-        ensures grown { OnOk result (self.new ≡ self.old ++ answer_line step.now answer.now) }
+    pub fn add_answer(
+        &mut self,
+        script_line: &ScriptLine,
+        answer: &Answer,
+    ) -> Result<(), AllocError>
+        ensures grown { OnOk result (self.new ≡ self.old ++ answer_line script_line.now answer.now) }
         ensures same { OnErr result (self.new ≡ self.old) }
     {
         let before = self.lines.len();
-        let grown = self.lines.add_answer(step, answer);
+        let grown = self.lines.add_answer(script_line, answer);
         self.settle(before, grown)
     }
 

@@ -5,10 +5,10 @@ use Rattle.value.specs.declared.values.Value.{Value}
 use Rattle.value.specs.ValueOrder.{value_cmp}
 use Rattle.value.specs.Ordered.{HasKey, HoldsOf, IsAscending}
 use Rattle.table.specs.declared.rows.Change.{Change}
-use Rattle.table.specs.Rows.{RowValues, Layout, put_row, row_at, value_in}
+use Rattle.table.specs.Rows.{RowValues, Layout, put_row, row_at, value_in, key_of}
 use Rattle.assertion.specs.declared.queries.Query.{Query}
-use Rattle.assertion.specs.Meaning.{State, key_of, rows_of}
-use Rattle.assertion.specs.Roots.{IsOrdered}
+use Rattle.assertion.specs.Meaning.{State, rows_of}
+use Rattle.assertion.specs.Changes.{IsOrdered}
 use Rattle.assertion.proofs.KeptTruth.{IsOrdered-after, rows-changed, rows-same}
 use Rattle.groups.specs.Answers.{value_for}
 use Rattle.groups.specs.Totals.{AreTotalsOf, AreWithin, Entries, Members}

@@ -16,7 +16,7 @@ use Rattle.value.specs.declared.truths.Truth.TheVariants.{True, False}
 use Rattle.value.specs.Truths.{is_of}
 use Rattle.table.specs.declared.aggregates.Aggregate.{Aggregate}
 use Rattle.table.specs.Aggregates.{is_there, aggregate, rows_of_group}
-use Rattle.table.specs.Rows.{RowValues, Layout, value_in, row_at}
+use Rattle.table.specs.Rows.{RowValues, Layout, value_in, row_at, key_of}
 use Rattle.table.specs.declared.conds.Cond.{Cond}
 use Rattle.table.specs.Eval.{truth, keeps}
 use Rattle.table.specs.Slotless.{has_slots}
@@ -26,7 +26,7 @@ use Rattle.assertion.specs.declared.queries.Link.{Link}
 use Rattle.assertion.specs.declared.queries.Whole.{Whole as AnyWhole}
 use Rattle.assertion.specs.declared.forms.Form.{Form}
 use Rattle.assertion.specs.declared.forms.Form.TheVariants.{ByRow, ByGroup, Single}
-use Rattle.assertion.specs.Meaning.{State, key_of, rows_of, links, linked_answer, plain_answer, filtered_rows, single_truth, verdict_of}
+use Rattle.assertion.specs.Meaning.{State, rows_of, links, linked_answer, plain_answer, filtered_rows, single_truth, verdict_of}
 use Rattle.assertion.specs.Roots.{is_bad_row, is_bad_root}
 use Rattle.assertion.proofs.KeptTruth.{links-there}
 use Rattle.assertion.proofs.ListLemmas.{at-key, filter-filter}

@@ -11,7 +11,7 @@ use Rattle.value.specs.Ordered.{HoldsOf}
 use Rattle.value.proofs.OrderedLists.{has}
 use Rattle.table.specs.declared.rows.Change.{Change}
 use Rattle.table.specs.declared.aggregates.Aggregate.{Aggregate}
-use Rattle.table.specs.Rows.{RowValues, Layout, row_at}
+use Rattle.table.specs.Rows.{RowValues, Layout, row_at, key_of}
 use Rattle.table.specs.Slotless.{has_slots}
 use Rattle.table.specs.declared.conds.Cond.{Cond}
 use Rattle.table.specs.Eval.{truth}
@@ -21,8 +21,9 @@ use Rattle.assertion.specs.declared.queries.Whole.{Whole as AnyWhole}
 use Rattle.assertion.specs.declared.forms.Form.{Form}
 use Rattle.assertion.specs.declared.forms.Form.TheVariants.{ByRow, ByGroup, Single}
 use Rattle.assertion.specs.Candidates.{candidates, query_candidates, linked_roots, linked_values, group_candidates, rows_of_change, is_named}
-use Rattle.assertion.specs.Meaning.{State, key_of, rows_of, verdict_of}
-use Rattle.assertion.specs.Roots.{AreBad, IsOrdered, IsChangeOf, state_after}
+use Rattle.assertion.specs.Meaning.{State, rows_of, verdict_of}
+use Rattle.assertion.specs.Roots.{AreBad}
+use Rattle.assertion.specs.Changes.{IsOrdered, IsChangeOf, state_after}
 use Rattle.assertion.proofs.KeptTruth.{kept_truth, plain-same, rows-same, unequal_of}
 use Rattle.assertion.proofs.LawLemmas.{AnswersVerdict-law}
 use Rattle.groups.specs.Answers.{value_for}

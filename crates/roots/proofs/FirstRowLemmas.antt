@@ -8,7 +8,7 @@ use Rattle.table.specs.declared.rows.Change.{Change}
 use Rattle.table.specs.Rows.{RowValues, value_in, row_at, put_row}
 use Rattle.table.specs.Bounds.{IsSmallRow}
 use Rattle.assertion.specs.Meaning.{State, rows_of}
-use Rattle.assertion.specs.Roots.{IsChangeOf, IsOrdered, state_after}
+use Rattle.assertion.specs.Changes.{IsChangeOf, IsOrdered, state_after}
 use Rattle.roots.specs.Maintained.{IsSmallState, IsStepOf}
 
 -- one table without rows

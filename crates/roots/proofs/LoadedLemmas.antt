@@ -13,7 +13,7 @@ use Rattle.value.specs.ValueOrder.{value_cmp, root_cmp}
 use Rattle.value.specs.Ordered.{by_order}
 use Rattle.value.proofs.OrderedLists.{has}
 use Rattle.table.specs.Aggregates.{rows_of_group}
-use Rattle.table.specs.Rows.{RowValues, Layout, value_in, row_at}
+use Rattle.table.specs.Rows.{RowValues, Layout, value_in, row_at, key_of}
 use Rattle.table.specs.declared.conds.Cond.{Cond}
 use Rattle.table.specs.Bounds.{IsSmallRow}
 use Rattle.table.specs.Eval.{keeps}
@@ -21,7 +21,7 @@ use Rattle.assertion.specs.declared.forms.Form.{Form}
 use Rattle.assertion.specs.declared.forms.Form.TheVariants.{ByRow, ByGroup, Single}
 use Rattle.assertion.specs.declared.queries.Query.{Query}
 use Rattle.assertion.specs.Candidates.{group_candidates}
-use Rattle.assertion.specs.Meaning.{State, rows_of, key_of, filtered_rows}
+use Rattle.assertion.specs.Meaning.{State, rows_of, filtered_rows}
 use Rattle.assertion.specs.Roots.{AreBad, is_bad_row, is_bad_root, is_among}
 use Rattle.assertion.proofs.KeptTruth.{not_of_group}
 use Rattle.assertion.proofs.ListLemmas.{DropsAll, filter-filter}

@@ -9,12 +9,12 @@ use Rattle.table.specs.declared.conds.Cond.{Cond}
 use Rattle.table.specs.declared.rows.Change.{Change}
 use Rattle.table.specs.Bounds.{IsSmallRow}
 use Rattle.table.specs.Eval.{keeps}
-use Rattle.table.specs.Rows.{RowValues, Layout, row_at}
+use Rattle.table.specs.Rows.{RowValues, Layout, row_at, key_of}
 use Rattle.table.specs.Slots.{magnitude}
 use Rattle.assertion.specs.declared.queries.Query.{Query}
 use Rattle.assertion.specs.declared.queries.Link.{Link}
-use Rattle.assertion.specs.Meaning.{State, links, rows_of, key_of}
-use Rattle.assertion.specs.Roots.{IsChangeOf, state_after}
+use Rattle.assertion.specs.Meaning.{State, links, rows_of}
+use Rattle.assertion.specs.Changes.{IsChangeOf, state_after}
 use Rattle.assertion.proofs.KeptTruth.{rows-changed}
 use Rattle.groups.specs.Answers.{value_for}
 use Rattle.groups.specs.Members.{member_of}

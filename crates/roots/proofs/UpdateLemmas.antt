@@ -20,7 +20,8 @@ use Rattle.assertion.specs.declared.forms.Form.{Form}
 use Rattle.assertion.specs.declared.forms.Form.TheVariants.{ByRow, ByGroup, Single}
 use Rattle.assertion.specs.Candidates.{candidates, group_candidates, rows_of_change}
 use Rattle.assertion.specs.Meaning.{State}
-use Rattle.assertion.specs.Roots.{is_bad_root, is_among, AreBad, IsOrdered, IsChangeOf, state_after}
+use Rattle.assertion.specs.Roots.{is_bad_root, is_among, AreBad}
+use Rattle.assertion.specs.Changes.{IsOrdered, IsChangeOf, state_after}
 use Rattle.assertion.proofs.KeptTruth.{kept_truth}
 use Rattle.roots.specs.Bad.{put_root, is_touched, AreUpdated}
 use Rattle.roots.specs.Maintained.{IsSmallRoot}

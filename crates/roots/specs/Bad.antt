@@ -8,7 +8,7 @@ use Rattle.value.specs.declared.values.Root.TheVariants.{All, Of}
 use Rattle.value.specs.ValueOrder.{root_cmp}
 use Rattle.value.specs.Ordered as ordered
 use Rattle.value.specs.declared.truths.Truth.{Truth}
-use Rattle.table.specs.Rows.{RowValues, Layout, row_at, value_in}
+use Rattle.table.specs.Rows.{RowValues, Layout, row_at, value_in, key_of}
 use Rattle.table.specs.Aggregates.{aggregate}
 use Rattle.table.specs.declared.conds.Cond.{Cond}
 use Rattle.table.specs.Eval.{truth, keeps}
@@ -17,7 +17,7 @@ use Rattle.assertion.specs.declared.forms.Form.{Form}
 use Rattle.assertion.specs.declared.forms.Form.TheVariants.{ByRow, ByGroup, Single}
 use Rattle.assertion.specs.Candidates.{group_candidates}
 use Rattle.assertion.specs.declared.queries.Link.{Link}
-use Rattle.assertion.specs.Meaning.{State, rows_of, key_of}
+use Rattle.assertion.specs.Meaning.{State, rows_of}
 use Rattle.assertion.specs.Roots.{is_bad_root, is_among}
 use Rattle.roots.specs.declared.grouped.Grouping.{Grouping}
 use Rattle.roots.specs.declared.grouped.Grouping.TheVariants.{Whole, By, Linked, ByKey, PerRow}

@@ -4,14 +4,14 @@ use Rattle.value.specs.declared.values.Root.{Root}
 use Rattle.value.specs.declared.values.Root.TheVariants.{All as Whole, Of}
 use Rattle.value.specs.Ordered.{HoldsOf}
 use Rattle.table.specs.declared.rows.Change.{Change}
-use Rattle.table.specs.Rows.{Layout}
+use Rattle.table.specs.Rows.{Layout, key_of}
 use Rattle.table.specs.Bounds.{IsSmallRow}
 use Rattle.table.specs.Slots.{magnitude}
 use Rattle.assertion.specs.declared.queries.Query.{Query}
 use Rattle.assertion.specs.declared.forms.Form.{Form}
 use Rattle.assertion.specs.declared.forms.Form.TheVariants.{ByRow, ByGroup, Single}
-use Rattle.assertion.specs.Meaning.{State, key_of, rows_of}
-use Rattle.assertion.specs.Roots.{IsChangeOf, IsOrdered, state_after}
+use Rattle.assertion.specs.Meaning.{State, rows_of}
+use Rattle.assertion.specs.Changes.{IsChangeOf, IsOrdered, state_after}
 use Rattle.groups.specs.Totals.{Entries, AreTotalsOf}
 use Rattle.roots.specs.declared.grouped.Around.{Around}
 use Rattle.roots.specs.declared.grouped.Grouping.{Grouping}

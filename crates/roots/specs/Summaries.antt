@@ -4,7 +4,7 @@ use Rattle.value.specs.declared.values.Value.{Value}
 use Rattle.value.specs.declared.values.Value.TheVariants.{Null}
 use Rattle.table.specs.declared.aggregates.Aggregate.{Aggregate}
 use Rattle.table.specs.declared.aggregates.Aggregate.TheVariants.{CountRows}
-use Rattle.table.specs.Rows.{RowValues, Layout, value_in, row_at}
+use Rattle.table.specs.Rows.{RowValues, Layout, value_in, row_at, key_of}
 use Rattle.table.specs.Aggregates.{is_there}
 use Rattle.table.specs.declared.conds.Cond.{Cond}
 use Rattle.table.specs.Eval.{keeps}
@@ -14,7 +14,7 @@ use Rattle.assertion.specs.declared.queries.Query.{Query}
 use Rattle.assertion.specs.declared.queries.Whole.{Whole as AnyWhole}
 use Rattle.assertion.specs.declared.forms.Form.{Form}
 use Rattle.assertion.specs.declared.forms.Form.TheVariants.{ByRow, ByGroup, Single}
-use Rattle.assertion.specs.Meaning.{State, key_of, links, rows_of}
+use Rattle.assertion.specs.Meaning.{State, links, rows_of}
 use Rattle.groups.specs.Answers.{value_for}
 use Rattle.groups.specs.Members.{rows_in, members_of}
 use Rattle.groups.specs.Totals.{Members}

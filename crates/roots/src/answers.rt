@@ -15,14 +15,13 @@ ghost use Rattle.roots.specs.Shown.{lent_query};
 ghost use Rattle.roots.specs.Summaries.{queries_of};
 
 use crate::around::total_beside;
-use crate::columns::value_or;
 use crate::grouped::{Grouping, Summary, link_to_key};
 use crate::summaries::{slot_count, summary_of};
 use assertion::Form;
 use groups::Totals;
 use mvrows::Rows;
 use std::alloc::{AllocError, Global};
-use table::{Row, Schema, SlotValue, Slots};
+use table::{Row, Schema, SlotValue, Slots, value_or};
 use value::Value;
 
 /// What the slots hold for the row that the form's condition sees: one of its table, or one of a group's value alone,

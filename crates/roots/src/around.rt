@@ -13,7 +13,7 @@ ghost use Rattle.table.specs.Rows.{RowValues, put_row, row_at, value_in};
 ghost use Rattle.table.specs.Slots.{kinds_of, values_of};
 ghost use Rattle.assertion.specs.Bounded.{IsBoundedOver};
 ghost use Rattle.assertion.specs.Meaning.{links, rows_of};
-ghost use Rattle.assertion.specs.Roots.{IsOrdered};
+ghost use Rattle.assertion.specs.Changes.{IsOrdered};
 ghost use Rattle.groups.specs.Answers.{value_for};
 ghost use Rattle.groups.specs.Members.{member_of};
 ghost use Rattle.groups.specs.Totals.{AreTotalsOf, AreWithin, IsTotalOf, IsWithin, Members};
@@ -22,14 +22,13 @@ ghost use Rattle.roots.specs.Maintained.{AreTotalsFor, IsKeyed, IsSmallState, Is
 ghost use Rattle.roots.specs.Shown.{lent_query};
 ghost use Rattle.roots.specs.Summaries.{around_of, rows_beside};
 
-use crate::columns::{key_column, value_at, value_or};
 use crate::grouped::{Around, Summary, counted_by};
 use assertion::Link;
 use groups::{Member, Total, Totals};
 use mvrows::Rows;
 use std::alloc::{AllocError, Global};
 use std::cmp::Ordering;
-use table::{Change, Row, Schema, Slots, keeps};
+use table::{Change, Row, Schema, Slots, keeps, key_column, value_at, value_or};
 use value::{Value, compare, order};
 
 /// The totals for the rows around in these tables. For each of them the rows that are linked to it are looked at.

@@ -3,17 +3,16 @@
 ghost use Rattle.std.specs.Prelude.{◌≡◌, ◌++◌, filter, flat_map, map, IfOk, OnOk, option_to_list};
 ghost use Rattle.std.specs.Ordering.{eq_by_cmp};
 ghost use Rattle.value.specs.ValueOrder.{value_cmp};
-ghost use Rattle.table.specs.Rows.{value_in};
+ghost use Rattle.table.specs.Rows.{value_in, key_of};
 ghost use Rattle.value.specs.declared.values.Root.TheVariants.{Of};
 ghost use Rattle.assertion.specs.Candidates.{candidates as candidates_by, candidates_of, group_candidates, is_named as is_named_of, linked_roots, linked_values, query_candidates};
-ghost use Rattle.assertion.specs.Meaning.{key_of, rows_of};
+ghost use Rattle.assertion.specs.Meaning.{rows_of};
 ghost use Rattle.roots.specs.Over.{is_over as is_over_of};
 
-use crate::columns::{key_column, value_at};
 use assertion::{Form, Link, Query};
 use mvrows::Rows;
 use std::alloc::{AllocError, Global};
-use table::{Change, Row, Schema};
+use table::{Change, Row, Schema, key_column, value_at};
 use value::{Root, Value};
 
 /// The roots at which an assertion can be another after the changes than before, in the order of the changes; `tables`

@@ -9,11 +9,10 @@ ghost use Rattle.groups.specs.Answers.{value_for};
 ghost use Rattle.roots.specs.Shown.{lent_query};
 ghost use Rattle.roots.specs.Summaries.{around_of, group_of, key_link, place as place_of};
 
-use crate::columns::value_at;
 use assertion::Link;
 use groups::Member;
 use std::alloc::{AllocError, Global};
-use table::{Aggregate, Cond, Row, passes};
+use table::{Aggregate, Cond, Row, passes, value_at};
 use value::Value;
 
 /// How rows go into groups.

@@ -31,8 +31,7 @@
 //!   maintained stays right as it is.
 //! - [`truth_of`] is the assertion's truth: by rows and by groups whether there is a bad root, of a single condition
 //!   its truth, which can be unknown and is then not bad.
-//! - [`key_column`] is the place of a table's key column, [`row_under`] the row under a key, and [`value_at`] a copy of
-//!   what a row has in a column, for whoever makes changes.
+//! - [`row_under`] is the row under a key of a table, for whoever makes changes.
 //!
 //! What the layer above may rest on: each of these is what `assertion`'s definitions say from scratch of the tables
 //! that the maintained totals are of; calls fail only where memory runs out, and that changes nothing, since they only
@@ -49,7 +48,6 @@ mod answers;
 mod around;
 mod bad_roots;
 mod candidate_roots;
-mod columns;
 mod grouped;
 mod lists;
 mod maintained;
@@ -58,7 +56,6 @@ mod updates;
 
 pub use bad_roots::{is_bad, truth_of};
 pub use candidate_roots::{candidates, is_over};
-pub use columns::{key_column, value_at};
 pub use lists::BadRoots;
 pub use maintained::{totals_after, totals_of};
 pub use updates::{bad_after, bad_of, row_under};

@@ -14,7 +14,8 @@ use std::alloc::{AllocError, Global};
 use std::marker::Model;
 use value::{Root, Value};
 
-/// Bad roots in order, each once. A change makes a new list, which shares all but the changed path.
+/// Bad roots in order, each once. A copy shares all of it, and a change copies the path that
+/// is still shared.
 #[derive(Debug, Drop)]
 pub struct BadRoots {
     /// The whole, if it is one of them.

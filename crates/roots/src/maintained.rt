@@ -6,7 +6,7 @@ ghost use Rattle.table.specs.Rows.{Layout, RowValues};
 ghost use Rattle.table.specs.Bounds.{IsSmallRow};
 ghost use Rattle.assertion.specs.Bounded.{IsBounded, IsBoundedOver};
 ghost use Rattle.assertion.specs.Meaning.{State, rows_of};
-ghost use Rattle.assertion.specs.Roots.{IsChangeOf, IsOrdered, state_after};
+ghost use Rattle.assertion.specs.Changes.{IsChangeOf, IsOrdered, state_after};
 ghost use Rattle.groups.specs.Totals.{AreTotalsOf, AreWithin};
 ghost use Rattle.roots.specs.Maintained.{AreMaintained, AreTotalsFor, IsKeyed, IsSmallState, IsStepOf};
 ghost use Rattle.roots.specs.Shown.{lent_query};

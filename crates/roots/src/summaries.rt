@@ -7,10 +7,9 @@ ghost use Rattle.roots.specs.Maintained.{IsKeyed};
 ghost use Rattle.roots.specs.Shown.{lent_query};
 ghost use Rattle.roots.specs.Summaries.{linked_grouping as linked_grouping_of, queries_of, query_with_grouping as regrouped_of, summaries_of};
 
-use crate::columns::key_column;
 use crate::grouped::{Around, Grouping, Summary};
 use assertion::{Form, Link, Query};
-use table::{Aggregate, Schema};
+use table::{Aggregate, Schema, key_column};
 
 /// How many slots the condition of a form has. Each is answered from the summary at its own index.
 pub fn slot_count(form: &Form) -> usize

@@ -5,25 +5,25 @@ ghost use Rattle.std.specs.Option.{option_copied};
 ghost use Rattle.value.specs.Ordered as ordered;
 ghost use Rattle.value.specs.ValueOrder.{root_cmp};
 ghost use Rattle.value.specs.declared.values.Root.{Root as roots};
-ghost use Rattle.table.specs.Rows.{row_at};
+ghost use Rattle.table.specs.Rows.{row_at, key_of};
 ghost use Rattle.table.specs.Bounds.{IsSmallRow};
 ghost use Rattle.assertion.specs.Bounded.{IsBounded};
 ghost use Rattle.assertion.specs.Candidates.{group_candidates};
-ghost use Rattle.assertion.specs.Meaning.{State, key_of, rows_of};
-ghost use Rattle.assertion.specs.Roots.{AreBad, IsChangeOf, IsOrdered, is_bad_root, state_after};
+ghost use Rattle.assertion.specs.Meaning.{State, rows_of};
+ghost use Rattle.assertion.specs.Roots.{AreBad, is_bad_root};
+ghost use Rattle.assertion.specs.Changes.{IsChangeOf, IsOrdered, state_after};
 ghost use Rattle.roots.specs.Bad.{AreUpdated, IsRowOf, is_touched, named_roots as named_roots_of, put_root};
 ghost use Rattle.roots.specs.Maintained.{AreMaintained, IsSmallRoot, IsSmallState};
 
 use crate::bad_roots::is_bad;
 use crate::candidate_roots::push_candidates;
-use crate::columns::{key_column, value_at};
 use crate::lists::BadRoots;
 use assertion::Form;
 use groups::Totals;
 use mvrows::Rows;
 use std::alloc::{AllocError, Global};
 use std::cmp::Ordering;
-use table::{Change, Row, Schema};
+use table::{Change, Row, Schema, key_column, value_at};
 use value::{Root, Value, order_roots};
 
 /// The bad roots of these tables, in order, by their maintained totals. Only roots that a row names are looked at,

@@ -40,7 +40,7 @@ owned_facts b t one id epoch h =
     let p = and_parts _ _ h in
     let q = and_parts _ _ p.1 in record {
       of = of_facts b t.id t.epoch id epoch p.0;
-      held = held_facts one.ticket one.snapshot one.read_only b.core.live.snapshots q.0;
+      held = held_facts one.begin_number one.snapshot one.read_only b.core.live.snapshots q.0;
       token = at_facts b one.snapshot t.token.index q.1;
     }
 

@@ -142,7 +142,7 @@ is_index index (Some token) = token.index == index
 abbrev pub owns : BookState → TicketState → LiveSnapshot → (id epoch : ℕ) → Bool
 owns b t one id epoch =
     is_of b t.id t.epoch id epoch
-    && (is_held one.ticket one.snapshot one.read_only b.core.live.snapshots
+    && (is_held one.begin_number one.snapshot one.read_only b.core.live.snapshots
     && is_index t.token.index (slice_get b.tokens one.snapshot))
 
 -- the Book has a token for this number, with this index
@@ -159,7 +159,7 @@ pub record IsOwned (b : BookState) (t : TicketState) (one : LiveSnapshot) (id ep
 
 -- a transaction among the open ones
 abbrev pub live_of : OpenTransaction → LiveSnapshot
-live_of t = record { ticket = t.ticket; snapshot = t.snapshot; read_only = t.read_only }
+live_of t = record { begin_number = t.begin_number; snapshot = t.snapshot; read_only = t.read_only }
 
 -- the transaction with its ticket is the Book's own, and has not ended
 abbrev pub owns_txn : BookState → TicketedTransaction → (id epoch : ℕ) → Bool

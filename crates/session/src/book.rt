@@ -234,7 +234,7 @@ impl<N: Named> Book<N> {
         ensures same { IfErr result (λ _. session.new ≡ session.old) }
     {
         let one = LiveSnapshot {
-            ticket: closed.inner.ticket(),
+            begin_number: closed.inner.begin_number(),
             snapshot: closed.inner.snapshot(),
             read_only: closed.inner.is_read_only(),
         };
@@ -266,7 +266,7 @@ impl<N: Named> Book<N> {
         ensures same { IfErr result (λ _. self.new ≡ self.old) }
     {
         let one = LiveSnapshot {
-            ticket: txn.inner.ticket(),
+            begin_number: txn.inner.begin_number(),
             snapshot: txn.inner.snapshot(),
             read_only: txn.inner.is_read_only(),
         };
@@ -435,7 +435,9 @@ impl<N: Named> Book<N> {
         ensures facts { result ≡ true → IsOwned self.now ticket.now one id epoch }
     {
         self.is_of(ticket.id, ticket.epoch, id, epoch)
-            && (self.core.holds(one.ticket, one.snapshot, one.read_only)
+            && (self
+                .core
+                .holds(one.begin_number, one.snapshot, one.read_only)
                 && is_at(
                     self.tokens.as_slice(),
                     one.snapshot as usize,

@@ -11,7 +11,7 @@ use value::Refusal;
 /// Ends a transaction: it is rolled back, or, where it is not of this manager, abandoned.
 pub fn release<N: Named, R: Wait>(rt: &R, manager: &Manager<N>, txn: Txn<N>) {
     if let Err((_, txn)) = manager.rollback(rt, txn) {
-        let_go(txn.abandon());
+        drop(txn.abandon());
     }
 }
 
@@ -33,6 +33,3 @@ pub fn release_refused<N: Named, R: Wait>(
     }
     refusal
 }
-
-/// Lets a value go. Its type is a parameter here, so that the caller's proof does not go over its fields.
-fn let_go<T: Drop>(_value: T) {}

@@ -7,7 +7,7 @@ use Rattle.commit.specs.Events.{EngineState}
 use Rattle.shell.specs.declared.cutting.Place.TheVariants.{End}
 use Rattle.shell.specs.Cuts.{Piece, Rest, forward, pieces_of, rest_of, scan, whole_of}
 use Rattle.shell.specs.Reading.{ReadsOn, ReadsSome}
-use Rattle.shell.specs.Outcomes.{AreOutcomes, Outcome, line_of, lines_in}
+use Rattle.shell.specs.Outcomes.{AreOutcomes, Outcome, output_line, output_lines}
 use Rattle.shell.specs.Writing.{Answers, AreRun, Feeds, FeedsAll, FeedsFirst, IsOver, left_by, left_by_all}
 use Rattle.shell.proofs.Pieces.{IsQuietTurn, IsWholeTurn, pieces_append, quiet_turn, rest_append, rest_at, same_rests, whole_turn}
 
@@ -27,9 +27,9 @@ left_append : (now : EngineState) (os us : List Outcome) → left_by_all now (os
 left_append now [] us = refl
 left_append now (o ∷ os) us = left_append (left_by now o) os us
 
-lines_append : (os us : List Outcome) → lines_in (os ++ us) ≡ lines_in os ++ lines_in us
-lines_append [] us = refl
-lines_append (o ∷ os) us = ap (λ l. line_of o ++ l) (lines_append os us) ∙ sym (append_assoc (line_of o) (lines_in os) (lines_in us))
+output_lines_append : (os us : List Outcome) → output_lines (os ++ us) ≡ output_lines os ++ output_lines us
+output_lines_append [] us = refl
+output_lines_append (o ∷ os) us = ap (λ l. output_line o ++ l) (output_lines_append os us) ∙ sym (append_assoc (output_line o) (output_lines os) (output_lines us))
 
 -- ---- turns one behind the other
 
@@ -60,8 +60,8 @@ module _ (before : EngineState) (rest : Rest) where
       run = run_append before fed.outcomes next.outcomes fed.run (subst (λ e. AreRun e next.outcomes) fed.leaves next.run);
       leaves = next.leaves ∙ ap (λ e. left_by_all e next.outcomes) fed.leaves ∙ sym (left_append before fed.outcomes next.outcomes);
       last_is = next.last_is ∙ ap (λ r. rest_of r next.bytes) fed.last_is ∙ sym (rest_append rest fed.bytes next.bytes);
-      written = subst (Appends old new) (sym (lines_append fed.outcomes next.outcomes))
-          (Appends-trans old now new (lines_in fed.outcomes) (lines_in next.outcomes) fed.written next.written);
+      written = subst (Appends old new) (sym (output_lines_append fed.outcomes next.outcomes))
+          (Appends-trans old now new (output_lines fed.outcomes) (output_lines next.outcomes) fed.written next.written);
     }
 
     -- a turn more that does not come to its end
@@ -76,8 +76,8 @@ module _ (before : EngineState) (rest : Rest) where
       outcomes = fed.outcomes ++ next.outcomes;
       are = are_append (pieces_of rest fed.bytes) next.first fed.outcomes next.outcomes fed.are next.are;
       run = run_append before fed.outcomes next.outcomes fed.run (subst (λ e. AreRun e next.outcomes) fed.leaves next.run);
-      written = subst (Appends old new) (sym (lines_append fed.outcomes next.outcomes))
-          (Appends-trans old now new (lines_in fed.outcomes) (lines_in next.outcomes) fed.written next.written);
+      written = subst (Appends old new) (sym (output_lines_append fed.outcomes next.outcomes))
+          (Appends-trans old now new (output_lines fed.outcomes) (output_lines next.outcomes) fed.written next.written);
     }
 
     -- or none more
@@ -104,7 +104,7 @@ module _ (before : EngineState) (rest : Rest) where
       run = fed.run;
       leaves = over.left_is ∙ fed.leaves;
       last_is = over.last_is ∙ fed.last_is;
-      written = subst (λ n. Appends old n (lines_in fed.outcomes)) (sym over.same) fed.written;
+      written = subst (λ n. Appends old n (output_lines fed.outcomes)) (sym over.same) fed.written;
     }
       where
         all_read : (a b : Option (List ℕ)) (bytes : List ℕ) → Consumes a b bytes → IsAtEnd b → IfSome a (λ known. bytes ≡ known)
@@ -168,7 +168,7 @@ module _ (before : EngineState) (rest : Rest) where
           run = (answered.run, tt);
           leaves = answered.leaves;
           last_is = last_is ∙ ap (rest_at (forward now.at (length now.bytes)) []) end ∙ sym turn.left;
-          written = subst (Appends old new) (sym (append-nil (line_of answered.outcome))) answered.written;
+          written = subst (Appends old new) (sym (append-nil (output_line answered.outcome))) answered.written;
         }
 
     -- or one that is not, since memory ended it

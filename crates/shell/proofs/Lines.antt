@@ -5,7 +5,7 @@ use Rattle.std.specs.Io.KnownBytes.{Appends}
 use Rattle.commit.specs.Events.{EngineState}
 use Rattle.replay.specs.Lines.{ending}
 use Rattle.shell.specs.Cuts.{Piece, Rest, piece_of, whole_of}
-use Rattle.shell.specs.Outcomes.{line_of}
+use Rattle.shell.specs.Outcomes.{output_line}
 use Rattle.shell.proofs.Pieces.{piece_at, same_pieces}
 use Rattle.shell.specs.Writing.{Answers, Breaks, Ends, Finishes, Responds, ending_if}
 
@@ -21,7 +21,7 @@ answers_if (Ok done) before at bytes rest left old new out grown told same_at sa
       is = told_of.is;
       run = told_of.run;
       leaves = told_of.leaves;
-      written = subst (Appends out grown) (told_of.grown ∙ ap (λ l. l ++ line_of told_of.outcome) none) more;
+      written = subst (Appends out grown) (told_of.grown ∙ ap (λ l. l ++ output_line told_of.outcome) none) more;
     }
 answers_if (Err fault) before at bytes rest left old new out grown told same_at same_bytes none more = tt
 
@@ -36,7 +36,7 @@ module _ (at : ℕ) (bytes : List ℕ) (rest : Rest) (left : EngineState) (old m
     ends_without = record {
       last = told_of.outcome;
       last_is = told_of.is;
-      grown = told_of.grown ∙ sym (append-nil (old ++ line_of told_of.outcome));
+      grown = told_of.grown ∙ sym (append-nil (old ++ output_line told_of.outcome));
     }
 
     -- or one is, and there is memory for it
@@ -54,6 +54,6 @@ pub finishes_if : {A E : Type 0} (written : Result A E) (rest : Rest) (left : En
 finishes_if (Ok done) rest left reports old new out grown told none more = record {
   last = told.last;
   last_is = told.last_is;
-  written = subst (Appends out grown) (told.grown ∙ ap (λ l. (l ++ line_of told.last) ++ ending_if reports left) none) more;
+  written = subst (Appends out grown) (told.grown ∙ ap (λ l. (l ++ output_line told.last) ++ ending_if reports left) none) more;
 }
 finishes_if (Err fault) rest left reports old new out grown told none more = tt

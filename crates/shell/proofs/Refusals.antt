@@ -5,7 +5,7 @@ use Rattle.std.proofs.lemmas.List.{length-drop, take_all}
 use Rattle.value.specs.declared.refusals.Refusal.{Refusal}
 use Rattle.value.specs.declared.refusals.Refusal.TheVariants.{NoMemory, Syntax}
 use Rattle.syntax.specs.declared.statements.Event.{Event}
-use Rattle.syntax.specs.declared.statements.Step.{Step}
+use Rattle.syntax.specs.declared.statements.ScriptLine.{ScriptLine}
 use Rattle.syntax.specs.StatementGrammar.{IsEvent}
 use Rattle.alone.specs.declared.answers.Answer.{Answer}
 use Rattle.commit.specs.Events.{EngineState}
@@ -16,7 +16,7 @@ use Rattle.shell.specs.declared.faults.ShellFault.{ShellFault}
 use Rattle.shell.specs.declared.faults.ShellFault.TheVariants.{Run}
 use Rattle.shell.specs.Cuts.{Piece, forward}
 use Rattle.shell.specs.Headings.{address, event_text, is_blank}
-use Rattle.shell.specs.Outcomes.{Blank, Fault, IsBreak, IsFaultOf, IsStepOf, Reply, refusal_in_input}
+use Rattle.shell.specs.Outcomes.{Blank, Fault, IsBreak, IsFaultOf, IsLineOf, Reply, refusal_in_input}
 use Rattle.shell.specs.Shell.{IsInTheTalk, is_stop}
 use Rattle.shell.specs.Writing.{Breaks, IsAnsweredNow, Responds}
 
@@ -41,8 +41,8 @@ module _ (at : ℕ) (bytes : List ℕ) (some : is_blank bytes ≡ false) where
     is = is ∙ ap (λ n. refusal_in_input (forward at n) fault) e;
   }
 
-  pub step_of_text : (from : ℕ) (step : Step) → from ≡ (address bytes).from → step.session ≡ (address bytes).session → IsRead IsEvent (drop from bytes) step.event → IsStepOf bytes step
-  step_of_text from step e session read = record { some = some; session_is = session; read = subst (λ n. IsRead IsEvent (drop n bytes) step.event) e read }
+  pub line_of_text : (from : ℕ) (line : ScriptLine) → from ≡ (address bytes).from → line.session ≡ (address bytes).session → IsRead IsEvent (drop from bytes) line.event → IsLineOf bytes line
+  line_of_text from line e session read = record { some = some; session_is = session; read = subst (λ n. IsRead IsEvent (drop n bytes) line.event) e read }
 
   pub break_of_memory : (refusal : Refusal) → refusal ≡ NoMemory → IsBreak piece refusal
   break_of_memory refusal e = record { some = some; fault = NoMemory; broken = inl tt; is = e }
@@ -73,11 +73,11 @@ module _ (piece : Piece) (old : List ℕ) where
   pub responds_blank : (before : EngineState) → is_blank piece.bytes ≡ true → Responds before piece before old old
   responds_blank before blank = record { outcome = Blank; is = blank; run = tt; leaves = refl; grown = sym (append-nil old) }
 
-  pub responds_reply : {A E : Type 0} (added : Result A E) (before : EngineState) (step : Step) (answer : Answer) (left : EngineState) (new : List ℕ)
-      → IsStepOf piece.bytes step → IsAnsweredNow before step answer left → OnOk added (new ≡ old ++ answer_line step answer) → OnOk added (Responds before piece left old new)
-  responds_reply (Ok done) before step answer left new read now grown =
-      record { outcome = Reply step answer; is = read; run = now.answered; leaves = now.leaves; grown = grown }
-  responds_reply (Err none) before step answer left new read now grown = tt
+  pub responds_reply : {A E : Type 0} (added : Result A E) (before : EngineState) (line : ScriptLine) (answer : Answer) (left : EngineState) (new : List ℕ)
+      → IsLineOf piece.bytes line → IsAnsweredNow before line answer left → OnOk added (new ≡ old ++ answer_line line answer) → OnOk added (Responds before piece left old new)
+  responds_reply (Ok done) before line answer left new read now grown =
+      record { outcome = Reply line answer; is = read; run = now.answered; leaves = now.leaves; grown = grown }
+  responds_reply (Err none) before line answer left new read now grown = tt
 
   pub responds_fault : {A E : Type 0} (added : Result A E) (before : EngineState) (refusal : Refusal) (left : EngineState) (new : List ℕ)
       → IsFaultOf piece refusal → left ≡ before → OnOk added (new ≡ old ++ refusal_line (codes "SCRIPT") refusal) → OnOk added (Responds before piece left old new)

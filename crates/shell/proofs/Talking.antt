@@ -3,7 +3,7 @@ use Rattle.std.proofs.Common.{◌≡◌, ℕ, Bool, true, List, [], ◌∷◌, �
 use Rattle.std.specs.Prelude.{IfErr, IfSome, OnOk}
 use Rattle.std.specs.Io.KnownBytes.{Appends, Consumes}
 use Rattle.std.proofs.KnownBytes.{Appends-trans}
-use Rattle.syntax.specs.declared.statements.Step.{Step}
+use Rattle.syntax.specs.declared.statements.ScriptLine.{ScriptLine}
 use Rattle.commit.specs.Cores.{IsSerializable}
 use Rattle.commit.specs.Events.{EngineState, after}
 use Rattle.commit.specs.Runs.{AreAnswers, InEachRun, beginning, led_to}
@@ -16,56 +16,56 @@ use Rattle.replay.specs.Texts.{IsInTheRun, is_before_the_run}
 use Rattle.shell.specs.declared.faults.ShellFault.{ShellFault}
 use Rattle.shell.specs.declared.faults.ShellFault.TheVariants.{Run, Input}
 use Rattle.shell.specs.Cuts.{Piece, Rest, no_rest, piece_of, pieces_of}
-use Rattle.shell.specs.Outcomes.{AreOutcomes, IsLast, Outcome, Blank, Reply, Fault, answers_in, line_of, lines_in, steps_in}
-use Rattle.shell.specs.Seats.{first_seated, seated_steps, engine_with_seat}
+use Rattle.shell.specs.Outcomes.{AreOutcomes, IsLast, Outcome, Blank, Reply, Fault, answers_in, output_line, output_lines, lines_in}
+use Rattle.shell.specs.Seats.{first_seated, seated_lines, engine_with_seat}
 use Rattle.shell.specs.Shell.{IsBeginning, IsFirstFault, IsInTheTalk, IsRunFault, IsTalk, IsTaken, WritesConversation, WritesFirst, is_before_the_talk, is_run_stop, is_stop}
 use Rattle.shell.specs.Writing.{AreRun, FeedsAll, FeedsFirst, Finishes, ending_if, left_by_all}
 use Rattle.shell.proofs.Seating.{after_whole, answered_whole, seated_late, whole, whole_now, with_seats}
 
 -- the answers of an engine whose sessions come are those of one that has all from the start
-are_answers : (now : EngineState) (outcomes : List Outcome) → AreRun now outcomes → AreAnswers (whole now (steps_in outcomes)) (steps_in outcomes) (answers_in outcomes)
+are_answers : (now : EngineState) (outcomes : List Outcome) → AreRun now outcomes → AreAnswers (whole now (lines_in outcomes)) (lines_in outcomes) (answers_in outcomes)
 are_answers now [] h = tt
 are_answers now (Blank ∷ more) h = are_answers now more h.1
 are_answers now (Fault refusal ∷ more) h = are_answers now more h.1
-are_answers now (Reply step answer ∷ more) h = (
-  answered_whole now step (steps_in more) answer h.0,
-  subst (λ e. AreAnswers e (steps_in more) (answers_in more)) (sym (after_whole now step (steps_in more) answer h.0))
-      (are_answers (after (engine_with_seat now step.session) step answer) more h.1),
+are_answers now (Reply line answer ∷ more) h = (
+  answered_whole now line (lines_in more) answer h.0,
+  subst (λ e. AreAnswers e (lines_in more) (answers_in more)) (sym (after_whole now line (lines_in more) answer h.0))
+      (are_answers (after (engine_with_seat now line.session) line answer) more h.1),
 )
 
 lead_to : (now : EngineState) (outcomes : List Outcome) → AreRun now outcomes
-    → whole (left_by_all now outcomes) [] ≡ led_to (whole now (steps_in outcomes)) (steps_in outcomes) (answers_in outcomes)
+    → whole (left_by_all now outcomes) [] ≡ led_to (whole now (lines_in outcomes)) (lines_in outcomes) (answers_in outcomes)
 lead_to now [] h = refl
 lead_to now (Blank ∷ more) h = lead_to now more h.1
 lead_to now (Fault refusal ∷ more) h = lead_to now more h.1
-lead_to now (Reply step answer ∷ more) h =
-    lead_to (after (engine_with_seat now step.session) step answer) more h.1
-    ∙ ap (λ e. led_to e (steps_in more) (answers_in more)) (sym (after_whole now step (steps_in more) answer h.0))
+lead_to now (Reply line answer ∷ more) h =
+    lead_to (after (engine_with_seat now line.session) line answer) more h.1
+    ∙ ap (λ e. led_to e (lines_in more) (answers_in more)) (sym (after_whole now line (lines_in more) answer h.0))
 
 -- from no session on
-whole_first : (limit : ℕ) (shown : ViewState) (steps : List Step) → whole (beginning limit shown []) steps ≡ first_seated limit shown steps
-whole_first limit shown steps =
-    ap (with_seats (beginning limit shown []).core) (sym (seated_late [] steps))
+whole_first : (limit : ℕ) (shown : ViewState) (lines : List ScriptLine) → whole (beginning limit shown []) lines ≡ first_seated limit shown lines
+whole_first limit shown lines =
+    ap (with_seats (beginning limit shown []).core) (sym (seated_late [] lines))
 
 module _ (defs : List ℕ) (limit : ℕ) (engine : EngineState) (begun : IsBeginning defs limit engine)
-    (serializable : InEachRun (λ loaded steps answers left. IsSerializable left.core)) (told : InEachRun (λ loaded steps answers left. WereToldAlone left.core steps answers))
+    (serializable : InEachRun (λ loaded lines answers left. IsSerializable left.core)) (told : InEachRun (λ loaded lines answers left. WereToldAlone left.core lines answers))
   where
     talk : (pieces : List Piece) (outcomes : List Outcome) → AreOutcomes pieces outcomes → AreRun engine outcomes → IsTalk limit begun.shown pieces outcomes (left_by_all engine outcomes)
     talk pieces outcomes are run =
-        let from : whole engine (steps_in outcomes) ≡ first_seated limit begun.shown (steps_in outcomes) =
-        ap (λ e. whole e (steps_in outcomes)) begun.is ∙ whole_first limit begun.shown (steps_in outcomes) in
-        let answered : AreAnswers (first_seated limit begun.shown (steps_in outcomes)) (steps_in outcomes) (answers_in outcomes) =
-        subst (λ e. AreAnswers e (steps_in outcomes) (answers_in outcomes)) from (are_answers engine outcomes run) in
-        let leaves : left_by_all engine outcomes ≡ led_to (first_seated limit begun.shown (steps_in outcomes)) (steps_in outcomes) (answers_in outcomes) =
-        sym (whole_now (left_by_all engine outcomes)) ∙ lead_to engine outcomes run ∙ ap (λ e. led_to e (steps_in outcomes) (answers_in outcomes)) from in
+        let from : whole engine (lines_in outcomes) ≡ first_seated limit begun.shown (lines_in outcomes) =
+        ap (λ e. whole e (lines_in outcomes)) begun.is ∙ whole_first limit begun.shown (lines_in outcomes) in
+        let answered : AreAnswers (first_seated limit begun.shown (lines_in outcomes)) (lines_in outcomes) (answers_in outcomes) =
+        subst (λ e. AreAnswers e (lines_in outcomes) (answers_in outcomes)) from (are_answers engine outcomes run) in
+        let leaves : left_by_all engine outcomes ≡ led_to (first_seated limit begun.shown (lines_in outcomes)) (lines_in outcomes) (answers_in outcomes) =
+        sym (whole_now (left_by_all engine outcomes)) ∙ lead_to engine outcomes run ∙ ap (λ e. led_to e (lines_in outcomes) (answers_in outcomes)) from in
         record {
           are = are;
           answered = answered;
           leaves = leaves;
           serializable = subst (λ (e : EngineState). IsSerializable e.core) (sym leaves)
-              (serializable limit begun.shown (seated_steps [] (steps_in outcomes)) (steps_in outcomes) (answers_in outcomes) begun.sound answered);
-          told = subst (λ (e : EngineState). WereToldAlone e.core (steps_in outcomes) (answers_in outcomes)) (sym leaves)
-              (told limit begun.shown (seated_steps [] (steps_in outcomes)) (steps_in outcomes) (answers_in outcomes) begun.sound answered);
+              (serializable limit begun.shown (seated_lines [] (lines_in outcomes)) (lines_in outcomes) (answers_in outcomes) begun.sound answered);
+          told = subst (λ (e : EngineState). WereToldAlone e.core (lines_in outcomes) (answers_in outcomes)) (sym leaves)
+              (told limit begun.shown (seated_lines [] (lines_in outcomes)) (lines_in outcomes) (answers_in outcomes) begun.sound answered);
         }
 
     -- the shell came to its end
@@ -74,7 +74,7 @@ module _ (defs : List ℕ) (limit : ℕ) (engine : EngineState) (begun : IsBegin
     conversation left rest reports from old middle new fed ended = record {
       input = fed.bytes;
       all = fed.all;
-      bytes = (lines_in fed.outcomes ++ line_of ended.last) ++ ending_if reports left;
+      bytes = (output_lines fed.outcomes ++ output_line ended.last) ++ ending_if reports left;
       is = record {
         shown = begun.shown;
         taken = begun.taken;
@@ -85,8 +85,8 @@ module _ (defs : List ℕ) (limit : ℕ) (engine : EngineState) (begun : IsBegin
         last_is = subst (λ (r : Rest). IsLast (piece_of r) ended.last) fed.last_is ended.last_is;
         prints = refl;
       };
-      written = subst (Appends old new) (sym (append_assoc (lines_in fed.outcomes) (line_of ended.last) (ending_if reports left)))
-          (Appends-trans old middle new (lines_in fed.outcomes) (line_of ended.last ++ ending_if reports left) fed.written ended.written);
+      written = subst (Appends old new) (sym (append_assoc (output_lines fed.outcomes) (output_line ended.last) (ending_if reports left)))
+          (Appends-trans old middle new (output_lines fed.outcomes) (output_line ended.last ++ ending_if reports left) fed.written ended.written);
     }
 
     begins_with : (from to : Option (List ℕ)) (bytes : List ℕ) → Consumes from to bytes → IfSome from (λ known. BeginsWith bytes known)

@@ -2,7 +2,7 @@
 use Rattle.std.specs.Prelude.{◌≡◌, ◌⊎◌, ℕ, true, false, List, [], ◌∷◌, ◌++◌, codes, length, ⊤}
 use Rattle.value.specs.declared.refusals.Refusal.{Refusal}
 use Rattle.value.specs.declared.refusals.Refusal.TheVariants.{Syntax, TooDeep}
-use Rattle.syntax.specs.declared.statements.Step.{Step}
+use Rattle.syntax.specs.declared.statements.ScriptLine.{ScriptLine}
 use Rattle.syntax.specs.declared.statements.Event.{Event}
 use Rattle.syntax.specs.StatementGrammar.{IsEvent}
 use Rattle.alone.specs.declared.answers.Answer.{Answer}
@@ -14,7 +14,7 @@ use Rattle.shell.specs.Headings.{address, event_text, is_blank}
 -- nothing, where it has no token; an event with its answer; or why there is no event
 pub data Outcome : Type 0 where
   Blank : Outcome
-  Reply : Step → Answer → Outcome
+  Reply : ScriptLine → Answer → Outcome
   Fault : Refusal → Outcome
 
 -- a refusal that names a place of the event, by the place in the input
@@ -28,10 +28,10 @@ abbrev pub event_at : Piece → ℕ
 event_at piece = forward piece.at (address piece.bytes).from
 
 -- bytes are an event of a session
-pub record IsStepOf (bytes : List ℕ) (step : Step) : Type 0 where
+pub record IsLineOf (bytes : List ℕ) (line : ScriptLine) : Type 0 where
   pub some : is_blank bytes ≡ false
-  pub session_is : step.session ≡ (address bytes).session
-  pub read : IsRead IsEvent (event_text bytes) step.event
+  pub session_is : line.session ≡ (address bytes).session
+  pub read : IsRead IsEvent (event_text bytes) line.event
 
 -- they are none, or there was no memory to read it, or for the session's seat
 pub record IsFaultOf (piece : Piece) (refusal : Refusal) : Type 0 where
@@ -43,7 +43,7 @@ pub record IsFaultOf (piece : Piece) (refusal : Refusal) : Type 0 where
 -- what may become of a piece that a semicolon ends
 abbrev pub IsOutcome : Piece → Outcome → Type 0
 IsOutcome piece Blank = is_blank piece.bytes ≡ true
-IsOutcome piece (Reply step answer) = IsStepOf piece.bytes step
+IsOutcome piece (Reply line answer) = IsLineOf piece.bytes line
 IsOutcome piece (Fault refusal) = IsFaultOf piece refusal
 
 -- what may become of some pieces, of each in its place
@@ -69,31 +69,31 @@ pub record IsBreak (piece : Piece) (refusal : Refusal) : Type 0 where
 -- what may become of it
 abbrev pub IsLast : Piece → Outcome → Type 0
 IsLast piece Blank = is_blank piece.bytes ≡ true
-IsLast piece (Reply step answer) = ⊥
+IsLast piece (Reply line answer) = ⊥
 IsLast piece (Fault refusal) = IsBreak piece refusal
 
--- the events, their answers, and the lines of all
-abbrev pub step_in : Outcome → List Step
-step_in Blank = []
-step_in (Reply step answer) = step ∷ []
-step_in (Fault refusal) = []
+-- the event of an outcome, if it is one, with its session
+abbrev pub line_in : Outcome → List ScriptLine
+line_in Blank = []
+line_in (Reply line answer) = line ∷ []
+line_in (Fault refusal) = []
 
 -- the answer of an outcome, if it is an event
 abbrev pub answer_in : Outcome → List Answer
 answer_in Blank = []
-answer_in (Reply step answer) = answer ∷ []
+answer_in (Reply line answer) = answer ∷ []
 answer_in (Fault refusal) = []
 
 -- the line that tells an outcome; none where the piece is blank
-abbrev pub line_of : Outcome → List ℕ
-line_of Blank = []
-line_of (Reply step answer) = answer_line step answer
-line_of (Fault refusal) = refusal_line (codes "SCRIPT") refusal
+abbrev pub output_line : Outcome → List ℕ
+output_line Blank = []
+output_line (Reply line answer) = answer_line line answer
+output_line (Fault refusal) = refusal_line (codes "SCRIPT") refusal
 
--- the events among some outcomes, in their order
-abbrev pub steps_in : List Outcome → List Step
-steps_in [] = []
-steps_in (outcome ∷ outcomes) = step_in outcome ++ steps_in outcomes
+-- the events among some outcomes, in their order, each with its session
+abbrev pub lines_in : List Outcome → List ScriptLine
+lines_in [] = []
+lines_in (outcome ∷ outcomes) = line_in outcome ++ lines_in outcomes
 
 -- the answers among some outcomes, in their order
 abbrev pub answers_in : List Outcome → List Answer
@@ -101,6 +101,6 @@ answers_in [] = []
 answers_in (outcome ∷ outcomes) = answer_in outcome ++ answers_in outcomes
 
 -- the lines of some outcomes, one behind the other
-abbrev pub lines_in : List Outcome → List ℕ
-lines_in [] = []
-lines_in (outcome ∷ outcomes) = line_of outcome ++ lines_in outcomes
+abbrev pub output_lines : List Outcome → List ℕ
+output_lines [] = []
+output_lines (outcome ∷ outcomes) = output_line outcome ++ output_lines outcomes

@@ -6,12 +6,12 @@ use Rattle.syntax.specs.declared.definitions.Definition.{Definition}
 use Rattle.syntax.specs.SchemaGrammar.{IsSchema}
 use Rattle.delta.specs.Views.{ViewState}
 use Rattle.commit.specs.Admission.{admission_of}
-use Rattle.commit.specs.Alone.{IsSound}
+use Rattle.alone.specs.Alone.{IsSound}
 use Rattle.commit.specs.Cores.{IsSerializable}
 use Rattle.commit.specs.Events.{EngineState}
 use Rattle.commit.specs.Runs.{AreAnswers, beginning, led_to}
 use Rattle.commit.specs.Told.{WereToldAlone}
-use Rattle.commit.specs.Written.{AreWritten}
+use Rattle.definitions.specs.Written.{AreWritten}
 use Rattle.report.specs.Fronts.{BeginsWith}
 use Rattle.replay.specs.declared.faults.ProgramFault.{ProgramFault}
 use Rattle.replay.specs.declared.faults.ProgramFault.TheVariants.{Defs, Script, Stopped, Output, NoThread}
@@ -19,7 +19,7 @@ use Rattle.replay.specs.Texts.{IsInTheRun, IsRead, IsUnread, is_before_the_run}
 use Rattle.shell.specs.declared.faults.ShellFault.{ShellFault}
 use Rattle.shell.specs.declared.faults.ShellFault.TheVariants.{Run, Input}
 use Rattle.shell.specs.Cuts.{Piece, no_rest, piece_of, pieces_of, rest_of}
-use Rattle.shell.specs.Outcomes.{AreOutcomes, IsLast, Outcome, answers_in, line_of, lines_in, steps_in}
+use Rattle.shell.specs.Outcomes.{AreOutcomes, IsLast, Outcome, answers_in, output_line, output_lines, lines_in}
 use Rattle.shell.specs.Seats.{first_seated}
 use Rattle.shell.specs.Writing.{ending_if}
 
@@ -49,10 +49,10 @@ pub record IsBeginning (defs : List ℕ) (limit : ℕ) (engine : EngineState) : 
 pub record IsTalk (limit : ℕ) (shown : ViewState) (pieces : List Piece) (outcomes : List Outcome)
     (left : EngineState) : Type 0 where
   pub are : AreOutcomes pieces outcomes
-  pub answered : AreAnswers (first_seated limit shown (steps_in outcomes)) (steps_in outcomes) (answers_in outcomes)
-  pub leaves : left ≡ led_to (first_seated limit shown (steps_in outcomes)) (steps_in outcomes) (answers_in outcomes)
+  pub answered : AreAnswers (first_seated limit shown (lines_in outcomes)) (lines_in outcomes) (answers_in outcomes)
+  pub leaves : left ≡ led_to (first_seated limit shown (lines_in outcomes)) (lines_in outcomes) (answers_in outcomes)
   pub serializable : IsSerializable left.core
-  pub told : WereToldAlone left.core (steps_in outcomes) (answers_in outcomes)
+  pub told : WereToldAlone left.core (lines_in outcomes) (answers_in outcomes)
 
 -- the lines of all pieces of an input, of what is left at its end, and the report, if it is asked for
 pub record IsConversation (defs input : List ℕ) (limit : ℕ) (reports : Bool) (bytes : List ℕ) : Type 0 where
@@ -63,7 +63,7 @@ pub record IsConversation (defs input : List ℕ) (limit : ℕ) (reports : Bool)
   pub talk : IsTalk limit shown (pieces_of no_rest input) outcomes left
   pub last : Outcome
   pub last_is : IsLast (piece_of (rest_of no_rest input)) last
-  pub prints : bytes ≡ (lines_in outcomes ++ line_of last) ++ ending_if reports left
+  pub prints : bytes ≡ (output_lines outcomes ++ output_line last) ++ ending_if reports left
 
 -- the writer gained this for the bytes that were read, which are all that the reader had
 pub record WritesConversation (defs : List ℕ) (limit : ℕ) (reports : Bool) (from old new : Option (List ℕ)) : Type 0
@@ -86,7 +86,7 @@ pub record WritesFirst (defs : List ℕ) (limit : ℕ) (from old new : Option (L
   pub outcomes : List Outcome
   pub left : EngineState
   pub talk : IsTalk limit shown first outcomes left
-  pub written : Appends old new (lines_in outcomes)
+  pub written : Appends old new (output_lines outcomes)
 
 -- the shell was begun
 abbrev pub IsTaken : List ℕ → Type 0

@@ -1,24 +1,24 @@
 -- What a part of the input is answered, and what is written of it.
 use Rattle.std.specs.Prelude.{◌≡◌, ◌++◌, ℕ, Bool, true, false, List, [], ◌∷◌, Option, IfSome, ⊤}
 use Rattle.std.specs.Io.KnownBytes.{Appends, Consumes, IsAtEnd}
-use Rattle.syntax.specs.declared.statements.Step.{Step}
+use Rattle.syntax.specs.declared.statements.ScriptLine.{ScriptLine}
 use Rattle.alone.specs.declared.answers.Answer.{Answer}
 use Rattle.commit.specs.Events.{EngineState, IsAnswered, after}
 use Rattle.replay.specs.Lines.{ending}
 use Rattle.shell.specs.Cuts.{Piece, Rest, piece_of, pieces_of, rest_of}
-use Rattle.shell.specs.Outcomes.{AreOutcomes, IsLast, IsOutcome, Outcome, Blank, Reply, Fault, line_of, lines_in}
+use Rattle.shell.specs.Outcomes.{AreOutcomes, IsLast, IsOutcome, Outcome, Blank, Reply, Fault, output_line, output_lines}
 use Rattle.shell.specs.Seats.{engine_with_seat}
 
 -- an event is answered; its session has then got its seat, if there was one
 abbrev pub IsRun : EngineState → Outcome → Type 0
 IsRun now Blank = ⊤
-IsRun now (Reply step answer) = IsAnswered (engine_with_seat now step.session) step answer
+IsRun now (Reply line answer) = IsAnswered (engine_with_seat now line.session) line answer
 IsRun now (Fault refusal) = ⊤
 
 -- what an outcome leaves of the engine
 abbrev pub left_by : EngineState → Outcome → EngineState
 left_by now Blank = now
-left_by now (Reply step answer) = after (engine_with_seat now step.session) step answer
+left_by now (Reply line answer) = after (engine_with_seat now line.session) line answer
 left_by now (Fault refusal) = now
 
 -- the events among some outcomes are answered, each after those before it
@@ -32,23 +32,23 @@ left_by_all now [] = now
 left_by_all now (outcome ∷ outcomes) = left_by_all (left_by now outcome) outcomes
 
 -- an event is answered, and this is what it leaves
-pub record IsAnsweredNow (before : EngineState) (step : Step) (answer : Answer) (left : EngineState) : Type 0 where
-  pub answered : IsAnswered (engine_with_seat before step.session) step answer
-  pub leaves : left ≡ after (engine_with_seat before step.session) step answer
+pub record IsAnsweredNow (before : EngineState) (line : ScriptLine) (answer : Answer) (left : EngineState) : Type 0 where
+  pub answered : IsAnswered (engine_with_seat before line.session) line answer
+  pub leaves : left ≡ after (engine_with_seat before line.session) line answer
 
--- what is left at the end of the input has its outcome, and the lines grow by its line
+-- what is left at the end of the input has its outcome, and the report grows by its line
 pub record Breaks (piece : Piece) (old new : List ℕ) : Type 0 where
   pub outcome : Outcome
   pub is : IsLast piece outcome
-  pub grown : new ≡ old ++ line_of outcome
+  pub grown : new ≡ old ++ output_line outcome
 
--- a piece has its outcome, and the lines grow by its line
+-- a piece has its outcome, and the report grows by its line
 pub record Responds (before : EngineState) (piece : Piece) (left : EngineState) (old new : List ℕ) : Type 0 where
   pub outcome : Outcome
   pub is : IsOutcome piece outcome
   pub run : IsRun before outcome
   pub leaves : left ≡ left_by before outcome
-  pub grown : new ≡ old ++ line_of outcome
+  pub grown : new ≡ old ++ output_line outcome
 
 -- some bytes are read, each piece that they end has its outcome, and the writer gains the lines
 pub record Feeds (before : EngineState) (rest : Rest) (left : EngineState) (last : Rest)
@@ -60,7 +60,7 @@ pub record Feeds (before : EngineState) (rest : Rest) (left : EngineState) (last
   pub run : AreRun before outcomes
   pub leaves : left ≡ left_by_all before outcomes
   pub last_is : last ≡ rest_of rest bytes
-  pub written : Appends old new (lines_in outcomes)
+  pub written : Appends old new (output_lines outcomes)
 
 -- some bytes are read, the first pieces that they end have their outcomes, and the writer gains the lines
 pub record FeedsFirst (before : EngineState) (rest : Rest) (from to old new : Option (List ℕ)) : Type 0 where
@@ -72,7 +72,7 @@ pub record FeedsFirst (before : EngineState) (rest : Rest) (from to old new : Op
   pub outcomes : List Outcome
   pub are : AreOutcomes first outcomes
   pub run : AreRun before outcomes
-  pub written : Appends old new (lines_in outcomes)
+  pub written : Appends old new (output_lines outcomes)
 
 -- nothing was left to read, and nothing has changed
 pub record IsOver (before : EngineState) (rest : Rest) (left : EngineState) (last : Rest) (from old new : Option (List ℕ)) : Type 0 where
@@ -95,7 +95,7 @@ pub record FeedsAll (before : EngineState) (rest : Rest) (left : EngineState) (l
   pub run : AreRun before outcomes
   pub leaves : left ≡ left_by_all before outcomes
   pub last_is : last ≡ rest_of rest bytes
-  pub written : Appends old new (lines_in outcomes)
+  pub written : Appends old new (output_lines outcomes)
 
 -- a piece has its outcome, and the writer gains its line
 pub record Answers (before : EngineState) (piece : Piece) (left : EngineState) (old new : Option (List ℕ)) : Type 0 where
@@ -103,7 +103,7 @@ pub record Answers (before : EngineState) (piece : Piece) (left : EngineState) (
   pub is : IsOutcome piece outcome
   pub run : IsRun before outcome
   pub leaves : left ≡ left_by before outcome
-  pub written : Appends old new (line_of outcome)
+  pub written : Appends old new (output_line outcome)
 
 -- what stands behind the lines, if it is asked for
 abbrev pub ending_if : Bool → EngineState → List ℕ
@@ -114,10 +114,10 @@ ending_if true left = ending left
 pub record Ends (rest : Rest) (left : EngineState) (reports : Bool) (old new : List ℕ) : Type 0 where
   pub last : Outcome
   pub last_is : IsLast (piece_of rest) last
-  pub grown : new ≡ (old ++ line_of last) ++ ending_if reports left
+  pub grown : new ≡ (old ++ output_line last) ++ ending_if reports left
 
 -- and the writer gains both
 pub record Finishes (rest : Rest) (left : EngineState) (reports : Bool) (old new : Option (List ℕ)) : Type 0 where
   pub last : Outcome
   pub last_is : IsLast (piece_of rest) last
-  pub written : Appends old new (line_of last ++ ending_if reports left)
+  pub written : Appends old new (output_line last ++ ending_if reports left)

@@ -70,18 +70,18 @@ pub fn tell<W: Write>(shell: &Shell, command: Command, out: &mut W) -> Result<()
 fn tell_history<W: Write>(shell: &Shell, out: &mut W) -> Result<(), ShellFault>
     ensures { IfErr result IsInTheTalk }
 {
-    let mut lines = Report::new(shell.alloc);
-    match add_history(shell, &mut lines) {
-        Ok(()) => write_out(lines.as_bytes(), out),
+    let mut report = Report::new(shell.alloc);
+    match add_history(shell, &mut report) {
+        Ok(()) => write_out(report.as_bytes(), out),
         Err(_) => Err(ShellFault::Run(ProgramFault::Stopped)),
     }
 }
 
-fn add_history(shell: &Shell, lines: &mut Report) -> Result<(), AllocError> {
+fn add_history(shell: &Shell, report: &mut Report) -> Result<(), AllocError> {
     let core = shell.engine.core();
-    lines.add_commits(core.records())?;
-    lines.add_serial_order(core.serial_order())?;
-    lines.add_refused(core.refused())
+    report.add_commits(core.records())?;
+    report.add_serial_order(core.serial_order())?;
+    report.add_refused(core.refused())
 }
 
 /// Each table with its columns, and how many rows it has.

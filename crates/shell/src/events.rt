@@ -4,7 +4,7 @@ ghost use Rattle.std.specs.Prelude.{◌≡◌, ◌++◌, false, IfErr, IfOk, OnE
 ghost use Rattle.shell.specs.Cuts as cut;
 ghost use Rattle.shell.specs.Headings as heading;
 ghost use Rattle.shell.specs.Outcomes as spec;
-ghost use Rattle.shell.specs.Outcomes.{IsBreak, IsFaultOf, IsStepOf};
+ghost use Rattle.shell.specs.Outcomes.{IsBreak, IsFaultOf, IsLineOf};
 ghost use Rattle.shell.specs.Seats.{engine_with_seat};
 ghost use Rattle.shell.specs.Writing.{Breaks, IsAnsweredNow, Responds};
 
@@ -15,7 +15,7 @@ use parse::parse_statement;
 use replay::MOST_SESSIONS;
 use report::Report;
 use std::alloc::{AllocError, Global};
-use syntax::Step;
+use syntax::ScriptLine;
 use value::{Refusal, Text};
 
 /// The name of the input in the line of a piece that is no event.
@@ -44,15 +44,15 @@ fn refusal_in_input(at: usize, refusal: Refusal) -> Refusal
 }
 
 /// The event of a piece that has a token.
-#[tactic(auto, using(crate::proofs::Refusals::fault_of_memory, crate::proofs::Refusals::fault_of_text, crate::proofs::Refusals::step_of_text))]
-fn read_step(alloc: Global, at: usize, bytes: &[u8]) -> Result<Step, Refusal>
+#[tactic(auto, using(crate::proofs::Refusals::fault_of_memory, crate::proofs::Refusals::fault_of_text, crate::proofs::Refusals::line_of_text))]
+fn read_line(alloc: Global, at: usize, bytes: &[u8]) -> Result<ScriptLine, Refusal>
     requires some { heading.is_blank bytes.now ≡ false }
-    ensures read { IfOk result (IsStepOf bytes.now) }
+    ensures read { IfOk result (IsLineOf bytes.now) }
     ensures refused { IfErr result (IsFaultOf (record { at = at; bytes = bytes.now })) }
 {
     let address = read_address(alloc, bytes)?;
     match parse_statement(alloc, &bytes[address.from..]) {
-        Ok(event) => Ok(Step {
+        Ok(event) => Ok(ScriptLine {
             session: address.session,
             event,
         }),
@@ -72,9 +72,6 @@ fn welcome(engine: &mut Engine, session: &Text) -> Result<(), AllocError>
     }
 }
 
-/// Lets a value go. Its type is a parameter here, so that the caller's proof does not go over its fields.
-fn let_go<T: Drop>(_value: T) {}
-
 /// Answers the event of a piece that has a token.
 #[tactic(auto, using(crate::proofs::Refusals::fault_of_memory))]
 fn run_piece(
@@ -82,20 +79,20 @@ fn run_piece(
     engine: &mut Engine,
     at: usize,
     bytes: &[u8],
-) -> Result<(Step, Answer), Refusal>
+) -> Result<(ScriptLine, Answer), Refusal>
     requires some { heading.is_blank bytes.now ≡ false }
-    ensures read { IfOk result (λ told. IsStepOf bytes.now told.0) }
+    ensures read { IfOk result (λ told. IsLineOf bytes.now told.0) }
     ensures answered { IfOk result (λ told. IsAnsweredNow engine.old told.0 told.1 engine.new) }
     ensures refused { IfErr result (IsFaultOf (record { at = at; bytes = bytes.now })) }
     ensures same { OnErr result (engine.new ≡ engine.old) }
 {
-    let step = read_step(alloc, at, bytes)?;
-    if let Err(_) = welcome(engine, &step.session) {
-        let_go(step);
+    let line = read_line(alloc, at, bytes)?;
+    if let Err(_) = welcome(engine, &line.session) {
+        drop(line);
         return Err(Refusal::NoMemory);
     }
-    let answer = engine.answer(&step);
-    Ok((step, answer))
+    let answer = engine.answer(&line);
+    Ok((line, answer))
 }
 
 /// Answers a piece, and adds its line.
@@ -105,22 +102,22 @@ pub fn answer_piece(
     engine: &mut Engine,
     at: usize,
     bytes: &[u8],
-    lines: &mut Report,
+    report: &mut Report,
 ) -> Result<(), AllocError>
     ensures { OnOk result
-        (Responds engine.old (record { at = at; bytes = bytes.now }) engine.new lines.old lines.new) }
+        (Responds engine.old (record { at = at; bytes = bytes.now }) engine.new report.old report.new) }
 {
     if is_blank(bytes) {
         return Ok(());
     }
     match run_piece(alloc, engine, at, bytes) {
-        Ok((step, answer)) => {
-            let added = lines.add_answer(&step, &answer);
-            let_go(answer);
-            let_go(step);
+        Ok((line, answer)) => {
+            let added = report.add_answer(&line, &answer);
+            drop(answer);
+            drop(line);
             added
         }
-        Err(refusal) => lines.add_refusal(NAME, &refusal),
+        Err(refusal) => report.add_refusal(NAME, &refusal),
     }
 }
 
@@ -137,7 +134,7 @@ fn refuse_rest(alloc: Global, at: usize, bytes: &[u8]) -> Refusal
             let place = forward(at, address.from);
             match parse_statement(alloc, text) {
                 Ok(event) => {
-                    let_go(event);
+                    drop(event);
                     // (its semicolon is missing)
                     refusal_in_input(place, Refusal::Syntax { at: text.len() })
                 }
@@ -153,13 +150,13 @@ pub fn answer_rest(
     alloc: Global,
     at: usize,
     bytes: &[u8],
-    lines: &mut Report,
+    report: &mut Report,
 ) -> Result<(), AllocError>
-    ensures { OnOk result (Breaks (record { at = at; bytes = bytes.now }) lines.old lines.new) }
+    ensures { OnOk result (Breaks (record { at = at; bytes = bytes.now }) report.old report.new) }
 {
     if is_blank(bytes) {
         return Ok(());
     }
     let refusal = refuse_rest(alloc, at, bytes);
-    lines.add_refusal(NAME, &refusal)
+    report.add_refusal(NAME, &refusal)
 }

@@ -8,8 +8,9 @@
 //! - A piece is an event of the session that it names in front, `NAME: BEGIN;`, or of the session ME.
 //! - A piece that is none of the language gets one line, `SCRIPT: REFUSED 2 - SYNTAX 17`, with the place in the input
 //!   at which it goes wrong, counted in bytes from 0. Nothing has changed, and the next piece is read.
-//! - At most 256 sessions have a seat: those that come first. Each event of another is refused. Where there is no memory
-//!   to read an event, or for the seat of a session that comes for the first time, the event is refused as a text.
+//! - At most 256 sessions have a seat: those that come first. Each event of another is refused. Where there is no
+//!   memory to read an event, or for the seat of a session that comes for the first time, the event is refused as a
+//!   text.
 //!
 //! What the contract of [`shell_into`] says stands on `commit::Engine` and on one law more: an engine that seats its
 //! sessions as they come answers as one that seated all of them at the start (`proofs/Seating`). So the answers are

@@ -28,7 +28,7 @@ pub struct Shell {
     pub alloc: Global,
     pub engine: Engine,
     pub cutter: Cutter,
-    pub lines: Report,
+    pub report: Report,
 }
 
 /// The shell before the first byte, over what definitions define, with at most so many commits.
@@ -48,7 +48,7 @@ pub fn begin_shell(alloc: Global, defs: &[u8], limit: u64) -> Result<Shell, Prog
         alloc,
         engine,
         cutter: Cutter::new(alloc),
-        lines: Report::new(alloc),
+        report: Report::new(alloc),
     })
 }
 
@@ -168,24 +168,24 @@ impl Shell {
         ensures late { IfErr result IsInTheTalk }
         ensures stopped { IfErr result (λ fault. is_stop fault ≡ true → out.new ≡ out.old) }
     {
-        self.lines.clear();
+        self.report.clear();
         let piece = self.cutter.piece();
         let at = self.cutter.at();
-        if answer_piece(self.alloc, &mut self.engine, at, piece, &mut self.lines).is_err() {
+        if answer_piece(self.alloc, &mut self.engine, at, piece, &mut self.report).is_err() {
             return Err(ShellFault::Run(ProgramFault::Stopped));
         }
         self.cutter.cut();
-        self.write_lines(out)
+        self.write_report(out)
     }
 
-    /// Writes the lines, and flushes the writer.
+    /// Writes the report, and flushes the writer.
     #[tactic(auto, using(crate::proofs::Refusals::late_output, crate::proofs::Refusals::no_stop))]
-    fn write_lines<W: Write>(&self, out: &mut W) -> Result<(), ShellFault>
-        ensures written { OnOk result (Appends (W.contents out.old) (W.contents out.new) self.now.lines) }
+    fn write_report<W: Write>(&self, out: &mut W) -> Result<(), ShellFault>
+        ensures written { OnOk result (Appends (W.contents out.old) (W.contents out.new) self.now.report) }
         ensures late { IfErr result IsInTheTalk }
         ensures stopped { IfErr result (λ fault. is_stop fault ≡ true → out.new ≡ out.old) }
     {
-        write_out(self.lines.as_bytes(), out)
+        write_out(self.report.as_bytes(), out)
     }
 
     /// Answers what is left at the end of the input, and writes the report behind it, if it is asked for.
@@ -201,22 +201,22 @@ impl Shell {
         ensures late { IfErr result IsInTheTalk }
         ensures stopped { IfErr result (λ fault. is_stop fault ≡ true → out.new ≡ out.old) }
     {
-        self.lines.clear();
+        self.report.clear();
         if self.add_end(with_report).is_err() {
             return Err(ShellFault::Run(ProgramFault::Stopped));
         }
-        self.write_lines(out)
+        self.write_report(out)
     }
 
     /// Adds the lines behind those of the pieces.
     #[tactic(auto, using(crate::proofs::Lines::ends_with, crate::proofs::Lines::ends_without))]
     fn add_end(&mut self, with_report: bool) -> Result<(), AllocError>
-        ensures { OnOk result (Ends self.old.cutter self.old.engine with_report self.old.lines self.new.lines) }
+        ensures { OnOk result (Ends self.old.cutter self.old.engine with_report self.old.report self.new.report) }
     {
         let at = self.cutter.at();
-        answer_rest(self.alloc, at, self.cutter.bytes(), &mut self.lines)?;
+        answer_rest(self.alloc, at, self.cutter.bytes(), &mut self.report)?;
         if with_report {
-            add_ending(self.alloc, &self.engine, &mut self.lines)
+            add_ending(self.alloc, &self.engine, &mut self.report)
         } else {
             Ok(())
         }

@@ -20,14 +20,14 @@
 //! `skewguard check` runs nothing. It shows what the definitions define and what their assertions cost, and of each
 //! text its first fault, with its line and what may stand there (`checkup`).
 //!
-//! `skewguard explain` says why events of a script are answered so, `skewguard picture` draws its transactions and their
-//! conflicts (`history`, `explain`, `picture`), and `skewguard postgresql` prints the definitions as SQL for another
-//! engine (`postgresql`).
+//! `skewguard explain` says why events of a script are answered so, `skewguard picture` draws its transactions and
+//! their conflicts (`history`, `explain`, `picture`), and `skewguard postgresql` prints the definitions as SQL for
+//! another engine (`postgresql`).
 //!
 //! The module `program` is the command line: which subcommand is meant, and the status to end with. `commands` has the
 //! words that are taken; `runs`, `shells`, `checks`, `explanations` and `translations` what they do; `files` and
-//! `texts` what is read, `signs` the line that shows on a terminal that long work goes on, and `endings` what is said of
-//! a run that failed. A further subcommand is a function in `commands` and a line in `program::run_named`.
+//! `texts` what is read, `signs` the line that shows on a terminal that long work goes on, and `endings` what is said
+//! of a run that failed. A further subcommand is a function in `commands` and a line in `program::run_named`.
 #![tactic(auto)]
 
 mod checks;

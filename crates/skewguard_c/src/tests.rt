@@ -5,9 +5,6 @@ use calls::{Library, open, serve};
 use std::alloc::Global;
 use std::test::*;
 
-/// Lets a value go. Its type is a parameter here, so that the caller's proof does not go over its fields.
-fn let_go<T: Drop>(_value: T) {}
-
 const DEFS: &str =
     "CREATE TABLE DUTY (ID INTEGER PRIMARY KEY, SHIFT INTEGER); INSERT INTO DUTY VALUES (5, 9);";
 
@@ -59,7 +56,7 @@ fn one_session(rt: HostRuntime) -> Result<(), Fail> {
     let one = 1u64.to_le_bytes();
     let mut library = open(alloc, &definitions);
     let told = begins(rt, &mut library, &one) && ends(rt, &mut library, &one);
-    let_go(library);
+    drop(library);
     assert!(rt; told);
     Ok(())
 }
@@ -94,7 +91,7 @@ fn a_statement_with_values(rt: HostRuntime) -> Result<(), Fail> {
     let told = begins(rt, &mut library, &one)
         && inserts(rt, &mut library, &run)
         && forgets(rt, &mut library, &one, &run);
-    let_go(library);
+    drop(library);
     assert!(rt; told);
     Ok(())
 }

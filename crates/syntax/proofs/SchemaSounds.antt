@@ -7,7 +7,7 @@ use Rattle.token.specs.Spellings.{decimal}
 use Rattle.value.specs.declared.values.ColType.TheVariants as kind_of
 use Rattle.syntax.specs.declared.definitions.Definition.{Definition}
 use Rattle.syntax.specs.declared.definitions.Definition.TheVariants as d
-use Rattle.syntax.specs.declared.statements.Step.{Step}
+use Rattle.syntax.specs.declared.statements.ScriptLine.{ScriptLine}
 use Rattle.syntax.specs.Language.{Lexeme, Lexemes, Language, Then, Begins}
 use Rattle.syntax.specs.Language as lang
 use Rattle.syntax.specs.declared.wants.PartInParentheses.{PartInParentheses}
@@ -184,14 +184,14 @@ module _ (n l : ℕ) (below : n + 1 < l) where
   unfolding dg.definitions r.definitions
   defs_s = all_s r.starts_definition ended_def_s def_some refl []
 
-  step_s : Sound n n (dg.step (g.nested l)) (r.step n)
-  unfolding dg.step r.step
-  step_s = then_s (name_s n) (λ w session h. seq_s k.Colon refl (then_s (event_s n l below) (λ w event h. seq_s k.Semicolon refl (sound_pure n (dg.step_of session event)))))
+  script_line_s : Sound n n (dg.script_line (g.nested l)) (r.script_line n)
+  unfolding dg.script_line r.script_line
+  script_line_s = then_s (name_s n) (λ w session h. seq_s k.Colon refl (then_s (event_s n l below) (λ w event h. seq_s k.Semicolon refl (sound_pure n (dg.script_line_of session event)))))
 
-  step_some : (w : Lexemes) (x : Step) → dg.step (g.nested l) w x → 1 ≤ length w
-  unfolding dg.step
-  step_some w x h = second_some g.name k.Colon (λ session. lang.◌>>=◌ (st.one_event (g.nested l)) (λ event. lang.◌>>◌ (lang.token k.Semicolon) (lang.pure (dg.step_of session event)))) w x h
+  script_line_some : (w : Lexemes) (x : ScriptLine) → dg.script_line (g.nested l) w x → 1 ≤ length w
+  unfolding dg.script_line
+  script_line_some w x h = second_some g.name k.Colon (λ session. lang.◌>>=◌ (st.one_event (g.nested l)) (λ event. lang.◌>>◌ (lang.token k.Semicolon) (lang.pure (dg.script_line_of session event)))) w x h
 
   pub script_s : Sound n n (dg.script (g.nested l)) (r.script n)
   unfolding dg.script r.script
-  script_s = all_s r.starts_step step_s step_some refl []
+  script_s = all_s r.starts_script_line script_line_s script_line_some refl []

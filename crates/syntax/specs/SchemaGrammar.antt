@@ -9,7 +9,7 @@ use Rattle.syntax.specs.declared.definitions.Attributes.{Attributes}
 use Rattle.syntax.specs.declared.statements.Mode.{Mode}
 use Rattle.syntax.specs.declared.definitions.Definition.{Definition}
 use Rattle.syntax.specs.declared.definitions.Definition.TheVariants as d
-use Rattle.syntax.specs.declared.statements.Step.{Step}
+use Rattle.syntax.specs.declared.statements.ScriptLine.{ScriptLine}
 use Rattle.syntax.specs.declared.statements.Event.{Event}
 use Rattle.syntax.specs.declared.statements.Insert.{Insert}
 use Rattle.syntax.specs.declared.wants.PartInParentheses.{PartInParentheses}
@@ -84,9 +84,9 @@ attributes =
 unfoldable pub table : Language Definition
 table = token k.Create >> (token k.Table >> (name >>= (λ name. d.Table name <$> parens (list col))))
 
--- the tree of a step of a script: the name of a session, and its event
-abbrev pub step_of : List ℕ → Event → Step
-step_of session event = record { session = session; event = event }
+-- the tree of a line of a script: the name of a session, and its event
+abbrev pub script_line_of : List ℕ → Event → ScriptLine
+script_line_of session event = record { session = session; event = event }
 
 module _ (inner : Language PartInParentheses) where
   -- CREATE ASSERTION name CHECK "(" cond ")" [attrs]
@@ -108,21 +108,21 @@ module _ (inner : Language PartInParentheses) where
   definitions = Behind [] ended_definition
 
   -- name ":" event ";"
-  unfoldable pub step : Language Step
-  step =
+  unfoldable pub script_line : Language ScriptLine
+  script_line =
       name >>= (λ session.
-      token k.Colon >> (one_event inner >>= (λ event. token k.Semicolon >> pure (step_of session event))))
+      token k.Colon >> (one_event inner >>= (λ event. token k.Semicolon >> pure (script_line_of session event))))
 
   -- { name ":" event ";" }
-  unfoldable pub script : Language (List Step)
-  script = Behind [] step
+  unfoldable pub script : Language (List ScriptLine)
+  script = Behind [] script_line
 
 -- definitions, with parentheses nested less deep than the number
 abbrev pub schemas : ℕ → Language (List Definition)
 schemas n = definitions (nested n)
 
 -- scripts, with parentheses nested less deep than the number
-abbrev pub scripts : ℕ → Language (List Step)
+abbrev pub scripts : ℕ → Language (List ScriptLine)
 scripts n = script (nested n)
 
 -- definitions, whose parentheses nest as deep as they like: what DEFS has to be
@@ -130,5 +130,5 @@ abbrev pub IsSchema : Language (List Definition)
 IsSchema = Some_level schemas
 
 -- a script, whose parentheses nest as deep as they like: what SCRIPT has to be
-abbrev pub IsScript : Language (List Step)
+abbrev pub IsScript : Language (List ScriptLine)
 IsScript = Some_level scripts

@@ -10,10 +10,10 @@ use Rattle.syntax.specs.declared.definitions.Attributes.{Attributes}
 use Rattle.syntax.specs.declared.statements.Mode.{Mode}
 use Rattle.syntax.specs.declared.definitions.Definition.{Definition}
 use Rattle.syntax.specs.declared.definitions.Definition.TheVariants as d
-use Rattle.syntax.specs.declared.statements.Step.{Step}
+use Rattle.syntax.specs.declared.statements.ScriptLine.{ScriptLine}
 use Rattle.syntax.specs.declared.statements.Insert.{Insert}
 use Rattle.syntax.specs.Readers.{name, cond_at}
-use Rattle.syntax.specs.SchemaGrammar.{is_width, varchar_of, is_present, marks_of, column_definition, attributes_of, step_of}
+use Rattle.syntax.specs.SchemaGrammar.{is_width, varchar_of, is_present, marks_of, column_definition, attributes_of, script_line_of}
 use Rattle.syntax.specs.StatementReaders.{insert, check_time, one_event}
 use Rattle.syntax.specs.Language.{Lexeme}
 use Rattle.syntax.specs.Reading.{Reader, ◌>>=◌, ◌>>◌, ◌<$>◌, pure, refuse, by_kind, expect, expect_where, optional, list, all, parens}
@@ -86,9 +86,9 @@ starts_definition k.Insert = true
 starts_definition _ = false
 
 -- whether a script goes on: with the name of a session
-abbrev pub starts_step : Kind → Bool
-starts_step k.Name = true
-starts_step _ = false
+abbrev pub starts_script_line : Kind → Bool
+starts_script_line k.Name = true
+starts_script_line _ = false
 
 -- how many parentheses may be opened
 module _ (n : ℕ) where
@@ -147,11 +147,11 @@ module _ (n : ℕ) where
   definitions = all starts_definition ended_definition []
 
   -- reads name ":" event ";"
-  unfoldable pub step : Reader Step
-  step =
+  unfoldable pub script_line : Reader ScriptLine
+  script_line =
       name >>= (λ session.
-      expect k.Colon >> (one_event n >>= (λ event. expect k.Semicolon >> pure (step_of session event))))
+      expect k.Colon >> (one_event n >>= (λ event. expect k.Semicolon >> pure (script_line_of session event))))
 
   -- reads script: { name ":" event ";" }
-  unfoldable pub script : Reader (List Step)
-  script = all starts_step step []
+  unfoldable pub script : Reader (List ScriptLine)
+  script = all starts_script_line script_line []

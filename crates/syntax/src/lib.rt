@@ -114,6 +114,6 @@ mod wants;
 pub use definitions::{Attributes, ColumnDefinition, Definition, Marks};
 pub use laws::condition_has_one_tree;
 pub use statement_laws::{event_has_one_tree, schema_has_one_tree, script_has_one_tree};
-pub use statements::{Assignment, Event, Insert, Mode, Statement, Step, UpdateSource, Which};
+pub use statements::{Assignment, Event, Insert, Mode, ScriptLine, Statement, UpdateSource, Which};
 pub use trees::{Aggregate, ColumnName, Condition, Expression, Query, SelectList};
 pub use wants::{PartInParentheses, Want};

@@ -2,7 +2,7 @@
 
 ghost use Rattle.std.specs.Prelude.{◌≡◌, List};
 ghost use Rattle.syntax.specs.declared.statements.Event.{Event};
-ghost use Rattle.syntax.specs.declared.statements.Step.{Step};
+ghost use Rattle.syntax.specs.declared.statements.ScriptLine.{ScriptLine};
 ghost use Rattle.syntax.specs.declared.definitions.Definition.{Definition};
 ghost use Rattle.syntax.specs.Language.{Lexemes};
 ghost use Rattle.syntax.specs.StatementGrammar.{IsEvent};
@@ -18,7 +18,7 @@ pub fn schema_has_one_tree()
     ensures { (ts : Lexemes) (a b : List Definition) → IsSchema ts a → IsSchema ts b → a ≡ b }
 {}
 
-/// No text is a script with two lists of steps.
+/// No text is a script with two lists of lines.
 pub fn script_has_one_tree()
-    ensures { (ts : Lexemes) (a b : List Step) → IsScript ts a → IsScript ts b → a ≡ b }
+    ensures { (ts : Lexemes) (a b : List ScriptLine) → IsScript ts a → IsScript ts b → a ≡ b }
 {}

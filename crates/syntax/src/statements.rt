@@ -40,7 +40,7 @@ pub enum Mode {
     Immediate,
 }
 
-/// A statement. `keeps` is the condition of its WHERE, in a box, since most steps of a script have none.
+/// A statement. `keeps` is the condition of its WHERE, in a box, since most lines of a script have none.
 #[derive(Drop)]
 pub enum Statement {
     Insert(Insert),
@@ -77,9 +77,9 @@ pub enum Event {
     Run(Statement),
 }
 
-/// An event, and the name of the session that it is of.
+/// A line of a script: an event, and the name of the session that it is of.
 #[derive(Drop)]
-pub struct Step {
+pub struct ScriptLine {
     pub session: Text,
     pub event: Event,
 }

@@ -71,6 +71,14 @@ names_of tables = map (λ table. table.0) tables
 abbrev pub layouts_of : Tables → List Layout
 layouts_of tables = map (λ table. table.1) tables
 
+-- what the table at a place shows of its columns
+abbrev pub layout_at : ℕ → List Layout → Layout
+layout_at table layouts = slice_index_or layouts table (record { columns = []; key = 0 })
+
+-- the place of a table's key column
+abbrev pub key_of : ℕ → List Layout → ℕ
+key_of table layouts = (layout_at table layouts).key
+
 -- the place of the table of a name
 abbrev pub position_of : List ℕ → Tables → Option ℕ
 position_of name tables = position (pointwise nat_eq name) (names_of tables)

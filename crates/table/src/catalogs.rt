@@ -9,7 +9,7 @@ ghost use Rattle.value.specs.declared.refusals.Refusal.TheVariants.{NameTaken, N
 
 use crate::schemas::Schema;
 use indexmap::IndexMap;
-use std::alloc::Global;
+use std::alloc::{AllocError, Global};
 use std::marker::Model;
 use value::{Refusal, Text};
 
@@ -90,6 +90,16 @@ impl Catalog {
         if self.tables.contains_key(&name) {
             return Err(Refusal::NameTaken { name });
         }
+        self.add_new(name, schema)?;
+        Ok(())
+    }
+
+    /// Puts a table whose name is not there yet behind the others. After an error the catalog is what it was.
+    pub fn add_new(&mut self, name: Text, schema: Schema) -> Result<(), AllocError>
+        requires { IsNone (layout_of name self.old) }
+        ensures ok { OnOk result (self.new ≡ self.old ++ (name, schema) ∷ []) }
+        ensures err { OnErr result (self.new ≡ self.old) }
+    {
         self.tables.insert(name, schema)?;
         Ok(())
     }

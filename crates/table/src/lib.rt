@@ -12,6 +12,10 @@
 //! and the types of the values, and then column by column whether NULL may stand there and whether the value is in
 //! range. `Catalog` holds the schemas of a database: each name once, in the order of creation.
 //!
+//! What stands at a place: [`value_at`] and [`value_or`] are what a row has in a column, [`schema_at`] and [`name_at`]
+//! the schema and the name of a catalog's table, and [`key_column`] is the place of a table's key column. Checked
+//! statements and resolved assertions name columns and tables so.
+//!
 //! A *condition* (ISO/IEC 9075:1992, search condition) is a tree: comparisons, IS NULL and EXISTS at its leaves, and
 //! IS, NOT, AND and OR above them. An *expression* is a tree of literals, columns and *slots* under negation, sums
 //! and products. A column is named by its place in the row. A slot stands for a set function or a subquery that is
@@ -54,6 +58,7 @@ mod catalogs;
 mod conds;
 mod evals;
 mod exprs;
+mod places;
 mod rows;
 mod schemas;
 mod slots;
@@ -65,6 +70,7 @@ pub use catalogs::Catalog;
 pub use conds::Cond;
 pub use evals::{LentValue, evaluate};
 pub use exprs::Expr;
+pub use places::{key_column, name_at, schema_at, value_at, value_or};
 pub use rows::{Change, Row};
 pub use schemas::{Column, LARGEST, Schema};
 pub use slots::{SlotKind, SlotValue, Slots};

@@ -10,14 +10,11 @@ use std::process::Abort;
 use std::test::Fail;
 use value::Refusal;
 
-/// Lets a value go. Its type is a parameter here, so that the caller's proof does not go over its fields.
-fn let_go<T: Drop>(_value: T) {}
-
 /// The tables and assertions of a text.
 fn view_of(alloc: Global, defs: &str) -> Result<View, Refusal> {
     let definitions = parse_schema(alloc, defs.as_bytes())?;
     let view = admit(alloc, definitions.as_slice());
-    let_go(definitions);
+    drop(definitions);
     view
 }
 
@@ -26,7 +23,7 @@ fn sql_of(alloc: Global, defs: &str) -> Result<Vec<u8>, Fail> {
     let view = view_of(alloc, defs)?;
     let mut out = Vec::new(alloc);
     print_into(alloc, &view, &mut out)?;
-    let_go(view);
+    drop(view);
     Ok(out)
 }
 
@@ -86,7 +83,7 @@ fn long_names(rt: HostRuntime) -> Result<(), Fail> {
     let view = view_of(alloc, defs)?;
     let mut out = Vec::new(alloc);
     let printed = print_into(alloc, &view, &mut out);
-    let_go(view);
+    drop(view);
     assert!(&rt; matches!(printed, Err(PrintFault::LongName { .. })));
     assert!(&rt; out.is_empty());
     Ok(())

@@ -1,6 +1,6 @@
 //! Files, readers and writers that fail.
 
-use crate::texts::{KIM, LEDGER, TABLES};
+use histories::{KIM, LEDGER, TABLES};
 use replay::{ProgramFault, ReadFault, fault_of, read_all, replay_into};
 use std::io;
 use std::io::{ErrorKind, Read, Write};

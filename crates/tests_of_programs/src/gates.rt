@@ -40,7 +40,7 @@ impl Count {
     }
 }
 
-/// Holds each step until all steps before it were answered, in the order of the sessions that they are of.
+/// Holds each line until all lines before it were answered, in the order of the sessions that they are of.
 #[derive(Drop)]
 pub struct InTurn {
     order: &'static [u8],
@@ -60,9 +60,9 @@ impl InTurn {
     }
 }
 
-/// The place in the order of a step of a session.
-fn turn_of(order: &[u8], session: usize, step: usize) -> usize {
-    let mut left = step;
+/// The place in the order of a line of a session.
+fn turn_of(order: &[u8], session: usize, line: usize) -> usize {
+    let mut left = line;
     for (place, other) in order.iter().enumerate() {
         if usize::from(*other) != session {
             continue;
@@ -76,17 +76,17 @@ fn turn_of(order: &[u8], session: usize, step: usize) -> usize {
 }
 
 impl Gate for InTurn {
-    fn before(&self, session: usize, step: usize) {
+    fn before(&self, session: usize, line: usize) {
         self.answered
-            .wait_for(turn_of(self.order, session, step) as u64);
+            .wait_for(turn_of(self.order, session, line) as u64);
     }
 
-    fn after(&self, _session: usize, _step: usize) {
+    fn after(&self, _session: usize, _line: usize) {
         self.answered.add_one();
     }
 }
 
-/// Holds the first step of each of two sessions until the other one has come to its own.
+/// Holds the first line of each of two sessions until the other one has come to its own.
 #[derive(Drop)]
 pub struct Meeting {
     come: Count,
@@ -103,18 +103,18 @@ impl Meeting {
 }
 
 impl Gate for Meeting {
-    fn before(&self, _session: usize, step: usize) {
-        if step == 0 {
+    fn before(&self, _session: usize, line: usize) {
+        if line == 0 {
             self.come.add_one();
             self.come.wait_for(2);
         }
     }
 
-    fn after(&self, _session: usize, _step: usize) {}
+    fn after(&self, _session: usize, _line: usize) {}
 }
 
 /// Holds the first session behind its second statement until the second one, which begins after it, has committed
-/// three times: each of its third steps is a COMMIT.
+/// three times: each of its third lines is a COMMIT.
 #[derive(Drop)]
 pub struct Held {
     begun: Count,
@@ -135,14 +135,14 @@ impl Held {
 }
 
 impl Gate for Held {
-    fn before(&self, session: usize, step: usize) {
-        if session == 1 && step == 0 {
+    fn before(&self, session: usize, line: usize) {
+        if session == 1 && line == 0 {
             self.begun.wait_for(1);
         }
     }
 
-    fn after(&self, session: usize, step: usize) {
-        match (session, step) {
+    fn after(&self, session: usize, line: usize) {
+        match (session, line) {
             (0, 0) => self.begun.add_one(),
             (0, 2) => self.commits.wait_for(3),
             (1, 2 | 5 | 8) => self.commits.add_one(),

@@ -1,7 +1,8 @@
 //! Whole texts through the engine, by the bytes that it writes.
 
-use crate::texts::{COVER, TABLES, line_of};
+use crate::texts::line_of;
 use commit::{Engine, admit};
+use histories::{COVER, TABLES};
 use parse::{parse_schema, parse_script};
 use replay::{ProgramFault, replay_into};
 use std::alloc::Global;
@@ -40,12 +41,12 @@ pub fn prints(
 pub fn locks_kept(alloc: Global, more: &str, script: &str) -> Result<Vec<usize>, Fail> {
     let defs = format!(in alloc; "{TABLES}{more}")?;
     let definitions = parse_schema(alloc, defs.as_bytes())?;
-    let steps = parse_script(alloc, script.as_bytes())?;
+    let lines = parse_script(alloc, script.as_bytes())?;
     let view = admit(alloc, definitions.as_slice())?;
-    let mut engine = Engine::new(alloc, 1_000_000, view, steps.as_slice())?;
+    let mut engine = Engine::new(alloc, 1_000_000, view, lines.as_slice())?;
     let mut kept = Vec::new(alloc);
-    for step in steps.as_slice() {
-        let _answer = engine.answer(step);
+    for line in lines.as_slice() {
+        let _answer = engine.answer(line);
         kept.push(engine.core().locks())?;
     }
     Ok(kept)

@@ -1,7 +1,8 @@
 //! Statements, modes and their checks, by the bytes that they print.
 
 use crate::replays::prints_over_tables;
-use crate::texts::{COVER, FUNDS};
+use crate::texts::FUNDS;
+use histories::COVER;
 use std::test::Fail;
 
 /// The assertion COVER with other attributes, and some rows.

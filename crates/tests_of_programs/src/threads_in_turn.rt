@@ -4,10 +4,14 @@ ghost use Rattle.std.specs.Prelude.{◌≡◌};
 
 use crate::files::BrittleWriter;
 use crate::gates::{Held, InTurn, Meeting};
-use crate::texts::{
-    COVER, EIGHT, KIM, LEDGER, LEDGER_ORDER, READ_AND_WRITE, SEVEN, TABLES, line_of,
-};
+use crate::texts::{defs_of, line_of};
 use definitions::Definitions;
+use histories::{
+    DISJOINT_SHIFTS, HARMLESS_PIVOT, History, KIM, LATE_READER, LEDGER, LEDGER_TURNS,
+    LEDGER_WRITE_SKEW, PIVOT_REFUSED, READ_ONLY_INSERT, READ_ONLY_READER_PASSES,
+    READ_ONLY_READER_REFUSED, READER_BEFORE_WRITER, READER_REFUSED, SAME_KEY_INSERTED_TWICE,
+    SHIFT_WRITE_SKEW, TABLES,
+};
 use parse::{parse_schema, parse_script};
 use replay::ProgramFault;
 use session::{Limits, Manager, Named, Shelf};
@@ -46,152 +50,87 @@ where
     }
 }
 
-/// Runs a script in the order of its steps, which is given by the sessions that they are of, over the tables above
-/// and what is more.
+/// The history's lines, grouped by session.
 fn prints_in_turn(
     rt: &(impl Threads + Wait + Sync + Abort + Alloc<A = Global>),
-    more: &str,
-    script: &str,
-    order: &'static [u8],
-    want: &str,
+    history: &History,
 ) -> Result<(), Fail> {
-    let defs = format!(in rt.alloc(); "{TABLES}{more}")?;
-    let gate = InTurn::new(order);
-    let got = written(rt, defs.as_str(), script, &gate)?;
-    assert!(rt; !gate.gave_up());
+    let got = written_in_turn(rt, history)?;
+    let want = format!(in rt.alloc(); "{}{}", history.grouped, history.closing)?;
     assert_eq!(rt; got.as_slice(), want.as_bytes());
     Ok(())
 }
 
-/// Each of two goes off call, since the other one is on call.
+/// What is written for a history whose lines come in their turns.
+fn written_in_turn(
+    rt: &(impl Threads + Wait + Sync + Abort + Alloc<A = Global>),
+    history: &History,
+) -> Result<Vec<u8>, Fail> {
+    let defs = defs_of(rt.alloc(), history)?;
+    let gate = InTurn::new(history.turns);
+    let got = written(rt, defs.as_str(), history.script, &gate)?;
+    assert!(rt; !gate.gave_up());
+    Ok(got)
+}
+
 #[test]
 fn shift_write_skew(rt: HostRuntime) -> Result<(), Fail> {
-    let more = format!(in rt.alloc(); "{COVER}{SEVEN}")?;
-    prints_in_turn(
-        &rt,
-        more.as_str(),
-        "A: BEGIN; B: BEGIN; A: UPDATE DUTY SET ONCALL = 0 WHERE ID = 1;
-         B: UPDATE DUTY SET ONCALL = 0 WHERE ID = 2; A: COMMIT; B: COMMIT;",
-        &[0, 1, 0, 1, 0, 1],
-        "A: BEGIN 0\nA: UPDATE 1\nA: COMMIT 1\n\
-         B: BEGIN 0\nB: UPDATE 1\nB: REFUSED 13 40001 READER 1 PIVOT THIS WRITER 1\n\
-         COMMITS 1\n1 A SNAPSHOT 0 ROWS 1\nSERIAL 1\nREFUSED 1\nB 13 40001 READER 1 PIVOT THIS WRITER 1\n\
-         ASSERTIONS 1\nCOVER TRUE\n",
-    )
+    prints_in_turn(&rt, &SHIFT_WRITE_SKEW)
 }
 
 #[test]
 fn disjoint_shifts(rt: HostRuntime) -> Result<(), Fail> {
-    let more = format!(in rt.alloc(); "{COVER}{SEVEN}{EIGHT}")?;
-    prints_in_turn(
-        &rt,
-        more.as_str(),
-        "A: BEGIN; B: BEGIN; A: UPDATE DUTY SET ONCALL = 0 WHERE ID = 1;
-         B: UPDATE DUTY SET ONCALL = 0 WHERE ID = 3; A: COMMIT; B: COMMIT;",
-        &[0, 1, 0, 1, 0, 1],
-        "A: BEGIN 0\nA: UPDATE 1\nA: COMMIT 1\nB: BEGIN 0\nB: UPDATE 1\nB: COMMIT 2\n\
-         COMMITS 2\n1 A SNAPSHOT 0 ROWS 1\n2 B SNAPSHOT 0 ROWS 1\nSERIAL 1 2\nREFUSED 0\nASSERTIONS 1\n\
-         COVER TRUE\n",
-    )
+    prints_in_turn(&rt, &DISJOINT_SHIFTS)
 }
 
 #[test]
 fn ledger_write_skew(rt: HostRuntime) -> Result<(), Fail> {
-    prints_in_turn(
-        &rt,
-        KIM,
-        LEDGER,
-        &LEDGER_ORDER,
-        "A: BEGIN 0\nA: SELECT 1\n  100\nA: SELECT 1\n  50\nA: UPDATE 1\nA: COMMIT 1\n\
-         B: BEGIN 0\nB: SELECT 1\n  100\nB: SELECT 1\n  50\nB: UPDATE 1\n\
-         B: REFUSED 13 40001 READER 1 PIVOT THIS WRITER 1\n\
-         COMMITS 1\n1 A SNAPSHOT 0 ROWS 1\nSERIAL 1\nREFUSED 1\nB 13 40001 READER 1 PIVOT THIS WRITER 1\n\
-         ASSERTIONS 0\n",
-    )
+    prints_in_turn(&rt, &LEDGER_WRITE_SKEW)
 }
 
 #[test]
 fn reader_before_writer(rt: HostRuntime) -> Result<(), Fail> {
-    prints_in_turn(
-        &rt,
-        KIM,
-        "A: BEGIN; A: SELECT BAL FROM ACCT WHERE ID = 1; B: BEGIN; B: UPDATE ACCT SET BAL = 0 WHERE ID = 1;
-         B: COMMIT; A: COMMIT;",
-        &[0, 0, 1, 1, 1, 0],
-        "A: BEGIN 0\nA: SELECT 1\n  100\nA: COMMIT 2\nB: BEGIN 0\nB: UPDATE 1\nB: COMMIT 1\n\
-         COMMITS 2\n1 B SNAPSHOT 0 ROWS 1\n2 A SNAPSHOT 0 ROWS 0\nSERIAL 2 1\nREFUSED 0\nASSERTIONS 0\n",
-    )
-}
-
-/// X, P and Y run, and commit in this order.
-fn prints_commits(
-    rt: &(impl Threads + Wait + Sync + Abort + Alloc<A = Global>),
-    commits: &str,
-    order: &'static [u8],
-    want: &str,
-) -> Result<(), Fail> {
-    let more = format!(in rt.alloc(); "{COVER}{SEVEN}{KIM}")?;
-    let script = format!(in rt.alloc(); "X: BEGIN;{READ_AND_WRITE}{commits}")?;
-    prints_in_turn(rt, more.as_str(), script.as_str(), order, want)
+    prints_in_turn(&rt, &READER_BEFORE_WRITER)
 }
 
 #[test]
 fn harmless_pivot(rt: HostRuntime) -> Result<(), Fail> {
-    prints_commits(
-        &rt,
-        "X: COMMIT; Y: COMMIT; P: COMMIT;",
-        &[0, 1, 2, 0, 1, 1, 2, 0, 2, 1],
-        "X: BEGIN 0\nX: SELECT 1\n  1\nX: COMMIT 1\n\
-         P: BEGIN 0\nP: SELECT 1\n  100\nP: UPDATE 1\nP: COMMIT 3\n\
-         Y: BEGIN 0\nY: UPDATE 1\nY: COMMIT 2\n\
-         COMMITS 3\n1 X SNAPSHOT 0 ROWS 0\n2 Y SNAPSHOT 0 ROWS 1\n3 P SNAPSHOT 0 ROWS 1\nSERIAL 1 3 2\n\
-         REFUSED 0\nASSERTIONS 1\nCOVER TRUE\n",
-    )
+    prints_in_turn(&rt, &HARMLESS_PIVOT)
 }
 
 #[test]
 fn pivot_refused(rt: HostRuntime) -> Result<(), Fail> {
-    prints_commits(
-        &rt,
-        "Y: COMMIT; X: COMMIT; P: COMMIT;",
-        &[0, 1, 2, 0, 1, 1, 2, 2, 0, 1],
-        "X: BEGIN 0\nX: SELECT 1\n  1\nX: COMMIT 2\n\
-         P: BEGIN 0\nP: SELECT 1\n  100\nP: UPDATE 1\nP: REFUSED 13 40001 READER 2 PIVOT THIS WRITER 1\n\
-         Y: BEGIN 0\nY: UPDATE 1\nY: COMMIT 1\n\
-         COMMITS 2\n1 Y SNAPSHOT 0 ROWS 1\n2 X SNAPSHOT 0 ROWS 0\nSERIAL 1 2\nREFUSED 1\n\
-         P 13 40001 READER 2 PIVOT THIS WRITER 1\nASSERTIONS 1\nCOVER TRUE\n",
-    )
+    prints_in_turn(&rt, &PIVOT_REFUSED)
 }
 
 #[test]
 fn reader_refused(rt: HostRuntime) -> Result<(), Fail> {
-    prints_commits(
-        &rt,
-        "Y: COMMIT; P: COMMIT; X: COMMIT;",
-        &[0, 1, 2, 0, 1, 1, 2, 2, 1, 0],
-        "X: BEGIN 0\nX: SELECT 1\n  1\nX: REFUSED 13 40001 READER THIS PIVOT 2 WRITER 1\n\
-         P: BEGIN 0\nP: SELECT 1\n  100\nP: UPDATE 1\nP: COMMIT 2\n\
-         Y: BEGIN 0\nY: UPDATE 1\nY: COMMIT 1\n\
-         COMMITS 2\n1 Y SNAPSHOT 0 ROWS 1\n2 P SNAPSHOT 0 ROWS 1\nSERIAL 2 1\nREFUSED 1\n\
-         X 13 40001 READER THIS PIVOT 2 WRITER 1\nASSERTIONS 1\nCOVER TRUE\n",
-    )
+    prints_in_turn(&rt, &READER_REFUSED)
 }
 
 #[test]
 fn late_reader(rt: HostRuntime) -> Result<(), Fail> {
-    let more = format!(in rt.alloc(); "{COVER}{SEVEN}{KIM}")?;
-    prints_in_turn(
-        &rt,
-        more.as_str(),
-        "P: BEGIN; Y: BEGIN; P: SELECT BAL FROM ACCT WHERE ID = 1; P: UPDATE DUTY SET ONCALL = 0 WHERE ID = 1;
-         Y: UPDATE ACCT SET BAL = 0 WHERE ID = 1; Y: COMMIT; X: BEGIN; X: SELECT ONCALL FROM DUTY WHERE ID = 1;
-         X: COMMIT; P: COMMIT;",
-        &[0, 1, 0, 0, 1, 1, 2, 2, 2, 0],
-        "P: BEGIN 0\nP: SELECT 1\n  100\nP: UPDATE 1\nP: REFUSED 13 40001 READER 2 PIVOT THIS WRITER 1\n\
-         Y: BEGIN 0\nY: UPDATE 1\nY: COMMIT 1\nX: BEGIN 1\nX: SELECT 1\n  1\nX: COMMIT 2\n\
-         COMMITS 2\n1 Y SNAPSHOT 0 ROWS 1\n2 X SNAPSHOT 1 ROWS 0\nSERIAL 1 2\nREFUSED 1\n\
-         P 13 40001 READER 2 PIVOT THIS WRITER 1\nASSERTIONS 1\nCOVER TRUE\n",
-    )
+    prints_in_turn(&rt, &LATE_READER)
+}
+
+#[test]
+fn read_only_reader_passes(rt: HostRuntime) -> Result<(), Fail> {
+    prints_in_turn(&rt, &READ_ONLY_READER_PASSES)
+}
+
+#[test]
+fn read_only_reader_refused(rt: HostRuntime) -> Result<(), Fail> {
+    prints_in_turn(&rt, &READ_ONLY_READER_REFUSED)
+}
+
+#[test]
+fn read_only_insert(rt: HostRuntime) -> Result<(), Fail> {
+    prints_in_turn(&rt, &READ_ONLY_INSERT)
+}
+
+#[test]
+fn same_key_inserted_twice(rt: HostRuntime) -> Result<(), Fail> {
+    prints_in_turn(&rt, &SAME_KEY_INSERTED_TWICE)
 }
 
 /// Each of two sessions begins only once the other one is there too.
@@ -268,7 +207,7 @@ where
 {
     let alloc = rt.alloc();
     let defs = format!(in alloc; "{TABLES}{KIM}")?;
-    let gate = InTurn::new(&LEDGER_ORDER);
+    let gate = InTurn::new(LEDGER_TURNS);
     let mut out = BrittleWriter::new(fails_at);
     let shelf = Shelf::new(alloc)?;
     let run = threads_into::<Brand, R, InTurn, BrittleWriter>(
@@ -383,10 +322,10 @@ fn manager_of_one<N: Named, R: Wait>(
     Ok(Manager::open(rt, alloc, shelf, 0, definitions, limits)?)
 }
 
-/// A script of two steps, whose lines are those of A.
+/// A script of two lines, which are those of A.
 fn script_of(alloc: Global, name: &str) -> Result<Script, Fail> {
     Ok(Script {
         name: Text::from_str(alloc, name)?,
-        steps: parse_script(alloc, b"A: BEGIN; A: COMMIT;")?,
+        lines: parse_script(alloc, b"A: BEGIN; A: COMMIT;")?,
     })
 }

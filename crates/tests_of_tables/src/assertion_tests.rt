@@ -1,7 +1,6 @@
 //! That copies are made, and the kinds of set functions.
 
 use crate::forms::{all_rows, by_group, by_row, single};
-use crate::shared::let_go;
 use assertion::{Assertion, ConstraintAttributes, Form, kind};
 use std::alloc::{AllocError, Global};
 use std::test::Fail;
@@ -20,7 +19,7 @@ fn copied(alloc: Global, form: &Form) -> Result<Assertion, AllocError> {
         form: form.copy(alloc)?,
     };
     let copy = assertion.copy(alloc);
-    let_go(assertion);
+    drop(assertion);
     copy
 }
 
@@ -64,10 +63,10 @@ fn is_copied(
 ) -> Result<bool, AllocError> {
     let form = made?;
     let copied = copied(alloc, &form);
-    let_go(form);
+    drop(form);
     let copy = copied?;
     let is_cover = is_cover(&copy, table, aggregate);
-    let_go(copy);
+    drop(copy);
     Ok(is_cover)
 }
 

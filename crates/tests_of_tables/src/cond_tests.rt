@@ -4,7 +4,7 @@ ghost use Rattle.std.specs.Prelude.{◌≡◌, [], ◌∷◌, IfOk};
 ghost use Rattle.table.specs.Bounds.{IsSmallRow};
 ghost use Rattle.table.specs.Slots.{kinds_of};
 
-use crate::shared::{let_go, same, text};
+use crate::shared::{same, text};
 use sqlite_items::{Boxed, Items};
 use std::alloc::{AllocError, Global};
 use std::process::Abort;
@@ -93,7 +93,7 @@ fn is_told(
 ) -> Result<(), Fail> {
     let cond = made?;
     let found = told(rt.alloc(), &cond);
-    let_go(cond);
+    drop(cond);
     same(rt, found?, wanted);
     Ok(())
 }
@@ -112,7 +112,7 @@ fn either(alloc: Global, left: Truth, right: Truth) -> Result<Cond, AllocError> 
 fn copied(alloc: Global, made: Result<Cond, AllocError>) -> Result<Cond, AllocError> {
     let cond = made?;
     let copy = cond.copy(alloc);
-    let_go(cond);
+    drop(cond);
     copy
 }
 
@@ -207,7 +207,7 @@ fn lists(rt: HostRuntime) -> Result<(), Fail> {
 fn is_or(alloc: Global) -> Result<bool, AllocError> {
     let made = Cond::is_in(alloc, &number(5), vec![in alloc; number(5)]?);
     let is_or = matches!(&made, Ok(Cond::Or(_)));
-    let_go(made);
+    drop(made);
     Ok(is_or)
 }
 
@@ -246,7 +246,7 @@ fn equal_where_copied(text: Expr, copy: Result<Expr, AllocError>) -> Result<Cond
     match copy {
         Ok(copy) => Ok(equal(copy, text)),
         Err(error) => {
-            let_go(text);
+            drop(text);
             Err(error)
         }
     }
@@ -293,7 +293,7 @@ fn bound_or_zero(found: &Result<u128, Refusal>) -> u128 {
 fn bound_in(expr: &Expr, kinds: &[SlotKind]) -> u128 {
     let found = bound(expr, kinds);
     let number = bound_or_zero(&found);
-    let_go(found);
+    drop(found);
     number
 }
 
@@ -301,7 +301,7 @@ fn bound_in(expr: &Expr, kinds: &[SlotKind]) -> u128 {
 fn bound_of_square(alloc: Global, factor: i64) -> Result<u128, AllocError> {
     let square = square(alloc, factor)?;
     let found = bound_in(&square, &[]);
-    let_go(square);
+    drop(square);
     Ok(found)
 }
 
@@ -309,7 +309,7 @@ fn bound_of_square(alloc: Global, factor: i64) -> Result<u128, AllocError> {
 fn bound_of_extreme() -> u128 {
     let slot = Expr::Slot(0);
     let found = bound_in(&slot, &[SlotKind::Extreme]);
-    let_go(slot);
+    drop(slot);
     found
 }
 

@@ -7,7 +7,7 @@ ghost use Rattle.assertion.specs.Meaning.{rows_of};
 ghost use Rattle.delta.specs.Views.{AreBounded};
 
 use crate::forms::{above_a_hundred, by_group, by_row, single};
-use crate::shared::{column, columns, count, let_go, same, text};
+use crate::shared::{column, columns, count, same, text};
 use assertion::{Assertion, ConstraintAttributes, Form};
 use delta::View;
 use mvrows::Rows;

@@ -1,6 +1,5 @@
 //! That calls succeed, and set functions counted by hand.
 
-use crate::shared::let_go;
 use groups::{Member, Total, Totals};
 use std::alloc::{AllocError, Global};
 use std::process::Abort;
@@ -63,7 +62,7 @@ fn number(
 ) -> Result<Option<i128>, AllocError> {
     let answer = totals.answer(&number_or_null(group), aggregate)?;
     let number = number_in(&answer);
-    let_go(answer);
+    drop(answer);
     Ok(number)
 }
 
@@ -203,7 +202,7 @@ fn rows_in_copy(total: &Total) -> Result<Option<u64>, AllocError> {
 fn counted(total: &Total) -> Result<Option<i128>, AllocError> {
     let answer = total.answer(Aggregate::CountRows)?;
     let number = number_in(&answer);
-    let_go(answer);
+    drop(answer);
     Ok(number)
 }
 

@@ -1,6 +1,6 @@
 //! An index against a plain list of what each key has in the column, and its keys by hand.
 
-use crate::shared::{let_go, text};
+use crate::shared::text;
 use groups::Index;
 use std::alloc::{AllocError, Global};
 use std::test::Fail;
@@ -43,8 +43,8 @@ fn changed(
     let old = row(alloc, key, old)?;
     let new = row(alloc, key, new)?;
     let index = index.with(COLUMN, &Value::Int(key), old.as_ref(), new.as_ref());
-    let_go(old);
-    let_go(new);
+    drop(old);
+    drop(new);
     index
 }
 

@@ -6,7 +6,7 @@ ghost use Rattle.value.specs.Ordered.{HasKey, IsAscending};
 ghost use Rattle.value.specs.ValueOrder.{value_cmp};
 ghost use Rattle.value.specs.declared.values.Value.TheVariants.{Int};
 
-use crate::shared::{let_go, text};
+use crate::shared::text;
 use mvrows::Rows;
 use std::alloc::{AllocError, Global};
 use std::test::Fail;
@@ -225,7 +225,7 @@ fn with_text(alloc: Global, old: &Rows) -> Result<Rows, AllocError>
         new: Some(row(alloc, 5, text(alloc, "AB")?)?),
     };
     let made = old.copy()?.with(KEY, &change);
-    let_go(change);
+    drop(change);
     made
 }
 

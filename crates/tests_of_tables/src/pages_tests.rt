@@ -186,20 +186,20 @@ fn are_long(pages: &Pages<i64>, first: (usize, usize), second: (usize, usize)) -
 
 #[test]
 fn a_full_page_is_cut(rt: HostRuntime) -> Result<(), Fail> {
-    let full = counted(rt.alloc(), 32, true)?;
-    assert!(rt; are_long(&full, (0, 32), (31, 1)));
+    let full = counted(rt.alloc(), 15, true)?;
+    assert!(rt; are_long(&full, (0, 15), (14, 1)));
     let cut = with_number(&full, 0)?;
-    assert!(rt; are_long(&cut, (0, 17), (17, 16)));
-    assert!(rt; are_long(&cut, (16, 1), (33, 0)));
-    count(&rt, full.len(), 32);
+    assert!(rt; are_long(&cut, (0, 8), (8, 8)));
+    assert!(rt; are_long(&cut, (7, 1), (16, 0)));
+    count(&rt, full.len(), 15);
     Ok(())
 }
 
 #[test]
 fn pages_of_keys_that_come_upwards_are_full(rt: HostRuntime) -> Result<(), Fail> {
-    let pages = counted(rt.alloc(), 100, true)?;
-    assert!(rt; are_long(&pages, (0, 31), (31, 31)));
-    assert!(rt; are_long(&pages, (62, 31), (93, 7)));
+    let pages = counted(rt.alloc(), 50, true)?;
+    assert!(rt; are_long(&pages, (0, 14), (14, 14)));
+    assert!(rt; are_long(&pages, (28, 14), (42, 8)));
     Ok(())
 }
 

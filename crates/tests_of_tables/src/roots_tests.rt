@@ -9,7 +9,7 @@ ghost use Rattle.assertion.specs.Bounded.{IsBounded};
 ghost use Rattle.roots.specs.Maintained.{AreMaintained, IsSmallState, IsStepOf};
 
 use crate::forms::{all_rows, by_group, by_row, single};
-use crate::shared::{let_go, same};
+use crate::shared::same;
 use assertion::Form;
 use groups::Totals;
 use mvrows::Rows;
@@ -121,7 +121,7 @@ fn tells(
 {
     let form = made?;
     let found = told_of_insertion(rt.alloc(), &form);
-    let_go(form);
+    drop(form);
     same(rt, found?.as_str(), wanted);
     Ok(())
 }
@@ -179,7 +179,7 @@ fn turns_at(
 ) -> Result<(), Fail> {
     let form = made?;
     let found = candidate_roots(rt.alloc(), &form);
-    let_go(form);
+    drop(form);
     same(rt, found?.as_str(), wanted);
     Ok(())
 }

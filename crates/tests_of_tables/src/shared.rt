@@ -17,9 +17,6 @@ pub fn count(rt: &impl Abort, found: usize, wanted: usize) {
     assert_eq!(rt; found, wanted);
 }
 
-/// Lets a value go. Here its type is a parameter: that a large one may be dropped is proved dearly.
-pub fn let_go<T: Drop>(_value: T) {}
-
 /// A text as a value.
 pub fn text(alloc: Global, text: &str) -> Result<Value, AllocError> {
     Ok(Value::Text(Text::from_str(alloc, text)?))

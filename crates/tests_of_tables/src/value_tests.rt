@@ -1,6 +1,6 @@
 //! What no clause says: printed text, that calls succeed, and a few outside values.
 
-use crate::shared::{let_go, same, text};
+use crate::shared::{same, text};
 use std::alloc::{AllocError, Global};
 use std::cmp::Ordering;
 use std::fmt::Display;
@@ -173,7 +173,7 @@ fn violated(alloc: Global) -> Result<Refusal, AllocError> {
 fn copied(alloc: Global) -> Result<Refusal, AllocError> {
     let refusal = violated(alloc)?;
     let copy = refusal.copy();
-    let_go(refusal);
+    drop(refusal);
     copy
 }
 

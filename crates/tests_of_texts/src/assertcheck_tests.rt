@@ -1,6 +1,6 @@
 //! Each check by texts: what it takes, the order of faults, and what refuses others.
 
-use crate::shared::{add_table, event, let_go, same};
+use crate::shared::{add_table, event, same};
 use assertcheck::{
     Delete, NewRow, Select, Update, check, check_delete, check_insert, check_select, check_update,
 };
@@ -67,7 +67,7 @@ fn checked(alloc: Global, catalog: &Catalog, definition: &Definition) -> &'stati
         } => {
             let made = check(alloc, catalog, name, condition, *attributes);
             let mode = mode(&made);
-            let_go(made);
+            drop(made);
             mode
         }
         Definition::Table { .. } | Definition::Insert(_) => "no assertion",
@@ -82,7 +82,7 @@ fn defines(rt: &(impl Abort + Alloc<A = Global>), text: &str, wanted: &str) -> R
         Some(definition) => checked(rt.alloc(), &catalog, definition),
         None => "no definition",
     };
-    let_go(definitions);
+    drop(definitions);
     same(rt, found, wanted);
     Ok(())
 }
@@ -151,7 +151,7 @@ fn updated(made: &Result<Update, Refusal>) -> &'static str {
 fn insert(alloc: Global, catalog: &Catalog, insert: &Insert) -> &'static str {
     let made = check_insert(alloc, catalog, insert);
     let found = inserted(&made);
-    let_go(made);
+    drop(made);
     found
 }
 
@@ -165,7 +165,7 @@ fn update(
 ) -> &'static str {
     let made = check_update(alloc, catalog, table, sets, keeps);
     let found = updated(&made);
-    let_go(made);
+    drop(made);
     found
 }
 
@@ -178,7 +178,7 @@ fn delete(
 ) -> &'static str {
     let made = check_delete(alloc, catalog, table, keeps);
     let found = deleted(&made);
-    let_go(made);
+    drop(made);
     found
 }
 
@@ -192,7 +192,7 @@ fn select(
 ) -> &'static str {
     let made = check_select(alloc, catalog, columns, table, keeps);
     let found = selected(&made);
-    let_go(made);
+    drop(made);
     found
 }
 
@@ -221,7 +221,7 @@ fn answers(rt: &(impl Abort + Alloc<A = Global>), text: &str, wanted: &str) -> R
         Event::Run(statement) => answer(rt.alloc(), &catalog, statement),
         _ => "no statement",
     };
-    let_go(event);
+    drop(event);
     same(rt, found, wanted);
     Ok(())
 }

@@ -1,6 +1,5 @@
 //! That definitions are taken in and loaded, and that a refused one refuses them all.
 
-use crate::shared::let_go;
 use definitions::Definitions;
 use parse::parse_schema;
 use std::alloc::Global;
@@ -21,7 +20,7 @@ const SHIFT_TWICE: &str =
 fn taken_of(alloc: Global, text: &str) -> Result<Definitions, Refusal> {
     let definitions = parse_schema(alloc, text.as_bytes())?;
     let taken = Definitions::take(alloc, definitions.as_slice());
-    let_go(definitions);
+    drop(definitions);
     taken
 }
 
@@ -43,6 +42,6 @@ fn is_duplicate(answer: &Result<Definitions, Refusal>) -> bool {
 fn a_key_stands_once(rt: HostRuntime) {
     let twice = taken_of(rt.alloc(), SHIFT_TWICE);
     let is_duplicate = is_duplicate(&twice);
-    let_go(twice);
+    drop(twice);
     assert!(rt; is_duplicate);
 }

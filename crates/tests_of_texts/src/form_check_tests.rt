@@ -1,6 +1,6 @@
 //! A condition of each shape.
 
-use crate::shared::{add_table, condition_of, event, expression_of, let_go, same, schema};
+use crate::shared::{add_table, condition_of, event, expression_of, same, schema};
 use assertion::Form;
 use form_check::{
     Columns, Scope, Source, form, numbered_condition, numbered_expression, row_condition,
@@ -53,7 +53,7 @@ fn form_of(
         Some(condition) => {
             let made = form(alloc, catalog, condition);
             let told = told(&made);
-            let_go(made);
+            drop(made);
             told
         }
         None => ("no condition", "none"),
@@ -70,7 +70,7 @@ fn forms(
     let catalog = catalog(rt.alloc())?;
     let event = event(rt.alloc(), text)?;
     let (form, number) = form_of(rt.alloc(), &catalog, condition_of(&event));
-    let_go(event);
+    drop(event);
     same(rt, form, wanted);
     same(rt, number, slots);
     Ok(())
@@ -121,7 +121,7 @@ fn may_stand(alloc: Global, text: &str) -> Result<bool, Refusal> {
     let event = event(alloc, text)?;
     let stands = is_of_row(alloc, scope, condition_of(&event))
         || is_value_of_row(alloc, scope, expression_of(&event));
-    let_go(event);
+    drop(event);
     Ok(stands)
 }
 
@@ -181,7 +181,7 @@ fn slots_of_conditions(rt: HostRuntime) -> Result<(), Fail> {
     ] {
         let event = event(rt.alloc(), text)?;
         let found = slots_in(rt.alloc(), &event);
-        let_go(event);
+        drop(event);
         assert_eq!(rt; found, slots);
     }
     Ok(())
@@ -209,7 +209,7 @@ fn places_of_columns(rt: HostRuntime) -> Result<(), Fail> {
     let own = place_in(&Columns::Own(scope), expression);
     let grouping = place_in(&Columns::Grouping(scope, 1), expression);
     let other = place_in(&Columns::Grouping(scope, 0), expression);
-    let_go(event);
+    drop(event);
     assert_eq!(rt; (none, own), (None, Some(1)));
     assert_eq!(rt; (grouping, other), (Some(0), None));
     Ok(())

@@ -1,6 +1,6 @@
 //! Names that are found, inside and outside, and names that stand for nothing.
 
-use crate::shared::{add_table, condition_of, event, expression_of, let_go, schema};
+use crate::shared::{add_table, condition_of, event, expression_of, schema};
 use form_check::{Scope, look_up_condition, look_up_expression};
 use std::alloc::Global;
 use std::test::Fail;
@@ -33,7 +33,7 @@ fn is_answer(answer: &Result<(), Refusal>, wanted: &str) -> bool {
 /// Whether this name stands for nothing; the answer is let go.
 fn let_go_answer(answer: Result<(), Refusal>, wanted: &str) -> bool {
     let is_answer = is_answer(&answer, wanted);
-    let_go(answer);
+    drop(answer);
     is_answer
 }
 
@@ -79,7 +79,7 @@ fn is_told_over(
     };
     let event = event(alloc, text)?;
     let is_answered = is_answered(alloc, catalog, scope, &event, wanted);
-    let_go(event);
+    drop(event);
     Ok(is_answered)
 }
 

@@ -1,11 +1,11 @@
 //! Texts with their trees, or with the places at which they are refused, written out by hand.
 
-use crate::shared::{event, let_go};
+use crate::shared::event;
 use parse::{parse_schema, parse_script, parse_statement};
 use sqlite_items::Items;
 use std::alloc::{AllocError, Global};
 use std::test::Fail;
-use syntax::{Condition, Definition, Event, Expression, Mode, Statement, Step};
+use syntax::{Condition, Definition, Event, Expression, Mode, ScriptLine, Statement};
 use value::{ColType, Comparison, Refusal, Value};
 
 /// The offset that a refusal names: of Syntax, or of TooDeep.
@@ -20,7 +20,7 @@ enum Place {
 /// The place at which a text is refused.
 fn place_of<T: Drop>(answer: Result<T, Refusal>) -> Place {
     let place = place_in(&answer);
-    let_go(answer);
+    drop(answer);
     place
 }
 
@@ -167,7 +167,7 @@ fn are_three(definitions: &[Definition]) -> bool {
 fn a_schema(rt: HostRuntime) -> Result<(), Fail> {
     let schema = parse_schema(rt.alloc(), SCHEMA)?;
     let are_three = are_three(schema.as_slice());
-    let_go(schema);
+    drop(schema);
     assert!(rt; are_three);
     Ok(())
 }
@@ -218,7 +218,7 @@ fn a_sum_under_a_minus_stays(rt: HostRuntime) -> Result<(), Fail> {
         "DELETE FROM ACCT WHERE (BAL - (A + B)) > -3 AND BAL BETWEEN 1 AND 2 AND TRUTH IS NULL";
     let event = event(rt.alloc(), text)?;
     let is_delete = is_delete(&event);
-    let_go(event);
+    drop(event);
     assert!(rt; is_delete);
     Ok(())
 }
@@ -239,12 +239,12 @@ fn letter(event: &Event) -> u8 {
     }
 }
 
-/// The steps of a script, a letter each.
-fn letters(alloc: Global, steps: &Items<Step>) -> Result<Vec<u8>, AllocError> {
-    steps
+/// The lines of a script, a letter each.
+fn letters(alloc: Global, lines: &Items<ScriptLine>) -> Result<Vec<u8>, AllocError> {
+    lines
         .as_slice()
         .iter()
-        .map(|step| letter(&step.event))
+        .map(|line| letter(&line.event))
         .collect(alloc)
 }
 
@@ -260,7 +260,7 @@ const SCRIPT: &[u8] = b"a: begin; B: begin read only; a: insert into T values (n
 fn letters_of_script(alloc: Global) -> Result<Vec<u8>, Refusal> {
     let script = parse_script(alloc, SCRIPT)?;
     let found = letters(alloc, &script);
-    let_go(script);
+    drop(script);
     Ok(found?)
 }
 

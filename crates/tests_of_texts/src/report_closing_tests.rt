@@ -1,7 +1,6 @@
 //! The lines of the closing part by their bytes, and that the calls succeed.
 
 use crate::report_tests::reads;
-use crate::shared::let_go;
 use alone::{Record, RefusedCommit};
 use assertion::{Assertion, ConstraintAttributes, Form};
 use report::Report;
@@ -117,7 +116,7 @@ fn closed(
     let mut report = Report::new(alloc);
     let commits = [commit];
     let grown = report.add_closing_part(&commits, &[1], refused, assertions, &[Truth::True]);
-    let_go(commits);
+    drop(commits);
     grown?;
     Ok(report)
 }
@@ -159,7 +158,7 @@ fn two_commits(alloc: Global) -> Result<Vec<Record>, Refusal> {
 fn commits_and_their_order_print(rt: HostRuntime) -> Result<(), Fail> {
     let commits = two_commits(rt.alloc())?;
     let report = ordered(rt.alloc(), commits.as_slice(), &[2, 1]);
-    let_go(commits);
+    drop(commits);
     let wanted = "COMMITS 2\n1 B SNAPSHOT 0 ROWS 1\n2 A SNAPSHOT 0 ROWS 0\nSERIAL 2 1\n";
     reads(&rt, &report?, wanted);
     Ok(())
@@ -184,7 +183,7 @@ fn two_refused(alloc: Global) -> Result<Vec<RefusedCommit>, Refusal> {
 fn refused_commits_print(rt: HostRuntime) -> Result<(), Fail> {
     let commits = two_refused(rt.alloc())?;
     let report = refused(rt.alloc(), commits.as_slice());
-    let_go(commits);
+    drop(commits);
     let wanted = "REFUSED 2\nA 10 40002 COVER 7\nB 13 40001 READER 1 PIVOT THIS WRITER 1\n";
     reads(&rt, &report?, wanted);
     Ok(())
@@ -209,7 +208,7 @@ fn two_assertions(alloc: Global) -> Result<Vec<Assertion>, Refusal> {
 fn verdicts_print(rt: HostRuntime) -> Result<(), Fail> {
     let assertions = two_assertions(rt.alloc())?;
     let report = judged(rt.alloc(), assertions.as_slice());
-    let_go(assertions);
+    drop(assertions);
     reads(&rt, &report?, "ASSERTIONS 2\nCOVER UNKNOWN\n");
     Ok(())
 }
@@ -220,7 +219,7 @@ fn add_commit(alloc: Global, report: &mut Report) -> Result<(), Refusal> {
     report.clear();
     let commit = writer(alloc, 12, "A")?;
     let grown = report.add_commit(&commit);
-    let_go(commit);
+    drop(commit);
     Ok(grown?)
 }
 
@@ -229,7 +228,7 @@ fn add_refused(alloc: Global, report: &mut Report) -> Result<(), Refusal> {
     report.add_refused_count(3)?;
     let refused = violation(alloc)?;
     let grown = report.add_refused_commit(&refused);
-    let_go(refused);
+    drop(refused);
     Ok(grown?)
 }
 

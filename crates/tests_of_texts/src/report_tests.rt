@@ -1,6 +1,5 @@
 //! Each line by its bytes, and that the calls succeed.
 
-use crate::shared::let_go;
 use alone::{Answer, Reply};
 use parse::parse_script;
 use report::Report;
@@ -8,7 +7,7 @@ use sqlite_items::Items;
 use std::alloc::{AllocError, Global};
 use std::process::Abort;
 use std::test::Fail;
-use syntax::Step;
+use syntax::ScriptLine;
 use table::Row;
 use value::{Excess, Party, Refusal, Root, Text, Truth, Value};
 
@@ -31,37 +30,41 @@ fn refuses(
     wanted: &str,
 ) -> Result<(), Fail> {
     let report = refused(rt.alloc(), &refusal);
-    let_go(refusal);
+    drop(refusal);
     reads(rt, &report?, wanted);
     Ok(())
 }
 
-/// The lines of the steps, each of which has this answer.
-fn answered(alloc: Global, steps: &[Step], answer: &Answer) -> Result<Report, AllocError> {
+/// The report of the lines of a script, each of which has this answer.
+fn answered(
+    alloc: Global,
+    script_lines: &[ScriptLine],
+    answer: &Answer,
+) -> Result<Report, AllocError> {
     let mut report = Report::new(alloc);
-    for step in steps {
-        report.add_answer(step, answer)?;
+    for script_line in script_lines {
+        report.add_answer(script_line, answer)?;
     }
     Ok(report)
 }
 
-/// The line of the only step of a script, which has this answer.
-fn line(alloc: Global, script: &str, answer: &Answer) -> Result<Report, Refusal> {
-    let steps = parse_script(alloc, script.as_bytes())?;
-    let report = answered(alloc, steps.as_slice(), answer);
-    let_go(steps);
+/// The report of the only line of a script, which has this answer.
+fn answer_line(alloc: Global, script: &str, answer: &Answer) -> Result<Report, Refusal> {
+    let script_lines = parse_script(alloc, script.as_bytes())?;
+    let report = answered(alloc, script_lines.as_slice(), answer);
+    drop(script_lines);
     Ok(report?)
 }
 
-/// Ends the test where this answer to the only step of a script has another line.
+/// Ends the test where this answer to the only line of a script is reported otherwise.
 fn answers(
     rt: &(impl Abort + Alloc<A = Global>),
     script: &str,
     answer: Answer,
     wanted: &str,
 ) -> Result<(), Fail> {
-    let report = line(rt.alloc(), script, &answer);
-    let_go(answer);
+    let report = answer_line(rt.alloc(), script, &answer);
+    drop(answer);
     reads(rt, &report?, wanted);
     Ok(())
 }

@@ -12,9 +12,6 @@ pub fn same(rt: &impl Abort, found: &str, wanted: &str) {
     assert_eq!(rt; found, wanted);
 }
 
-/// Lets a value go. Here its type is a parameter: that a large one may be dropped is proved dearly.
-pub fn let_go<T: Drop>(_value: T) {}
-
 /// A column; a key is never NULL.
 fn column(alloc: Global, name: &str, kind: ColType, is_key: bool) -> Result<Column, Refusal> {
     Ok(Column {

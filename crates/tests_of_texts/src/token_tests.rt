@@ -1,6 +1,5 @@
 //! Texts with their tokens, written out by hand.
 
-use crate::shared::let_go;
 use std::alloc::Global;
 use std::test::Fail;
 use token::{Kind, Token, name_bytes, next_token, number_value, read_tokens, text_bytes};
@@ -108,7 +107,7 @@ enum Answered {
 fn ask_next(text: &[u8], from: usize) -> Answered {
     let answer = next_token(text, from);
     let next = as_answered(&answer);
-    let_go(answer);
+    drop(answer);
     next
 }
 

@@ -1,6 +1,6 @@
 //! Typed and mistyped conditions and forms, and one that is too wide.
 
-use crate::shared::{add_table, columns, condition_of, event, let_go};
+use crate::shared::{add_table, columns, condition_of, event};
 use assertcheck::{
     DataType, aggregate_type, column_type, expression_type, form_is_bounded, form_is_typed,
     is_well_typed,
@@ -39,7 +39,7 @@ fn type_of_sum(
 ) -> Result<Option<DataType>, Refusal> {
     let sum = sum(alloc)?;
     let found = expression_type(&sum, columns, &[slot]);
-    let_go(sum);
+    drop(sum);
     Ok(found)
 }
 
@@ -48,7 +48,7 @@ fn may_be_one(columns: &[Column], column: usize) -> bool {
     let one = Expr::Literal(Value::Int(1));
     let is_one = Cond::Compare(Comparison::Equal, Expr::Column(column), one);
     let is_typed = is_well_typed(&is_one, columns, &[]);
-    let_go(is_one);
+    drop(is_one);
     is_typed
 }
 
@@ -89,7 +89,7 @@ fn judged_of(
     };
     let form = form(alloc, catalog, condition)?;
     let judged = judged(alloc, catalog, &form);
-    let_go(form);
+    drop(form);
     judged
 }
 
@@ -98,7 +98,7 @@ fn told(alloc: Global, text: &str) -> Result<(bool, bool), Refusal> {
     let catalog = catalog(alloc)?;
     let event = event(alloc, text)?;
     let judged = judged_of(alloc, &catalog, condition_of(&event));
-    let_go(event);
+    drop(event);
     judged
 }
 

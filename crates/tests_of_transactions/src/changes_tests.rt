@@ -4,7 +4,7 @@ ghost use Rattle.std.specs.Prelude.{◌≡◌, ◌∷◌, ◌<◌, All, [], leng
 ghost use Rattle.assertcheck.specs.Updates.{IsBoundedSetting};
 ghost use Rattle.table.specs.Bounds.{is_bounded};
 
-use crate::texts::{let_go, view_of};
+use crate::texts::view_of;
 use assertcheck::Setting;
 use changes::{insertion, removals, renewals, selected_rows};
 use delta::View;
@@ -54,7 +54,7 @@ fn answer(
     let row = Row::new(vec![in alloc; value_of(shift), value_of(person)]?)?;
     let answer = insertion(name, 0, view.schema(0), view.rows(0), row);
     let told = word(&answer);
-    let_go(answer);
+    drop(answer);
     Ok(told)
 }
 
@@ -79,7 +79,7 @@ fn rows_are_put_in_or_refused(rt: HostRuntime) -> Result<(), Fail> {
     let name = Text::from_str(rt.alloc(), "ONCALL")?;
     let view = view_of(rt.alloc(), ONCALL)?;
     let outcome = puts_in(&rt, rt.alloc(), &name, &view);
-    let_go(view);
+    drop(view);
     outcome
 }
 
@@ -121,7 +121,7 @@ fn counts_by(alloc: Global, view: &View, filter: &Cond) -> Result<(usize, usize)
 fn counts_of_person(alloc: Global, view: &View, number: i64) -> Result<(usize, usize), Refusal> {
     let filter = person_is(number);
     let found = counts_by(alloc, view, &filter);
-    let_go(filter);
+    drop(filter);
     found
 }
 
@@ -129,7 +129,7 @@ fn counts_of_person(alloc: Global, view: &View, number: i64) -> Result<(usize, u
 fn counts_of_all(alloc: Global, view: &View) -> Result<(usize, usize), Refusal> {
     let filter = Cond::And(Items::new(alloc));
     let found = counts_by(alloc, view, &filter);
-    let_go(filter);
+    drop(filter);
     found
 }
 
@@ -145,7 +145,7 @@ fn takes_out<R: Abort>(rt: &R, alloc: Global, view: &View) -> Result<(), Fail> {
 fn rows_are_taken_out_and_listed(rt: HostRuntime) -> Result<(), Fail> {
     let view = view_of(rt.alloc(), ONCALL)?;
     let outcome = takes_out(&rt, rt.alloc(), &view);
-    let_go(view);
+    drop(view);
     outcome
 }
 
@@ -191,7 +191,7 @@ fn renewed_by(alloc: Global, view: &View, sets: &[Setting], filter: &Cond) -> &'
     }
     let made = renewals(alloc, 0, view.schema(0), view.rows(0), sets, filter);
     let told = renewal_word(&made);
-    let_go(made);
+    drop(made);
     told
 }
 
@@ -200,8 +200,8 @@ fn renewed(alloc: Global, view: &View, value: Expr) -> Result<&'static str, Refu
     let sets = shift_to(alloc, value)?;
     let filter = person_is(1);
     let told = renewed_by(alloc, view, sets.as_slice(), &filter);
-    let_go(filter);
-    let_go(sets);
+    drop(filter);
+    drop(sets);
     Ok(told)
 }
 
@@ -226,6 +226,6 @@ fn renews<R: Abort>(rt: &R, alloc: Global, view: &View) -> Result<(), Fail> {
 fn rows_get_other_values(rt: HostRuntime) -> Result<(), Fail> {
     let view = view_of(rt.alloc(), ONCALL)?;
     let outcome = renews(&rt, rt.alloc(), &view);
-    let_go(view);
+    drop(view);
     outcome
 }

@@ -4,7 +4,6 @@ ghost use Rattle.std.specs.Prelude.{◌≡◌, None, IfOk, OnOk};
 ghost use Rattle.alone.specs.Alone.{IsSound};
 ghost use Rattle.commit.specs.Events.{AreLive};
 
-use crate::texts::let_go;
 use alone::Answer;
 use commit::{
     CommitFailure, Core, Engine, Outcome, admit, replies_are_those_alone, run,
@@ -15,7 +14,7 @@ use parse::{parse_schema, parse_script};
 use std::alloc::{AllocError, Global};
 use std::process::Abort;
 use std::test::Fail;
-use syntax::Step;
+use syntax::ScriptLine;
 use txn::{CloseFailure, ClosedTransaction, Txn};
 use value::{Refusal, Text};
 
@@ -25,16 +24,16 @@ fn tables_of(alloc: Global, text: &str) -> Result<View, Refusal>
 {
     let definitions = parse_schema(alloc, text.as_bytes())?;
     let admitted = admit(alloc, definitions.as_slice());
-    let_go(definitions);
+    drop(definitions);
     admitted
 }
 
 /// The outcome of events over tables.
-fn outcome_over(alloc: Global, tables: View, steps: &[Step]) -> Result<Outcome, Refusal>
+fn outcome_over(alloc: Global, tables: View, lines: &[ScriptLine]) -> Result<Outcome, Refusal>
     requires { IsSound tables.declared tables.state }
     ensures { IfOk result (λ outcome. AreLive outcome.engine.core outcome.engine.seats) }
 {
-    let outcome = run(alloc, 4, tables, steps)?;
+    let outcome = run(alloc, 4, tables, lines)?;
     Ok(outcome)
 }
 
@@ -43,9 +42,9 @@ fn outcome_of(alloc: Global, text: &str, script: &str) -> Result<Outcome, Refusa
     ensures { IfOk result (λ outcome. AreLive outcome.engine.core outcome.engine.seats) }
 {
     let tables = tables_of(alloc, text)?;
-    let steps = parse_script(alloc, script.as_bytes())?;
-    let outcome = outcome_over(alloc, tables, steps.as_slice());
-    let_go(steps);
+    let lines = parse_script(alloc, script.as_bytes())?;
+    let outcome = outcome_over(alloc, tables, lines.as_slice());
+    drop(lines);
     outcome
 }
 
@@ -62,7 +61,7 @@ fn is_begun<R: Abort>(rt: &R, outcome: &Outcome) {
 fn a_transaction_begins(rt: HostRuntime) -> Result<(), Fail> {
     let outcome = outcome_of(rt.alloc(), "", "A: BEGIN;")?;
     is_begun(&rt, &outcome);
-    let_go(outcome);
+    drop(outcome);
     replies_are_those_alone();
     Ok(())
 }
@@ -88,7 +87,7 @@ const ROWS: &str = "CREATE TABLE DUTY (ID INTEGER PRIMARY KEY, ONCALL INTEGER);
 fn safety(alloc: Global, script: &str) -> Result<bool, Refusal> {
     let outcome = outcome_of(alloc, ROWS, script)?;
     let safe = is_last_safe(&outcome.engine);
-    let_go(outcome);
+    drop(outcome);
     Ok(safe)
 }
 
@@ -152,7 +151,7 @@ fn closed(txn: Txn) -> Result<ClosedTransaction, AllocError>
     match txn.close_check() {
         Ok(closed) => Ok(closed),
         Err(CloseFailure { txn }) => {
-            let_go(txn.abandon());
+            drop(txn.abandon());
             Err(AllocError)
         }
     }
@@ -162,7 +161,7 @@ fn closed(txn: Txn) -> Result<ClosedTransaction, AllocError>
 fn reason(fault: CommitFailure) -> Refusal {
     let CommitFailure { refusal, txn } = fault;
     if let Some(txn) = txn {
-        let_go(txn.abandon());
+        drop(txn.abandon());
     }
     refusal
 }
@@ -184,7 +183,7 @@ fn cancel(core: &mut Core) -> bool
 {
     match core.cancel() {
         Some(closed) => {
-            let_go(closed.into_parts());
+            drop(closed.into_parts());
             true
         }
         None => false,
@@ -206,8 +205,8 @@ fn reads_alone<R: Abort>(rt: &R, core: &mut Core) -> Result<(), Refusal>
     requires { core.old.prepared ≡ None }
 {
     let txn = core.begin_read_only()?;
-    assert!(rt; core.holds(txn.ticket(), txn.snapshot(), true));
-    assert!(rt; !core.holds(txn.ticket(), txn.snapshot(), false));
+    assert!(rt; core.holds(txn.begin_number(), txn.snapshot(), true));
+    assert!(rt; !core.holds(txn.begin_number(), txn.snapshot(), false));
     assert!(rt; core.is_safe(&txn));
     core.end(txn);
     Ok(())
@@ -218,7 +217,7 @@ fn a_read_only_transaction_begins(rt: HostRuntime) -> Result<(), Fail> {
     let mut core = empty(rt.alloc())?;
     let outcome = reads_alone(&rt, &mut core);
     assert!(rt; !core.holds(0, 0, true));
-    let_go(core);
+    drop(core);
     Ok(outcome?)
 }
 
@@ -242,6 +241,6 @@ fn commits_are_prepared_and_made(rt: HostRuntime) -> Result<(), Fail> {
     assert_eq!(rt; core.records().len(), 1);
     assert_eq!(rt; core.locks(), 0);
     assert!(rt; core.verdict(&session).is_none());
-    let_go(core);
+    drop(core);
     Ok(outcome?)
 }

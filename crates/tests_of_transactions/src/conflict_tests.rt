@@ -3,7 +3,6 @@
 ghost use Rattle.std.specs.Prelude.{◌≡◌, ◌<◌, ◌+◌, [], true, is_none, length, reverse, vec_capacity, vec_len, IfOk, OnOk};
 ghost use Rattle.conflict.specs.Judged.{IsJudgmentOf};
 
-use crate::texts::let_go;
 use alone::{Record, safe_snapshots_have_no_danger};
 use conflict::{Candidate, Danger, Judgment, is_safe, judge, put_in_order};
 use siread::{LockKey, LockTable, Place};
@@ -224,7 +223,7 @@ fn make_room(
 fn answers<R: Abort>(rt: &R, alloc: Global, all: &[Ran], want: Judgment) -> Result<(), Fail> {
     let mut history = History::new(alloc);
     let verdict = history.submit_all(alloc, all);
-    let_go(history);
+    drop(history);
     assert_eq!(rt; verdict?, want);
     Ok(())
 }
@@ -295,7 +294,7 @@ fn are_in_order<R: Abort>(rt: &R, alloc: Global, history: &mut History) -> Resul
 fn commits_stand_in_serial_order(rt: HostRuntime) -> Result<(), Fail> {
     let mut history = History::new(rt.alloc());
     let outcome = are_in_order(&rt, rt.alloc(), &mut history);
-    let_go(history);
+    drop(history);
     Ok(outcome?)
 }
 
@@ -304,7 +303,7 @@ fn safety(alloc: Global, all: &[Ran], snapshot: u64) -> Result<Option<bool>, All
     let mut history = History::new(alloc);
     let verdict = history.submit_all(alloc, all);
     let safe = history.is_safe(snapshot);
-    let_go(history);
+    drop(history);
     verdict?;
     Ok(safe)
 }

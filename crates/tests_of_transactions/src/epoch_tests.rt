@@ -3,7 +3,6 @@
 ghost use Rattle.std.specs.Prelude.{IfOk};
 ghost use Rattle.alone.specs.Alone.{IsSound};
 
-use crate::texts::let_go;
 use commit::{Core, Engine, Epoch, Epochs, Outcome, admit, run_epochs};
 use definitions::{Definitions, NewAssertion, new_assertions};
 use delta::View;
@@ -11,7 +10,7 @@ use parse::{parse_schema, parse_script};
 use report::Report;
 use std::alloc::{AllocError, Global};
 use std::test::Fail;
-use syntax::Step;
+use syntax::ScriptLine;
 use value::{Refusal, Text};
 
 /// An account of KIM.
@@ -44,7 +43,7 @@ fn epoch_of(
     Ok(Epoch {
         dropped: names,
         created: read_new(alloc, created)?,
-        steps: parse_script(alloc, script.as_bytes())?,
+        lines: parse_script(alloc, script.as_bytes())?,
     })
 }
 
@@ -54,14 +53,18 @@ fn tables_of(alloc: Global, text: &str) -> Result<View, Refusal>
 {
     let definitions = parse_schema(alloc, text.as_bytes())?;
     let admitted = admit(alloc, definitions.as_slice());
-    let_go(definitions);
+    drop(definitions);
     admitted
 }
 
 /// Adds what the events of an epoch were answered.
-fn add_outcome(report: &mut Report, steps: &[Step], outcome: &Outcome) -> Result<(), AllocError> {
-    for (step, answer) in steps.iter().zip(outcome.answers.iter()) {
-        report.add_answer(step, answer)?;
+fn add_outcome(
+    report: &mut Report,
+    lines: &[ScriptLine],
+    outcome: &Outcome,
+) -> Result<(), AllocError> {
+    for (line, answer) in lines.iter().zip(outcome.answers.iter()) {
+        report.add_answer(line, answer)?;
     }
     Ok(())
 }
@@ -80,9 +83,9 @@ fn printed(
     let Epochs { outcomes, refused } = run_epochs(alloc, 4, &loaded, epochs.as_slice());
     let mut report = Report::new(alloc);
     for (epoch, outcome) in epochs.iter().zip(outcomes.iter()) {
-        add_outcome(&mut report, epoch.steps.as_slice(), outcome)?;
+        add_outcome(&mut report, epoch.lines.as_slice(), outcome)?;
     }
-    let_go((outcomes, epochs));
+    drop((outcomes, epochs));
     Ok((report, refused))
 }
 
@@ -174,24 +177,28 @@ fn an_assertion_is_replaced(rt: HostRuntime) -> Result<(), Fail> {
 }
 
 /// An engine over an account, with a transaction open.
-fn engine_with_open(alloc: Global, steps: &[Step]) -> Result<Engine, Refusal> {
-    let mut engine = Engine::new(alloc, 4, tables_of(alloc, ACCOUNT)?, steps)?;
-    for step in steps {
-        let_go(engine.answer(step));
+fn engine_with_open(alloc: Global, lines: &[ScriptLine]) -> Result<Engine, Refusal> {
+    let mut engine = Engine::new(alloc, 4, tables_of(alloc, ACCOUNT)?, lines)?;
+    for line in lines {
+        drop(engine.answer(line));
     }
     Ok(engine)
 }
 
 /// What an engine hands out once no transaction is open.
-fn hand_out(engine: &mut Engine, end: &[Step], created: &[NewAssertion]) -> Result<Core, Refusal> {
+fn hand_out(
+    engine: &mut Engine,
+    end: &[ScriptLine],
+    created: &[NewAssertion],
+) -> Result<Core, Refusal> {
     if !matches!(
         engine.checkpoint(&[], created),
         Err(Refusal::TransactionOpen)
     ) {
         return Err(Refusal::NoTransaction);
     }
-    for step in end {
-        let_go(engine.answer(step));
+    for line in end {
+        drop(engine.answer(line));
     }
     engine.checkpoint(&[], created)
 }
@@ -199,19 +206,19 @@ fn hand_out(engine: &mut Engine, end: &[Step], created: &[NewAssertion]) -> Resu
 #[test]
 fn an_open_transaction_keeps_its_epoch(rt: HostRuntime) -> Result<(), Fail> {
     let alloc = rt.alloc();
-    let steps = parse_script(
+    let lines = parse_script(
         alloc,
         b"A: BEGIN; A: COMMIT; A: BEGIN; A: INSERT INTO ACCT VALUES (2, 'KIM', -7);",
     )?;
     let end = parse_script(alloc, b"A: ROLLBACK;")?;
     let created = read_new(alloc, FUNDS)?;
-    let mut engine = engine_with_open(alloc, steps.as_slice())?;
+    let mut engine = engine_with_open(alloc, lines.as_slice())?;
     let before = hand_out(&mut engine, end.as_slice(), created.as_slice())?;
     assert_eq!(rt; before.records().len(), 1);
     assert_eq!(rt; engine.core().records().len(), 0);
     assert_eq!(rt; engine.seats().len(), 1);
     assert_eq!(rt; engine.core().loaded().assertions().len(), 1);
-    let_go((engine, before, steps, end, created));
+    drop((engine, before, lines, end, created));
     Ok(())
 }
 
@@ -225,6 +232,6 @@ fn definitions_are_made_of_a_view(rt: HostRuntime) -> Result<(), Fail> {
     assert_eq!(rt; again.catalog().len(), 1);
     assert_eq!(rt; again.assertions().len(), 1);
     assert_eq!(rt; again.rows(0).len(), 1);
-    let_go((view, again));
+    drop((view, again));
     Ok(())
 }

@@ -1,6 +1,5 @@
 //! Begins and ends of three transactions.
 
-use crate::texts::let_go;
 use conflict::Live;
 use std::alloc::AllocError;
 use std::process::Abort;
@@ -15,7 +14,7 @@ fn begin_three(live: &mut Live) -> Result<(), AllocError> {
 
 /// They are open. Those that may write hold two commits, whatever the other holds.
 fn are_open<R: Abort>(rt: &R, live: &Live) {
-    assert_eq!(rt; live.next_ticket(), 3);
+    assert_eq!(rt; live.next_begin_number(), 3);
     assert!(rt; live.holds(0, 1, true) && live.holds(1, 2, false));
     assert!(rt; !live.holds(0, 1, false) && !live.holds(1, 1, false));
     assert!(rt; live.writers_hold(2) && !live.writers_hold(3));
@@ -39,6 +38,6 @@ fn the_least_snapshot_is_that_of_the_oldest_writer(rt: HostRuntime) -> Result<()
     let begun = begin_three(&mut live);
     are_open(&rt, &live);
     end_two(&rt, &mut live);
-    let_go(live);
+    drop(live);
     Ok(begun?)
 }

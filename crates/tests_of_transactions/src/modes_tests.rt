@@ -2,7 +2,7 @@
 
 ghost use Rattle.std.specs.Prelude.{◌≡◌, length};
 
-use crate::texts::{let_go, view_of};
+use crate::texts::view_of;
 use alone::{Modes, settable_names};
 use assertion::Assertion;
 use sqlite_items::Items;
@@ -38,7 +38,7 @@ fn word(answer: &Result<Items<Text>, Refusal>) -> &'static str {
 fn taken(alloc: Global, assertions: &[Assertion], which: &Which) -> &'static str {
     let answer = settable_names(alloc, assertions, which);
     let told = word(&answer);
-    let_go(answer);
+    drop(answer);
     told
 }
 
@@ -50,7 +50,7 @@ fn taken_by_name(
 ) -> Result<&'static str, AllocError> {
     let which = one_name(alloc, name)?;
     let told = taken(alloc, assertions, &which);
-    let_go(which);
+    drop(which);
     Ok(told)
 }
 
@@ -85,7 +85,7 @@ fn words(
     let before = modes_word(&modes);
     let is_deferred = is_first_deferred(&modes);
     let set = all_immediate(alloc, assertions, &modes);
-    let_go(modes);
+    drop(modes);
     let after = modes_word(&set?);
     Ok((is_deferred, before, after))
 }
@@ -94,7 +94,7 @@ fn words(
 fn modes_are_set_by_name(rt: HostRuntime) -> Result<(), Fail> {
     let view = view_of(rt.alloc(), ASSERTIONS)?;
     let found = words(rt.alloc(), view.assertions());
-    let_go(view);
+    drop(view);
     assert_eq!(rt; found?, (true, "COVER is deferred", "immediate"));
     Ok(())
 }
@@ -116,7 +116,7 @@ fn names_are_tested_from_the_left(rt: HostRuntime) -> Result<(), Fail> {
     let view = view_of(rt.alloc(), ASSERTIONS)?;
     let outcome = tests_names(&rt, rt.alloc(), view.assertions());
     let all = taken(rt.alloc(), view.assertions(), &Which::All);
-    let_go(view);
+    drop(view);
     assert_eq!(rt; all, "one");
     outcome
 }

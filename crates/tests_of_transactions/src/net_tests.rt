@@ -4,11 +4,11 @@ ghost use Rattle.std.specs.Prelude.{◌≡◌, ◌<◌, length, IfOk};
 ghost use Rattle.table.specs.Rows.{row_at};
 ghost use Rattle.assertion.specs.Declarations.{layouts_in};
 ghost use Rattle.assertion.specs.Meaning.{rows_of};
-ghost use Rattle.assertion.specs.Roots.{IsChangeOf};
+ghost use Rattle.assertion.specs.Changes.{IsChangeOf};
 ghost use Rattle.delta.specs.Views.{IsFitting};
 ghost use Rattle.changes.specs.Nets.{DifferAt};
 
-use crate::texts::{let_go, view_of};
+use crate::texts::view_of;
 use changes::{TouchedPlaces, is_same_there, net_change, row_in};
 use delta::View;
 use siread::Place;
@@ -85,7 +85,7 @@ fn net_by(
 {
     let twice = put(start, once, touched, account(alloc, balance)?)?;
     let net = net_change(alloc, start, &twice, touched);
-    let_go(twice);
+    drop(twice);
     Ok(net?)
 }
 
@@ -94,7 +94,7 @@ fn net_of(alloc: Global, start: &View, first: i64, second: i64) -> Result<Vec<Ch
     let mut touched = TouchedPlaces::new(alloc);
     let once = put(start, start, &mut touched, account(alloc, first)?)?;
     let net = net_by(alloc, start, &once, &mut touched, second);
-    let_go(once);
+    drop(once);
     net
 }
 
@@ -109,7 +109,7 @@ fn counts(alloc: Global, start: &View) -> Result<(usize, usize), Refusal> {
 fn rows_changed_back_are_no_change(rt: HostRuntime) -> Result<(), Fail> {
     let start = view_of(rt.alloc(), ACCOUNT)?;
     let found = counts(rt.alloc(), &start);
-    let_go(start);
+    drop(start);
     assert_eq!(rt; found?, (0, 1));
     Ok(())
 }
@@ -135,7 +135,7 @@ fn balances(alloc: Global, view: &View) -> Result<(bool, bool), AllocError> {
 fn rows_by_their_places(rt: HostRuntime) -> Result<(), Fail> {
     let start = view_of(rt.alloc(), ACCOUNT)?;
     let found = balances(rt.alloc(), &start);
-    let_go(start);
+    drop(start);
     assert_eq!(rt; found?, (true, false));
     Ok(())
 }

@@ -2,7 +2,7 @@
 
 ghost use Rattle.std.specs.Prelude.{◌≡◌, length};
 
-use crate::texts::{let_go, view_of};
+use crate::texts::view_of;
 use assertion::Assertion;
 use changes::{Equality, checks_read, equality_on, filter_key, real_changes, tables_read};
 use delta::View;
@@ -66,7 +66,7 @@ fn describe(key: &LockKey) -> (&'static str, i64) {
 /// The key that a WHERE reads, described.
 fn key_read(filter: Cond) -> Result<(&'static str, i64), AllocError> {
     let key = filter_key(0, 0, &filter);
-    let_go(filter);
+    drop(filter);
     Ok(describe(&key?))
 }
 
@@ -106,7 +106,7 @@ fn first_equality_on_a_column(rt: HostRuntime) -> Result<(), Fail> {
     let filter = both(rt.alloc(), 1)?;
     assert_eq!(rt; number_on(&filter, 1), Some((1, 3)));
     assert!(rt; equality_on(&filter, 0).is_none());
-    let_go(filter);
+    drop(filter);
     Ok(())
 }
 
@@ -163,7 +163,7 @@ fn checks_read_at_candidates(rt: HostRuntime) -> Result<(), Fail> {
     let changes = [to_three(rt.alloc(), 3)?];
     let view = view_of(rt.alloc(), ACCOUNTS)?;
     let outcome = checks(&rt, rt.alloc(), &view, &changes);
-    let_go(view);
+    drop(view);
     outcome
 }
 
@@ -181,7 +181,7 @@ fn key_counts(alloc: Global, assertions: &[Assertion]) -> Result<Vec<usize>, All
 fn verdicts_read_tables(rt: HostRuntime) -> Result<(), Fail> {
     let view = view_of(rt.alloc(), ACCOUNTS)?;
     let counts = key_counts(rt.alloc(), view.assertions());
-    let_go(view);
+    drop(view);
     assert!(rt; counts?[..] == [2, 1]);
     Ok(())
 }

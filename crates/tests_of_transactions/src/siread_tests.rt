@@ -2,7 +2,6 @@
 
 ghost use Rattle.siread.specs.Locks.{AreBelow, readers_at};
 
-use crate::texts::let_go;
 use siread::{LockKey, LockTable, Place, touches};
 use std::alloc::{AllocError, Global};
 use std::process::Abort;
@@ -89,7 +88,7 @@ fn readers_are_kept_by_key(rt: HostRuntime) -> Result<(), Fail> {
     let mut locks = no_reads(rt.alloc());
     let put = put_by_key(&mut locks);
     is_kept_by_key(&rt, &locks);
-    let_go(locks);
+    drop(locks);
     Ok(put?)
 }
 
@@ -121,7 +120,7 @@ fn readers_are_taken_back_and_trimmed(rt: HostRuntime) -> Result<(), Fail> {
     let mut locks = no_reads(rt.alloc());
     let put = put_three(&mut locks);
     trims(&rt, &mut locks);
-    let_go(locks);
+    drop(locks);
     Ok(put?)
 }
 
@@ -149,8 +148,8 @@ fn the_greatest_reader_is_of_a_touched_key(rt: HostRuntime) -> Result<(), Fail> 
     let of_those_that_reach = greatest(&locks, &changes, 1);
     let of_no_such = greatest(&locks, &changes, 2);
     let of_none = greatest(&locks, &[], 0);
-    let_go(locks);
-    let_go(changes);
+    drop(locks);
+    drop(changes);
     put?;
     assert_eq!(rt;
         [of_all, of_those_that_reach, of_no_such, of_none],

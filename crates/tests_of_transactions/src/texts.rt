@@ -6,13 +6,10 @@ use parse::parse_schema;
 use std::alloc::Global;
 use value::Refusal;
 
-/// Lets a value of any size go.
-pub fn let_go<T: Drop>(_value: T) {}
-
 /// The tables and assertions that a text defines, with its rows.
 pub fn view_of(alloc: Global, text: &str) -> Result<View, Refusal> {
     let definitions = parse_schema(alloc, text.as_bytes())?;
     let taken = Definitions::take(alloc, definitions.as_slice());
-    let_go(definitions);
+    drop(definitions);
     Ok(taken?.load(alloc)?)
 }

@@ -1,6 +1,6 @@
 //! Transactions, by the bytes that their statements print and by what they tell of themselves.
 
-use crate::texts::{let_go, view_of};
+use crate::texts::view_of;
 use alone::Answer;
 use delta::View;
 use parse::parse_script;
@@ -9,7 +9,7 @@ use siread::LockKey;
 use std::alloc::Global;
 use std::process::Abort;
 use std::test::Fail;
-use syntax::{Event, Step};
+use syntax::{Event, ScriptLine};
 use txn::{CloseFailure, ClosedTransaction, Txn};
 use value::{Text, Truth};
 
@@ -52,12 +52,12 @@ fn answer(txn: &mut Txn, event: &Event) -> Answer {
     }
 }
 
-/// Runs steps, and notes the answers.
-fn note_answers(txn: &mut Txn, steps: &[Step], lines: &mut Report) -> Result<(), Fail> {
-    for step in steps {
-        let answer = answer(txn, &step.event);
-        let noted = lines.add_answer(step, &answer);
-        let_go(answer);
+/// Runs the lines of a script, and notes the answers.
+fn note_answers(txn: &mut Txn, lines: &[ScriptLine], report: &mut Report) -> Result<(), Fail> {
+    for line in lines {
+        let answer = answer(txn, &line.event);
+        let noted = report.add_answer(line, &answer);
+        drop(answer);
         noted?;
     }
     Ok(())
@@ -65,23 +65,23 @@ fn note_answers(txn: &mut Txn, steps: &[Step], lines: &mut Report) -> Result<(),
 
 /// What a script prints.
 fn printed(alloc: Global, txn: &mut Txn, script: &str) -> Result<Report, Fail> {
-    let steps = parse_script(alloc, script.as_bytes())?;
-    let mut lines = Report::new(alloc);
-    let noted = note_answers(txn, steps.as_slice(), &mut lines);
-    let_go(steps);
+    let lines = parse_script(alloc, script.as_bytes())?;
+    let mut report = Report::new(alloc);
+    let noted = note_answers(txn, lines.as_slice(), &mut report);
+    drop(lines);
     noted?;
-    Ok(lines)
+    Ok(report)
 }
 
 /// The own view that a script leaves, of a transaction on empty tables.
 fn left_by(alloc: Global, script: &str) -> Result<View, Fail> {
     let tables = view_of(alloc, TABLES)?;
     let begun = Txn::begin(alloc, 0, 0, false, &tables);
-    let_go(tables);
+    drop(tables);
     let mut txn = begun?;
-    let lines = printed(alloc, &mut txn, script);
+    let report = printed(alloc, &mut txn, script);
     let left = txn.abandon();
-    lines?;
+    report?;
     Ok(left)
 }
 
@@ -89,7 +89,7 @@ fn left_by(alloc: Global, script: &str) -> Result<View, Fail> {
 fn begun_after(alloc: Global, script: &str, read_only: bool) -> Result<Txn, Fail> {
     let tables = left_by(alloc, script)?;
     let begun = Txn::begin(alloc, 5, 1, read_only, &tables);
-    let_go(tables);
+    drop(tables);
     Ok(begun?)
 }
 
@@ -103,7 +103,7 @@ fn reopened(txn: Txn) -> Txn {
 
 /// What an open transaction tells.
 fn open_tells<R: Abort>(rt: &R, txn: &Txn, leader: &Text, case: &Case) {
-    assert_eq!(rt; txn.ticket(), 5);
+    assert_eq!(rt; txn.begin_number(), 5);
     assert_eq!(rt; txn.snapshot(), 1);
     assert_eq!(rt; txn.is_read_only(), case.read_only);
     txn.recall_read_only();
@@ -128,10 +128,10 @@ fn end<R: Abort>(rt: &R, txn: Txn, case: &Case) {
     match txn.close_check() {
         Ok(closed) => {
             closed_tells(rt, &closed, case);
-            let_go(closed.into_parts());
+            drop(closed.into_parts());
         }
         Err(CloseFailure { txn }) => {
-            let_go(txn.abandon());
+            drop(txn.abandon());
             assert!(rt; false, "memory");
         }
     }
@@ -141,10 +141,10 @@ fn end<R: Abort>(rt: &R, txn: Txn, case: &Case) {
 fn comes<R: Abort>(rt: &R, alloc: Global, case: &Case) -> Result<(), Fail> {
     let leader = Text::from_str(alloc, "LEADER")?;
     let mut txn = begun_after(alloc, case.first, case.read_only)?;
-    let lines = printed(alloc, &mut txn, case.script);
+    let report = printed(alloc, &mut txn, case.script);
     open_tells(rt, &txn, &leader, case);
     end(rt, reopened(txn), case);
-    assert_eq!(rt; lines?.as_bytes(), case.want.as_bytes());
+    assert_eq!(rt; report?.as_bytes(), case.want.as_bytes());
     Ok(())
 }
 
@@ -345,14 +345,14 @@ fn reads(txn: &Txn, words: &[&str]) -> bool {
 #[test]
 fn keys_read_are_noted(rt: HostRuntime) -> Result<(), Fail> {
     let mut txn = begun_after(rt.alloc(), "", false)?;
-    let lines = printed(
+    let report = printed(
         rt.alloc(),
         &mut txn,
         "A: INSERT INTO DUTY VALUES (1, 7, NULL); A: DELETE FROM DUTY WHERE SHIFT = 9; A: SELECT * FROM DUTY;",
     );
     let are_read = reads(&txn, &["row", "column", "column", "table"]);
-    let_go(txn.abandon());
-    lines?;
+    drop(txn.abandon());
+    report?;
     assert!(rt; are_read);
     Ok(())
 }

@@ -1,4 +1,4 @@
--- Scripts to which the steps are added one by one are those of the sessions, each with the steps of its session.
+-- Scripts to which the lines are added one by one are those of the sessions, each with the lines of its session.
 use Rattle.std.proofs.Common.{◌≡◌, ◌+◌, ℕ, suc, Bool, true, false, cond, List, [], ◌∷◌, ◌++◌, Option, Some, None, map, refl, sym, ap, ◌∙◌, subst, append-nil, append_assoc, arith}
 use Rattle.std.specs.Prelude.{slice_get, ⊤}
 use Rattle.std.specs.List.{position, position_from}
@@ -7,13 +7,13 @@ use Rattle.std.specs.Option.{option_map}
 use Rattle.std.proofs.lemmas.Iterator.Adapters.{position_from-zero}
 use Rattle.std.proofs.lemmas.List.Elements.{filter-append}
 use Rattle.std.proofs.lemmas.Slice.Eq.{bytes_eq-Decides}
-use Rattle.syntax.specs.declared.statements.Step.{Step}
+use Rattle.syntax.specs.declared.statements.ScriptLine.{ScriptLine}
 use Rattle.commit.specs.declared.seats.Seat.{Seat}
 use Rattle.commit.specs.Events.{seat_of}
 use Rattle.commit.specs.Runs.{seats_with_all, free_seat, seats_with, unless_seated}
 use Rattle.threads.specs.declared.scripts.Script.{Script}
-use Rattle.threads.specs.Adding.{scripts_with_step, added_at, added_to, scripts_with_steps, first_step, script_of, with_step}
-use Rattle.threads.specs.Grouping.{scripts_of, script_for, steps_of}
+use Rattle.threads.specs.Adding.{scripts_with_line, added_at, added_to, scripts_with_lines, first_line, script_of, with_line}
+use Rattle.threads.specs.Grouping.{scripts_of, script_for, lines_of}
 
 same_bytes : (a b : List ℕ) → bytes_eq a b ≡ true → a ≡ b
 same_bytes a b e = (bytes_eq-Decides a b).0 e
@@ -40,14 +40,14 @@ abbrev AreApart : List Seat → Type 0
 AreApart [] = ⊤
 AreApart (seat ∷ rest) = HasNot rest seat.session × AreApart rest
 
--- with a seat for a session, and with a step more, by one seat and one script after the other
+-- with a seat for a session, and with a line more, by one seat and one script after the other
 abbrev seat_put : List Seat → List ℕ → List Seat
 seat_put [] session = free_seat session ∷ []
 seat_put (seat ∷ rest) session = cond (bytes_eq seat.session session) (seat ∷ rest) (seat ∷ seat_put rest session)
 
-abbrev put : List Script → Step → List Script
-put [] step = first_step step ∷ []
-put (script ∷ rest) step = cond (bytes_eq script.name step.session) (with_step step script ∷ rest) (script ∷ put rest step)
+abbrev put : List Script → ScriptLine → List Script
+put [] line = first_line line ∷ []
+put (script ∷ rest) line = cond (bytes_eq script.name line.session) (with_line line script ∷ rest) (script ∷ put rest line)
 
 later_by : {X : Type 0} (test : X → Bool) (i : ℕ) (xs : List X) (rest : Option ℕ) (here : Bool) → position_from test (i + 1 + 1) xs ≡ option_map suc rest
     → cond here (Some (i + 1)) (position_from test (i + 1 + 1) xs) ≡ option_map suc (cond here (Some i) rest)
@@ -65,27 +65,27 @@ front test x xs =
     position_from-zero test (x ∷ xs)
     ∙ ap (cond (test x) (Some 0)) (later test 0 xs ∙ ap (option_map suc) (sym (position_from-zero test xs)))
 
-to_behind : (script : Script) (scripts : List Script) (step : Step) (place : ℕ) (found : Option Script)
-    → added_to (script ∷ scripts) step (suc place) found ≡ script ∷ added_to scripts step place found
-to_behind script scripts step place None = refl
-to_behind script scripts step place (Some found) = refl
+to_behind : (script : Script) (scripts : List Script) (line : ScriptLine) (place : ℕ) (found : Option Script)
+    → added_to (script ∷ scripts) line (suc place) found ≡ script ∷ added_to scripts line place found
+to_behind script scripts line place None = refl
+to_behind script scripts line place (Some found) = refl
 
-added_behind : (script : Script) (scripts : List Script) (step : Step) (place : Option ℕ)
-    → added_at (script ∷ scripts) step (option_map suc place) ≡ script ∷ added_at scripts step place
-added_behind script scripts step None = refl
-added_behind script scripts step (Some place) = to_behind script scripts step place (slice_get scripts place)
+added_behind : (script : Script) (scripts : List Script) (line : ScriptLine) (place : Option ℕ)
+    → added_at (script ∷ scripts) line (option_map suc place) ≡ script ∷ added_at scripts line place
+added_behind script scripts line None = refl
+added_behind script scripts line (Some place) = to_behind script scripts line place (slice_get scripts place)
 
-put_by : (script : Script) (rest : List Script) (step : Step) (here : Bool) → scripts_with_step rest step ≡ put rest step
-    → added_at (script ∷ rest) step (cond here (Some 0) (option_map suc (script_of rest step.session)))
-    ≡ cond here (with_step step script ∷ rest) (script ∷ put rest step)
-put_by script rest step true is = refl
-put_by script rest step false is = added_behind script rest step (script_of rest step.session) ∙ ap (λ more. script ∷ more) is
+put_by : (script : Script) (rest : List Script) (line : ScriptLine) (here : Bool) → scripts_with_line rest line ≡ put rest line
+    → added_at (script ∷ rest) line (cond here (Some 0) (option_map suc (script_of rest line.session)))
+    ≡ cond here (with_line line script ∷ rest) (script ∷ put rest line)
+put_by script rest line true is = refl
+put_by script rest line false is = added_behind script rest line (script_of rest line.session) ∙ ap (λ more. script ∷ more) is
 
-put_is : (scripts : List Script) (step : Step) → scripts_with_step scripts step ≡ put scripts step
-put_is [] step = refl
-put_is (script ∷ rest) step =
-    ap (added_at (script ∷ rest) step) (front (λ (s : Script). bytes_eq s.name step.session) script rest)
-    ∙ put_by script rest step (bytes_eq script.name step.session) (put_is rest step)
+put_is : (scripts : List Script) (line : ScriptLine) → scripts_with_line scripts line ≡ put scripts line
+put_is [] line = refl
+put_is (script ∷ rest) line =
+    ap (added_at (script ∷ rest) line) (front (λ (s : Script). bytes_eq s.name line.session) script rest)
+    ∙ put_by script rest line (bytes_eq script.name line.session) (put_is rest line)
 
 seat_behind : (seat : Seat) (seats : List Seat) (session : List ℕ) (place : Option ℕ)
     → unless_seated (option_map suc place) (seat ∷ seats) session ≡ seat ∷ unless_seated place seats session
@@ -135,67 +135,67 @@ was_not [] session other has = (tt, has.0)
 was_not (seat ∷ rest) session other has =
     was_not_by seat rest (seat_put rest session) session other (bytes_eq seat.session session) refl has (λ h. was_not rest session other h)
 
--- the steps of a session with one step more
-more_steps : (session : List ℕ) (steps : List Step) (step : Step) (here : Bool) → bytes_eq step.session session ≡ here
-    → steps_of session (steps ++ step ∷ []) ≡ steps_of session steps ++ cond here (step ∷ []) []
-more_steps session steps step here is =
-    filter-append (λ (s : Step). bytes_eq s.session session) steps (step ∷ []) ∙ ap (λ b. steps_of session steps ++ cond b (step ∷ []) []) is
+-- the lines of a session with one line more
+more_lines : (session : List ℕ) (lines : List ScriptLine) (line : ScriptLine) (here : Bool) → bytes_eq line.session session ≡ here
+    → lines_of session (lines ++ line ∷ []) ≡ lines_of session lines ++ cond here (line ∷ []) []
+more_lines session lines line here is =
+    filter-append (λ (s : ScriptLine). bytes_eq s.session session) lines (line ∷ []) ∙ ap (λ b. lines_of session lines ++ cond b (line ∷ []) []) is
 
-same_script : (steps : List Step) (step : Step) (seat : Seat) → bytes_eq step.session seat.session ≡ false → script_for steps seat ≡ script_for (steps ++ step ∷ []) seat
-same_script steps step seat apart =
-    ap (λ all. record { name = seat.session; steps = all }) (sym (more_steps seat.session steps step false apart ∙ append-nil (steps_of seat.session steps)))
+same_script : (lines : List ScriptLine) (line : ScriptLine) (seat : Seat) → bytes_eq line.session seat.session ≡ false → script_for lines seat ≡ script_for (lines ++ line ∷ []) seat
+same_script lines line seat apart =
+    ap (λ all. record { name = seat.session; lines = all }) (sym (more_lines seat.session lines line false apart ∙ append-nil (lines_of seat.session lines)))
 
-same_scripts : (steps : List Step) (step : Step) (seats : List Seat) → HasNot seats step.session → map (script_for steps) seats ≡ map (script_for (steps ++ step ∷ [])) seats
-same_scripts steps step [] has = refl
-same_scripts steps step (seat ∷ rest) has =
-    ap (λ s. s ∷ map (script_for steps) rest) (same_script steps step seat (other_bytes seat.session step.session has.0))
-    ∙ ap (λ more. script_for (steps ++ step ∷ []) seat ∷ more) (same_scripts steps step rest has.1)
+same_scripts : (lines : List ScriptLine) (line : ScriptLine) (seats : List Seat) → HasNot seats line.session → map (script_for lines) seats ≡ map (script_for (lines ++ line ∷ [])) seats
+same_scripts lines line [] has = refl
+same_scripts lines line (seat ∷ rest) has =
+    ap (λ s. s ∷ map (script_for lines) rest) (same_script lines line seat (other_bytes seat.session line.session has.0))
+    ∙ ap (λ more. script_for (lines ++ line ∷ []) seat ∷ more) (same_scripts lines line rest has.1)
 
--- the scripts of some steps, with one step more
-step_by : (steps : List Step) (step : Step) (seat : Seat) (rest : List Seat) (here : Bool) → bytes_eq seat.session step.session ≡ here → HasNot rest seat.session
-    → (bytes_eq seat.session step.session ≡ false → put (map (script_for steps) rest) step ≡ map (script_for (steps ++ step ∷ [])) (seat_put rest step.session))
-    → cond here (with_step step (script_for steps seat) ∷ map (script_for steps) rest) (script_for steps seat ∷ put (map (script_for steps) rest) step)
-    ≡ map (script_for (steps ++ step ∷ [])) (cond here (seat ∷ rest) (seat ∷ seat_put rest step.session))
-step_by steps step seat rest true is apart new =
-    let same : seat.session ≡ step.session = same_bytes seat.session step.session is in
-    let mine : bytes_eq step.session seat.session ≡ true = ap (bytes_eq step.session) same ∙ bytes_self step.session in
-    ap (λ all. record { name = seat.session; steps = all } ∷ map (script_for steps) rest) (sym (more_steps seat.session steps step true mine))
-    ∙ ap (λ more. script_for (steps ++ step ∷ []) seat ∷ more) (same_scripts steps step rest (subst (HasNot rest) same apart))
-step_by steps step seat rest false is apart new =
-    ap (λ s. s ∷ put (map (script_for steps) rest) step) (same_script steps step seat (other_bytes seat.session step.session is))
-    ∙ ap (λ more. script_for (steps ++ step ∷ []) seat ∷ more) (new is)
+-- the scripts of some lines, with one line more
+line_by : (lines : List ScriptLine) (line : ScriptLine) (seat : Seat) (rest : List Seat) (here : Bool) → bytes_eq seat.session line.session ≡ here → HasNot rest seat.session
+    → (bytes_eq seat.session line.session ≡ false → put (map (script_for lines) rest) line ≡ map (script_for (lines ++ line ∷ [])) (seat_put rest line.session))
+    → cond here (with_line line (script_for lines seat) ∷ map (script_for lines) rest) (script_for lines seat ∷ put (map (script_for lines) rest) line)
+    ≡ map (script_for (lines ++ line ∷ [])) (cond here (seat ∷ rest) (seat ∷ seat_put rest line.session))
+line_by lines line seat rest true is apart new =
+    let same : seat.session ≡ line.session = same_bytes seat.session line.session is in
+    let mine : bytes_eq line.session seat.session ≡ true = ap (bytes_eq line.session) same ∙ bytes_self line.session in
+    ap (λ all. record { name = seat.session; lines = all } ∷ map (script_for lines) rest) (sym (more_lines seat.session lines line true mine))
+    ∙ ap (λ more. script_for (lines ++ line ∷ []) seat ∷ more) (same_scripts lines line rest (subst (HasNot rest) same apart))
+line_by lines line seat rest false is apart new =
+    ap (λ s. s ∷ put (map (script_for lines) rest) line) (same_script lines line seat (other_bytes seat.session line.session is))
+    ∙ ap (λ more. script_for (lines ++ line ∷ []) seat ∷ more) (new is)
 
-one_step : (steps : List Step) (step : Step) (seats : List Seat) → AreApart seats → (HasNot seats step.session → steps_of step.session steps ≡ [])
-    → put (map (script_for steps) seats) step ≡ map (script_for (steps ++ step ∷ [])) (seat_put seats step.session)
-one_step steps step [] apart none =
-    ap (λ all. record { name = step.session; steps = all } ∷ [])
-    (sym (more_steps step.session steps step true (bytes_self step.session) ∙ ap (λ all. all ++ step ∷ []) (none tt)))
-one_step steps step (seat ∷ rest) apart none =
-    step_by steps step seat rest (bytes_eq seat.session step.session) refl apart.0 (λ e. one_step steps step rest apart.1 (λ h. none (e, h)))
+one_line : (lines : List ScriptLine) (line : ScriptLine) (seats : List Seat) → AreApart seats → (HasNot seats line.session → lines_of line.session lines ≡ [])
+    → put (map (script_for lines) seats) line ≡ map (script_for (lines ++ line ∷ [])) (seat_put seats line.session)
+one_line lines line [] apart none =
+    ap (λ all. record { name = line.session; lines = all } ∷ [])
+    (sym (more_lines line.session lines line true (bytes_self line.session) ∙ ap (λ all. all ++ line ∷ []) (none tt)))
+one_line lines line (seat ∷ rest) apart none =
+    line_by lines line seat rest (bytes_eq seat.session line.session) refl apart.0 (λ e. one_line lines line rest apart.1 (λ h. none (e, h)))
 
--- what holds of the steps so far, of the seats of their sessions and of their scripts
-record IsGrouped (steps : List Step) (seats : List Seat) (scripts : List Script) : Type 0 where
+-- what holds of the lines so far, of the seats of their sessions and of their scripts
+record IsGrouped (lines : List ScriptLine) (seats : List Seat) (scripts : List Script) : Type 0 where
   apart : AreApart seats
-  none : (session : List ℕ) → HasNot seats session → steps_of session steps ≡ []
-  are : scripts ≡ map (script_for steps) seats
+  none : (session : List ℕ) → HasNot seats session → lines_of session lines ≡ []
+  are : scripts ≡ map (script_for lines) seats
 
-grouped_more : (steps : List Step) (seats : List Seat) (scripts : List Script) (step : Step) → IsGrouped steps seats scripts
-    → IsGrouped (steps ++ step ∷ []) (seats_with seats step.session) (scripts_with_step scripts step)
-grouped_more steps seats scripts step g = subst (λ s. IsGrouped (steps ++ step ∷ []) s (scripts_with_step scripts step)) (sym (seat_is seats step.session)) (record {
-  apart = put_apart seats step.session g.apart;
+grouped_more : (lines : List ScriptLine) (seats : List Seat) (scripts : List Script) (line : ScriptLine) → IsGrouped lines seats scripts
+    → IsGrouped (lines ++ line ∷ []) (seats_with seats line.session) (scripts_with_line scripts line)
+grouped_more lines seats scripts line g = subst (λ s. IsGrouped (lines ++ line ∷ []) s (scripts_with_line scripts line)) (sym (seat_is seats line.session)) (record {
+  apart = put_apart seats line.session g.apart;
   none = λ session has.
-      let was = was_not seats step.session session has in
-      more_steps session steps step false was.1 ∙ append-nil (steps_of session steps) ∙ g.none session was.0;
-  are = put_is scripts step ∙ ap (λ s. put s step) g.are ∙ one_step steps step seats g.apart (g.none step.session);
+      let was = was_not seats line.session session has in
+      more_lines session lines line false was.1 ∙ append-nil (lines_of session lines) ∙ g.none session was.0;
+  are = put_is scripts line ∙ ap (λ s. put s line) g.are ∙ one_line lines line seats g.apart (g.none line.session);
 })
 
-all_grouped : (steps left : List Step) (seats : List Seat) (scripts : List Script) → IsGrouped steps seats scripts
-    → scripts_with_steps scripts left ≡ map (script_for (steps ++ left)) (seats_with_all seats left)
-all_grouped steps [] seats scripts g = g.are ∙ ap (λ all. map (script_for all) seats) (sym (append-nil steps))
-all_grouped steps (step ∷ left) seats scripts g =
-    all_grouped (steps ++ step ∷ []) left (seats_with seats step.session) (scripts_with_step scripts step) (grouped_more steps seats scripts step g)
-    ∙ ap (λ all. map (script_for all) (seats_with_all (seats_with seats step.session) left)) (append_assoc steps (step ∷ []) left)
+all_grouped : (lines left : List ScriptLine) (seats : List Seat) (scripts : List Script) → IsGrouped lines seats scripts
+    → scripts_with_lines scripts left ≡ map (script_for (lines ++ left)) (seats_with_all seats left)
+all_grouped lines [] seats scripts g = g.are ∙ ap (λ all. map (script_for all) seats) (sym (append-nil lines))
+all_grouped lines (line ∷ left) seats scripts g =
+    all_grouped (lines ++ line ∷ []) left (seats_with seats line.session) (scripts_with_line scripts line) (grouped_more lines seats scripts line g)
+    ∙ ap (λ all. map (script_for all) (seats_with_all (seats_with seats line.session) left)) (append_assoc lines (line ∷ []) left)
 
--- each script has the steps of its session
-pub grouped_are : (steps : List Step) → scripts_with_steps [] steps ≡ scripts_of steps
-grouped_are steps = all_grouped [] steps [] [] (record { apart = tt; none = λ session has. refl; are = refl })
+-- each script has the lines of its session
+pub grouped_are : (lines : List ScriptLine) → scripts_with_lines [] lines ≡ scripts_of lines
+grouped_are lines = all_grouped [] lines [] [] (record { apart = tt; none = λ session has. refl; are = refl })

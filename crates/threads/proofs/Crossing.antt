@@ -11,7 +11,7 @@ use Rattle.syntax.proofs.trees.Condition.TheLaws.TheKnot as conditions
 use Rattle.syntax.specs.contracts.trees.Condition as Condition
 use Rattle.syntax.specs.contracts.trees.Expression as Expression
 use Rattle.syntax.specs.contracts.statements.Assignment as Assignment
-use Rattle.syntax.specs.contracts.statements.Step as Step
+use Rattle.syntax.specs.contracts.statements.ScriptLine as ScriptLine
 use Rattle.threads.specs.contracts.runs.Room as Room
 use Rattle.threads.specs.contracts.scripts.Script as Script
 
@@ -24,11 +24,11 @@ Condition-sync = search (conditions.crosses, crosses, sendable) depth 60 fits 20
 Assignment-sync : IsSync Assignment.the_row
 Assignment-sync = search (Expression-sync, crosses, sendable) depth 60 fits 20000
 
-Step-sync : IsSync Step.the_row
-Step-sync = search (Condition-sync, Assignment-sync, Text.the_sync, crosses, sendable) depth 60 fits 20000
+ScriptLine-sync : IsSync ScriptLine.the_row
+ScriptLine-sync = search (Condition-sync, Assignment-sync, Text.the_sync, crosses, sendable) depth 60 fits 20000
 
 pub Script-sync : IsSync Script.the_row
-Script-sync = search (Step-sync, Text.the_sync, crosses, sendable) depth 60 fits 20000
+Script-sync = search (ScriptLine-sync, Text.the_sync, crosses, sendable) depth 60 fits 20000
 
 pub Room-send : IsSend Room.the_row
 Room-send = search (Answer.the_send, Refusal.the_send, crosses, sendable) depth 60 fits 20000

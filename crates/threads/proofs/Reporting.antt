@@ -6,8 +6,8 @@ use Rattle.value.specs.Results.{and_then}
 use Rattle.value.specs.declared.refusals.Refusal.{Refusal}
 use Rattle.value.specs.declared.refusals.Refusal.TheVariants.{NoMemory, TooManySessions}
 use Rattle.syntax.specs.declared.definitions.Definition.{Definition}
-use Rattle.syntax.specs.declared.statements.Step.{Step}
-use Rattle.commit.specs.Views.{ViewState}
+use Rattle.syntax.specs.declared.statements.ScriptLine.{ScriptLine}
+use Rattle.delta.specs.Views.{ViewState}
 use Rattle.definitions.specs.Taken.{view_of_definitions}
 use Rattle.definitions.specs.Written.{AreWritten}
 use Rattle.commit.specs.Admission.{tables_if_satisfied}
@@ -37,11 +37,11 @@ pub opens_admitted : {M : Type 0} (P Q : M → Type 0) (view_of : M → ViewStat
 opens_admitted P Q view_of (Ok m) definitions shown takes written holds is = is_admitted definitions shown takes written holds (view_of m) is.2
 opens_admitted P Q view_of (Err refusal) definitions shown takes written holds is = tt
 
-pub are_opened : (defs script : List ℕ) (definitions : List Definition) (steps : List Step) (scripts : List Script)
-    → AreRead defs script definitions steps → (shown : ViewState) → IsAdmitted definitions shown → HasFewSessions steps → scripts ≡ scripts_of steps
+pub are_opened : (defs script : List ℕ) (definitions : List Definition) (lines : List ScriptLine) (scripts : List Script)
+    → AreRead defs script definitions lines → (shown : ViewState) → IsAdmitted definitions shown → HasFewSessions lines → scripts ≡ scripts_of lines
     → AreOpened defs script shown scripts
-are_opened defs script definitions steps scripts read shown admits few are = record {
-  steps = steps;
+are_opened defs script definitions lines scripts read shown admits few are = record {
+  lines = lines;
   ready = record {
     admitted = record { definitions = definitions; read = read; admits = admits.admits; written = admits.written };
     few = few;
@@ -50,14 +50,14 @@ are_opened defs script definitions steps scripts read shown admits few are = rec
 }
 
 -- a script that can't be run, where the definitions are admitted: it has too many sessions, or there was no memory
-pub scripts_refused : (defs script : List ℕ) (definitions : List Definition) (steps : List Step) (shown : ViewState) → AreRead defs script definitions steps
-    → IsAdmitted definitions shown → (refusal : Refusal) → (refusal ≡ NoMemory) ⊎ (HasManySessions steps × (refusal ≡ TooManySessions))
+pub scripts_refused : (defs script : List ℕ) (definitions : List Definition) (lines : List ScriptLine) (shown : ViewState) → AreRead defs script definitions lines
+    → IsAdmitted definitions shown → (refusal : Refusal) → (refusal ≡ NoMemory) ⊎ (HasManySessions lines × (refusal ≡ TooManySessions))
     → IsNoScript defs script refusal ⊎ HasTooManySessions defs script refusal
-scripts_refused defs script definitions steps shown read admits refusal (inl none) =
+scripts_refused defs script definitions lines shown read admits refusal (inl none) =
     inl (record { definitions = definitions; defs_read = read.defs_read; refused = subst (IsUnread IsScript script) (sym none) tt })
-scripts_refused defs script definitions steps shown read admits refusal (inr many) = inr (record {
+scripts_refused defs script definitions lines shown read admits refusal (inr many) = inr (record {
   shown = shown;
-  steps = steps;
+  lines = lines;
   taken = record { definitions = definitions; read = read; admits = admits.admits; written = admits.written };
   many = many.0;
   refused = many.1;
@@ -74,7 +74,7 @@ module _ (defs script : List ℕ) (shown : ViewState) (limit : ℕ) (scripts : L
   no_room = inl (record { definitions = o.ready.admitted.definitions; defs_read = o.ready.admitted.read.defs_read; refused = tt })
 
   run : IsRun defs script
-  run = record { shown = shown; steps = o.steps; ready = o.ready }
+  run = record { shown = shown; lines = o.lines; ready = o.ready }
 
   reported : (found : List ScriptAnswers) (all : Bool) (old new : Option (List ℕ)) → AreAnswered scripts found → PrintsGrouped scripts found shown limit all old new
       → WritesGrouped defs script limit all old new
@@ -82,7 +82,7 @@ module _ (defs script : List ℕ) (shown : ViewState) (limit : ℕ) (scripts : L
     bytes = grouped_report scripts found p.core;
     is = record {
       shown = shown;
-      steps = o.steps;
+      lines = o.lines;
       found = found;
       core = p.core;
       ready = o.ready;

@@ -2,9 +2,9 @@
 use Rattle.std.specs.Prelude.{◌≡◌, ℕ, Bool, true, false, List, [], ◌∷◌, ◌++◌, Option, Ok}
 use Rattle.std.specs.List.{list_all}
 use Rattle.std.specs.Io.KnownBytes.{Appends}
-use Rattle.syntax.specs.declared.statements.Step.{Step}
+use Rattle.syntax.specs.declared.statements.ScriptLine.{ScriptLine}
 use Rattle.syntax.specs.declared.definitions.Definition.{Definition}
-use Rattle.commit.specs.Views.{ViewState}
+use Rattle.delta.specs.Views.{ViewState}
 use Rattle.definitions.specs.Written.{AreWritten}
 use Rattle.commit.specs.Admission.{admission_of}
 use Rattle.commit.specs.Cores.{CoreState, IsSerializable}
@@ -13,7 +13,7 @@ use Rattle.session.specs.Books.{IsOver}
 use Rattle.threads.specs.declared.scripts.Script.{Script}
 use Rattle.threads.specs.declared.scripts.ScriptAnswers.{ScriptAnswers}
 use Rattle.threads.specs.Scripts.{AreAnswered}
-use Rattle.replay.specs.Reports.{closing_part_of, lines}
+use Rattle.replay.specs.Reports.{answer_lines, closing_part_of}
 use Rattle.replay.specs.Texts.{AreReady}
 use Rattle.threads.specs.Grouping.{scripts_of}
 
@@ -22,38 +22,38 @@ abbrev pub ended_line : (rolled_back : Bool) → List ℕ → List ℕ
 ended_line false session = []
 ended_line true session = left_open_line session
 
--- the lines of a script: of its answers, and of what was rolled back at its end
-abbrev pub script_lines : Script → ScriptAnswers → List ℕ
-script_lines script found = lines script.steps found.answers ++ ended_line found.rolled_back script.name
+-- what is reported of a script: the lines of its answers, and of what was rolled back at its end
+abbrev pub script_report : Script → ScriptAnswers → List ℕ
+script_report script found = answer_lines script.lines found.answers ++ ended_line found.rolled_back script.name
 
--- the lines of all scripts, one script behind the other
-abbrev pub all_lines : List Script → List ScriptAnswers → List ℕ
-all_lines [] found = []
-all_lines (script ∷ rest) [] = []
-all_lines (script ∷ rest) (one ∷ more) = script_lines script one ++ all_lines rest more
+-- what is reported of all scripts, one script behind the other
+abbrev pub all_script_reports : List Script → List ScriptAnswers → List ℕ
+all_script_reports [] found = []
+all_script_reports (script ∷ rest) [] = []
+all_script_reports (script ∷ rest) (one ∷ more) = script_report script one ++ all_script_reports rest more
 
--- the whole report: the lines of each script, and the closing part
+-- the whole report: what is reported of each script, and the closing part
 abbrev pub grouped_report : List Script → List ScriptAnswers → CoreState → List ℕ
-grouped_report scripts found core = all_lines scripts found ++ closing_part_of core
+grouped_report scripts found core = all_script_reports scripts found ++ closing_part_of core
 
 -- whether each script was run
 abbrev pub all_ran : List ScriptAnswers → Bool
 all_ran found = list_all (λ (one : ScriptAnswers). one.ran) found
 
--- The report of some answers to the scripts of the sessions, one for each step or the one refusal of a session that
+-- The report of some answers to the scripts of the sessions, one for each line or the one refusal of a session that
 -- was not run, and of some commits. These are over what the definitions define, at most as many as the limit, and
 -- serializable.
 pub record IsGroupedReport (defs script : List ℕ) (limit : ℕ) (all : Bool) (bytes : List ℕ) : Type 0 where
   pub shown : ViewState
-  pub steps : List Step
+  pub lines : List ScriptLine
   pub found : List ScriptAnswers
   pub core : CoreState
-  pub ready : AreReady defs script shown steps
-  pub answered : AreAnswered (scripts_of steps) found
+  pub ready : AreReady defs script shown lines
+  pub answered : AreAnswered (scripts_of lines) found
   pub ran : all_ran found ≡ all
   pub over : IsOver core shown limit
   pub serializable : IsSerializable core
-  pub prints : bytes ≡ grouped_report (scripts_of steps) found core
+  pub prints : bytes ≡ grouped_report (scripts_of lines) found core
 
 -- the writer gained the report and nothing else
 pub record WritesGrouped (defs script : List ℕ) (limit : ℕ) (all : Bool) (old new : Option (List ℕ)) : Type 0 where
@@ -78,6 +78,6 @@ pub record IsAdmitted (definitions : List Definition) (shown : ViewState) : Type
 -- both texts are read, the definitions are admitted, as these tables, and these are the scripts of the sessions, which
 -- are few
 pub record AreOpened (defs script : List ℕ) (shown : ViewState) (scripts : List Script) : Type 0 where
-  pub steps : List Step
-  pub ready : AreReady defs script shown steps
-  pub are : scripts ≡ scripts_of steps
+  pub lines : List ScriptLine
+  pub ready : AreReady defs script shown lines
+  pub are : scripts ≡ scripts_of lines

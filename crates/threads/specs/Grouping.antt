@@ -2,19 +2,19 @@
 use Rattle.std.specs.Prelude.{ℕ, List, [], map}
 use Rattle.std.specs.List.{filter}
 use Rattle.std.specs.Str.{bytes_eq}
-use Rattle.syntax.specs.declared.statements.Step.{Step}
+use Rattle.syntax.specs.declared.statements.ScriptLine.{ScriptLine}
 use Rattle.commit.specs.declared.seats.Seat.{Seat}
 use Rattle.commit.specs.Runs.{seats_with_all}
 use Rattle.threads.specs.declared.scripts.Script.{Script}
 
--- the steps of a session, in their order
-abbrev pub steps_of : List ℕ → List Step → List Step
-steps_of session steps = filter (λ (step : Step). bytes_eq step.session session) steps
+-- the lines of a session, in their order
+abbrev pub lines_of : List ℕ → List ScriptLine → List ScriptLine
+lines_of session lines = filter (λ (line : ScriptLine). bytes_eq line.session session) lines
 
 -- the script of the session in a seat
-abbrev pub script_for : List Step → Seat → Script
-script_for steps seat = record { name = seat.session; steps = steps_of seat.session steps }
+abbrev pub script_for : List ScriptLine → Seat → Script
+script_for lines seat = record { name = seat.session; lines = lines_of seat.session lines }
 
--- a script for each session of some steps, in the order of their first steps
-abbrev pub scripts_of : List Step → List Script
-scripts_of steps = map (script_for steps) (seats_with_all [] steps)
+-- a script for each session of some lines, in the order of their first lines
+abbrev pub scripts_of : List ScriptLine → List Script
+scripts_of lines = map (script_for lines) (seats_with_all [] lines)

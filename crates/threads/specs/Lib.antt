@@ -2,4 +2,4 @@ pub mod Grouping
 pub mod Adding
 pub mod Grouped
 pub mod Scripts
-pub mod Steps
+pub mod Lines

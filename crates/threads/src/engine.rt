@@ -22,7 +22,7 @@ use std::alloc::Global;
 use std::io::Write;
 use std::sync::Wait;
 use std::thread::Threads;
-use syntax::{Definition, Step};
+use syntax::{Definition, ScriptLine};
 use value::Refusal;
 
 /// Runs a script of any sessions on definitions, with a thread for each session, on a shelf that is the manager's
@@ -89,9 +89,9 @@ where
         answered.as_slice(),
         out,
     );
-    let_go(history);
-    let_go(answered);
-    let_go(scripts);
+    drop(history);
+    drop(answered);
+    drop(scripts);
     printed
 }
 
@@ -115,12 +115,12 @@ fn open_manager<N: Named, R: Wait>(
     ensures refused { IfErr result (IsFirstFault defs.now script.now) }
     ensures before { IfErr result (λ fault. is_before_the_run fault ≡ true) }
 {
-    let (definitions, steps) = read_texts(alloc, defs, script)?;
+    let (definitions, lines) = read_texts(alloc, defs, script)?;
     let manager = match manage(rt, alloc, shelf, id, definitions.as_slice(), max_commits) {
         Ok(manager) => manager,
         Err(refusal) => return Err(ProgramFault::Defs(refusal)),
     };
-    match require_few_scripts(alloc, steps) {
+    match require_few_scripts(alloc, lines) {
         Ok(scripts) => Ok((manager, scripts)),
         Err(refusal) => Err(ProgramFault::Script(refusal)),
     }
@@ -161,19 +161,16 @@ fn limits_of(max_commits: u64) -> Limits
 
 /// The scripts of the sessions, if they are 256 or fewer.
 #[tactic(auto, using(crate::proofs::Collecting::few, crate::proofs::Collecting::many))]
-fn require_few_scripts(alloc: Global, steps: Items<Step>) -> Result<Vec<Script>, Refusal>
-    ensures grouped { IfOk result (λ scripts. scripts.items ≡ scripts_of steps) }
-    ensures few { IfOk result (λ _. HasFewSessions steps) }
+fn require_few_scripts(alloc: Global, lines: Items<ScriptLine>) -> Result<Vec<Script>, Refusal>
+    ensures grouped { IfOk result (λ scripts. scripts.items ≡ scripts_of lines) }
+    ensures few { IfOk result (λ _. HasFewSessions lines) }
     ensures refused { IfErr result (λ refusal.
-        (refusal ≡ NoMemory) ⊎ (HasManySessions steps × (refusal ≡ TooManySessions))) }
+        (refusal ≡ NoMemory) ⊎ (HasManySessions lines × (refusal ≡ TooManySessions))) }
 {
-    if !has_few_sessions(alloc, steps.as_slice(), MOST_SESSIONS)? {
-        let_go(steps);
+    if !has_few_sessions(alloc, lines.as_slice(), MOST_SESSIONS)? {
+        drop(lines);
         return Err(Refusal::TooManySessions);
     }
-    let scripts = group_by_session(alloc, steps)?;
+    let scripts = group_by_session(alloc, lines)?;
     Ok(scripts)
 }
-
-/// Lets a value go. Its type is a parameter here, so that the caller's proof does not go over its fields.
-fn let_go<T: Drop>(_value: T) {}

@@ -1,12 +1,12 @@
 //! Gates, at which a test can hold the threads.
 
-/// What is called round each step of a script, with the positions of the script and of its step, from 0.
+/// What is called round each line of a script, with the positions of the script and of its line, from 0.
 pub trait Gate {
-    /// Before the step is run.
-    fn before(&self, session: usize, step: usize);
+    /// Before the line is run.
+    fn before(&self, session: usize, line: usize);
 
-    /// After the step was answered.
-    fn after(&self, session: usize, step: usize);
+    /// After the line was answered.
+    fn after(&self, session: usize, line: usize);
 }
 
 /// A gate that holds nothing.
@@ -14,7 +14,7 @@ pub trait Gate {
 pub struct Free;
 
 impl Gate for Free {
-    fn before(&self, _session: usize, _step: usize) {}
+    fn before(&self, _session: usize, _line: usize) {}
 
-    fn after(&self, _session: usize, _step: usize) {}
+    fn after(&self, _session: usize, _line: usize) {}
 }

@@ -1,77 +1,77 @@
 //! The scripts of the sessions.
 
 ghost use Rattle.std.specs.Prelude.{◌≡◌, ◌<◌, ◌∷◌, ◌++◌, [], length, reverse, IfOk, IfSome, OnOk};
-ghost use Rattle.threads.specs.Adding.{scripts_with_step, first_step, script_of, with_step};
+ghost use Rattle.threads.specs.Adding.{scripts_with_line, first_line, script_of, with_line};
 ghost use Rattle.threads.specs.Grouping.{scripts_of};
 
 use crate::scripts::Script;
 use sqlite_items::Items;
 use std::alloc::{AllocError, Global};
-use syntax::Step;
+use syntax::ScriptLine;
 use value::Text;
 
-/// A script for each session of some steps, in the order of their first steps, with the steps of that session in
+/// A script for each session of some lines, in the order of their first lines, with the lines of that session in
 /// their order.
 #[tactic(auto, using(crate::proofs::Collecting::group_step, crate::proofs::Collecting::group_start))]
-pub fn group_by_session(alloc: Global, steps: Items<Step>) -> Result<Vec<Script>, AllocError>
-    ensures { IfOk result (λ scripts. scripts.items ≡ scripts_of steps) }
+pub fn group_by_session(alloc: Global, lines: Items<ScriptLine>) -> Result<Vec<Script>, AllocError>
+    ensures { IfOk result (λ scripts. scripts.items ≡ scripts_of lines) }
 {
-    let mut left = reverse(alloc, steps)?;
+    let mut left = reverse(alloc, lines)?;
     let mut scripts = Vec::new(alloc);
-    'group: while let Some(step) = left.pop() {
-        add_step(alloc, &mut scripts, step)?;
+    'group: while let Some(line) = left.pop() {
+        add_line(alloc, &mut scripts, line)?;
     }
     Ok(scripts)
 }
 
-/// The steps from the last to the first.
+/// The lines from the last to the first.
 #[tactic(auto, using(value::proofs::Lists::turn_step))]
-fn reverse(alloc: Global, mut steps: Items<Step>) -> Result<Items<Step>, AllocError>
-    ensures { IfOk result (λ turned. turned ≡ reverse steps) }
+fn reverse(alloc: Global, mut lines: Items<ScriptLine>) -> Result<Items<ScriptLine>, AllocError>
+    ensures { IfOk result (λ turned. turned ≡ reverse lines) }
 {
     let mut turned = Items::new(alloc);
-    'turn: while let Some(step) = steps.pop() {
-        turned.push(step)?;
+    'turn: while let Some(line) = lines.pop() {
+        turned.push(line)?;
     }
     Ok(turned)
 }
 
-/// Adds a step to the script of its session, which comes last where it is new.
-fn add_step(alloc: Global, scripts: &mut Vec<Script>, step: Step) -> Result<(), AllocError>
-    ensures { OnOk result (scripts.new.items ≡ scripts_with_step scripts.old.items step) }
+/// Adds a line to the script of its session, which comes last where it is new.
+fn add_line(alloc: Global, scripts: &mut Vec<Script>, line: ScriptLine) -> Result<(), AllocError>
+    ensures { OnOk result (scripts.new.items ≡ scripts_with_line scripts.old.items line) }
 {
-    match place_of(scripts.as_slice(), &step.session) {
-        Some(place) => add_to(&mut scripts[place], step),
-        None => add_script(alloc, scripts, step),
+    match place_of(scripts.as_slice(), &line.session) {
+        Some(place) => add_to(&mut scripts[place], line),
+        None => add_script(alloc, scripts, line),
     }
 }
 
-fn add_to(script: &mut Script, step: Step) -> Result<(), AllocError>
-    ensures { OnOk result (script.new ≡ with_step step script.old) }
+fn add_to(script: &mut Script, line: ScriptLine) -> Result<(), AllocError>
+    ensures { OnOk result (script.new ≡ with_line line script.old) }
 {
-    script.steps.push(step)?;
+    script.lines.push(line)?;
     Ok(())
 }
 
-fn add_script(alloc: Global, scripts: &mut Vec<Script>, step: Step) -> Result<(), AllocError>
-    ensures { OnOk result (scripts.new.items ≡ scripts.old.items ++ first_step step ∷ []) }
+fn add_script(alloc: Global, scripts: &mut Vec<Script>, line: ScriptLine) -> Result<(), AllocError>
+    ensures { OnOk result (scripts.new.items ≡ scripts.old.items ++ first_line line ∷ []) }
 {
-    let script = first_step(alloc, step)?;
+    let script = first_line(alloc, line)?;
     scripts.push(script)?;
     Ok(())
 }
 
-/// The script of a session with its first step.
-fn first_step(alloc: Global, step: Step) -> Result<Script, AllocError>
-    ensures { IfOk result (λ script. script ≡ first_step step) }
+/// The script of a session with its first line.
+fn first_line(alloc: Global, line: ScriptLine) -> Result<Script, AllocError>
+    ensures { IfOk result (λ script. script ≡ first_line line) }
 {
-    let name = match step.session.copy() {
+    let name = match line.session.copy() {
         Ok(name) => name,
-        Err(_) => return Err(drop_for_no_memory(step)),
+        Err(_) => return Err(drop_for_no_memory(line)),
     };
-    let mut steps = Items::new(alloc);
-    match steps.push(step) {
-        Ok(()) => Ok(Script { name, steps }),
+    let mut lines = Items::new(alloc);
+    match lines.push(line) {
+        Ok(()) => Ok(Script { name, lines }),
         Err(failed) => Err(drop_for_no_memory(failed)),
     }
 }

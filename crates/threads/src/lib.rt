@@ -6,29 +6,29 @@
 //! take it was is not said; that the commits are serializable in the order that the closing part names, is
 //! (`specs/Grouped`).
 //!
-//! [`run_sessions`] hands a [`Script`] to each thread, which takes a session of the manager and runs the script's steps
+//! [`run_sessions`] hands a [`Script`] to each thread, which takes a session of the manager and runs the script's lines
 //! in their order: BEGIN, COMMIT and ROLLBACK are the manager's calls, and a statement is run in the open transaction,
 //! without a lock. A session has one transaction at a time: BEGIN in an open one is refused, and everything else
-//! without one. A [`Gate`] is called round each step, so that a test can hold a thread where it wants the others to
+//! without one. A [`Gate`] is called round each line, so that a test can hold a thread where it wants the others to
 //! pass.
 //!
-//! What may be rested on of a run: there is an answer for each step of each script, or the one refusal of a script that
-//! got no thread or no session (`specs/Scripts`); what a step is answered, as far as it is known without the commits,
-//! is said where it is run (`specs/Steps`). A scope says nothing of what its threads wrote, so that the answers are
+//! What may be rested on of a run: there is an answer for each line of each script, or the one refusal of a script that
+//! got no thread or no session (`specs/Scripts`); what a line is answered, as far as it is known without the commits,
+//! is said where it is run (`specs/Lines`). A scope says nothing of what its threads wrote, so that the answers are
 //! those of the manager is tested, and not proved.
 //!
 //! The modules, from the top down: `engine` is the whole; `printing` the report; `grouping` the scripts of the
-//! sessions; `runs` the threads, and `steps` the steps of one; `gates` what is called round each; `scripts` what goes
+//! sessions; `runs` the threads, and `lines` the lines of one; `gates` what is called round each; `scripts` what goes
 //! in and comes out.
 #![tactic(auto)]
 
 mod engine;
 mod gates;
 mod grouping;
+mod lines;
 mod printing;
 mod runs;
 mod scripts;
-mod steps;
 
 pub use engine::threads_into;
 pub use gates::{Free, Gate};

@@ -2,10 +2,10 @@
 
 ghost use Rattle.std.specs.Prelude.{◌≡◌, ◌≢◌, ◌++◌, true, false, IfErr, OnOk};
 ghost use Rattle.std.specs.Io.KnownBytes.{Appends};
-ghost use Rattle.replay.specs.Reports.{lines};
+ghost use Rattle.replay.specs.Reports.{answer_lines};
 ghost use Rattle.replay.specs.declared.faults.ProgramFault.TheVariants.{NoThread, Stopped};
 ghost use Rattle.replay.specs.Texts.{IsInTheRun};
-ghost use Rattle.threads.specs.Grouped.{PrintsGrouped, all_lines, all_ran, ended_line, grouped_report, script_lines};
+ghost use Rattle.threads.specs.Grouped.{PrintsGrouped, all_ran, all_script_reports, ended_line, grouped_report, script_report};
 
 use crate::scripts::{Script, ScriptAnswers};
 use alone::Answer;
@@ -15,10 +15,11 @@ use report::Report;
 use session::{History, Named};
 use std::alloc::{AllocError, Global};
 use std::io::Write;
-use syntax::Step;
+use syntax::ScriptLine;
 use value::Text;
 
-/// Writes the lines of each script, and then the closing part of the commits that are left, and flushes the writer.
+/// Writes what is reported of each script, and then the closing part of the commits that are left, and flushes the
+/// writer.
 ///
 /// # Errors
 ///
@@ -43,7 +44,7 @@ pub fn print_report<N: Named, W: Write>(
     ensures stopped { IfErr result (λ fault. fault ≡ Stopped → out.new ≡ out.old) }
 {
     history.recall_serializability();
-    print_lines(alloc, history.core(), scripts, answered, out)?;
+    write_report(alloc, history.core(), scripts, answered, out)?;
     if have_all_run(answered) {
         Ok(())
     } else {
@@ -58,7 +59,7 @@ fn have_all_run(answered: &[ScriptAnswers]) -> bool
     answered.iter().all(|script| script.ran)
 }
 
-fn print_lines<W: Write>(
+fn write_report<W: Write>(
     alloc: Global,
     core: &Core,
     scripts: &[Script],
@@ -70,11 +71,11 @@ fn print_lines<W: Write>(
     ensures late { IfErr result IsInTheRun }
     ensures stopped { IfErr result (λ fault. fault ≡ Stopped → out.new ≡ out.old) }
 {
-    let mut lines = Report::new(alloc);
-    if add_report(alloc, scripts, answered, core, &mut lines).is_err() {
+    let mut report = Report::new(alloc);
+    if add_report(alloc, scripts, answered, core, &mut report).is_err() {
         return Err(ProgramFault::Stopped);
     }
-    write_all(lines.as_bytes(), out)?;
+    write_all(report.as_bytes(), out)?;
     flush(out)
 }
 
@@ -83,59 +84,63 @@ fn add_report(
     scripts: &[Script],
     answered: &[ScriptAnswers],
     core: &Core,
-    lines: &mut Report,
+    report: &mut Report,
 ) -> Result<(), AllocError>
-    ensures { OnOk result (lines.new ≡ lines.old ++ grouped_report scripts.now answered.now core.now) }
+    ensures { OnOk result (report.new ≡ report.old ++ grouped_report scripts.now answered.now core.now) }
 {
-    add_scripts(scripts, answered, lines)?;
-    add_closing_part(alloc, core, lines)
+    add_scripts(scripts, answered, report)?;
+    add_closing_part(alloc, core, report)
 }
 
-/// Adds the lines of each script.
+/// Adds what is reported of each script.
 fn add_scripts(
     scripts: &[Script],
     answered: &[ScriptAnswers],
-    lines: &mut Report,
+    report: &mut Report,
 ) -> Result<(), AllocError>
-    ensures { OnOk result (lines.new ≡ lines.old ++ all_lines scripts.now answered.now) }
+    ensures { OnOk result (report.new ≡ report.old ++ all_script_reports scripts.now answered.now) }
 {
     let mut left = answered;
     for script in scripts {
         let Some((found, others)) = left.split_first() else {
             return Ok(());
         };
-        add_script(script, found, lines)?;
+        add_script(script, found, report)?;
         left = others;
     }
     Ok(())
 }
 
 /// Adds the lines of a script's answers, and of a transaction that was rolled back at its end.
-fn add_script(script: &Script, found: &ScriptAnswers, lines: &mut Report) -> Result<(), AllocError>
-    ensures { OnOk result (lines.new ≡ lines.old ++ script_lines script.now found.now) }
+fn add_script(script: &Script, found: &ScriptAnswers, report: &mut Report) -> Result<(), AllocError>
+    ensures { OnOk result (report.new ≡ report.old ++ script_report script.now found.now) }
 {
-    add_answers(script.steps.as_slice(), found.answers.as_slice(), lines)?;
-    add_end(&script.name, found.rolled_back, lines)
+    add_answers(script.lines.as_slice(), found.answers.as_slice(), report)?;
+    add_end(&script.name, found.rolled_back, report)
 }
 
-fn add_end(session: &Text, rolled_back: bool, lines: &mut Report) -> Result<(), AllocError>
-    ensures { OnOk result (lines.new ≡ lines.old ++ ended_line rolled_back session.now) }
+fn add_end(session: &Text, rolled_back: bool, report: &mut Report) -> Result<(), AllocError>
+    ensures { OnOk result (report.new ≡ report.old ++ ended_line rolled_back session.now) }
 {
     if rolled_back {
-        lines.add_left_open(session)?;
+        report.add_left_open(session)?;
     }
     Ok(())
 }
 
-fn add_answers(steps: &[Step], answers: &[Answer], report: &mut Report) -> Result<(), AllocError>
-    ensures { OnOk result (report.new ≡ report.old ++ lines steps.now answers.now) }
+fn add_answers(
+    lines: &[ScriptLine],
+    answers: &[Answer],
+    report: &mut Report,
+) -> Result<(), AllocError>
+    ensures { OnOk result (report.new ≡ report.old ++ answer_lines lines.now answers.now) }
 {
     let mut left = answers;
-    for step in steps {
+    for line in lines {
         let Some((answer, others)) = left.split_first() else {
             return Ok(());
         };
-        report.add_answer(step, answer)?;
+        report.add_answer(line, answer)?;
         left = others;
     }
     Ok(())

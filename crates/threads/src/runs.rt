@@ -4,11 +4,11 @@ ghost use Rattle.std.specs.Prelude.{◌≡◌, ◌≤◌, [], length, map, vec_c
 ghost use denote.Param.Send.{IsSend, IsSync};
 ghost use Rattle.session.specs.Books.{IsFresh};
 ghost use Rattle.threads.specs.Scripts.{AreAnswered, IsAnswered, answers_without_thread};
-ghost use Rattle.threads.specs.Steps.{AreTold, IsScriptRun};
+ghost use Rattle.threads.specs.Lines.{AreTold, IsScriptRun};
 
 use crate::gates::Gate;
+use crate::lines::{LineOutcome, end, run_event};
 use crate::scripts::{Script, ScriptAnswers};
-use crate::steps::{StepOutcome, end, run_event};
 use alone::Answer;
 use session::{Manager, Named, Session, Txn};
 use sqlite_items::Items;
@@ -16,7 +16,7 @@ use std::alloc::{AllocError, Global};
 use std::sync::Wait;
 use std::thread;
 use std::thread::Threads;
-use syntax::Step;
+use syntax::ScriptLine;
 use value::Refusal;
 
 /// Where a thread leaves what its script was answered. Until it has run, it says that it got no session.
@@ -86,18 +86,18 @@ fn answer_unrun(alloc: Global, script: &Script) -> Result<ScriptAnswers, AllocEr
     })
 }
 
-/// Room for an answer to each step of each script.
+/// Room for an answer to each line of each script.
 fn make_rooms(alloc: Global, scripts: &[Script]) -> Result<Vec<Room>, AllocError> {
     let mut rooms = Vec::with_capacity(alloc, scripts.len())?;
     for script in scripts {
-        rooms.push(make_room(alloc, script.steps.len())?)?;
+        rooms.push(make_room(alloc, script.lines.len())?)?;
     }
     Ok(rooms)
 }
 
-fn make_room(alloc: Global, steps: usize) -> Result<Room, AllocError> {
+fn make_room(alloc: Global, lines: usize) -> Result<Room, AllocError> {
     Ok(Room {
-        answers: Vec::with_capacity(alloc, steps)?,
+        answers: Vec::with_capacity(alloc, lines)?,
         refusal: Some(Refusal::TooManySessions),
         rolled_back: false,
     })
@@ -114,12 +114,12 @@ fn run_script<N: Named, R: Wait, G: Gate>(
 )
     ensures { room.new.refusal ≡ None
         → IsScriptRun (IsFresh (N.shelf manager.now.id) manager.now.id manager.now.epoch)
-        script.now.steps room.new.answers.items room.new.rolled_back }
+        script.now.lines room.new.answers.items room.new.rolled_back }
 {
-    let steps = script.steps.as_slice();
+    let lines = script.lines.as_slice();
     room.answers.clear();
     // (there is room already, which is not known here of what another thread has made)
-    if room.answers.reserve(steps.len()).is_err() {
+    if room.answers.reserve(lines.len()).is_err() {
         room.refusal = Some(Refusal::NoMemory);
         return;
     }
@@ -131,11 +131,11 @@ fn run_script<N: Named, R: Wait, G: Gate>(
         }
     };
     room.refusal = None;
-    let open = run_steps(
+    let open = run_lines(
         rt,
         manager,
         &mut session,
-        steps,
+        lines,
         at,
         gate,
         &mut room.answers,
@@ -143,32 +143,32 @@ fn run_script<N: Named, R: Wait, G: Gate>(
     room.rolled_back = end(rt, manager, open);
 }
 
-/// Runs the steps of a script in a session that has seen nothing, and notes what each was answered. The transaction
+/// Runs the lines of a script in a session that has seen nothing, and notes what each was answered. The transaction
 /// that is open behind the last is handed on.
-fn run_steps<N: Named, R: Wait, G: Gate>(
+fn run_lines<N: Named, R: Wait, G: Gate>(
     rt: &R,
     manager: &Manager<N>,
     session: &mut Session<N>,
-    steps: &[Step],
+    lines: &[ScriptLine],
     at: usize,
     gate: &G,
     answers: &mut Vec<Answer>,
 ) -> Option<Txn<N>>
     requires new { session.old.seen ≡ 0 }
     requires none { answers.old.items ≡ [] }
-    requires room { length steps.now ≤ vec_capacity answers.old }
+    requires room { length lines.now ≤ vec_capacity answers.old }
     ensures { AreTold (IsFresh (N.shelf manager.now.id) manager.now.id manager.now.epoch)
-        steps.now 0 None answers.new.items result }
+        lines.now 0 None answers.new.items result }
 {
     let mut open: Option<Txn<N>> = None;
-    for event in steps {
-        let step = answers.len();
-        gate.before(at, step);
-        let outcome = run_event(rt, manager, session, open, &event.event);
-        let StepOutcome { answer, txn: next } = outcome;
+    for line in lines {
+        let place = answers.len();
+        gate.before(at, place);
+        let outcome = run_event(rt, manager, session, open, &line.event);
+        let LineOutcome { answer, txn: next } = outcome;
         open = next;
         answers.push_reserved(answer);
-        gate.after(at, step);
+        gate.after(at, place);
     }
     open
 }
@@ -195,7 +195,7 @@ fn settle_at(scripts: &[Script], answered: &mut [ScriptAnswers], at: usize, room
     settle(&scripts[at], &mut answered[at], room);
 }
 
-/// Takes over what a thread left: an answer for each step, or the refusal of the session.
+/// Takes over what a thread left: an answer for each line, or the refusal of the session.
 fn settle(script: &Script, answered: &mut ScriptAnswers, room: Room)
     requires { IsAnswered script.now answered.old }
     ensures { IsAnswered script.now answered.new }
@@ -216,7 +216,7 @@ fn take_over(script: &Script, answered: &mut ScriptAnswers, answers: Vec<Answer>
     requires { IsAnswered script.now answered.old }
     ensures { IsAnswered script.now answered.new }
 {
-    if answers.len() != script.steps.len() {
+    if answers.len() != script.lines.len() {
         return;
     }
     answered.answers = Items::from_vec(answers);

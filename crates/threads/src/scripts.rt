@@ -2,17 +2,17 @@
 
 use alone::Answer;
 use sqlite_items::Items;
-use syntax::Step;
+use syntax::ScriptLine;
 use value::Text;
 
-/// What one session does. Its name is that of its records; the sessions that the steps name are not looked at.
+/// What one session does. Its name is that of its records; the sessions that the lines name are not looked at.
 #[derive(Drop)]
 pub struct Script {
     pub name: Text,
-    pub steps: Items<Step>,
+    pub lines: Items<ScriptLine>,
 }
 
-/// What a script was answered. One that was run has an answer for each step. One that got no thread or no session
+/// What a script was answered. One that was run has an answer for each line. One that got no thread or no session
 /// was not run: its one answer is the refusal, as too many sessions or for want of memory.
 #[derive(Drop)]
 pub struct ScriptAnswers {

@@ -6,12 +6,12 @@ use Rattle.value.specs.declared.values.Value.{Value}
 use Rattle.value.specs.ValueOrder.{value_cmp}
 use Rattle.value.specs.Ordered.{HoldsOf}
 use Rattle.table.specs.declared.rows.Change.{Change}
-use Rattle.table.specs.Rows.{FitsColumns, Layout, RowValues, row_at, value_in}
-use Rattle.assertion.specs.Meaning.{State, key_of, rows_of}
+use Rattle.table.specs.Rows.{FitsColumns, Layout, RowValues, row_at, value_in, key_of, layout_at}
+use Rattle.assertion.specs.Meaning.{State, rows_of}
 use Rattle.alone.specs.States.{net_change}
 use Rattle.alone.proofs.Lists.{each_from}
 use Rattle.alone.proofs.Nets.{at_in, net_exact}
-use Rattle.delta.specs.Views.{IsFitting, layout_at}
+use Rattle.delta.specs.Views.{IsFitting}
 use Rattle.txn.specs.Fitting.{RowsFit}
 
 module _ (layouts : List Layout) (before after : State) (fitting : RowsFit layouts after) where

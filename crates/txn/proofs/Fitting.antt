@@ -12,12 +12,12 @@ use Rattle.value.proofs.Results.{ok_same, unless_is}
 use Rattle.table.specs.declared.rows.Change.{Change}
 use Rattle.table.specs.declared.schemas.Column.{Column}
 use Rattle.table.specs.Faults.{are_typed, row_fault, row_refusal}
-use Rattle.table.specs.Rows.{FitsColumns, Layout, RowValues, Tables, layouts_of, put_row, value_in}
+use Rattle.table.specs.Rows.{FitsColumns, Layout, RowValues, Tables, layouts_of, put_row, value_in, key_of, layout_at}
 use Rattle.table.proofs.RowLemmas.{FitsColumns-of}
 use Rattle.table.specs.Eval.{keeps}
 use Rattle.assertion.specs.Declarations.{Declared, layouts_in}
-use Rattle.assertion.specs.Meaning.{State, key_of, rows_of}
-use Rattle.assertion.specs.Roots.{state_after, state_after_all}
+use Rattle.assertion.specs.Meaning.{State, rows_of}
+use Rattle.assertion.specs.Changes.{state_after, state_after_all}
 use Rattle.assertion.specs.declared.assertions.Assertion.{Assertion}
 use Rattle.assertcheck.specs.declared.inserts.NewRow.{NewRow}
 use Rattle.assertcheck.specs.declared.updates.Setting.{Setting}
@@ -32,7 +32,7 @@ use Rattle.alone.specs.States.{net_change}
 use Rattle.alone.specs.Statements.{Effect, columns_of, delete_effect, found_rows, given_fault, given_value, insert_effect, inserted_at, place_in, removal, renewal, settings_fault, update_effect, update_fault, row_after_settings}
 use Rattle.alone.proofs.Lists.{Each, each_from}
 use Rattle.changes.proofs.Fitting.{faultless_fits, fits_set, set_nothing}
-use Rattle.delta.specs.Views.{IsFitting, layout_at}
+use Rattle.delta.specs.Views.{IsFitting}
 use Rattle.txn.specs.Fitting.{RowsFit}
 use Rattle.txn.proofs.Fits.{fits}
 

@@ -7,7 +7,7 @@ use Rattle.table.specs.Rows.{Layout}
 use Rattle.assertion.specs.declared.assertions.Assertion.{Assertion}
 use Rattle.assertion.specs.Declarations.{layouts_in}
 use Rattle.assertion.specs.Meaning.{State}
-use Rattle.assertion.specs.Roots.{state_after_all}
+use Rattle.assertion.specs.Changes.{state_after_all}
 use Rattle.siread.specs.declared.keys.LockKey.{LockKey}
 use Rattle.siread.specs.declared.keys.Place.{Place}
 use Rattle.siread.specs.Keys.{place_of}

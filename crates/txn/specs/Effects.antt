@@ -2,9 +2,9 @@
 use Rattle.std.specs.Prelude.{List, All, Result}
 use Rattle.value.specs.declared.refusals.Refusal.{Refusal}
 use Rattle.table.specs.declared.rows.Change.{Change}
-use Rattle.table.specs.Rows.{Layout}
+use Rattle.table.specs.Rows.{Layout, key_of}
 use Rattle.assertion.specs.Declarations.{layouts_in}
-use Rattle.assertion.specs.Meaning.{State, key_of}
+use Rattle.assertion.specs.Meaning.{State}
 use Rattle.assertcheck.specs.declared.deletes.Delete.{Delete}
 use Rattle.assertcheck.specs.declared.updates.Update.{Update}
 use Rattle.alone.specs.States.{AreDue}

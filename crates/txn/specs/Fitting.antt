@@ -1,8 +1,7 @@
 -- Rows that fit their columns.
 use Rattle.std.specs.Prelude.{ℕ, List, All}
-use Rattle.table.specs.Rows.{FitsColumns, Layout}
+use Rattle.table.specs.Rows.{FitsColumns, Layout, layout_at}
 use Rattle.assertion.specs.Meaning.{State, rows_of}
-use Rattle.delta.specs.Views.{layout_at}
 
 -- each row of each table fits the columns of its table
 abbrev pub RowsFit : List Layout → State → Type 0

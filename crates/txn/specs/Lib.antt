@@ -5,4 +5,3 @@ pub mod Held
 pub mod Runnable
 pub mod Steps
 pub mod Transactions
-pub use Rattle.alone.specs.Modes

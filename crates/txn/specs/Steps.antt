@@ -5,7 +5,8 @@ use Rattle.value.specs.declared.refusals.Refusal.TheVariants.{NoMemory}
 use Rattle.value.specs.Ordered.{HoldsOf}
 use Rattle.table.specs.declared.rows.Change.{Change}
 use Rattle.assertion.specs.Declarations.{Declared, layouts_in}
-use Rattle.assertion.specs.Meaning.{State, key_of}
+use Rattle.assertion.specs.Meaning.{State}
+use Rattle.table.specs.Rows.{key_of}
 use Rattle.alone.specs.Modes.{Immediates}
 use Rattle.alone.specs.declared.answers.Reply.{Reply}
 use Rattle.assertcheck.specs.declared.deletes.Delete.{Delete}

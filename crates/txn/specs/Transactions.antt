@@ -14,7 +14,7 @@ use Rattle.delta.specs.Views.{ViewState}
 -- a transaction that has not ended
 pub record OpenTransaction : Type 0 where
   pub declared : Declared
-  pub ticket : ℕ
+  pub begin_number : ℕ
   pub snapshot : ℕ
   -- whether it began READ ONLY
   pub read_only : Bool
@@ -50,10 +50,10 @@ abbrev pub with_statement : OpenTransaction → ResolvedStatement → OpenTransa
 with_statement t statement = record t { trace = t.trace ++ statement ∷ [] }
 
 -- a transaction that began on these tables, and has run these statements
-abbrev pub transaction_after : (ticket snapshot : ℕ) → Bool → ViewState → List ResolvedStatement → OpenTransaction
-transaction_after ticket snapshot read_only shown trace = record {
+abbrev pub transaction_after : (begin_number snapshot : ℕ) → Bool → ViewState → List ResolvedStatement → OpenTransaction
+transaction_after begin_number snapshot read_only shown trace = record {
   declared = shown.declared;
-  ticket = ticket;
+  begin_number = begin_number;
   snapshot = snapshot;
   read_only = read_only;
   start = shown.state;
@@ -61,8 +61,8 @@ transaction_after ticket snapshot read_only shown trace = record {
 }
 
 -- before its first statement
-abbrev pub transaction_at_begin : (ticket snapshot : ℕ) → Bool → ViewState → OpenTransaction
-transaction_at_begin ticket snapshot read_only shown = transaction_after ticket snapshot read_only shown []
+abbrev pub transaction_at_begin : (begin_number snapshot : ℕ) → Bool → ViewState → OpenTransaction
+transaction_at_begin begin_number snapshot read_only shown = transaction_after begin_number snapshot read_only shown []
 
 -- whether an assertion is false on what a view shows
 abbrev pub is_false_on : ViewState → Assertion → Bool

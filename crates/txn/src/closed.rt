@@ -19,7 +19,7 @@ use value::Refusal;
 /// view, if one is, and what it has read, this check included. It must be spent: as the [`Txn`] that it was, or in
 /// its [`Parts`].
 pub struct ClosedTransaction {
-    pub(crate) ticket: u64,
+    pub(crate) begin_number: u64,
     pub(crate) snapshot: u64,
     pub(crate) read_only: bool,
     pub(crate) start: View,
@@ -55,13 +55,13 @@ impl Model for ClosedTransaction {
 
     ghost coded = { Prim.hlevel (codes, cond_type.the_row.coded, expr_type.the_row.coded) };
 
-    ghost view = { λ c. transaction_after c.ticket c.snapshot c.read_only c.start c.trace.items };
+    ghost view = { λ c. transaction_after c.begin_number c.snapshot c.read_only c.start c.trace.items };
 
     ghost invariant = { λ c.
-        IsHeld (transaction_after c.ticket c.snapshot c.read_only c.start c.trace.items) c.own c.modes c.touched
+        IsHeld (transaction_after c.begin_number c.snapshot c.read_only c.start c.trace.items) c.own c.modes c.touched
         (take c.run c.reads.items)
-        × IsClosed (transaction_after c.ticket c.snapshot c.read_only c.start c.trace.items) c.changes.items c.refused
-        c.reads.items };
+        × IsClosed (transaction_after c.begin_number c.snapshot c.read_only c.start c.trace.items) c.changes.items
+        c.refused c.reads.items };
 }
 
 /// A transaction that could not be closed, since memory ran out.
@@ -71,10 +71,10 @@ pub struct CloseFailure {
 
 impl ClosedTransaction {
     /// The name of the transaction with whom it was begun. It takes no memory.
-    pub fn ticket(&self) -> u64
-        ensures { result ≡ self.now.ticket }
+    pub fn begin_number(&self) -> u64
+        ensures { result ≡ self.now.begin_number }
     {
-        self.ticket
+        self.begin_number
     }
 
     /// How many commits its snapshot holds. It takes no memory.
@@ -144,7 +144,7 @@ impl ClosedTransaction {
         ensures { result ≡ self }
     {
         let ClosedTransaction {
-            ticket,
+            begin_number,
             snapshot,
             read_only,
             start,
@@ -159,7 +159,7 @@ impl ClosedTransaction {
         } = self;
         reads.truncate(run);
         Txn {
-            ticket,
+            begin_number,
             snapshot,
             read_only,
             start,
@@ -178,7 +178,7 @@ impl ClosedTransaction {
         ensures changes { result.changes.items ≡ (outcome_of self).changes }
     {
         let ClosedTransaction {
-            ticket: _,
+            begin_number: _,
             snapshot: _,
             read_only: _,
             start: _,

@@ -8,8 +8,9 @@
 //! them (set constraints mode statement, commit statement). Which transactions may commit side by side is not decided
 //! here: a transaction notes under which keys it has read, and hands out its net change, for the layer above to decide.
 //!
-//! - [`Txn::begin`] is a transaction on given tables. [`Txn::ticket`], [`Txn::snapshot`] and [`Txn::is_read_only`] tell
-//!   what it was begun with, and by [`Txn::recall_read_only`] a read-only one has no net change.
+//! - [`Txn::begin`] is a transaction on given tables. [`Txn::begin_number`], [`Txn::snapshot`] and
+//!   [`Txn::is_read_only`] tell what it was begun with, and by [`Txn::recall_read_only`] a read-only one has no net
+//!   change.
 //! - [`Txn::execute`] runs a statement, finds its names first, and notes it in the trace.
 //! - [`Txn::own`], [`Txn::trace`] and [`Txn::reads`] lend its own view of the tables, its statements so far with
 //!   their names found, and the keys under which they have read.
@@ -26,14 +27,14 @@
 //! - [`resolve`] finds a statement's names, and [`insert_effect`], [`update_effect`] and [`delete_effect`] are what it
 //!   does to the rows of a view before its assertions are asked: for who explains a refused statement.
 //!
-//! **Why each reply is that from scratch.** Of a transaction, contracts show six things: what is declared, its ticket
-//! and snapshot, whether it is read only, the state that it began on, and its trace. They name no own view and no
-//! modes that are kept, no places that it has changed and no key that it has noted. The definitions of `alone` run the
-//! trace again, from the first statement on, over plain lists of rows, and evaluate each condition and each assertion
-//! on them; [`Txn::execute`] answers what the last statement of such a run answers. For that a transaction keeps as its
-//! invariant that its own view, its modes and its keys are those which the run leaves, and that start and own view
-//! differ at most at the places that it has noted (`Held`). So the net change at COMMIT, found at these places alone,
-//! is that of the two whole states; a row that is set to what it held is no part of it. A view answers for its
+//! **Why each reply is that from scratch.** Of a transaction, contracts show six things: what is declared, its begin
+//! number and snapshot, whether it is read only, the state that it began on, and its trace. They name no own view and
+//! no modes that are kept, no places that it has changed and no key that it has noted. The definitions of `alone` run
+//! the trace again, from the first statement on, over plain lists of rows, and evaluate each condition and each
+//! assertion on them; [`Txn::execute`] answers what the last statement of such a run answers. For that a transaction
+//! keeps as its invariant that its own view, its modes and its keys are those which the run leaves, and that start and
+//! own view differ at most at the places that it has noted (`Held`). So the net change at COMMIT, found at these places
+//! alone, is that of the two whole states; a row that is set to what it held is no part of it. A view answers for its
 //! assertions (`delta`), and a statement that is refused leaves view and modes as they were, since the new ones are
 //! made beside the old and put in their place last. Of a read-only one the invariant says that its trace holds no
 //! INSERT, UPDATE or DELETE, and so it has no net change.

@@ -4,7 +4,8 @@ ghost use Rattle.std.specs.Prelude.{◌≡◌, ◌≢◌, ◌<◌, ◌++◌, [],
 ghost use Rattle.value.specs.Ordered.{HoldsOf};
 ghost use Rattle.value.specs.declared.refusals.Refusal.TheVariants.{NoMemory};
 ghost use Rattle.assertion.specs.Declarations.{layouts_in};
-ghost use Rattle.assertion.specs.Meaning.{State, key_of};
+ghost use Rattle.assertion.specs.Meaning.{State};
+ghost use Rattle.table.specs.Rows.{key_of};
 ghost use Rattle.siread.specs.declared.keys.LockKey.{LockKey as AnyKey};
 ghost use Rattle.siread.specs.Keys.{place_of};
 ghost use Rattle.alone.specs.Modes.{Immediates, assertion_of, is_immediate, modes_with};

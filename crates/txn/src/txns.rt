@@ -29,7 +29,7 @@ use value::{Refusal, Text, Truth};
 /// An open transaction: the tables that it began on, its own view of them, its modes, its trace, and what it has
 /// read. It must be spent: by [`Txn::close_check`], or by [`Txn::abandon`].
 pub struct Txn {
-    pub(crate) ticket: u64,
+    pub(crate) begin_number: u64,
     pub(crate) snapshot: u64,
     pub(crate) read_only: bool,
     pub(crate) start: View,
@@ -59,27 +59,27 @@ impl Model for Txn {
 
     ghost coded = { Prim.hlevel (codes, cond_type.the_row.coded, expr_type.the_row.coded) };
 
-    ghost view = { λ t. transaction_after t.ticket t.snapshot t.read_only t.start t.trace.items };
+    ghost view = { λ t. transaction_after t.begin_number t.snapshot t.read_only t.start t.trace.items };
 
     ghost invariant = { λ t. IsHeld
-        (transaction_after t.ticket t.snapshot t.read_only t.start t.trace.items) t.own t.modes
+        (transaction_after t.begin_number t.snapshot t.read_only t.start t.trace.items) t.own t.modes
         t.touched t.reads.items };
 }
 
 impl Txn {
-    /// A transaction that begins on these tables, which so many commits left. The ticket is its name with the
+    /// A transaction that begins on these tables, which so many commits left. The begin number is its name with the
     /// caller; one that is read only runs no INSERT, UPDATE or DELETE.
     pub fn begin(
         alloc: Global,
-        ticket: u64,
+        begin_number: u64,
         snapshot: u64,
         read_only: bool,
         tables: &View,
     ) -> Result<Txn, AllocError>
-        ensures { IfOk result (λ txn. txn ≡ transaction_at_begin ticket snapshot read_only tables.now) }
+        ensures { IfOk result (λ txn. txn ≡ transaction_at_begin begin_number snapshot read_only tables.now) }
     {
         Ok(Txn {
-            ticket,
+            begin_number,
             snapshot,
             read_only,
             start: tables.copy()?,
@@ -92,10 +92,10 @@ impl Txn {
     }
 
     /// The name of the transaction with whom it was begun. It takes no memory.
-    pub fn ticket(&self) -> u64
-        ensures { result ≡ self.now.ticket }
+    pub fn begin_number(&self) -> u64
+        ensures { result ≡ self.now.begin_number }
     {
-        self.ticket
+        self.begin_number
     }
 
     /// How many commits its snapshot holds. It takes no memory.
@@ -255,7 +255,7 @@ impl Txn {
         ensures back { IfErr result (λ fault. fault.txn ≡ self) }
     {
         let Txn {
-            ticket,
+            begin_number,
             snapshot,
             read_only,
             start,
@@ -273,7 +273,7 @@ impl Txn {
         let run = reads.len();
         match append(&mut reads, checked) {
             Ok(()) => Ok(ClosedTransaction {
-                ticket,
+                begin_number,
                 snapshot,
                 read_only,
                 start,
@@ -288,7 +288,7 @@ impl Txn {
             }),
             Err(_) => Err(CloseFailure {
                 txn: Txn {
-                    ticket,
+                    begin_number,
                     snapshot,
                     read_only,
                     start,
@@ -325,7 +325,7 @@ impl Txn {
         ensures { result ≡ own_view self }
     {
         let Txn {
-            ticket: _,
+            begin_number: _,
             snapshot: _,
             read_only: _,
             start: _,

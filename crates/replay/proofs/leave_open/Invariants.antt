@@ -2,6 +2,6 @@ use Rattle.std.proofs.Common.{◌≡◌, ◌++◌, drop}
 use Rattle.replay.specs.Lines.{left_lines}
 use Rattle.replay.proofs.leave_open.Given as goal
 
--- the lines so far, and those of the seats that are left
+-- the report so far, and the lines of the seats that are left
 abbrev pub invariant-loop-seat : goal.invariant-loop-seat
-invariant-loop-seat l = l.lines ++ left_lines (drop l.seat-index l.seats) ≡ l.initial.lines ++ left_lines l.seats
+invariant-loop-seat l = l.report ++ left_lines (drop l.seat-index l.seats) ≡ l.initial.report ++ left_lines l.seats

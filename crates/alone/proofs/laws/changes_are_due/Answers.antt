@@ -1,5 +1,5 @@
 use Rattle.std.proofs.Common.{refl}
-use Rattle.assertion.specs.Meaning.{key_of}
+use Rattle.table.specs.Rows.{key_of}
 use Rattle.alone.specs.Statements.{removal, renewal}
 use Rattle.alone.proofs.Effects.{delete_doable, update_doable}
 use Rattle.alone.proofs.Orders.{found_in_order, due_changes, due_from}

@@ -1,4 +1,4 @@
-use Rattle.alone.specs.Meaning.{filtered_rows}
+use Rattle.assertion.specs.Meaning.{filtered_rows}
 use Rattle.alone.specs.Statements.{removal}
 use Rattle.changes.proofs.Walks.{IsMade}
 use Rattle.changes.proofs.deletions.removals.Given as goal

@@ -1,6 +1,6 @@
 use Rattle.std.proofs.Common.{◌∙◌, sym, ap}
 use Rattle.table.specs.Bounds.{IsSmallRow}
-use Rattle.alone.specs.Meaning.{filtered_rows}
+use Rattle.assertion.specs.Meaning.{filtered_rows}
 use Rattle.changes.proofs.Walks.{next_has, rest_has, not_filtered}
 use Rattle.changes.proofs.filtered.next_filtered.Goals as goal
 

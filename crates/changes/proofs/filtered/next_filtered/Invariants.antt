@@ -1,7 +1,7 @@
 use Rattle.std.proofs.Common.{◌≡◌, length}
 use Rattle.std.specs.Prelude.{All}
 use Rattle.table.specs.Bounds.{IsSmallRow}
-use Rattle.alone.specs.Meaning.{filtered_rows}
+use Rattle.assertion.specs.Meaning.{filtered_rows}
 use Rattle.changes.proofs.filtered.next_filtered.Given as goal
 
 -- the rows passed over weren't restriction

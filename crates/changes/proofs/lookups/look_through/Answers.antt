@@ -3,7 +3,7 @@ use Rattle.std.specs.Prelude.{All, option_to_list}
 use Rattle.std.specs.Option.{option_copied}
 use Rattle.table.specs.Rows.{RowValues, FitsColumns, row_at}
 use Rattle.table.specs.Bounds.{IsSmallRow}
-use Rattle.alone.specs.Meaning.{filtered_rows}
+use Rattle.assertion.specs.Meaning.{filtered_rows}
 use Rattle.alone.specs.Reads.{Equality, first_on, top_parts}
 use Rattle.changes.specs.Shown.{lent_equality}
 use Rattle.changes.specs.Lookups.{looked_at}

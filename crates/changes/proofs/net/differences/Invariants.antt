@@ -1,5 +1,5 @@
 use Rattle.std.proofs.Common.{◌≡◌, ◌++◌}
-use Rattle.alone.specs.Declarations.{layouts_in}
+use Rattle.assertion.specs.Declarations.{layouts_in}
 use Rattle.changes.specs.Nets.{differences_at}
 use Rattle.changes.proofs.net.differences.Given as goal
 

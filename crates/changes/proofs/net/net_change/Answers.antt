@@ -1,5 +1,5 @@
 use Rattle.std.proofs.Common.{◌∙◌, subst}
-use Rattle.alone.specs.Declarations.{Declared, layouts_in}
+use Rattle.assertion.specs.Declarations.{Declared, layouts_in}
 use Rattle.delta.specs.Views.{AreTables}
 use Rattle.changes.proofs.Places.{differences_net}
 use Rattle.changes.proofs.net.net_change.Goals as goal

@@ -1,4 +1,4 @@
-use Rattle.alone.specs.Meaning.{filtered_rows, rows_of}
+use Rattle.assertion.specs.Meaning.{filtered_rows, rows_of}
 use Rattle.alone.specs.Statements.{selected_values}
 use Rattle.changes.proofs.Walks.{IsMade}
 use Rattle.changes.proofs.selections.selected_rows.Given as goal

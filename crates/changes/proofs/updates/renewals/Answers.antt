@@ -7,7 +7,7 @@ use Rattle.table.specs.Rows.{RowValues, FitsColumns}
 use Rattle.table.specs.Bounds.{IsSmallRow}
 use Rattle.table.specs.Eval.{keeps}
 use Rattle.table.proofs.SmallRows.{IsSmallRow-fits}
-use Rattle.alone.specs.Meaning.{filtered_rows}
+use Rattle.assertion.specs.Meaning.{filtered_rows}
 use Rattle.alone.specs.Statements.{renewal, update_fault}
 use Rattle.changes.proofs.Due.{renewals_due, renewals_fit}
 use Rattle.changes.proofs.Walks.{made_more, rest_has, all_more, all_done, fault_left}

@@ -2,7 +2,7 @@ use Rattle.std.proofs.Common.{◌≡◌}
 use Rattle.std.specs.Prelude.{All}
 use Rattle.value.specs.Ordered.{HoldsOf}
 use Rattle.table.specs.Rows.{FitsColumns}
-use Rattle.alone.specs.Meaning.{filtered_rows}
+use Rattle.assertion.specs.Meaning.{filtered_rows}
 use Rattle.alone.specs.Statements.{renewal, update_fault}
 use Rattle.changes.proofs.Walks.{IsMade}
 use Rattle.changes.proofs.updates.renewals.Given as goal

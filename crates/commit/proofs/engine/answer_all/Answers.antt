@@ -1,10 +1,10 @@
 use Rattle.commit.proofs.Answering.{so_far_more, so_far_none}
 use Rattle.commit.proofs.engine.answer_all.Goals as goal
 
-pub loop-step-init : goal.loop-step-init
-loop-step-init c = so_far_none c.args.engine.now c.args.steps.now c.args.answers.now.items c.requires
+pub loop-line-init : goal.loop-line-init
+loop-line-init c = so_far_none c.args.engine.now c.args.lines.now c.args.answers.now.items c.requires
 
-pub loop-step-preserved : goal.loop-step-preserved
-loop-step-preserved c =
-    so_far_more c.args.engine.now c.args.steps.now c.loop-step.step-index c.loop-step.engine c.answer_next.new.engine c.loop-step.answers.items c.answer_next.new.answers.items c.step-item.result
-    c.loop-step-test.true c.step-item.is c.loop-step.invariant (c.answer_next.ensures.answered c.if-not-answer_next.false)
+pub loop-line-preserved : goal.loop-line-preserved
+loop-line-preserved c =
+    so_far_more c.args.engine.now c.args.lines.now c.loop-line.line-index c.loop-line.engine c.answer_next.new.engine c.loop-line.answers.items c.answer_next.new.answers.items c.line-item.result
+    c.loop-line-test.true c.line-item.is c.loop-line.invariant (c.answer_next.ensures.answered c.if-not-answer_next.false)

@@ -5,8 +5,8 @@ use Rattle.commit.specs.Runs.{beginning}
 use Rattle.commit.proofs.laws.answers_lead_to_a_serial_order.Goals as goal
 
 pub returns-clause-serializable : goal.returns-clause-serializable
-returns-clause-serializable c = λ limit loaded all steps answers sound answered.
-    let end = ends c.replies_are_those_alone.ensures.next limit loaded all steps answers sound answered in
+returns-clause-serializable c = λ limit loaded all lines answers sound answered.
+    let end = ends c.replies_are_those_alone.ensures.next limit loaded all lines answers sound answered in
     let core = end.running.commits in record {
       once = c.commits_have_an_order.ensures.once _ core.epoch.accepted;
       sound = c.replay_answers_again.ensures.sound _ _ _ core.epoch;
@@ -16,10 +16,10 @@ returns-clause-serializable c = λ limit loaded all steps answers sound answered
     }
 
 pub returns-clause-told : goal.returns-clause-told
-returns-clause-told c = λ limit loaded all steps answers sound answered.
-    (ends c.replies_are_those_alone.ensures.next limit loaded all steps answers sound answered).telling.alone
+returns-clause-told c = λ limit loaded all lines answers sound answered.
+    (ends c.replies_are_those_alone.ensures.next limit loaded all lines answers sound answered).telling.alone
 
 pub returns-clause-fit : goal.returns-clause-fit
-returns-clause-fit c = λ limit loaded all steps answers sound answered fit.
-    all_fit loaded _ (ends c.replies_are_those_alone.ensures.next limit loaded all steps answers sound answered).running
-    (loaded_led (beginning limit loaded all) steps answers) fit
+returns-clause-fit c = λ limit loaded all lines answers sound answered fit.
+    all_fit loaded _ (ends c.replies_are_those_alone.ensures.next limit loaded all lines answers sound answered).running
+    (loaded_led (beginning limit loaded all) lines answers) fit

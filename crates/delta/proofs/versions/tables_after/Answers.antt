@@ -1,8 +1,8 @@
 use Rattle.std.proofs.Common.{ℕ, ap, arith, length, sym, subst}
 use Rattle.value.specs.Ordered.{HasKey, IsAscending}
 use Rattle.value.specs.ValueOrder.{value_cmp}
-use Rattle.table.specs.Rows.{value_in}
-use Rattle.assertion.specs.Meaning.{State, key_of, rows_of}
+use Rattle.table.specs.Rows.{value_in, key_of}
+use Rattle.assertion.specs.Meaning.{State, rows_of}
 use Rattle.delta.proofs.TableLemmas.{good_order}
 use Rattle.delta.proofs.versions.tables_after.Goals as goal
 

@@ -1,6 +1,6 @@
 use Rattle.std.proofs.Common.{sym, subst}
 use Rattle.assertion.specs.Declarations.{layouts_in}
-use Rattle.assertion.specs.Roots.{AreChangesOf}
+use Rattle.assertion.specs.Changes.{AreChangesOf}
 use Rattle.alone.proofs.Orders.{due_changes}
 use Rattle.history.proofs.tries.put_in.Goals as goal
 

@@ -2,8 +2,8 @@ use Rattle.std.proofs.Common.{[], List, Some, sym, subst}
 use Rattle.std.proofs.lemmas.Result.{IfOk-weaker}
 use Rattle.value.specs.ValueOrder.{value_cmp}
 use Rattle.value.specs.Ordered.{IsAscending}
-use Rattle.table.specs.Rows.{RowValues, put_row, value_in}
-use Rattle.assertion.specs.Meaning.{key_of, rows_of}
+use Rattle.table.specs.Rows.{RowValues, put_row, value_in, key_of}
+use Rattle.assertion.specs.Meaning.{rows_of}
 use Rattle.groups.specs.Totals.{AreTotalsOf, AreWithin, Entries}
 use Rattle.roots.specs.Around.{around_members}
 use Rattle.roots.specs.Shown.{lent_query}

@@ -1,7 +1,7 @@
 use Rattle.std.proofs.Common.{subst, sym}
 use Rattle.std.proofs.lemmas.Result.{IfOk-weaker}
 use Rattle.assertion.specs.Meaning.{rows_of}
-use Rattle.assertion.specs.Roots.{state_after}
+use Rattle.assertion.specs.Changes.{state_after}
 use Rattle.groups.specs.Totals.{AreTotalsOf, Entries}
 use Rattle.groups.proofs.RowLemmas.{members_within}
 use Rattle.roots.specs.Shown.{lent_query}

@@ -1,8 +1,8 @@
 use Rattle.value.specs.ValueOrder.{value_cmp}
 use Rattle.value.proofs.OrderedLists.{All-at}
-use Rattle.table.specs.Rows.{value_in}
+use Rattle.table.specs.Rows.{value_in, key_of}
 use Rattle.table.specs.Bounds.{IsSmallRow}
-use Rattle.assertion.specs.Meaning.{rows_of, key_of}
+use Rattle.assertion.specs.Meaning.{rows_of}
 use Rattle.roots.proofs.updates.row_of.Goals as goal
 
 pub returns-in-ByRow-Of-clause-small : goal.returns-in-ByRow-Of-clause-small

@@ -8,7 +8,7 @@ use Rattle.tests_of_transactions.proofs.commit_tests.outcome_over.Goals as goal
 
 pub returns : goal.returns
 returns c =
-    let steps = c.args.steps.now in
+    let lines = c.args.lines.now in
     let answers = c.in_ok-outcome.outcome.answers.items in
-    let running = running_led (beginning 4 c.args.tables steps) (take (length answers) steps) answers (running_first 4 c.args.tables steps c.requires) c.in_ok-outcome.ensures.answers in
+    let running = running_led (beginning 4 c.args.tables lines) (take (length answers) lines) answers (running_first 4 c.args.tables lines c.requires) c.in_ok-outcome.ensures.answers in
     subst (λ (engine : EngineState). AreLive engine.core engine.seats) (sym c.in_ok-outcome.ensures.left) running.live

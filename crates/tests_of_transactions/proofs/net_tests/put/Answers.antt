@@ -5,7 +5,7 @@ use Rattle.table.specs.declared.rows.Change.{Change}
 use Rattle.table.specs.Rows.{Layout}
 use Rattle.assertion.specs.Declarations.{Declared, layouts_in}
 use Rattle.assertion.specs.Meaning.{State}
-use Rattle.assertion.specs.Roots.{IsChangeOf, state_after}
+use Rattle.assertion.specs.Changes.{IsChangeOf, state_after}
 use Rattle.siread.specs.declared.keys.Place.{Place}
 use Rattle.siread.specs.Keys.{same_place, place_of}
 use Rattle.siread.proofs.KeyOrder.{same_place-true}

@@ -1,9 +1,9 @@
 use Rattle.std.proofs.Common.{◌≡◌, ◌++◌, length, reverse}
 use Rattle.threads.proofs.grouping.reverse.Given as goal
 
--- the steps so far, and then those that are left, the last first
+-- the lines so far, and then those that are left, the last first
 abbrev pub invariant-turn : goal.invariant-turn
-invariant-turn l = l.turned ++ reverse l.steps ≡ reverse l.initial.steps
+invariant-turn l = l.turned ++ reverse l.lines ≡ reverse l.initial.lines
 
 abbrev pub decreases-turn : goal.decreases-turn
-decreases-turn l = length l.steps
+decreases-turn l = length l.lines

@@ -1,7 +1,7 @@
 use Rattle.std.proofs.Common.{◌≡◌, List, map, ap, sym, refl, ◌∙◌, subst, ◌++◌, ◌∷◌}
 use Rattle.table.specs.declared.rows.Change.{Change}
 use Rattle.assertion.specs.Declarations.{layouts_in}
-use Rattle.assertion.specs.Roots.{AreChangesOf, state_after_all}
+use Rattle.assertion.specs.Changes.{AreChangesOf, state_after_all}
 use Rattle.alone.specs.Modes.{immediate_ones}
 use Rattle.alone.specs.Checks.{checks_read}
 use Rattle.alone.specs.States.{net_change, IsPut, IsState}

@@ -8,7 +8,7 @@ use Rattle.commit.specs.Kept.{IsKept, idle_core, pending_of}
 use Rattle.commit.proofs.Accepting.{begun_live}
 use Rattle.commit.proofs.Keeping.{is_idle, kept_idle, locks_idle, same_commits}
 use Rattle.commit.proofs.Locking.{kept_begun}
-use Rattle.commit.proofs.Tickets.{one_more}
+use Rattle.commit.proofs.BeginNumbers.{one_more}
 use Rattle.commit.proofs.cores.Core.begin_as.Goals as goal
 
 pub invariant_of-self : goal.invariant_of-self
@@ -30,7 +30,7 @@ invariant_of-self-2 c =
     (kept_idle (with_begun c.args.read_only now) c.self.inside.newest c.self.inside.places.items c.self.inside.reaches.items c.self.inside.order.items (readers_at c.self.inside.locks) Room c.self.inside.prepared idle
     (same_commits now c.self.inside.newest c.self.inside.places.items c.self.inside.reaches.items c.self.inside.order.items (readers_at c.self.inside.locks) Room
     (with_begin (length c.self.inside.records.items) c.args.read_only c.self.inside.live) c.self.inside.refused.items
-    (one_more c.self.inside.live (length c.self.inside.records.items) c.args.read_only c.self.invariant.0.tickets) c.self.invariant.0)
+    (one_more c.self.inside.live (length c.self.inside.records.items) c.args.read_only c.self.invariant.0.begin_numbers) c.self.invariant.0)
     (locks ∙ sym (kept_begun c.self.inside.live c.self.inside.records.items c.args.read_only)))
 
 pub returns-clause-live : goal.returns-clause-live
@@ -41,7 +41,7 @@ returns-clause-live c =
     let began : c.begin-2.new.self ≡ with_begin (length c.self.inside.records.items) c.args.read_only c.self.inside.live
     = c.in_default.ensures.begun ∙ ap (λ n. with_begin n c.args.read_only c.self.inside.live) count in
     let txn_is : c.in_ok-txn.txn ≡ transaction_at_begin c.self.inside.live.begun (length c.self.inside.records.items) c.args.read_only c.self.inside.newest
-    = c.in_ok-txn.ensures ∙ (λ i. transaction_at_begin (c.next_ticket.ensures i) (count i) c.args.read_only c.self.inside.newest) in
+    = c.in_ok-txn.ensures ∙ (λ i. transaction_at_begin (c.next_begin_number.ensures i) (count i) c.args.read_only c.self.inside.newest) in
     subst (λ (s : CoreState). IsLive s c.in_ok-txn.txn)
     (λ i. record (idle_core c.self.inside.limit c.self.inside.loaded c.self.inside.records.items c.self.inside.refused.items (sym began i)) { prepared = pending_of (sym idle i) })
     (subst (IsLive (with_begun c.args.read_only now)) (sym txn_is) (begun_live now c.self.inside.newest c.self.inside.places.items c.self.inside.reaches.items c.self.inside.order.items c.self.invariant.0 c.args.read_only))

@@ -72,7 +72,7 @@ invariant_of-self-2 c =
     = c.push_reserved-3.ensures.items ∙ ap (λ (r : Record). c.self.inside.records.items ++ r ∷ []) made in
     let reaches : c.push_reserved-2.new.self.items ≡ c.self.inside.reaches.items ++ reach commit ∷ []
     = c.push_reserved-2.ensures.items ∙ ap (λ (n : ℕ). c.self.inside.reaches.items ++ n ∷ []) (c.reach.ensures ∙ ap reach made) in
-    let live : c.forget.new.live ≡ without t.ticket c.self.inside.live = c.forget.ensures.live ∙ ap (λ ticket. without ticket c.self.inside.live) c.ticket-ticket.ensures in
+    let live : c.forget.new.live ≡ without t.begin_number c.self.inside.live = c.forget.ensures.live ∙ ap (λ begin_number. without begin_number c.self.inside.live) c.begin_number-begin_number.ensures in
     let after = core_after_commit now p.session t in
     let same : after ≡ idle_core c.self.inside.limit c.self.inside.loaded c.push_reserved-3.new.self.items c.self.inside.refused.items c.forget.new.live
     = λ i. idle_core c.self.inside.limit c.self.inside.loaded (sym records i) c.self.inside.refused.items (sym live i) in
@@ -84,7 +84,7 @@ invariant_of-self-2 c =
     = c.as_slice.ensures.value ∙ reaches ∙ ap (λ (rs : List ℕ). rs ++ reach commit ∷ []) c.self.invariant.0.reaches_are ∙ sym (map_push reach c.self.inside.records.items commit) in
     let left : readers_at c.forget.new.locks ≡ reads_kept after =
     c.forget.ensures.locks ∙ (λ i. reads_above (least_writing (count i) (live i).snapshots) (far i) (ready.2 i))
-    ∙ kept_committed c.self.inside.live c.self.inside.records.items t.ticket commit (below now c.self.invariant.0.epoch.accepted) in
+    ∙ kept_committed c.self.inside.live c.self.inside.records.items t.begin_number commit (below now c.self.invariant.0.epoch.accepted) in
     kept_idle _ p.tables c.push_reserved.new.self.items c.push_reserved-2.new.self.items c.put_in_order.new.order.items (readers_at c.forget.new.locks) _ c.take.new.self c.take.ensures.after
     (same_core after _ p.tables p.tables (c.self.inside.places.items ++ p.place ∷ []) _ (c.self.inside.reaches.items ++ reach commit ∷ []) _ c.put_in_order.new.order.items _ same
     (λ i. p.tables) (sym c.push_reserved.ensures.items) (sym reaches) (λ i. c.put_in_order.new.order.items)

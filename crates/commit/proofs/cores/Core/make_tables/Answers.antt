@@ -1,7 +1,7 @@
 use Rattle.std.proofs.Common.{◌≡◌, [], sym, ◌∙◌, subst}
 use Rattle.changes.proofs.Places.{tables_state}
 use Rattle.assertion.specs.Declarations.{layouts_in}
-use Rattle.assertion.specs.Roots.{AreChangesOf}
+use Rattle.assertion.specs.Changes.{AreChangesOf}
 use Rattle.delta.specs.Views.{AreTables, ViewState}
 use Rattle.alone.specs.Commits.{HasNoWriteConflict}
 use Rattle.txn.specs.Transactions.{own_view}

@@ -19,7 +19,7 @@ pub invariant_of-self : goal.invariant_of-self
 invariant_of-self c =
     let within : c.in-Some.place < length c.self.inside.seats.items
     = subst (λ (seats : List Seat). c.in-Some.place < length seats) c.as_slice.ensures.value c.in-Some.ensures.within in
-    all_live (engine.the_view c.self.inside) c.args.step.now c.in-Some.place c.index_mut.result.now c.answer_event-answered.new.core c.answer_event-answered.new.seat
+    all_live (engine.the_view c.self.inside) c.args.line.now c.in-Some.place c.index_mut.result.now c.answer_event-answered.new.core c.answer_event-answered.new.seat
     c.self.invariant within
     (slice_get_read c.self.inside.seats.items (length c.self.inside.seats.items) c.in-Some.place c.index_mut.result.now refl within c.index_mut.ensures.value)
     c.answer_event-answered.result c.answer_event-answered.ensures.commits c.answer_event-answered.ensures.seat c.answer_event-answered.ensures.same
@@ -28,16 +28,16 @@ invariant_of-self c =
 
 pub returns-clause-answered : goal.returns-clause-answered
 returns-clause-answered c =
-    subst (λ (s : EngineState). IsAnswered s c.args.step.now c.as_answer.result) c.self.view_is
-    (subst (IsAnswered (engine.the_view c.self.inside) c.args.step.now) (sym c.as_answer.ensures)
-    (is_answered (engine.the_view c.self.inside) c.args.step.now c.in-Some.place c.index_mut.result.now c.answer_event-answered.new.core c.answer_event-answered.new.seat
-    (subst (λ (seats : List Seat). seat_of seats c.args.step.now.session ≡ Some c.in-Some.place) c.as_slice.ensures.value (sym c.in-Some.ensures.found)) (slice_get_read c.self.inside.seats.items (length c.self.inside.seats.items) c.in-Some.place c.index_mut.result.now refl (subst (λ (seats : List Seat). c.in-Some.place < length seats) c.as_slice.ensures.value c.in-Some.ensures.within) c.index_mut.ensures.value)
+    subst (λ (s : EngineState). IsAnswered s c.args.line.now c.as_answer.result) c.self.view_is
+    (subst (IsAnswered (engine.the_view c.self.inside) c.args.line.now) (sym c.as_answer.ensures)
+    (is_answered (engine.the_view c.self.inside) c.args.line.now c.in-Some.place c.index_mut.result.now c.answer_event-answered.new.core c.answer_event-answered.new.seat
+    (subst (λ (seats : List Seat). seat_of seats c.args.line.now.session ≡ Some c.in-Some.place) c.as_slice.ensures.value (sym c.in-Some.ensures.found)) (slice_get_read c.self.inside.seats.items (length c.self.inside.seats.items) c.in-Some.place c.index_mut.result.now refl (subst (λ (seats : List Seat). c.in-Some.place < length seats) c.as_slice.ensures.value c.in-Some.ensures.within) c.index_mut.ensures.value)
     c.answer_event-answered.result c.answer_event-answered.ensures.takes c.answer_event-answered.ensures.answered))
 
 pub returns-clause-after : goal.returns-clause-after
 returns-clause-after c =
-    is_after (engine.the_view c.self.inside) c.args.step.now c.in-Some.place c.index_mut.result.now c.answer_event-answered.new.core c.answer_event-answered.new.seat
-    (subst (λ (seats : List Seat). seat_of seats c.args.step.now.session ≡ Some c.in-Some.place) c.as_slice.ensures.value (sym c.in-Some.ensures.found)) (slice_get_read c.self.inside.seats.items (length c.self.inside.seats.items) c.in-Some.place c.index_mut.result.now refl (subst (λ (seats : List Seat). c.in-Some.place < length seats) c.as_slice.ensures.value c.in-Some.ensures.within) c.index_mut.ensures.value)
+    is_after (engine.the_view c.self.inside) c.args.line.now c.in-Some.place c.index_mut.result.now c.answer_event-answered.new.core c.answer_event-answered.new.seat
+    (subst (λ (seats : List Seat). seat_of seats c.args.line.now.session ≡ Some c.in-Some.place) c.as_slice.ensures.value (sym c.in-Some.ensures.found)) (slice_get_read c.self.inside.seats.items (length c.self.inside.seats.items) c.in-Some.place c.index_mut.result.now refl (subst (λ (seats : List Seat). c.in-Some.place < length seats) c.as_slice.ensures.value c.in-Some.ensures.within) c.index_mut.ensures.value)
     c.answer_event-answered.result c.answer_event-answered.ensures.known c.answer_event-answered.ensures.commits c.answer_event-answered.ensures.seat c.answer_event-answered.ensures.same
     (ap (slice_set c.self.inside.seats.items c.in-Some.place) c.index_mut.ensures.value ∙ set-get_or c.self.inside.seats.items c.in-Some.place c.index_mut.result.now)
-    ∙ (λ i. after (c.self.view_is i) c.args.step.now (sym c.as_answer.ensures i))
+    ∙ (λ i. after (c.self.view_is i) c.args.line.now (sym c.as_answer.ensures i))

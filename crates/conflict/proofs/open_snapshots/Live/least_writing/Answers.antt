@@ -14,7 +14,7 @@ loop-live-preserved c =
     ap (λ n. least_writing n (drop (c.loop-live.live-index + 1) c.deref-live-items.result.now))
     c.least_with-least.ensures
     ∙ least_next c.loop-live.least c.deref-live-items.result.now c.loop-live.live-index
-    (record { ticket = 0; snapshot = 0; read_only = false }) c.loop-live-test.true
+    (record { begin_number = 0; snapshot = 0; read_only = false }) c.loop-live-test.true
     ∙ c.loop-live.invariant
 
 pub returns : goal.returns

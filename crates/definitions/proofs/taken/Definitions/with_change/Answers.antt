@@ -2,10 +2,10 @@ use Rattle.std.proofs.Common.{◌≡◌, ℕ, ◌∙◌, ap, sym, subst}
 use Rattle.value.specs.Ordered.{HasKey, IsAscending}
 use Rattle.value.specs.ValueOrder.{value_cmp}
 use Rattle.delta.proofs.TableLemmas.{good_order}
-use Rattle.table.specs.Rows.{layouts_of, value_in}
+use Rattle.table.specs.Rows.{layouts_of, value_in, key_of}
 use Rattle.assertion.specs.Declarations.{layouts_in}
-use Rattle.assertion.specs.Meaning.{State, key_of, rows_of}
-use Rattle.assertion.specs.Roots.{IsChangeOf, state_after}
+use Rattle.assertion.specs.Meaning.{State, rows_of}
+use Rattle.assertion.specs.Changes.{IsChangeOf, state_after}
 use Rattle.delta.specs.Views.{IsFitting, ViewState}
 use Rattle.definitions.proofs.taken.Definitions.with_change.Goals as goal
 

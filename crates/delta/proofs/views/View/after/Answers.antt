@@ -1,6 +1,6 @@
 use Rattle.std.proofs.Common.{arith}
 use Rattle.assertion.specs.Declarations.{layouts_in}
-use Rattle.assertion.specs.Roots.{state_after_all}
+use Rattle.assertion.specs.Changes.{state_after_all}
 use Rattle.delta.proofs.PutIn.{next_is, next_fits, left_after, leads_after}
 use Rattle.delta.proofs.views.View.after.Goals as goal
 

@@ -1,6 +1,6 @@
 use Rattle.std.proofs.Common.{◌≡◌, drop}
 use Rattle.assertion.specs.Declarations.{layouts_in}
-use Rattle.assertion.specs.Roots.{state_after_all}
+use Rattle.assertion.specs.Changes.{state_after_all}
 use Rattle.delta.proofs.PutIn.{AreLeft}
 use Rattle.delta.proofs.views.View.after.Given as goal
 

@@ -21,6 +21,6 @@ redeclare-requires-clause-watched c =
     (watched_more _ _ _ c.args.assertion (map arc_value c.in_ok-watches.watches.items) (map arc_value c.push.new.self.items) (arc_value c.in_ok-new.field-0)
     (shared_more c.in_ok-watches.watches.items c.push.new.self.items c.in_ok-new.field-0 c.in_ok-push.ensures.items) new old)
 
-pub returns-clause-declared : goal.returns-clause-declared
-returns-clause-declared c =
-    rw (← c.self.view_is) (rw (c.in_ok-push-2.ensures.items, c.in_ok-assertions.ensures, c.deref-8.ensures.value, c.deref-7.ensures, ← c.self.view_is) at c.redeclare.ensures.declared)
+pub returns : goal.returns
+returns c =
+    rw (← c.self.view_is) (rw (c.in_ok-push-2.ensures.items, c.in_ok-assertions.ensures, c.deref-8.ensures.value, c.deref-7.ensures, ← c.self.view_is) at c.redeclare.ensures)

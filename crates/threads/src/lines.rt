@@ -1,10 +1,10 @@
-//! One step of a session.
+//! One line of a session.
 
 ghost use Rattle.std.specs.Prelude.{◌≡◌, ℕ, is_some};
 ghost use Rattle.alone.specs.declared.answers.Answer.TheVariants.{Refused};
 ghost use Rattle.syntax.specs.declared.statements.Event.TheVariants.{Commit, Rollback};
 ghost use Rattle.session.specs.Books.{IsFresh};
-ghost use Rattle.threads.specs.Steps.{IsBegun, IsBegunIn, IsRunIn, IsTold, seen_after};
+ghost use Rattle.threads.specs.Lines.{IsBegun, IsBegunIn, IsRunIn, IsTold, seen_after};
 
 use alone::Answer;
 use session::{CommitFault, Manager, Named, Session, Txn, release};
@@ -12,16 +12,16 @@ use std::sync::Wait;
 use syntax::{Event, Statement};
 use value::Refusal;
 
-/// What a step was answered, and the transaction that is open then, if one is.
-pub struct StepOutcome<N: Named> {
+/// What a line was answered, and the transaction that is open then, if one is.
+pub struct LineOutcome<N: Named> {
     pub answer: Answer,
     pub txn: Option<Txn<N>>,
 }
 
-fn answer_refused<N: Named>(refusal: Refusal, txn: Option<Txn<N>>) -> StepOutcome<N>
+fn answer_refused<N: Named>(refusal: Refusal, txn: Option<Txn<N>>) -> LineOutcome<N>
     ensures { (result.answer ≡ Refused refusal) × (result.txn ≡ txn) }
 {
-    StepOutcome {
+    LineOutcome {
         answer: Answer::Refused(refusal),
         txn,
     }
@@ -34,7 +34,7 @@ pub fn run_event<N: Named, R: Wait>(
     session: &mut Session<N>,
     txn: Option<Txn<N>>,
     event: &Event,
-) -> StepOutcome<N>
+) -> LineOutcome<N>
     ensures told { IsTold (IsFresh (N.shelf manager.now.id) manager.now.id manager.now.epoch)
         event.now session.old.seen txn result.answer result.txn }
     ensures seen { session.new ≡ record session.old { seen = seen_after result.answer session.old.seen } }
@@ -55,7 +55,7 @@ fn begin<N: Named, R: Wait>(
     session: &mut Session<N>,
     txn: Option<Txn<N>>,
     read_only: bool,
-) -> StepOutcome<N>
+) -> LineOutcome<N>
     ensures told { IsBegunIn (IsFresh (N.shelf manager.now.id) manager.now.id manager.now.epoch read_only)
         session.old.seen txn result.answer result.txn }
     ensures seen { session.new ≡ record session.old { seen = seen_after result.answer session.old.seen } }
@@ -71,7 +71,7 @@ fn begin_new<N: Named, R: Wait>(
     manager: &Manager<N>,
     session: &mut Session<N>,
     read_only: bool,
-) -> StepOutcome<N>
+) -> LineOutcome<N>
     ensures told { IsBegun (IsFresh (N.shelf manager.now.id) manager.now.id manager.now.epoch read_only)
         session.old.seen result.answer result.txn }
     ensures seen { session.new ≡ record session.old { seen = seen_after result.answer session.old.seen } }
@@ -82,7 +82,7 @@ fn begin_new<N: Named, R: Wait>(
         manager.begin(rt, session)
     };
     match begun {
-        Ok(txn) => StepOutcome {
+        Ok(txn) => LineOutcome {
             answer: Answer::Begun(txn.snapshot()),
             txn: Some(txn),
         },
@@ -91,7 +91,7 @@ fn begin_new<N: Named, R: Wait>(
 }
 
 /// A statement, in the open transaction. It takes no lock.
-fn run<N: Named>(txn: Option<Txn<N>>, statement: &Statement) -> StepOutcome<N>
+fn run<N: Named>(txn: Option<Txn<N>>, statement: &Statement) -> LineOutcome<N>
     ensures told { IsRunIn statement.now txn result.answer result.txn }
     ensures seen { (seen : ℕ) → seen_after result.answer seen ≡ seen }
 {
@@ -99,7 +99,7 @@ fn run<N: Named>(txn: Option<Txn<N>>, statement: &Statement) -> StepOutcome<N>
         return answer_refused(Refusal::NoTransaction, None);
     };
     match txn.execute(statement) {
-        Ok(reply) => StepOutcome {
+        Ok(reply) => LineOutcome {
             answer: Answer::Replied(reply),
             txn: Some(txn),
         },
@@ -115,7 +115,7 @@ fn commit<N: Named, R: Wait>(
     manager: &Manager<N>,
     session: &mut Session<N>,
     txn: Option<Txn<N>>,
-) -> StepOutcome<N>
+) -> LineOutcome<N>
     ensures told { IsTold (IsFresh (N.shelf manager.now.id) manager.now.id manager.now.epoch)
         Commit session.old.seen txn result.answer result.txn }
     ensures seen { session.new ≡ record session.old { seen = seen_after result.answer session.old.seen } }
@@ -124,7 +124,7 @@ fn commit<N: Named, R: Wait>(
         return answer_refused(Refusal::NoTransaction, None);
     };
     match manager.commit(rt, session, txn) {
-        Ok(receipt) => StepOutcome {
+        Ok(receipt) => LineOutcome {
             answer: Answer::Committed(receipt.number()),
             txn: None,
         },
@@ -133,7 +133,7 @@ fn commit<N: Named, R: Wait>(
 }
 
 /// The refusal of a COMMIT, with the transaction where it was given back.
-fn answer_uncommitted<N: Named>(fault: CommitFault<N>) -> StepOutcome<N>
+fn answer_uncommitted<N: Named>(fault: CommitFault<N>) -> LineOutcome<N>
     ensures { (result.answer ≡ Refused fault.refusal) × (result.txn ≡ fault.txn) }
 {
     let CommitFault {
@@ -145,7 +145,7 @@ fn answer_uncommitted<N: Named>(fault: CommitFault<N>) -> StepOutcome<N>
 }
 
 /// ROLLBACK.
-fn roll_back<N: Named, R: Wait>(rt: &R, manager: &Manager<N>, txn: Option<Txn<N>>) -> StepOutcome<N>
+fn roll_back<N: Named, R: Wait>(rt: &R, manager: &Manager<N>, txn: Option<Txn<N>>) -> LineOutcome<N>
     ensures told { (seen : ℕ) → IsTold (IsFresh (N.shelf manager.now.id) manager.now.id manager.now.epoch)
         Rollback seen txn result.answer result.txn }
     ensures seen { (seen : ℕ) → seen_after result.answer seen ≡ seen }
@@ -154,7 +154,7 @@ fn roll_back<N: Named, R: Wait>(rt: &R, manager: &Manager<N>, txn: Option<Txn<N>
         return answer_refused(Refusal::NoTransaction, None);
     };
     match manager.rollback(rt, txn) {
-        Ok(()) => StepOutcome {
+        Ok(()) => LineOutcome {
             answer: Answer::RolledBack,
             txn: None,
         },

@@ -1,4 +1,4 @@
-use Rattle.threads.proofs.steps.run_event.Goals as goal
+use Rattle.threads.proofs.lines.run_event.Goals as goal
 
 pub returns-in-Run-clause-told : goal.returns-in-Run-clause-told
 returns-in-Run-clause-told g c = rw c.in-Run.is c.run.ensures.told

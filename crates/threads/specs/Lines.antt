@@ -1,15 +1,15 @@
--- What a step of a session is answered, as far as it is known without the commits, and which transaction is open then.
+-- What a line of a session is answered, as far as it is known without the commits, and which transaction is open then.
 use Rattle.std.specs.Prelude.{◌≡◌, ◌≤◌, ◌<◌, ◌⊎◌, ℕ, Bool, true, false, List, [], ◌∷◌, Option, Some, None, is_some}
 use Rattle.value.specs.declared.refusals.Refusal.TheVariants.{NoMemory, NoTransaction, Stranger, TransactionOpen}
 use Rattle.syntax.specs.declared.statements.Statement.{Statement}
 use Rattle.syntax.specs.declared.statements.Event.{Event}
-use Rattle.syntax.specs.declared.statements.Step.{Step}
+use Rattle.syntax.specs.declared.statements.ScriptLine.{ScriptLine}
 use Rattle.syntax.specs.declared.statements.Event.TheVariants.{Begin, BeginReadOnly, Commit, Rollback, Run}
 use Rattle.alone.specs.declared.answers.Answer.{Answer}
 use Rattle.alone.specs.declared.answers.Answer.TheVariants.{Begun, Committed, Refused, RolledBack}
-use Rattle.session.specs.Resolve.{resolution_of}
-use Rattle.session.specs.Transactions.{step_of, with_statement}
-use Rattle.session.specs.Events.{answer_of}
+use Rattle.alone.specs.Resolve.{resolution_of}
+use Rattle.txn.specs.Transactions.{step_of, with_statement}
+use Rattle.commit.specs.Events.{answer_of}
 use Rattle.session.specs.Books.{TicketedTransaction}
 use Rattle.session.specs.Answers.{IsGivenBack, IsRefused}
 
@@ -76,24 +76,24 @@ seen_after (Begun number) seen = number
 seen_after (Committed number) seen = number
 seen_after answer seen = seen
 
--- The steps of a session are answered in their order, each in the transaction that the one before it left open, or in
+-- The lines of a session are answered in their order, each in the transaction that the one before it left open, or in
 -- none. The session has seen this number before the first, and this transaction is open then, or none; and that one is
 -- open behind the last.
-abbrev pub AreTold : (IsNew : (read_only : Bool) → TicketedTransaction → Type 0) → List Step → (seen : ℕ)
+abbrev pub AreTold : (IsNew : (read_only : Bool) → TicketedTransaction → Type 0) → List ScriptLine → (seen : ℕ)
     → Option TicketedTransaction → List Answer
     → (left : Option TicketedTransaction) → Type 0
 AreTold IsNew [] seen txn [] left = left ≡ txn
 AreTold IsNew [] seen txn (answer ∷ more) left = ⊥
-AreTold IsNew (step ∷ rest) seen txn [] left = ⊥
-AreTold IsNew (step ∷ rest) seen txn (answer ∷ more) left =
-    (next : Option TicketedTransaction) × IsTold IsNew step.event seen txn answer next
+AreTold IsNew (line ∷ rest) seen txn [] left = ⊥
+AreTold IsNew (line ∷ rest) seen txn (answer ∷ more) left =
+    (next : Option TicketedTransaction) × IsTold IsNew line.event seen txn answer next
     × AreTold IsNew rest (seen_after answer seen) next more left
 
--- A session that has seen nothing yet runs a script, from outside a transaction. What is open behind the last step is
+-- A session that has seen nothing yet runs a script, from outside a transaction. What is open behind the last line is
 -- rolled back, and whether something was, is said.
-pub record IsScriptRun (IsNew : (read_only : Bool) → TicketedTransaction → Type 0) (steps : List Step)
+pub record IsScriptRun (IsNew : (read_only : Bool) → TicketedTransaction → Type 0) (lines : List ScriptLine)
     (answers : List Answer) (rolled_back : Bool)
     : Type 0 where
   pub left : Option TicketedTransaction
-  pub told : AreTold IsNew steps 0 None answers left
+  pub told : AreTold IsNew lines 0 None answers left
   pub ended : rolled_back ≡ is_some left

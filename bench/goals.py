@@ -1,0 +1,606 @@
+#!/usr/bin/env python3
+"""The goals of performance, each with its figure, beside SQLite and PostgreSQL in the same run.
+
+    python3 bench/goals.py [--program PATH] [--rows 10000,100000,1000000] [--repetitions 5 or 5,3,1]
+                           [--forms "by group,no assertion"] [--without-postgresql] [--without-threads]
+
+Without --program the program is built first by `rt run` in crates/skewguard, which proves it. Python 3.9 or later is
+needed; for PostgreSQL its server, and for SQLite from C a C compiler and libsqlite3-dev: without them there are dashes.
+What is printed on standard output is the text for docs/PERFORMANCE.md; on standard error the least and the greatest of
+each figure is told as it comes. One process at a time runs, but for the threads at the end. Medians count; of three
+numbers of repetitions each is for a size.
+
+Tables, rules and triggers are those of bench/statements.py. There are two works: a *transaction* is BEGIN, one UPDATE
+by key and COMMIT (that of bench/languages.py), and a *statement* is one of many INSERTs, UPDATEs and DELETEs by key, in
+turns, in one transaction. Each side gets the same ones, on tables that are loaded afresh for each repetition.
+
+- skewguard: the processor time of `replay`, less that of loading alone. *Without its text*: less what it takes to read
+  the same script, behind definitions that are refused as soon as both texts are read. *Without text and report*: less
+  what the same script takes when COMMIT stands in the place of BEGIN, so that each event is refused: it reads the
+  script and writes a line for each event. (That line is longer than the one of an event that is taken, and the list of
+  commits at the end stays in.)
+- SQLite in memory: a side table of totals that AFTER triggers keep, with RAISE(ABORT). *Prepared*: statements that are
+  prepared once, with bound values, from Python, and from C by bench/sqlite.c. *As text*: one script of all statements,
+  which one call of Python runs.
+- PostgreSQL, SERIALIZABLE, without fsync, in a folder in memory: the same side table and triggers, as functions of
+  PL/pgSQL, and PREPARE and EXECUTE, by psql. A transaction is one message to the server, and so are three statements
+  of a long one. *By the clock* has psql, the socket and the server in it; *backend* is the processor time of the one
+  process that serves it. Fewer statements are run. One transaction can't let go of the old versions of a row, so each
+  UPDATE of the one total of the form single takes longer than that before it.
+
+Memory: what is resident when `shell` has answered its first event, and the most that was until then, each less the same
+of definitions of 20 rows. What has been freed and not given back to the system is in it. Whether the text of DEFS is
+still held is tried by definitions with a long comment; if it is, it is taken off. Of SQLite and PostgreSQL the pages of
+tables and indexes. A row is one of any table.
+
+In the table of goals *as run* holds skewguard against SQLite prepared, from Python, and PostgreSQL by the clock;
+*alone* holds skewguard without text and report against SQLite from C and PostgreSQL's backend. A ratio above 1 says
+that skewguard is faster or smaller. Beside the threads of skewguard stands a loop of hashes on as many threads, which
+share nothing: more than it gets the machine does not give.
+
+Each answer is looked at: a refused statement, a wrong total, or a side that does not refuse what breaks a rule ends the
+run.
+"""
+
+import argparse
+import collections
+import hashlib
+import os
+import pathlib
+import re
+import shutil
+import sqlite3
+import statistics
+import subprocess
+import sys
+import tempfile
+import threading
+import time
+
+import threads
+from languages import changes_of, update_of
+from replays import TOP, built, digits, exponent, launched, machine, power, replay, table, written
+from servers import Server, server_programs
+from statements import (FORMS, REFUSE, ROUNDS, ROUNDS_TRIGGERS, SHIFTS, TRIGGERS, Files, add_rule, check_refusals,
+                        check_report, check_totals, in_one_transaction, script_of_rounds, text)
+
+FORM_NAMES = ("by group", "by row", "single", "no assertion")
+WORKS = ("transaction", "statement")
+
+# What is looked for in each work, in microseconds.
+WHOLE, UNREAD, ENGINE = "skewguard", "skewguard without its text", "skewguard without text and report"
+PREPARED, FROM_C, AS_TEXT = "SQLite, prepared, from Python", "SQLite, prepared, from C", "SQLite, as text"
+CLOCK, BACKEND = "PostgreSQL, by the clock", "PostgreSQL, backend"
+COLUMNS = (WHOLE, UNREAD, ENGINE, PREPARED, FROM_C, AS_TEXT, CLOCK, BACKEND)
+
+SMALL = 20  # rows where the number of them does not count
+TRANSACTIONS_SQLITE = 20_000
+TRANSACTIONS_POSTGRESQL, ROUNDS_POSTGRESQL = 10_000, 1_000
+COMMENT_LINES = 400_000  # of a hundred bytes each
+
+THREADS, KEYS, THREADED = (1, 4), 100_000, 100_000
+HASHES = 4_000_000
+
+# The goals.
+LOADED_ROWS, LOADED_SECONDS = 1_000_000, 3
+ROW_BYTES = 150
+GROWTH = 0.15
+SPEEDUP = 2.5
+BESIDE_SQLITE = [
+    ("a transaction of one statement no slower than SQLite's", "transaction", 1),
+    ("a statement of a long transaction twice as fast as SQLite's", "statement", 2),
+]
+
+# What is held against what: as they are run, and without what does not belong to the work itself.
+PAIRS = [("as run", WHOLE, PREPARED, CLOCK), ("alone", ENGINE, FROM_C, BACKEND)]
+
+
+# -- skewguard
+
+
+def script_of_transactions(form, rows, count, begin="BEGIN"):
+    """Transactions of one UPDATE each; with another word in the place of BEGIN each event is refused."""
+    update = update_of(form)
+    return (f"A: {begin};\nA: {text(update, one)}\nA: COMMIT;\n" for one in changes_of(form, rows, count))
+
+
+def check_transactions(output, form, count):
+    """Every transaction was committed, and the rule is true in the end."""
+    want = "".join(f"A: BEGIN {one}\nA: UPDATE 1\nA: COMMIT {one + 1}\n" for one in range(count)) + f"COMMITS {count}\n"
+    report = pathlib.Path(output).read_text()
+    if not report.startswith(want) or not report.endswith("RULE TRUE\n" if form.condition else "ASSERTIONS 0\n"):
+        sys.exit("a transaction was not answered as it has to be")
+
+
+# For each work its script, the look at its report, and how many of it there are in a round.
+SCRIPTS = {
+    "transaction": (script_of_transactions, check_transactions, 1),
+    "statement": (script_of_rounds, check_report, 3),
+}
+
+
+def reading(program, folder, script):
+    """The processor seconds that reading a script takes: definitions without a key are refused once it is read."""
+    refused = written(f"{folder}/refused", ["CREATE TABLE T (A INTEGER);\n"])
+    return launched([os.path.abspath(program), "replay", refused, script], os.devnull, end=1).seconds
+
+
+def of_skewguard(program, files, small, form, rows, figures):
+    """Figures of both works, and of loading."""
+    loading = replay(program, files.definitions, files.empty)
+    figures["loading"].append(loading.seconds)
+    unread = reading(program, small.folder, small.empty)
+    idle = replay(program, small.definitions, small.empty).seconds
+    rounds = ROUNDS.get(rows, 20_000)
+    for work, (script, check, each) in SCRIPTS.items():
+        written(files.script, script(form, rows, rounds))
+        written(small.script, script(form, rows, rounds, "COMMIT"))
+        whole = replay(program, files.definitions, files.script, files.output).seconds - loading.seconds
+        check(files.output, form, rounds)
+        text_alone = reading(program, small.folder, files.script) - unread
+        refused = replay(program, small.definitions, small.script).seconds - idle
+        for column, seconds in ((WHOLE, whole), (UNREAD, whole - text_alone), (ENGINE, whole - refused)):
+            figures[work, column].append(seconds / (each * rounds) * 1e6)
+
+
+def in_memory(program, definitions):
+    """The bytes that are resident when `shell` has answered its first event, and the most that were until then."""
+    command = [os.path.abspath(program), "shell", definitions]
+    with subprocess.Popen(command, stdin=subprocess.PIPE, stdout=subprocess.PIPE, text=True) as shell:
+        shell.stdin.write("BEGIN;\n")
+        shell.stdin.flush()
+        if shell.stdout.readline() != "ME: BEGIN 0\n":
+            sys.exit("the shell has not answered as it has to")
+        status = pathlib.Path(f"/proc/{shell.pid}/status").read_text()
+        shell.stdin.close()
+    return [1024 * int(re.search(rf"{name}:\s+(\d+) kB", status)[1]) for name in ("VmRSS", "VmHWM")]
+
+
+def of_memory(program, files, small, figures):
+    """What is resident after loading, and at the peak, and without the text of DEFS. Each run has the same."""
+    least, least_peak = in_memory(program, small.definitions)
+    lines = [pathlib.Path(small.definitions).read_text(), *["-- " + 96 * "x" + "\n"] * COMMENT_LINES]
+    commented, _ = in_memory(program, written(f"{small.folder}/commented", lines))
+    held = min(1, max(0, round((commented - least) / (100 * COMMENT_LINES), 1)))
+    resident, peak = in_memory(program, files.definitions)
+    size = os.path.getsize(files.definitions)
+    counts = {"text": size, "peak": peak - least_peak, "resident": resident - least}
+    for name, count in [*counts.items(), ("resident without text", resident - least - held * size)]:
+        figures[name].append(count)
+
+
+# -- SQLite
+
+
+def loaded_from_text(form, rows):
+    """SQLite with the tables and the triggers, from the texts that skewguard gets, and the processor seconds of it."""
+    script = "".join([*form.tables, "BEGIN;\n", *form.inserts(rows), "COMMIT;\n"])
+    base = sqlite3.connect(":memory:", isolation_level=None)
+    start = time.process_time()
+    base.executescript(script)
+    add_rule(base, form, TRIGGERS)
+    used = time.process_time() - start
+    base.execute("ANALYZE")
+    return base, used
+
+
+def prepared_transactions(base, update, changes):
+    """The processor seconds of transactions of one UPDATE each."""
+    execute, start = base.execute, time.process_time()
+    for values in changes:
+        execute("BEGIN")
+        if execute(update, values).rowcount != 1:
+            sys.exit("an UPDATE did not change one row")
+        execute("COMMIT")
+    return time.process_time() - start
+
+
+def driver_in_c(folder):
+    """The program of bench/sqlite.c; None without a C compiler or the header of SQLite."""
+    program = f"{folder}/sqlite"
+    command = ["cc", "-std=gnu99", "-O2", "-o", program, f"{TOP}/bench/sqlite.c", "-lsqlite3"]
+    is_built = shutil.which("cc") and subprocess.run(command, stderr=subprocess.DEVNULL).returncode == 0
+    return program if is_built else None
+
+
+def from_c(driver, database, steps, folder):
+    """The processor seconds of statements with their values, on a copy in memory of a database."""
+    numbers = {statement: number for number, statement in enumerate(dict.fromkeys(one for one, _ in steps))}
+    statements = written(f"{folder}/statements", (f"{one}\n" for one in numbers))
+    lines = (" ".join(map(str, (numbers[statement], *values))) + "\n" for statement, values in steps)
+    command = [driver, database, statements, written(f"{folder}/work", lines)]
+    return float(subprocess.run(command, check=True, stdout=subprocess.PIPE, text=True).stdout)
+
+
+def as_text(base, lines):
+    """The processor seconds of a script of statements, in one call."""
+    script = "".join(lines)
+    start = time.process_time()
+    base.executescript(script)
+    return time.process_time() - start
+
+
+def copies_of(base, database):
+    """Copies of a base in SQLite, one in memory and one in a file."""
+    pathlib.Path(database).unlink(missing_ok=True)
+    other, file = sqlite3.connect(":memory:", isolation_level=None), sqlite3.connect(database)
+    for copy in (other, file):
+        base.backup(copy)
+    file.close()
+    return other
+
+
+def of_sqlite(driver, form, rows, folder, figures):
+    """Figures of both works, and of loading."""
+    base, seconds = loaded_from_text(form, rows)
+    figures["SQLite loading"].append(seconds)
+    (pages,), (size,) = (base.execute(f"PRAGMA {what}").fetchone() for what in ("page_count", "page_size"))
+    figures["SQLite bytes"].append(pages * size)
+    database = f"{folder}/database"
+    other = copies_of(base, database)
+
+    steps = [one for number in range(ROUNDS_TRIGGERS) for one in form.round(number, rows)]
+    times = [in_one_transaction(base, form, steps, TRIGGERS)]
+    times.append(as_text(other, ["BEGIN;\n", *(f"{text(*one)}\n" for one in steps)]))
+    check_totals(other, form) if form.condition else None
+    other.execute("ROLLBACK")
+    times.append(from_c(driver, database, [("BEGIN", ()), *steps], folder) if driver else None)
+    add_times(figures, "statement", len(steps), times)
+
+    update, changes = update_of(form), list(changes_of(form, rows, TRANSACTIONS_SQLITE))
+    times = [prepared_transactions(base, update, changes)]
+    times.append(as_text(other, (f"BEGIN;\n{text(update, values)}\nCOMMIT;\n" for values in changes)))
+    steps = [one for values in changes for one in (("BEGIN", ()), (update, values), ("COMMIT", ()))]
+    times.append(from_c(driver, database, steps, folder) if driver else None)
+    add_times(figures, "transaction", len(changes), times)
+    for each in (base, other):
+        check_totals(each, form) if form.condition else None
+        each.close()
+
+
+def add_times(figures, work, count, times):
+    for column, seconds in zip((PREPARED, AS_TEXT, FROM_C), times):
+        if seconds is not None:
+            figures[work, column].append(seconds / count * 1e6)
+
+
+# -- PostgreSQL
+
+# The processor time of the backend in nanoseconds, and the seconds of the clock.
+MARK = "\\! cut -d ' ' -f 1 /proc/$BACKEND/schedstat; date +%s.%N\n"
+FAULT = "RAISE EXCEPTION USING ERRCODE = '23000', MESSAGE = 'RULE'"
+
+
+def for_postgresql(trigger):
+    """A trigger of SQLite as a function of PostgreSQL and a trigger that calls it, with the same statements."""
+    parts = re.fullmatch(r"CREATE TRIGGER (\w+) (AFTER .* ON \w+)( WHEN (.*?))? BEGIN(.*)END", trigger, re.S)
+    name, event, _, condition, body = parts.groups()
+    statements = [one.strip() for one in body.split(";")[:-1]]
+    body = "".join(
+        f"IF EXISTS (SELECT{one[len(REFUSE):]}) THEN {FAULT}; END IF; " if one.startswith(REFUSE) else f"{one}; "
+        for one in statements
+    )
+    yield f"CREATE FUNCTION {name}() RETURNS trigger LANGUAGE plpgsql AS $$ BEGIN {body} RETURN NULL; END $$;\n"
+    when = f"WHEN ({condition}) " if condition else ""
+    yield f"CREATE TRIGGER {name} {event} FOR EACH ROW {when}EXECUTE FUNCTION {name}();\n"
+
+
+def write_copies(form, rows, folder):
+    """A file of rows for each table, in the order in which they are loaded."""
+    lines = {}
+    for statement, numbers in form.loaded(rows):
+        lines.setdefault(statement.split()[2], []).append(",".join(map(str, numbers)) + "\n")
+    return {name: written(f"{folder}/{name}", rows_of) for name, rows_of in lines.items()}
+
+
+def tables_of_postgresql(form, copies):
+    """New tables with their rows, the side table and the triggers; a mark before the rows, and one behind all."""
+    yield "SET client_min_messages = error;\nDROP SCHEMA public CASCADE;\nCREATE SCHEMA public;\n"
+    yield "SELECT pg_backend_pid() AS backend \\gset\n\\setenv BACKEND :backend\n"
+    yield from (f"{one}\n" for one in form.tables)
+    yield MARK
+    yield from (f"\\copy {name} FROM '{path}' CSV\n" for name, path in copies.items())
+    yield from (f"{one};\n" for one in form.side)
+    for trigger in form.triggers:
+        yield from for_postgresql(trigger)
+    yield MARK
+
+
+def numbered(statement):
+    """A statement with $1, $2 .. in the places of its values."""
+    places = iter(range(1, 10))
+    return re.sub(r"\?", lambda _: f"${next(places)}", statement)
+
+
+def played(server, folder, lines, stops=True):
+    """Plays lines by psql: seconds by the clock and of the backend's processor between two marks, and the answers."""
+    path, answers = written(f"{folder}/psql", lines), f"{folder}/answers"
+    command = [f"{server.programs}/psql", "-XAt", "-h", server.folder, "-U", "postgres", "-d", "postgres"]
+    command += ["-v", f"ON_ERROR_STOP={int(stops)}", "-o", answers, "-f", path]
+    told = None if stops else subprocess.DEVNULL
+    done = subprocess.run(command, check=True, stdout=subprocess.PIPE, stderr=told, text=True)
+    numbers = [float(word) for word in done.stdout.split()]
+    marks = [(clock, used / 1e9) for used, clock in zip(numbers[::2], numbers[1::2])]
+    between = [(later[0] - one[0], later[1] - one[1]) for one, later in zip(marks, marks[1:])]
+    return between, pathlib.Path(answers).read_text()
+
+
+def totals_differ(form):
+    """A query that lists a word where the totals are not those of the rows."""
+    if form.condition:
+        kept, counted = form.totals
+        one, other = f"(({kept}) EXCEPT ({counted}))", f"(({counted}) EXCEPT ({kept}))"
+        yield f"SELECT 'DIFFER' WHERE EXISTS {one} OR EXISTS {other};\n"
+
+
+def works_of_postgresql(form, rows):
+    """Both works, each between two marks."""
+    prepared = {"comes": form.insert, "changes": form.update, "goes": form.delete, "alone": update_of(form)}
+    yield from (f"PREPARE {name} AS {numbered(one)};\n" for name, one in prepared.items())
+    yield from ("SELECT 'BYTES', SUM(pg_total_relation_size(oid)) FROM pg_class WHERE relkind = 'r'",
+                " AND relnamespace = 'public'::regnamespace;\nVACUUM ANALYZE;\n", MARK, "BEGIN;\n")
+    for number in range(ROUNDS_POSTGRESQL):
+        steps = zip(("comes", "changes", "goes"), form.round(number, rows))
+        yield "\\; ".join(f"EXECUTE {name} ({', '.join(map(str, values))})" for name, (_, values) in steps) + ";\n"
+    yield MARK
+    yield from totals_differ(form)
+    yield from ("ROLLBACK;\nVACUUM;\n", MARK)
+    for value, key in changes_of(form, rows, TRANSACTIONS_POSTGRESQL):
+        yield f"BEGIN\\; EXECUTE alone ({value}, {key})\\; COMMIT;\n"
+    yield MARK
+    yield from totals_differ(form)
+
+
+def of_postgresql(server, copies, form, rows, folder, figures):
+    """Figures of both works, and of loading."""
+    lines = [*tables_of_postgresql(form, copies), *works_of_postgresql(form, rows)]
+    between, answers = played(server, folder, lines)
+    tags = collections.Counter(answers.splitlines())
+    rounds, transactions = ROUNDS_POSTGRESQL, TRANSACTIONS_POSTGRESQL
+    if tags["UPDATE 1"] != rounds + transactions or tags["DELETE 1"] != rounds or tags["DIFFER"]:
+        sys.exit(f"{form.name}: PostgreSQL has not answered as it has to")
+    loading, _, statement, _, transaction = between
+    figures["PostgreSQL loading"].append(loading[1])
+    figures["PostgreSQL bytes"].append(int(re.search(r"^BYTES\|(\d+)$", answers, re.M)[1]))
+    for work, count, times in (("statement", 3 * rounds, statement), ("transaction", transactions, transaction)):
+        for column, seconds in zip((CLOCK, BACKEND), times):
+            figures[work, column].append(seconds / count * 1e6)
+
+
+def check_postgresql(server, form, folder):
+    """What breaks the rule is refused by PostgreSQL, and nothing else."""
+    lines = [*tables_of_postgresql(form, write_copies(form, SMALL, folder))]
+    lines += [f"{text(statement, numbers)}\n\\qecho STATE :SQLSTATE\n" for statement, numbers, _ in form.tries]
+    _, answers = played(server, folder, [*lines, *totals_differ(form)], stops=False)
+    states = [state == "23000" for state in re.findall(r"^STATE (\w+)$", answers, re.M)]
+    if states != [breaks for _, _, breaks in form.tries] or "DIFFER" in answers:
+        sys.exit(f"{form.name}: PostgreSQL does not answer as the rule has it")
+
+
+# -- threads
+
+
+def arithmetic(count):
+    """Hashes a second on so many threads of this process: each hashes on its own, and holds no lock of Python's."""
+    words = ("sha256", b"skewguard", b"salt", HASHES // count)
+    workers = [threading.Thread(target=hashlib.pbkdf2_hmac, args=words) for _ in range(count)]
+    start = time.perf_counter()
+    for worker in workers:
+        worker.start()
+    for worker in workers:
+        worker.join()
+    return HASHES / (time.perf_counter() - start)
+
+
+def of_threads(program, repetitions, folder):
+    """Commits a second on disjoint keys, and hashes a second, by numbers of threads."""
+    figures = collections.defaultdict(list)
+    for _ in range(repetitions):
+        for count in THREADS:
+            figures["commits", count].append(threads.skewguard(program, folder, KEYS, count, THREADED, False)[0])
+            figures["hashes", count].append(arithmetic(count))
+    return figures
+
+
+# -- all of them
+
+
+def measure(program, server, driver, form, rows, repetitions, folder):
+    """The figures of one form and size, by what they are of, in each repetition."""
+    files, small = Files(folder, form, rows), small_files(folder, form)
+    copies, figures = write_copies(form, rows, folder) if server else None, collections.defaultdict(list)
+    for _ in range(repetitions):
+        of_skewguard(program, files, small, form, rows, figures)
+        of_sqlite(driver, form, rows, folder, figures)
+        if server:
+            of_postgresql(server, copies, form, rows, folder, figures)
+    of_memory(program, files, small, figures)
+    return figures
+
+
+def small_files(folder, form):
+    os.makedirs(f"{folder}/small", exist_ok=True)
+    return Files(f"{folder}/small", form, SMALL)
+
+
+def middle(figures, name):
+    return statistics.median(figures[name]) if figures.get(name) else None
+
+
+def tell(form, rows, figures):
+    """The least and the greatest of each figure, in one line."""
+    ends = []
+    for name, all_of_it in figures.items():
+        what = " ".join(name) if isinstance(name, tuple) else name
+        ends.append(f"{what}: {digits(min(all_of_it), 3)} to {digits(max(all_of_it), 3)}")
+    print(f"{form.name}, {rows:,} rows; {'; '.join(ends)}", file=sys.stderr, flush=True)
+
+
+def print_works(found):
+    for work in WORKS:
+        rows = [
+            [name, f"{size:,}", *(digits(middle(figures, (work, column))) for column in COLUMNS)]
+            for (name, size), figures in found.items()
+        ]
+        table([f"us a {work}", "rows", *COLUMNS], rows)
+
+
+def all_rows(form, rows):
+    """How many rows are loaded, of all tables."""
+    return rows + (rows // 10 if SHIFTS in form.tables else 0)
+
+
+BYTES = ("text", "peak", "resident", "resident without text", "SQLite bytes", "PostgreSQL bytes")
+
+
+def row_bytes(form, rows, figures, name):
+    """Bytes of one of these kinds for a row of all that are loaded."""
+    count = middle(figures, name)
+    return None if count is None else count / all_rows(form, rows)
+
+
+def print_loading(found, forms):
+    heads = ["loading", "rows", "skewguard, s", "SQLite, the same text, s", "PostgreSQL, COPY, backend, s"]
+    heads += ["bytes a row: text of DEFS", "skewguard, peak", "after loading", "without the text"]
+    heads += ["SQLite", "PostgreSQL"]
+    rows = []
+    for (name, size), figures in found.items():
+        times = [digits(middle(figures, side)) for side in ("loading", "SQLite loading", "PostgreSQL loading")]
+        counts = [digits(row_bytes(forms[name], size, figures, one), 3) for one in BYTES]
+        rows.append([name, f"{size:,}", *times, *counts])
+    table(heads, rows)
+
+
+def growth(found, name, sizes, work, column):
+    return exponent([(size, middle(found[name, size], (work, column))) for size in sizes])
+
+
+def print_growth(found, forms, sizes):
+    heads = [f"exponent of growth, {sizes[0]:,} to {sizes[-1]:,} rows", "of a"]
+    rows = [
+        [name, work, *(power(growth(found, name, sizes, work, column)) for column in COLUMNS)]
+        for name in forms
+        for work in WORKS
+    ]
+    table([*heads, *COLUMNS], rows)
+
+
+def print_threads(of_all):
+    rows = []
+    for what, unit in (("commits", "skewguard, commits a second"), ("hashes", "arithmetic, hashes a second")):
+        cells = [digits(middle(of_all, (what, count)), 3) for count in THREADS]
+        rows.append([unit, *cells, digits(speedup(of_all, what))])
+    table(["disjoint keys", *(f"threads: {count}" for count in THREADS), "how many times as many"], rows)
+
+
+def speedup(of_all, what):
+    least, most = (middle(of_all, (what, count)) for count in (THREADS[0], THREADS[-1]))
+    return most / least
+
+
+def verdict(is_met):
+    return "-" if is_met is None else "met" if is_met else "**missed**"
+
+
+def listed(numbers, unit=""):
+    """Numbers with a unit behind the last; a dash where there is none at all."""
+    return ", ".join(digits(number) for number in numbers) + unit if any(numbers) else "-"
+
+
+def beside_sqlite(found, forms, sizes):
+    """Rows of the goals that are told beside SQLite; a goal is met if it is at each size."""
+    for goal, work, least in BESIDE_SQLITE:
+        for how, *sides in PAIRS:
+            for name in forms:
+                own, lite, other = ([middle(found[name, size], (work, side)) for size in sizes] for side in sides)
+                ratios = [theirs and theirs / ours for ours, theirs in zip(own, lite)]
+                met = verdict(None if None in ratios else all(ratio >= least for ratio in ratios))
+                times = [listed(side, " us") for side in (own, lite, other)]
+                yield [goal, f"{name}, {how}", *times, listed(ratios), met]
+
+
+def of_loading(found, forms, rows):
+    """Rows of the goals of loading and memory. Fewer rows than the goals speak of are not judged."""
+    sides = ("loading", "SQLite loading", "PostgreSQL loading")
+    for name in forms:
+        own, lite, other = (middle(found[name, rows], side) for side in sides)
+        met = verdict(own < LOADED_SECONDS if rows == LOADED_ROWS else None)
+        goal = f"{LOADED_ROWS:,} rows loaded in under {LOADED_SECONDS} s (figures at {rows:,})"
+        yield [goal, name, *(listed([side], " s") for side in (own, lite, other)), digits(lite / own), met]
+    sides = ("resident without text", "SQLite bytes", "PostgreSQL bytes")
+    for name, form in forms.items():
+        own, lite, other = (row_bytes(form, rows, found[name, rows], side) for side in sides)
+        met = verdict(own <= ROW_BYTES if rows == LOADED_ROWS else None)
+        goal = f"at most {ROW_BYTES} bytes a row after loading, without the text (figures at {rows:,})"
+        yield [goal, name, digits(own, 3), digits(lite, 3), digits(other, 3), digits(lite / own), met]
+
+
+def of_growth(found, forms, sizes):
+    """Rows of the goal of growth."""
+    for how, *sides in PAIRS:
+        for name in forms:
+            own, lite, other = (growth(found, name, sizes, "statement", side) for side in sides)
+            met = verdict(None if own is None else own <= GROWTH)
+            goal = f"a statement of a long transaction grows by an exponent of at most {GROWTH}"
+            yield [goal, f"{name}, {how}", power(own), power(lite), power(other), "", met]
+
+
+def of_speedup(of_all):
+    own, other = (speedup(of_all, what) for what in ("commits", "hashes"))
+    met = verdict(own >= SPEEDUP if len(os.sched_getaffinity(0)) >= THREADS[-1] else None)
+    goal = f"{THREADS[-1]} threads on disjoint keys commit {SPEEDUP} times as much as one"
+    return [goal, "by group", digits(own), f"arithmetic: {digits(other)}", "", digits(other / own), met]
+
+
+def print_all(found, of_all, forms, sizes):
+    goals = [*beside_sqlite(found, forms, sizes), *of_loading(found, forms, sizes[-1]), *of_growth(found, forms, sizes)]
+    goals += [of_speedup(of_all)] if of_all else []
+    told = ", ".join(f"{size:,}" for size in sizes)
+    heads = [f"goal (figures at {told} rows)", "form", "skewguard", "SQLite", "PostgreSQL", "SQLite / skewguard", ""]
+    table(heads, goals)
+    print_works(found)
+    print_growth(found, forms, sizes)
+    print_loading(found, forms)
+    if of_all:
+        print_threads(of_all)
+
+
+def main():
+    words = argparse.ArgumentParser(description=__doc__, formatter_class=argparse.RawDescriptionHelpFormatter)
+    words.add_argument("--program", help="the program skewguard; without it `rt run` builds it")
+    words.add_argument("--rows", default="10000,100000,1000000", help="sizes of the tables, each at least 20")
+    words.add_argument("--repetitions", default="5", help="one number, or one for each size")
+    words.add_argument("--forms", default=",".join(FORM_NAMES), help="some of the forms, by name, with commas between")
+    words.add_argument("--without-postgresql", action="store_true")
+    words.add_argument("--without-threads", action="store_true")
+    asked = words.parse_args()
+    sizes = sorted(int(size) for size in asked.rows.split(","))
+    counts = [int(count) for count in asked.repetitions.split(",")]
+    repetitions = dict(zip(sizes, counts * len(sizes) if len(counts) == 1 else counts))
+    forms = {name: form for name in asked.forms.split(",") for form in FORMS if form.name == name}
+    program, memory = asked.program or built(), "/dev/shm" if os.path.isdir("/dev/shm") else None
+    has_server = not asked.without_postgresql and server_programs()
+    found, of_all = {}, None
+    with tempfile.TemporaryDirectory() as folder, tempfile.TemporaryDirectory(dir=memory) as data:
+        server, driver = Server(data) if has_server else None, driver_in_c(folder)
+        try:
+            version = server.run("postgres", "--version").strip() if server else "no PostgreSQL"
+            print(f"SQLite {sqlite3.sqlite_version}, {version}, {machine(asked.repetitions)}", flush=True)
+            for form in forms.values():
+                if form.condition:
+                    check_refusals(program, form, folder)
+                    check_postgresql(server, form, folder) if server else None
+            for form in forms.values():
+                for rows in sizes:
+                    found[form.name, rows] = measure(program, server, driver, form, rows, repetitions[rows], folder)
+                    tell(form, rows, found[form.name, rows])
+        finally:
+            server.stop() if server else None
+        if not asked.without_threads:
+            of_all = of_threads(program, counts[0], folder)
+    print(f"load at the end {os.getloadavg()[0]:.1f}")
+    print_all(found, of_all, forms, sizes)
+
+
+if __name__ == "__main__":
+    main()

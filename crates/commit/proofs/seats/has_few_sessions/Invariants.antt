@@ -1,6 +1,0 @@
-use Rattle.std.proofs.Common.{◌≡◌, [], drop}
-use Rattle.commit.specs.Runs.{seats_with_all}
-use Rattle.commit.proofs.seats.has_few_sessions.Given as goal
-
-abbrev pub invariant-loop-step : goal.invariant-loop-step
-invariant-loop-step l = seats_with_all l.seats.items (drop l.step-index l.steps) ≡ seats_with_all [] l.steps
