@@ -16,15 +16,18 @@ def server_programs():
 
 
 class Server:
-    """Started in an empty folder. As PostgreSQL does not run as root, root starts it as the user `postgres`."""
+    """Started in an empty folder. As PostgreSQL does not run as root, root starts it as the user `postgres`.
 
-    def __init__(self, folder):
+    Settings more go over those above, and words more to initdb.
+    """
+
+    def __init__(self, folder, settings=None, words=()):
         self.folder = folder
         self.programs = server_programs()
         if os.getuid() == 0:
             shutil.chown(folder, "postgres")
-        self.run("initdb", "-D", f"{folder}/data", "-A", "trust", "-U", "postgres", "--no-sync")
-        options = " ".join(f"-c {name}={value}" for name, value in SETTINGS.items())
+        self.run("initdb", "-D", f"{folder}/data", "-A", "trust", "-U", "postgres", "--no-sync", *words)
+        options = " ".join(f"-c {name}={value}" for name, value in {**SETTINGS, **(settings or {})}.items())
         self.run("pg_ctl", "-D", f"{folder}/data", "-w", "-o", f"{options} -k {folder}", "-l", f"{folder}/log", "start")
 
     def run(self, name, *words):

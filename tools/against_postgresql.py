@@ -22,7 +22,6 @@ After each COMMIT on PostgreSQL every rule is evaluated from scratch, and none m
 """
 import argparse
 import os
-import pwd
 import queue
 import random
 import shutil
@@ -34,38 +33,28 @@ import time
 
 import psycopg2
 
-BINARIES = '/usr/lib/postgresql/15/bin'
-SETTINGS = {'listen_addresses': "''", 'fsync': 'off', 'synchronous_commit': 'off', 'full_page_writes': 'off',
-            'default_transaction_isolation': 'serializable', 'max_pred_locks_per_transaction': '256',
-            'deadlock_timeout': '50ms', 'autovacuum': 'on', 'client_min_messages': 'error'}
+sys.path.append(os.path.join(os.path.dirname(os.path.abspath(__file__)), '..', 'bench'))
+
+import servers
+
+SETTINGS = {'max_pred_locks_per_transaction': '256', 'deadlock_timeout': '50ms', 'autovacuum': 'on',
+            'client_min_messages': 'error'}
 
 
-class Server:
-    """A PostgreSQL of one's own."""
+class Server(servers.Server):
+    """A PostgreSQL of one's own, whose folder goes with it."""
 
     def __init__(self):
-        self.folder = tempfile.mkdtemp(prefix='skewguard_pg_')
-        self.user = 'postgres' if os.geteuid() == 0 else pwd.getpwuid(os.geteuid()).pw_name
-        if os.geteuid() == 0:
-            shutil.chown(self.folder, 'postgres', 'postgres')
-        self.data = os.path.join(self.folder, 'data')
-        self.run('initdb', '-D', self.data, '-U', self.user, '-A', 'trust', '--locale=C', '-E', 'UTF8', '--no-sync')
-        options = ' '.join(f'-c {name}={value}' for name, value in SETTINGS.items())
-        self.run('pg_ctl', '-D', self.data, '-o', f'-k {self.folder} {options}', '-w', '-l', os.path.join(self.folder, 'log'), 'start')
-
-    def run(self, name, *words):
-        command = [os.path.join(BINARIES, name), *words]
-        if os.geteuid() == 0:
-            command = ['runuser', '-u', 'postgres', '--', *command]
-        subprocess.run(command, check=True, stdout=subprocess.DEVNULL, cwd='/')
+        folder = tempfile.mkdtemp(prefix='skewguard_pg_')
+        super().__init__(folder, SETTINGS, ('--locale=C', '-E', 'UTF8'))
 
     def connect(self, options=''):
-        connection = psycopg2.connect(host=self.folder, user=self.user, dbname='postgres', options=options)
+        connection = psycopg2.connect(host=self.folder, user='postgres', dbname='postgres', options=options)
         connection.autocommit = True
         return connection
 
     def stop(self):
-        self.run('pg_ctl', '-D', self.data, '-m', 'immediate', '-w', 'stop')
+        super().stop()
         shutil.rmtree(self.folder)
 
 
