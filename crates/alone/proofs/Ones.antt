@@ -1,8 +1,12 @@
 -- The assertions that are immediate where their modes say just which.
-use Rattle.std.proofs.Common.{◌≡◌, ℕ, Bool, true, false, cond, List, [], ◌∷◌, map, filter, refl, ap}
+use Rattle.std.proofs.Common.{◌≡◌, ℕ, Bool, true, false, cond, List, [], ◌∷◌, length, map, filter, replicate, refl, ap}
 use Rattle.std.specs.List.{zip}
 use Rattle.assertion.specs.declared.assertions.Assertion.{Assertion}
 use Rattle.alone.specs.Modes.{all_immediate, immediate_ones, is_named, named_immediate, named_ones}
+
+pub so_many : (assertions : List Assertion) → replicate (length assertions) true ≡ all_immediate assertions
+so_many [] = refl
+so_many (a ∷ rest) = ap (λ others. true ∷ others) (so_many rest)
 
 pub all_ones : (assertions : List Assertion) → immediate_ones (all_immediate assertions) assertions ≡ assertions
 all_ones [] = refl

@@ -5,6 +5,7 @@ pub mod Statements
 pub mod Resolve
 pub mod Alone
 pub mod Modes
+pub mod Marks
 pub mod Commits
 pub mod Order
 pub mod Numbers

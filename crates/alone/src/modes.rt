@@ -13,15 +13,25 @@ use value::Text;
 /// The modes of a transaction: for each assertion, in the order of their creation, whether it is immediate.
 #[derive(Debug, Drop)]
 pub struct Modes {
-    immediate: Vec<bool>,
+    marks: Marks,
+}
+
+/// Which assertions are immediate.
+#[derive(Debug, Drop)]
+enum Marks {
+    /// Of each assertion whether it is.
+    Each(Vec<bool>),
+    /// All of so many are.
+    All(usize),
 }
 
 impl Model for Modes {
+    ghost use Rattle.alone.specs.Marks.{marked};
     ghost use Rattle.alone.specs.Modes.{Immediates};
 
     ghost Value = { Immediates };
 
-    ghost view = { λ modes. modes.immediate.items };
+    ghost view = { λ modes. marked modes.marks };
 }
 
 impl Modes {
@@ -33,18 +43,18 @@ impl Modes {
         for assertion in assertions {
             immediate.push(!assertion.attributes.initially_deferred)?;
         }
-        Ok(Modes { immediate })
+        Ok(Modes {
+            marks: Marks::Each(immediate),
+        })
     }
 
-    /// All assertions are immediate, as COMMIT takes them.
-    pub fn all_immediate(alloc: Global, assertions: &[Assertion]) -> Result<Modes, AllocError>
-        ensures { IfOk result (λ modes. modes ≡ all_immediate assertions.now) }
+    /// All assertions are immediate, as COMMIT takes them. It takes no memory.
+    pub fn all_immediate(assertions: &[Assertion]) -> Modes
+        ensures { result ≡ all_immediate assertions.now }
     {
-        let mut immediate = Vec::with_capacity(alloc, assertions.len())?;
-        for _assertion in assertions {
-            immediate.push(true)?;
+        Modes {
+            marks: Marks::All(assertions.len()),
         }
-        Ok(Modes { immediate })
     }
 
     /// The assertions of these names are immediate and no others, as SET CONSTRAINTS .. IMMEDIATE checks them.
@@ -59,12 +69,15 @@ impl Modes {
         for assertion in assertions {
             immediate.push(is_named(names, &assertion.name))?;
         }
-        Ok(Modes { immediate })
+        Ok(Modes {
+            marks: Marks::Each(immediate),
+        })
     }
 
     /// These modes, of these assertions, with that of some set, by their names.
     pub fn set(
         &self,
+        alloc: Global,
         assertions: &[Assertion],
         names: &[Text],
         mode: Mode,
@@ -72,12 +85,35 @@ impl Modes {
         requires { length self.now ≡ length assertions.now }
         ensures { IfOk result (λ modes. modes ≡ modes_with names.now (is_immediate mode) assertions.now self.now) }
     {
-        let mut immediate = Vec::new(*self.immediate.allocator());
+        let mut immediate = Vec::with_capacity(alloc, assertions.len())?;
         for place in 0..assertions.len() {
-            let before = self.immediate[place];
+            let before = self.is_immediate(place);
             immediate.push(mode_after(names, mode, &assertions[place], before))?;
         }
-        Ok(Modes { immediate })
+        Ok(Modes {
+            marks: Marks::Each(immediate),
+        })
+    }
+
+    /// How many assertions they are of. It takes no memory.
+    pub fn len(&self) -> usize
+        ensures { result ≡ length self.now }
+    {
+        match &self.marks {
+            Marks::Each(marks) => marks.len(),
+            Marks::All(count) => *count,
+        }
+    }
+
+    /// Whether the assertion at this place is immediate. It takes no memory.
+    pub fn is_immediate(&self, place: usize) -> bool
+        requires { place < length self.now }
+        ensures { result ≡ slice_index_or self.now place true }
+    {
+        match &self.marks {
+            Marks::Each(marks) => marks[place],
+            Marks::All(_) => true,
+        }
     }
 
     /// The mode of the assertion at this place. It takes no memory.
@@ -85,18 +121,11 @@ impl Modes {
         requires { assertion < length self.now }
         ensures { result ≡ mode_of (slice_index_or self.now assertion true) }
     {
-        if self.immediate[assertion] {
+        if self.is_immediate(assertion) {
             Mode::Immediate
         } else {
             Mode::Deferred
         }
-    }
-
-    /// For each assertion, in the order of their creation, whether it is immediate. It takes no memory.
-    pub fn as_slice(&self) -> &[bool]
-        ensures { result.now ≡ self.now }
-    {
-        self.immediate.as_slice()
     }
 }
 

@@ -14,7 +14,7 @@ use value::{Refusal, Text};
 pub fn all_places(alloc: Global, columns: &[Column]) -> Result<Vec<usize>, AllocError>
     ensures { IfOk result (λ places. places.items ≡ places_from 0 columns.now) }
 {
-    let mut places = Vec::new(alloc);
+    let mut places = Vec::with_capacity(alloc, columns.len())?;
     for _column in columns {
         let place = places.len();
         places.push(place)?;

@@ -77,7 +77,8 @@ fn row_of(
 ) -> Result<Row, AllocError>
     ensures { IfOk result (λ row. row ≡ row_of columns.now places.now values.now) }
 {
-    let mut row = Vec::new(alloc);
+    // A table keeps it, so there is no room to spare.
+    let mut row = Vec::with_capacity(alloc, columns.len())?;
     for _column in columns {
         let value = given_to(places, values, row.len())?;
         row.push(value)?;

@@ -18,12 +18,11 @@ use Rattle.alone.specs.declared.answers.Answer.{Answer}
 use Rattle.definitions.specs.declared.redeclaration.NewAssertion.{NewAssertion}
 use Rattle.definitions.specs.Redeclaration.{definition_of}
 use Rattle.commit.specs.Epochs.{IsNextEpoch, is_any_open}
-use Rattle.commit.specs.Admission.{admission_of}
 use Rattle.commit.specs.Events.{EngineState, IsAnswered, after}
 use Rattle.commit.specs.Runs.{beginning, seats_with}
 use Rattle.delta.specs.Views.{ViewState}
-use Rattle.definitions.specs.Written.{AreWritten}
 use Rattle.replay.specs.Reports.{closing_part_of}
+use Rattle.replay.specs.Takings.{IsAdmitted, IsRefused}
 use Rattle.replay.specs.Texts.{IsRead, IsUnread}
 use Rattle.prepared.specs.declared.faults.FillFault.{FillFault}
 use Rattle.prepared.specs.declared.faults.FillFault.TheVariants as fill
@@ -341,22 +340,13 @@ all_columns other now = []
 
 -- the definitions of a text are read and admitted, and each assertion means what they write
 pub record IsBeginning (text : List ℕ) (limit : ℕ) (engine : EngineState) : Type 0 where
-  pub definitions : List Definition
-  pub read : IsRead IsSchema text definitions
   pub shown : ViewState
-  pub admits : admission_of definitions ≡ Ok shown
-  pub written : AreWritten definitions shown.declared
+  pub admitted : IsAdmitted text shown
   pub is : engine ≡ beginning limit shown []
-
--- they are read, and refused
-pub record AreRefused (text : List ℕ) (why : Refusal) : Type 0 where
-  pub definitions : List Definition
-  pub read : IsRead IsSchema text definitions
-  pub refused : ¬ (why ≡ refusal.NoMemory) → admission_of definitions ≡ Err why
 
 -- the text is none of definitions, or they are refused
 abbrev pub IsUnbegun : (text : List ℕ) → Refusal → Type 0
-IsUnbegun text why = IsUnread IsSchema text why ⊎ AreRefused text why
+IsUnbegun text why = IsUnread IsSchema text why ⊎ IsRefused text why
 
 -- an engine before its first event, with no session and no statement
 pub record IsBegun (text : List ℕ) (limit : ℕ) (now : Database) : Type 0 where

@@ -8,7 +8,7 @@ ghost use Rattle.calls.specs.Calls as spec;
 
 use crate::sessions::{Session, Sessions};
 use crate::statements::Statements;
-use commit::{Core, Engine, admit};
+use commit::{Core, Engine};
 use definitions::{NewAssertion, new_assertions};
 use messages::{
     FieldFault, Misuse, Operation, Response, Source, is_name, read_checkpoint, read_name,
@@ -16,7 +16,7 @@ use messages::{
 };
 use parse::{parse_schema, parse_statement};
 use prepared::{FillFault, prepare};
-use replay::add_closing_part;
+use replay::{add_closing_part, admit_text};
 use report::Report;
 use std::alloc::{AllocError, Global};
 use syntax::{Event, ScriptLine, Statement};
@@ -151,8 +151,7 @@ impl Database {
         ensures begun { IfOk result (spec.IsBegun definitions.now limit) }
         ensures refused { IfErr result (spec.IsUnbegun definitions.now) }
     {
-        let definitions = parse_schema(alloc, definitions)?;
-        let view = admit(alloc, definitions.as_slice())?;
+        let view = admit_text(alloc, definitions)?;
         let engine = Engine::new(alloc, limit, view, &[])?;
         Ok(Database {
             engine,

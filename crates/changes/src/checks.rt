@@ -12,6 +12,7 @@ ghost use Rattle.alone.specs.States.{row_in};
 ghost use Rattle.alone.specs.Modes.{immediate_ones};
 ghost use Rattle.alone.specs.Checks.{check_keys, checks_read as checks_read_of, finding_keys, inner_key as inner_key_of, keys_for, outer_keys, query_keys, row_keys, tables_in};
 
+use alone::Modes;
 use assertion::{Form, Link, Query};
 use delta::View;
 use siread::{LockKey, Place};
@@ -25,7 +26,7 @@ use value::{Root, Value};
 pub fn checks_read(
     alloc: Global,
     view: &View,
-    meant: &[bool],
+    meant: &Modes,
     changes: &[Change],
 ) -> Result<Vec<LockKey>, AllocError>
     requires { length meant.now ≡ length view.now.declared.assertions }
@@ -35,7 +36,7 @@ pub fn checks_read(
 {
     let mut keys = Vec::new(alloc);
     for place in 0..meant.len() {
-        push_if_meant(&mut keys, view, meant[place], place, changes)?;
+        push_if_meant(&mut keys, view, meant.is_immediate(place), place, changes)?;
     }
     Ok(keys)
 }
@@ -60,8 +61,8 @@ fn push_if_meant(
     Ok(())
 }
 
-/// Puts what a check of an assertion reads behind the keys.
-fn push_check(
+/// Puts what a check of an assertion reads, on this view and over the changes that led to it, behind the keys.
+pub fn push_check(
     keys: &mut Vec<LockKey>,
     view: &View,
     assertion: usize,

@@ -36,13 +36,14 @@
 //!   literal; else the table.
 //! - [`equality_on`] is the part that sets a column equal to a literal, for who looks the row of a key up.
 //! - [`checks_read`]: a check of assertions reads at each candidate of the changes: by rows the row and those that
-//!   link to it, by groups the group, and of a single condition the tables of its queries.
+//!   link to it, by groups the group, and of a single condition the tables of its queries. [`push_check`] is that of
+//!   one assertion.
 //! - [`tables_read`]: VERDICT reads each table that an assertion names.
 //!
 //! A check is over the rows that have changed alone; [`real_changes`] leaves out the changes of a row to what it held.
 //!
 //! What the layer above may rest on: the keys are those of `alone`, so that the laws there are about them; only memory
-//! can fail. What it owes: for each assertion whether it is meant.
+//! can fail. What it owes: for each assertion whether it is meant, as [`alone::Modes`].
 //!
 //! The definitions are those of `alone`: `specs/Reads`, `specs/Checks` and `is_real` of `specs/States`.
 //!
@@ -72,7 +73,7 @@ mod touched;
 mod updates;
 mod wheres;
 
-pub use checks::{checks_read, tables_read};
+pub use checks::{checks_read, push_check, tables_read};
 pub use deletions::removals;
 pub use insertions::insertion;
 pub use net::{is_same_there, net_change, row_in};

@@ -11,6 +11,5 @@ pub mod Telling
 pub mod Fitting
 pub mod Weighing
 pub mod Seating
-pub mod Satisfying
 pub mod Safe
 pub mod Continuing

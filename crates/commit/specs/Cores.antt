@@ -58,10 +58,10 @@ pub record IsLive (c : CoreState) (t : OpenTransaction) : Type 0 where
   pub within : t.snapshot ≤ length c.records
   pub start_is : t.start ≡ state_of c.declared c.start (log_of c) t.snapshot
 
--- a transaction as the commit that it would be
-abbrev pub record_of : CoreState → List ℕ → OpenTransaction → Record
-record_of c session t = record {
-  number = length c.records + 1;
+-- a transaction as the commit with a number
+abbrev pub record_with : (number : ℕ) → List ℕ → OpenTransaction → Record
+record_with number session t = record {
+  number = number;
   snapshot = t.snapshot;
   read_only = t.read_only;
   session = session;
@@ -69,6 +69,10 @@ record_of c session t = record {
   reads = keys_of t;
   changes = (outcome_of t).changes;
 }
+
+-- a transaction as the commit that it would be
+abbrev pub record_of : CoreState → List ℕ → OpenTransaction → Record
+record_of c session t = record_with (length c.records + 1) session t
 
 -- the commit is the pivot of the triple that is named, or its reader
 abbrev pub IsDangerNamed : List Record → Record → Party → Party → Party → Type 0

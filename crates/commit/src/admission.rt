@@ -1,10 +1,8 @@
 //! Definitions that are admitted.
 
-ghost use Rattle.std.specs.Prelude.{◌≡◌, ◌≢◌, IfOk, IfErr, IfNone, IfSome, Ok, Err, None, Some};
-ghost use Rattle.value.specs.declared.refusals.Refusal.TheVariants.{NoMemory, Violated};
-ghost use Rattle.assertion.specs.Declarations.{layouts_in};
+ghost use Rattle.std.specs.Prelude.{◌≡◌, ◌≢◌, IfOk, IfErr, Ok, Err};
+ghost use Rattle.value.specs.declared.refusals.Refusal.TheVariants.{NoMemory};
 ghost use Rattle.alone.specs.Alone.{IsSound};
-ghost use Rattle.alone.specs.Checks.{violation};
 ghost use Rattle.definitions.specs.Written.{AreWritten};
 ghost use Rattle.commit.specs.Admission.{admission_of, tables_if_satisfied};
 
@@ -12,7 +10,8 @@ use definitions::Definitions;
 use delta::View;
 use std::alloc::Global;
 use syntax::Definition;
-use value::{Refusal, Root, Text};
+use txn::find_first_false;
+use value::Refusal;
 
 /// The tables that definitions begin with. Every assertion is satisfied on them, and means what the definitions write.
 ///
@@ -28,6 +27,22 @@ pub fn admit(alloc: Global, definitions: &[Definition]) -> Result<View, Refusal>
     ensures refused { IfErr result (λ refusal. refusal ≢ NoMemory → admission_of definitions.now ≡ Err refusal) }
 {
     let taken = Definitions::take(alloc, definitions)?;
+    let view = admit_taken(alloc, taken)?;
+    Ok(view)
+}
+
+/// The tables that definitions begin with which were taken in already. Every assertion is satisfied on them.
+///
+/// # Errors
+///
+/// [`Refusal::FalseAtCreation`] with the first assertion that is false on the loaded rows, and the least root at which
+/// it is. Or [`Refusal::NoMemory`].
+pub fn admit_taken(alloc: Global, taken: Definitions) -> Result<View, Refusal>
+    ensures satisfied { IfOk result (λ view. tables_if_satisfied taken ≡ Ok view) }
+    ensures same { IfOk result (λ view. view ≡ taken) }
+    ensures sound { IfOk result (λ view. IsSound view.declared view.state) }
+    ensures refused { IfErr result (λ refusal. refusal ≢ NoMemory → tables_if_satisfied taken ≡ Err refusal) }
+{
     let loaded = taken.load(alloc)?;
     let view = require_satisfied(loaded)?;
     Ok(view)
@@ -54,21 +69,4 @@ pub fn require_satisfied(view: View) -> Result<View, Refusal>
             group: group.copy()?,
         }),
     }
-}
-
-/// The first assertion that is false on a view's tables, by its name, and the least root at which it is. What is
-/// unknown is not false. It takes no memory.
-pub fn find_first_false(view: &View) -> Option<(&Text, &Root)>
-    ensures found { IfSome result (λ found.
-        violation (layouts_in view.now.declared) view.now.declared.assertions view.now.state
-        ≡ Some (Violated found.0.now found.1.now)) }
-    ensures none { IfNone result (
-        violation (layouts_in view.now.declared) view.now.declared.assertions view.now.state ≡ None) }
-{
-    for place in 0..view.assertions().len() {
-        if let Some(root) = view.least_bad(place) {
-            return Some((&view.assertions()[place].name, root));
-        }
-    }
-    None
 }

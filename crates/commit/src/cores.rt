@@ -10,7 +10,7 @@ ghost use Rattle.alone.specs.Alone.{IsSound};
 ghost use Rattle.alone.specs.Commits.{HasNoWriteConflict, IsLog};
 ghost use Rattle.alone.specs.Order.{least_out};
 ghost use Rattle.txn.specs.Transactions.{transaction_at_begin, truth_of};
-ghost use Rattle.commit.specs.Cores.{IsCommitAnswer, IsLive, IsSerializable, IsUncommitted, core_after_commit, core_after_end, core_after_finish, locks_of, log_of, newest_tables, order_of, pending_txn, record_of, without_prepared, with_begun, with_commit, with_prepared};
+ghost use Rattle.commit.specs.Cores.{IsCommitAnswer, IsLive, IsSerializable, IsUncommitted, core_after_commit, core_after_end, core_after_finish, locks_of, log_of, newest_tables, order_of, pending_txn, record_of, record_with, without_prepared, with_begun, with_commit, with_prepared};
 ghost use Rattle.commit.specs.Decisions.{IsDecision, IsJudgment};
 ghost use Rattle.commit.specs.Runs.{empty_core};
 ghost use Rattle.commit.specs.Safe.{IsSafeReader};
@@ -21,7 +21,6 @@ use alone::{Record, RefusedCommit, commits_have_an_order, replay_answers_again};
 use conflict::{Candidate, Judgment, Live, is_safe, judge, put_in_order};
 use delta::View;
 use siread::LockTable;
-use sqlite_items::Items;
 use std::alloc::{AllocError, Global};
 use std::marker::Model;
 use std::mem;
@@ -221,10 +220,8 @@ impl Core {
             place,
         } = prepared;
         let number = self.records.len() as u64 + 1;
-        let begin_number = closed.begin_number();
-        let snapshot = closed.snapshot();
-        let read_only = closed.is_read_only();
-        let record = record_of(number, snapshot, read_only, session, closed.into_parts());
+        let begin_number = closed.txn().begin_number();
+        let record = into_record(number, session, closed);
         let committed = self.records.as_slice();
         let places = self.places.as_slice();
         put_in_order(&mut self.order, committed, places, &record, place);
@@ -256,12 +253,12 @@ impl Core {
         Some(closed)
     }
 
-    /// ROLLBACK (ISO/IEC 9075:1992, rollback statement): the transaction has ended, and nothing of it is kept. It
-    /// takes no memory.
-    pub fn end(&mut self, txn: Txn)
-        requires live { IsLive self.old txn }
+    /// ROLLBACK (ISO/IEC 9075:1992, rollback statement): the transaction has ended, and nothing of it is kept. Who
+    /// holds it abandons it. It takes no memory.
+    pub fn end(&mut self, txn: &Txn)
+        requires live { IsLive self.old txn.now }
         requires idle { self.old.prepared ≡ None }
-        ensures { self.new ≡ core_after_end self.old txn }
+        ensures { self.new ≡ core_after_end self.old txn.now }
     {
         let newest = self.records.len() as u64;
         forget(
@@ -271,7 +268,6 @@ impl Core {
             txn.begin_number(),
             newest,
         );
-        drop(txn.abandon());
     }
 
     /// The truth of the assertion of a name on the newest tables; none where no assertion has it. It takes no memory.
@@ -449,12 +445,13 @@ impl Core {
     {
         let records = self.records.as_slice();
         let changes = closed.changes();
+        let txn = closed.txn();
         // (that a read-only transaction has changed nothing is a clause of this call)
-        closed.recall_read_only();
+        txn.recall_read_only();
         let candidate = Candidate {
             number: records.len() as u64 + 1,
-            snapshot: closed.snapshot(),
-            read_only: closed.is_read_only(),
+            snapshot: txn.snapshot(),
+            read_only: txn.is_read_only(),
             reads: closed.reads(),
             changes,
         };
@@ -484,10 +481,11 @@ impl Core {
         ensures { IfOk result (λ view. (session : List ℕ)
             → view ≡ newest_tables (with_commit self.now (record_of self.now session closed.now))) }
     {
-        let own = closed.own();
+        let txn = closed.txn();
+        let own = txn.own();
         // (that a view's tables are as its declarations say is a clause of its catalog)
         let _ = own.catalog();
-        if closed.snapshot() == self.records.len() as u64 {
+        if txn.snapshot() == self.records.len() as u64 {
             let view = own.copy()?;
             Ok(view)
         } else {
@@ -537,7 +535,7 @@ impl Core {
             Err(_) => return Err(give_back(closed)),
         };
         // (that a read-only transaction has changed nothing is a clause of this call)
-        closed.recall_read_only();
+        closed.txn().recall_read_only();
         if let Err(_) = make_room(
             &mut self.records,
             &mut self.places,
@@ -583,7 +581,7 @@ impl Core {
             &mut self.live,
             &mut self.locks,
             self.reaches.as_slice(),
-            closed.begin_number(),
+            closed.txn().begin_number(),
             newest,
         );
         drop(closed.into_parts());
@@ -602,32 +600,25 @@ fn forget(live: &mut Live, locks: &mut LockTable, reaches: &[u64], begin_number:
     locks.trim(live.least_writing(newest), reaches);
 }
 
-/// The record of a commit.
-fn record_of(number: u64, snapshot: u64, read_only: bool, session: Text, parts: Parts) -> Record
-    ensures { result
-        ≡ record {
-          number = number;
-          snapshot = snapshot;
-          read_only = read_only;
-          session = session;
-          trace = parts.trace.items;
-          reads = parts.reads.items;
-          changes = parts.changes.items;
-        } }
+/// The record of a transaction that is committed with this number, in a session of this name.
+fn into_record(number: u64, session: Text, closed: ClosedTransaction) -> Record
+    ensures { result ≡ record_with number session closed }
 {
+    let snapshot = closed.txn().snapshot();
+    let read_only = closed.txn().is_read_only();
     let Parts {
         trace,
         reads,
         changes,
-    } = parts;
+    } = closed.into_parts();
     Record {
         number,
         snapshot,
         read_only,
         session,
-        trace: Items::from_vec(trace),
-        reads: Items::from_vec(reads),
-        changes: Items::from_vec(changes),
+        trace,
+        reads,
+        changes,
     }
 }
 

@@ -12,7 +12,7 @@ ghost use Rattle.commit.specs.Told.{WereToldAlone};
 
 use crate::cores::Core;
 use crate::laws::answers_lead_to_a_serial_order;
-use crate::seats::{Seat, answer_event, find_seat, make_seats, seat_few, seat_session};
+use crate::seats::{Seat, answer_event, find_seat, seat_few, seat_session};
 use alone::Answer;
 use definitions::NewAssertion;
 use delta::View;
@@ -53,6 +53,7 @@ pub struct Outcome {
 impl Engine {
     /// Before the first of these events, whose sessions get a seat each, over tables on which no assertion is
     /// false, with at most so many commits, from none to 4,294,967,295.
+    #[tactic(auto, using(crate::proofs::Seating::enough))]
     pub fn new(
         alloc: Global,
         limit: u64,
@@ -63,8 +64,11 @@ impl Engine {
         requires within { limit ≤ 4294967295 }
         ensures { IfOk result (λ engine. engine ≡ beginning limit loaded lines.now) }
     {
-        let seats = make_seats(alloc, lines)?;
-        Engine::seated(alloc, limit, loaded, lines, seats)
+        // (a script has no more sessions than lines)
+        match Engine::with_few_sessions(alloc, limit, loaded, lines, lines.len())? {
+            Some(engine) => Ok(engine),
+            None => unreachable!(),
+        }
     }
 
     /// As [`Engine::new`]; or none where the events are of more than so many sessions, and the tables are let go then.
@@ -82,31 +86,14 @@ impl Engine {
     {
         match seat_few(alloc, lines, most)? {
             Some(seats) => {
-                let engine = Engine::seated(alloc, limit, loaded, lines, seats)?;
-                Ok(Some(engine))
+                let core = Core::new(alloc, limit, loaded)?;
+                Ok(Some(Engine { core, seats }))
             }
             None => {
                 drop(loaded);
                 Ok(None)
             }
         }
-    }
-
-    /// Before the first of these events, of which these are the seats. (Only clauses look at the events.)
-    fn seated(
-        alloc: Global,
-        limit: u64,
-        loaded: View,
-        _lines: &[ScriptLine],
-        seats: Vec<Seat>,
-    ) -> Result<Engine, AllocError>
-        requires sound { IsSound loaded.declared loaded.state }
-        requires within { limit ≤ 4294967295 }
-        requires seats { seats.items ≡ seats_with_all [] _lines.now }
-        ensures { IfOk result (λ engine. engine ≡ beginning limit loaded _lines.now) }
-    {
-        let core = Core::new(alloc, limit, loaded)?;
-        Ok(Engine { core, seats })
     }
 
     /// A seat for a session that comes later, if it has none. An event of a session without a seat is refused. Where

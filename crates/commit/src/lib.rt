@@ -46,7 +46,7 @@ mod laws;
 mod prepared;
 mod seats;
 
-pub use admission::{admit, find_first_false, require_satisfied};
+pub use admission::{admit, admit_taken, require_satisfied};
 pub use cores::{CommitFailure, Core};
 pub use engine::{Engine, Outcome, run};
 pub use epochs::{Epoch, Epochs, readmit, run_epochs};

@@ -41,24 +41,6 @@ fn set_txn(seat: &mut Seat, txn: Option<Txn>)
     }
 }
 
-/// A seat for each session of some events, in the order of their first events.
-pub fn make_seats(alloc: Global, lines: &[ScriptLine]) -> Result<Vec<Seat>, AllocError>
-    ensures { IfOk result (λ seats. seats.items ≡ seats_with_all [] lines.now) }
-{
-    let mut seats = Vec::new(alloc);
-    seat_all(&mut seats, lines)?;
-    Ok(seats)
-}
-
-fn seat_all(seats: &mut Vec<Seat>, lines: &[ScriptLine]) -> Result<(), AllocError>
-    ensures { OnOk result (seats.new.items ≡ seats_with_all seats.old.items lines.now) }
-{
-    for line in lines {
-        seat_session(seats, &line.session)?;
-    }
-    Ok(())
-}
-
 /// A seat for each session of some events, in the order of their first events, or none where they are of more than so
 /// many sessions. It goes no further than the first session that is one too many, so its time does not grow with the
 /// square of a long script.
@@ -216,7 +198,8 @@ fn roll_back(core: &mut Core, seat: &mut Seat) -> Answer
     match seat.txn.take() {
         None => Answer::Refused(Refusal::NoTransaction),
         Some(txn) => {
-            core.end(txn);
+            core.end(&txn);
+            drop(txn.abandon());
             Answer::RolledBack
         }
     }

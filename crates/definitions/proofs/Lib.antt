@@ -1,3 +1,4 @@
 pub mod GoodTables
+pub mod OneMore
 pub mod Redeclaring
 pub mod WrittenAssertions

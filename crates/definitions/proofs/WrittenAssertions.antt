@@ -99,7 +99,8 @@ all_add (d ∷ rest) now made e =
     let found = and_then_ok (with_definition d now) (with_all rest) made e in
     one_first d rest now found.0 made.declared found.1.0 (all_add rest found.0 made found.1.1)
 
-taken_written : (definitions : List Definition) (made : ViewState) → view_of_definitions definitions ≡ Ok made → AreWritten definitions made.declared
+-- what definitions define has the assertions that they write
+pub taken_written : (definitions : List Definition) (made : ViewState) → view_of_definitions definitions ≡ Ok made → AreWritten definitions made.declared
 taken_written definitions made e =
     let adds = all_add definitions empty_database made e in
     subst (λ (all : List Assertion). Pairs (IsDefined made.declared.tables) (filter is_assertion definitions) all) (sym adds.assertions) adds.written

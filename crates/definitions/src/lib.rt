@@ -15,7 +15,9 @@
 //! view of what is defined, of which the layer above asks that.
 //!
 //! What the layer above may rest on: [`Definitions::take`] answers what `specs/Taken` says of the list, or its first
-//! fault, or that memory ran out. What is taken in is always good tables and assertions that are evaluated without
+//! fault, or that memory ran out. No list of definitions is needed: they may be handed over one by one, to
+//! [`Definitions::with`] on [`Definitions::new`], and `proofs/OneMore` has the laws by which that comes to the same.
+//! What is taken in is always good tables and assertions that are evaluated without
 //! overflow, which is what a view is made of. `specs/Tables` has CREATE TABLE; an INSERT is that of `changes`. And
 //! the assertions are those that are written (`specs/Written`): there is one for each CREATE ASSERTION, in their
 //! order, which has its name and means what its condition means as it is written (`meaning`), over all tables of the

@@ -52,15 +52,48 @@ impl Model for Definitions {
 }
 
 impl Definitions {
+    /// No table and no assertion, before the first definition.
+    pub fn new(alloc: Global) -> Definitions
+        ensures { result ≡ empty_database }
+    {
+        Definitions {
+            catalog: Catalog::new(alloc),
+            assertions: Vec::new(alloc),
+            rows: Vec::new(alloc),
+        }
+    }
+
+    /// These with one more definition. No assertion is evaluated. Of the definition's tree nothing is kept.
+    ///
+    /// # Errors
+    ///
+    /// The fault of the definition, which is the first of several. CREATE TABLE: [`Refusal::NameTaken`] of the table,
+    /// then of a column that stands twice, then [`Refusal::OutsideClass`] unless exactly one column is the key. CREATE
+    /// ASSERTION: [`Refusal::NameTaken`], and then what `assertcheck::check` answers. INSERT: what
+    /// `assertcheck::check_insert` answers, then by columns [`Refusal::NullNotAllowed`] and [`Refusal::OutOfRange`],
+    /// and last [`Refusal::DuplicateKey`]. Or [`Refusal::NoMemory`].
+    pub fn with(self, alloc: Global, definition: &Definition) -> Result<Definitions, Refusal>
+        ensures taken { IfOk result (λ made. with_definition definition.now self ≡ Ok made) }
+        ensures refused { IfErr result (λ refusal. refusal ≢ NoMemory
+            → with_definition definition.now self ≡ Err refusal) }
+    {
+        match definition {
+            Definition::Table { name, columns } => self.with_table(alloc, name, columns.as_slice()),
+            Definition::Assertion {
+                name,
+                condition,
+                attributes,
+            } => self.with_assertion(alloc, name, condition, *attributes),
+            Definition::Insert(insert) => self.with_row(alloc, insert),
+        }
+    }
+
     /// What these definitions define, taken in in their order. No assertion is evaluated. Each assertion has the name
     /// of its text and means what is written there.
     ///
     /// # Errors
     ///
-    /// The first fault. CREATE TABLE: [`Refusal::NameTaken`] of the table, then of a column that stands twice, then
-    /// [`Refusal::OutsideClass`] unless exactly one column is the key. CREATE ASSERTION: [`Refusal::NameTaken`], and
-    /// then what `assertcheck::check` answers. INSERT: what `assertcheck::check_insert` answers, then by columns
-    /// [`Refusal::NullNotAllowed`] and [`Refusal::OutOfRange`], and last [`Refusal::DuplicateKey`]. Or
+    /// The first fault, which is that of the first definition that [`Definitions::with`] refuses. Or
     /// [`Refusal::NoMemory`].
     pub fn take(alloc: Global, definitions: &[Definition]) -> Result<Definitions, Refusal>
         ensures taken { IfOk result (λ made. view_of_definitions definitions.now ≡ Ok made) }
@@ -68,7 +101,7 @@ impl Definitions {
             refusal ≢ NoMemory → view_of_definitions definitions.now ≡ Err refusal) }
         ensures written { IfOk result (λ made. AreWritten definitions.now made.declared) }
     {
-        let mut made = Definitions::empty_database(alloc);
+        let mut made = Definitions::new(alloc);
         for definition in definitions {
             made = made.with(alloc, definition)?;
         }
@@ -104,34 +137,6 @@ impl Definitions {
             rows,
         } = self;
         View::load(alloc, catalog, assertions, rows.as_slice())
-    }
-
-    /// No table and no assertion.
-    fn empty_database(alloc: Global) -> Definitions
-        ensures { result ≡ empty_database }
-    {
-        Definitions {
-            catalog: Catalog::new(alloc),
-            assertions: Vec::new(alloc),
-            rows: Vec::new(alloc),
-        }
-    }
-
-    /// These with one more definition.
-    fn with(self, alloc: Global, definition: &Definition) -> Result<Definitions, Refusal>
-        ensures taken { IfOk result (λ made. with_definition definition.now self ≡ Ok made) }
-        ensures refused { IfErr result (λ refusal. refusal ≢ NoMemory
-            → with_definition definition.now self ≡ Err refusal) }
-    {
-        match definition {
-            Definition::Table { name, columns } => self.with_table(alloc, name, columns.as_slice()),
-            Definition::Assertion {
-                name,
-                condition,
-                attributes,
-            } => self.with_assertion(alloc, name, condition, *attributes),
-            Definition::Insert(insert) => self.with_row(alloc, insert),
-        }
     }
 
     /// CREATE TABLE: its name is free among the tables.

@@ -1,2 +1,3 @@
 pub mod Maintained
+pub mod Parts
 pub mod Views

@@ -32,7 +32,7 @@ pub fn watches_of(
     ensures { IfOk result (λ made. AreWatched schemas.now tables.now assertions.now (length assertions.now)
         (map arc_value made.items)) }
 {
-    let mut made = Vec::new(alloc);
+    let mut made = Vec::with_capacity(alloc, assertions.len())?;
     for index in 0..assertions.len() {
         let watch = Watch::of(alloc, schemas, tables, &assertions[index].form)?;
         made.push(Arc::new(alloc, watch)?)?;
@@ -106,7 +106,7 @@ pub fn watches_after(
     ensures { IfOk result (λ made. AreWatched schemas.now after.now assertions.now (length assertions.now)
         (map arc_value made.items)) }
 {
-    let mut made = Vec::new(alloc);
+    let mut made = Vec::with_capacity(alloc, assertions.len())?;
     for index in 0..assertions.len() {
         let form = &assertions[index].form;
         let watch = &watches[index];
@@ -120,7 +120,7 @@ pub fn copy_tables(alloc: Global, tables: &[Rows]) -> Result<Vec<Rows>, AllocErr
     ensures equal { IfOk result (λ made. made.items ≡ tables.now) }
     ensures short { IfOk result (λ made. AreShort made.items) }
 {
-    let mut made = Vec::new(alloc);
+    let mut made = Vec::with_capacity(alloc, tables.len())?;
     for table in 0..tables.len() {
         let rows = &tables[table];
         // The proof reads that there are fewer than 2^63.

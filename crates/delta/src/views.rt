@@ -12,6 +12,7 @@ ghost use Rattle.assertion.specs.Declarations.{layouts_in};
 ghost use Rattle.assertion.specs.Meaning.{least_bad_of, rows_of, verdict_of};
 ghost use Rattle.assertion.specs.Changes.{AreChangesOf, IsChangeOf, state_after, state_after_all};
 ghost use Rattle.delta.specs.Maintained.{AreShort, AreWatched, IsGood};
+ghost use Rattle.delta.specs.Parts.{AreAgreed, shown};
 ghost use Rattle.delta.specs.Views.{AreBounded, AreTables, IsFitting, with_assertion, without_assertion};
 
 use crate::declarations::{Declarations, copy_assertions, copy_catalog, schemas_of};
@@ -29,9 +30,16 @@ use std::sync::Arc;
 use table::{Catalog, Change, Row, Schema, key_column};
 use value::{Root, Text, Truth, Value};
 
-/// The rows of each table, with the maintained verdicts of the assertions on them. It never changes.
+/// The rows of each table, with the maintained verdicts of the assertions on them. It never changes, and its copies
+/// share it.
 #[derive(Drop)]
 pub struct View {
+    parts: Arc<Parts>,
+}
+
+/// What a view is made of.
+#[derive(Drop)]
+struct Parts {
     declarations: Arc<Declarations, Global>,
     tables: Vec<Rows>,
     /// One for each assertion.
@@ -39,28 +47,20 @@ pub struct View {
 }
 
 impl Model for View {
-    ghost use Rattle.std.specs.Prelude.{map};
     ghost use Rattle.std.specs.Arc.{arc_value};
     ghost use Rattle.std.specs.Coded.{codes};
     ghost use Rattle.table.specs.contracts.conds.Cond as cond_type;
     ghost use Rattle.table.specs.contracts.exprs.Expr as expr_type;
-    ghost use Rattle.delta.specs.Maintained.{IsMaintained};
+    ghost use Rattle.delta.specs.Parts.{AreAgreed, shown};
     ghost use Rattle.delta.specs.Views.{ViewState};
 
     ghost Value = { ViewState };
 
     ghost coded = { Prim.hlevel (codes, cond_type.the_row.coded, expr_type.the_row.coded) };
 
-    ghost view = { λ v. record {
-      declared = record {
-        tables = (arc_value v.declarations).catalog;
-        assertions = (arc_value v.declarations).assertions.items;
-      };
-      state = v.tables.items;
-    } };
+    ghost view = { λ v. shown (arc_value v.parts) };
 
-    ghost invariant = { λ v. IsMaintained (arc_value v.declarations).catalog (arc_value v.declarations).schemas.items
-        (arc_value v.declarations).assertions.items v.tables.items (map arc_value v.watches.items) };
+    ghost invariant = { λ v. AreAgreed (arc_value v.parts) };
 }
 
 impl View {
@@ -85,10 +85,23 @@ impl View {
             schemas,
             assertions,
         };
+        View::of(
+            alloc,
+            Parts {
+                declarations: Arc::new(alloc, declarations)?,
+                tables,
+                watches,
+            },
+        )
+    }
+
+    /// The view that has these parts, which agree.
+    fn of(alloc: Global, parts: Parts) -> Result<View, AllocError>
+        requires { AreAgreed parts }
+        ensures { IfOk result (λ view. view ≡ shown parts) }
+    {
         Ok(View {
-            declarations: Arc::new(alloc, declarations)?,
-            tables,
-            watches,
+            parts: Arc::new(alloc, parts)?,
         })
     }
 
@@ -97,7 +110,7 @@ impl View {
         requires { table < length self.now.state }
         ensures { result.now ≡ layout_at table (layouts_in self.now.declared) }
     {
-        &self.declarations.schemas[table]
+        &self.parts.declarations.schemas[table]
     }
 
     /// The view after a change of one row. The change names what stands under its key now, and this view stays as it
@@ -108,24 +121,27 @@ impl View {
         ensures { IfOk result (λ view. view
             ≡ record self.now { state = state_after (layouts_in self.now.declared) change.now self.now.state }) }
     {
-        let alloc = *self.tables.allocator();
-        let declarations = Arc::try_clone(&self.declarations)?;
-        let schemas = &self.declarations.schemas;
-        let tables = tables_after(alloc, schemas, &self.tables, change)?;
+        let alloc = *self.parts.tables.allocator();
+        let declarations = Arc::try_clone(&self.parts.declarations)?;
+        let schemas = &self.parts.declarations.schemas;
+        let tables = tables_after(alloc, schemas, &self.parts.tables, change)?;
         let watches = watches_after(
             alloc,
             schemas,
-            &self.tables,
+            &self.parts.tables,
             &tables,
-            &self.declarations.assertions,
-            &self.watches,
+            &self.parts.declarations.assertions,
+            &self.parts.watches,
             change,
         )?;
-        Ok(View {
-            declarations,
-            tables,
-            watches,
-        })
+        View::of(
+            alloc,
+            Parts {
+                declarations,
+                tables,
+                watches,
+            },
+        )
     }
 
     /// The view after changes of rows, put in one after the other. Each names what stands under its key when its turn
@@ -147,11 +163,8 @@ impl View {
     pub fn copy(&self) -> Result<View, AllocError>
         ensures { IfOk result (λ copy. copy ≡ self.now) }
     {
-        let alloc = *self.tables.allocator();
         Ok(View {
-            declarations: Arc::try_clone(&self.declarations)?,
-            tables: copy_tables(alloc, &self.tables)?,
-            watches: copy_watches(alloc, &self.watches)?,
+            parts: Arc::try_clone(&self.parts)?,
         })
     }
 
@@ -163,13 +176,14 @@ impl View {
         ensures { IfOk result (λ view. view
             ≡ record self.now { declared = with_assertion assertion self.now.declared }) }
     {
-        let alloc = *self.tables.allocator();
-        let schemas = &self.declarations.schemas;
-        let tables = index_for(alloc, schemas, &self.tables, &assertion.form)?;
+        let parts = &*self.parts;
+        let alloc = *parts.tables.allocator();
+        let schemas = &parts.declarations.schemas;
+        let tables = index_for(alloc, schemas, &parts.tables, &assertion.form)?;
         let watch = Watch::of(alloc, schemas, &tables, &assertion.form)?;
-        let mut watches = copy_watches(alloc, &self.watches)?;
+        let mut watches = copy_watches(alloc, &parts.watches)?;
         watches.push(Arc::new(alloc, watch)?)?;
-        let mut assertions = copy_assertions(alloc, &self.declarations.assertions)?;
+        let mut assertions = copy_assertions(alloc, &parts.declarations.assertions)?;
         assertions.push(assertion)?;
         self.redeclare(
             alloc,
@@ -187,14 +201,15 @@ impl View {
         ensures { IfOk result (λ view. view
             ≡ record self.now { declared = without_assertion name.now self.now.declared }) }
     {
-        let alloc = *self.tables.allocator();
-        let tables = copy_tables(alloc, &self.tables)?;
+        let parts = &*self.parts;
+        let alloc = *parts.tables.allocator();
+        let tables = copy_tables(alloc, &parts.tables)?;
         let left = leave_out(
             alloc,
-            &self.declarations.schemas,
-            &self.tables,
-            &self.declarations.assertions,
-            &self.watches,
+            &parts.declarations.schemas,
+            &parts.tables,
+            &parts.declarations.assertions,
+            &parts.watches,
             name,
         )?;
         self.redeclare(alloc, tables, left)
@@ -220,18 +235,21 @@ impl View {
             assertions,
             watches,
         } = watched;
-        let catalog = copy_catalog(alloc, &self.declarations.catalog)?;
+        let catalog = copy_catalog(alloc, &self.parts.declarations.catalog)?;
         let schemas = schemas_of(alloc, &catalog)?;
         let declarations = Declarations {
             catalog,
             schemas,
             assertions,
         };
-        Ok(View {
-            declarations: Arc::new(alloc, declarations)?,
-            tables,
-            watches,
-        })
+        View::of(
+            alloc,
+            Parts {
+                declarations: Arc::new(alloc, declarations)?,
+                tables,
+                watches,
+            },
+        )
     }
 
     /// The tables that there are.
@@ -239,7 +257,7 @@ impl View {
         ensures value { result.now ≡ self.now.declared.tables }
         ensures tables { AreTables (layouts_in self.now.declared) self.now.state }
     {
-        &self.declarations.catalog
+        &self.parts.declarations.catalog
     }
 
     /// The assertions on the tables.
@@ -247,7 +265,7 @@ impl View {
         ensures value { result.now ≡ self.now.declared.assertions }
         ensures bounded { AreBounded self.now.declared.assertions }
     {
-        self.declarations.assertions.as_slice()
+        self.parts.declarations.assertions.as_slice()
     }
 
     /// The rows of a table in key order, each fitting its columns, so that its numbers are within their bounds.
@@ -257,7 +275,7 @@ impl View {
         ensures table { IsTable (layout_at table (layouts_in self.now.declared)) result.now }
         ensures small { All IsSmallRow result.now }
     {
-        &self.tables[table]
+        &self.parts.tables[table]
     }
 
     /// The rows of each table, in the order of the catalog, shared with this view. Only memory can fail.
@@ -265,14 +283,14 @@ impl View {
         ensures equal { IfOk result (λ rows. rows.items ≡ self.now.state) }
         ensures good { IfOk result (λ rows. IsGood (layouts_in self.now.declared) rows.items) }
     {
-        copy_tables(*self.tables.allocator(), &self.tables)
+        copy_tables(*self.parts.tables.allocator(), &self.parts.tables)
     }
 
     /// The place of a table's key column; 0 where there is no such table.
     pub fn key_column(&self, table: usize) -> usize
         ensures { result ≡ key_of table (layouts_in self.now.declared) }
     {
-        key_column(&self.declarations.schemas, table)
+        key_column(&self.parts.declarations.schemas, table)
     }
 
     /// The row under a key of a table, if there is one.
@@ -280,7 +298,12 @@ impl View {
         ensures { option_copied result
             ≡ row_at (key_of table (layouts_in self.now.declared)) key.now (rows_of table self.now.state) }
     {
-        row_under(&self.declarations.schemas, &self.tables, table, key)
+        row_under(
+            &self.parts.declarations.schemas,
+            &self.parts.tables,
+            table,
+            key,
+        )
     }
 
     /// The roots at which an assertion can be another after the changes that led to this view than before them.
@@ -291,10 +314,10 @@ impl View {
             (slice_index_or self.now.declared.assertions assertion a).form) }
     {
         candidates(
-            *self.tables.allocator(),
-            &self.declarations.schemas,
-            &self.tables,
-            &self.declarations.assertions[assertion].form,
+            *self.parts.tables.allocator(),
+            &self.parts.declarations.schemas,
+            &self.parts.tables,
+            &self.parts.declarations.assertions[assertion].form,
             changes,
         )
     }
@@ -306,7 +329,7 @@ impl View {
             → result ≡ verdict_of (layouts_in self.now.declared)
             (slice_index_or self.now.declared.assertions assertion a).form self.now.state }
     {
-        self.watches[assertion].truth
+        self.parts.watches[assertion].truth
     }
 
     /// The least root at which an assertion is false, if it is false.
@@ -316,6 +339,6 @@ impl View {
             → option_copied result ≡ least_bad_of (layouts_in self.now.declared)
             (slice_index_or self.now.declared.assertions assertion a).form self.now.state }
     {
-        self.watches[assertion].bad.first()
+        self.parts.watches[assertion].bad.first()
     }
 }

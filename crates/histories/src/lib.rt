@@ -8,6 +8,7 @@ mod texts;
 mod three_sessions;
 mod two_sessions;
 
+use std::alloc::{AllocError, Global};
 pub use texts::{COVER, EIGHT, KIM, LEDGER, LEDGER_TURNS, SEVEN, TABLES};
 pub use three_sessions::{
     HARMLESS_PIVOT, LATE_READER, PIVOT_REFUSED, READ_ONLY_READER_PASSES, READ_ONLY_READER_REFUSED,
@@ -33,4 +34,22 @@ pub struct History {
     pub grouped: &'static str,
     /// What is printed behind either.
     pub closing: &'static str,
+}
+
+impl History {
+    /// What stands behind the tables, as one text.
+    pub fn definitions_behind(&self, alloc: Global) -> Result<String, AllocError> {
+        let mut all = String::new(alloc);
+        for text in self.more {
+            all.push_str(text)?;
+        }
+        Ok(all)
+    }
+
+    /// What is printed of the lines in the script's order.
+    pub fn printed(&self, alloc: Global) -> Result<String, AllocError> {
+        let mut all = String::from_str(alloc, self.answers)?;
+        all.push_str(self.closing)?;
+        Ok(all)
+    }
 }

@@ -1,9 +1,8 @@
 //! What the check of each assertion read.
 
-ghost use Rattle.std.specs.Prelude.{◌≡◌, length, IfOk};
-
 use crate::histories::{Read, Reader};
-use changes::checks_read;
+use alone::Modes;
+use changes::push_check;
 use delta::View;
 use siread::LockKey;
 use std::alloc::{AllocError, Global};
@@ -15,30 +14,18 @@ pub fn push_checks(
     alloc: Global,
     reads: &mut Vec<Read>,
     view: &View,
-    meant: &[bool],
+    meant: &Modes,
     changes: &[Change],
     event: usize,
 ) -> Result<(), AllocError> {
-    for (place, is_meant) in meant.iter().enumerate() {
-        if *is_meant {
-            push_check(alloc, reads, view, place, changes, event)?;
+    for place in 0..view.assertions().len() {
+        if place < meant.len() && meant.is_immediate(place) {
+            let mut keys = Vec::new(alloc);
+            push_check(&mut keys, view, place, changes)?;
+            push_reads(reads, keys, event, Reader::Check(place))?;
         }
     }
     Ok(())
-}
-
-/// The same, for one assertion.
-fn push_check(
-    alloc: Global,
-    reads: &mut Vec<Read>,
-    view: &View,
-    place: usize,
-    changes: &[Change],
-    event: usize,
-) -> Result<(), AllocError> {
-    let only = only_one(alloc, view.assertions().len(), place)?;
-    let keys = checks_read(alloc, view, only.as_slice(), changes)?;
-    push_reads(reads, keys, event, Reader::Check(place))
 }
 
 /// Puts keys behind the reads, as read by this event and this reader.
@@ -52,15 +39,4 @@ fn push_reads(
         reads.push(Read { key, event, reader })?;
     }
     Ok(())
-}
-
-/// Of so many assertions the one at a place.
-fn only_one(alloc: Global, count: usize, place: usize) -> Result<Vec<bool>, AllocError>
-    ensures { IfOk result (λ meant. length meant.items ≡ count) }
-{
-    let mut meant = vec![in alloc; false; count]?;
-    if place < count {
-        meant[place] = true;
-    }
-    Ok(meant)
 }

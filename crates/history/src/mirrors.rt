@@ -140,9 +140,14 @@ fn follow_statement(
     execute(txn, event, statement, transaction)?;
     match trial {
         Some(Trial { changes, view }) => {
-            let meant = mirror.modes.as_slice();
-            let reads = &mut transaction.reads;
-            push_checks(alloc, reads, &view, meant, changes.as_slice(), event)?;
+            push_checks(
+                alloc,
+                &mut transaction.reads,
+                &view,
+                &mirror.modes,
+                changes.as_slice(),
+                event,
+            )?;
             happening.changes = changes;
             note_view(happening, view);
             Ok(())
@@ -215,26 +220,21 @@ fn follow_modes_in(
     happening: &Happening,
     transaction: &mut Transaction,
 ) -> Result<(), AllocError> {
-    let Some(ResolvedStatement::SetModes { names, mode }) = closed.trace().last() else {
+    let Some(ResolvedStatement::SetModes { names, mode }) = closed.txn().trace().last() else {
         return Ok(());
     };
-    let own = closed.own();
+    let own = closed.txn().own();
     let assertions = own.assertions();
     if *mode == Mode::Immediate {
         let meant = Modes::named_immediate(alloc, assertions, names.as_slice())?;
         let changes = closed.changes();
-        push_checks(
-            alloc,
-            &mut transaction.reads,
-            own,
-            meant.as_slice(),
-            changes,
-            event,
-        )?;
+        push_checks(alloc, &mut transaction.reads, own, &meant, changes, event)?;
     }
     let is_set = !matches!(happening.answer, Answer::Refused(_));
-    if is_set && mirror.modes.as_slice().len() == assertions.len() {
-        mirror.modes = mirror.modes.set(assertions, names.as_slice(), *mode)?;
+    if is_set && mirror.modes.len() == assertions.len() {
+        mirror.modes = mirror
+            .modes
+            .set(alloc, assertions, names.as_slice(), *mode)?;
     }
     Ok(())
 }
@@ -277,17 +277,10 @@ fn note_closed(
     happening: &mut Happening,
     transaction: &mut Transaction,
 ) -> Result<(), AllocError> {
-    let own = closed.own();
-    let meant = Modes::all_immediate(alloc, own.assertions())?;
+    let own = closed.txn().own();
+    let meant = Modes::all_immediate(own.assertions());
     let changes = closed.changes();
-    push_checks(
-        alloc,
-        &mut transaction.reads,
-        own,
-        meant.as_slice(),
-        changes,
-        event,
-    )?;
+    push_checks(alloc, &mut transaction.reads, own, &meant, changes, event)?;
     transaction.changes = copy_changes(alloc, changes)?;
     let view = own.copy()?;
     note_view(happening, view);

@@ -1,11 +1,12 @@
 -- Turns of a loop, and what stands in parentheses, as the readers say it.
-use Rattle.std.proofs.Common.{◌≡◌, ℕ, zero, suc, ◌-◌, ◌<◌, Bool, true, false, List, [], ◌∷◌, ◌++◌, refl, sym, ap, subst, ◌∙◌, arith, cond}
+use Rattle.std.proofs.Common.{◌≡◌, ℕ, zero, suc, ◌-◌, ◌<◌, Bool, true, false, List, [], ◌∷◌, ◌++◌, refl, sym, ap, subst, ◌∙◌, arith, cond, Result, Ok, Err}
 use Rattle.token.specs.declared.kinds.Kind.{Kind}
 use Rattle.token.specs.declared.kinds.Kind.TheVariants as k
+use Rattle.leaf_parser.specs.declared.stops.Stop.{Stop}
 use Rattle.leaf_parser.specs.declared.stops.Stop.TheVariants as stop
 use Rattle.syntax.specs.Language.{Lexemes, kind_at}
 use Rattle.syntax.specs.Reading.{Reader, Outcome, and_then, Done, Fail, Deep, ◌>>=◌, ◌>>◌, pure, same_kind, expect, parens, many}
-use Rattle.leaf_parser.specs.Reads.{Stops, full_stop}
+use Rattle.leaf_parser.specs.Reads.{Collects, Reads, Stops, full_stop}
 
 pub many_stops : {A : Type 0} (goes_on : Kind → Bool) (item : Reader A) (n : ℕ) (found : List A) (ts : Lexemes) → goes_on (kind_at ts) ≡ false → many goes_on item n found ts ≡ (Done found, ts)
 unfolding many
@@ -36,12 +37,45 @@ unfolding parens
 parens_some zero p some = absurd (omega arith)
 parens_some (suc n) p some = refl
 
--- a turn that takes an item
-pub turn_taken : {A : Type 0} (goes_on : Kind → Bool) (item : Reader A) (n m : ℕ) (start : Outcome (List A)) (found more : List A) (x : A) (ts us : Lexemes) → start ≡ many goes_on item n found ts → goes_on (kind_at ts) ≡ true → n ≡ suc m → item ts ≡ (Done x, us) → more ≡ found ++ x ∷ [] → start ≡ many goes_on item m more us
-unfolding many
-turn_taken goes_on item n m start found more x ts us before goes turn took longer =
-    before
-    ∙ ap (λ k. many goes_on item k found ts) turn
-    ∙ ap (λ b. cond b (item >>= (λ y. many goes_on item m (found ++ y ∷ []))) (pure found) ts) goes
-    ∙ ap (λ o. and_then o.0 o.1 (λ y. many goes_on item m (found ++ y ∷ []))) took
-    ∙ ap (λ l. many goes_on item m l us) (sym longer)
+-- What was found so far, of the parts that it is made of, leads to the outcome.
+pub record Leads {A C : Type 0} (made_of : C → List A → Type 0) (goes_on : Kind → Bool) (item : Reader A) (outcome : Outcome (List A)) (n : ℕ) (found : C) (ts : Lexemes) : Type 0 where
+  pub parts : List A
+  pub made : made_of found parts
+  pub leads : outcome ≡ many goes_on item n parts ts
+
+module _ {A C : Type 0} (made_of : C → List A → Type 0) (goes_on : Kind → Bool) (item : Reader A) (outcome : Outcome (List A)) where
+  -- no further part begins
+  pub leads_stops : (n : ℕ) (found : C) (ts : Lexemes) → Leads made_of goes_on item outcome n found ts → goes_on (kind_at ts) ≡ false → Collects {B = List A} made_of outcome (Ok found) ts
+  leads_stops n found ts l e = (l.parts, l.made, l.leads ∙ many_stops goes_on item n l.parts ts e)
+
+  -- there were as many turns as tokens
+  pub leads_over : (n : ℕ) (found : C) (ts : Lexemes) → Leads made_of goes_on item outcome n found ts → n ≡ 0 → Collects {B = List A} made_of outcome (Ok found) ts
+  leads_over n found ts l e = (l.parts, l.made, l.leads ∙ many_over goes_on item n l.parts ts e)
+
+  -- a turn that takes a part
+  pub leads_on : (n m : ℕ) (found more : C) (x : A) (ts us : Lexemes) → Leads made_of goes_on item outcome n found ts → goes_on (kind_at ts) ≡ true → n ≡ suc m → item ts ≡ (Done x, us)
+      → ((parts : List A) → made_of found parts → made_of more (parts ++ x ∷ [])) → Leads made_of goes_on item outcome m more us
+  unfolding many
+  leads_on n m found more x ts us l goes turn took longer = record {
+    parts = l.parts ++ x ∷ [];
+    made = longer l.parts l.made;
+    leads =
+        l.leads
+        ∙ ap (λ k. many goes_on item k l.parts ts) turn
+        ∙ ap (λ b. cond b (item >>= (λ y. many goes_on item m (l.parts ++ y ∷ []))) (pure l.parts) ts) goes
+        ∙ ap (λ o. and_then o.0 o.1 (λ y. many goes_on item m (l.parts ++ y ∷ []))) took;
+  }
+
+  ends_there : (n : ℕ) (found : C) (why : Stop) (ts us : Lexemes) → Leads made_of goes_on item outcome n found ts → goes_on (kind_at ts) ≡ true → 0 < n → Stops (item ts) why us → Stops outcome why us
+  ends_there n found stop.Memory ts us l goes some h = h
+  ends_there n found stop.Syntax ts us l goes some h = l.leads ∙ many_goes goes_on item n l.parts ts goes some ∙ ap (λ o. and_then o.0 o.1 (λ y. many goes_on item (n - 1) (l.parts ++ y ∷ []))) h
+  ends_there n found stop.Depth ts us l goes some h = l.leads ∙ many_goes goes_on item n l.parts ts goes some ∙ ap (λ o. and_then o.0 o.1 (λ y. many goes_on item (n - 1) (l.parts ++ y ∷ []))) h
+
+  -- what begins is no part
+  pub leads_nowhere : (n : ℕ) (found : C) (why told : Stop) (ts us : Lexemes) → told ≡ why → Leads made_of goes_on item outcome n found ts → goes_on (kind_at ts) ≡ true → 0 < n → Stops (item ts) why us → Stops outcome told us
+  leads_nowhere n found why told ts us same l goes some h = subst (λ w. Stops outcome w us) (sym same) (ends_there n found why ts us l goes some h)
+
+-- what was collected in a list is the list
+pub collected_list : {A : Type 0} (outcome : Outcome (List A)) (result : Result (List A) Stop) (ts : Lexemes) → Collects (λ items parts. items ≡ parts) outcome result ts → Reads outcome result ts
+collected_list outcome (Ok items) ts h = h.2 ∙ ap (λ l. (Done l, ts)) (sym h.1)
+collected_list outcome (Err why) ts h = h

@@ -18,6 +18,11 @@ abbrev pub Reads : {A : Type 0} → Outcome A → Result A Stop → Lexemes → 
 Reads outcome (Ok a) new = outcome ≡ (Done a, new)
 Reads outcome (Err e) new = Stops outcome e new
 
+-- The same of what is made of each part as soon as it is read: there are parts that were read, of which it is made.
+abbrev pub Collects : {A B : Type 0} → (A → B → Type 0) → Outcome B → Result A Stop → Lexemes → Type 0
+Collects {A} {B} made_of outcome (Ok a) new = (b : B) × made_of a b × (outcome ≡ (Done b, new))
+Collects {A} {B} made_of outcome (Err e) new = Stops outcome e new
+
 -- why no parenthesis may be opened
 abbrev pub full_stop : Kind → Stop
 full_stop kind = if same_kind kind k.Open then stop.Depth else stop.Syntax

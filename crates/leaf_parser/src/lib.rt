@@ -18,8 +18,9 @@
 //! signs of comparisons. And what every layer above needs stands here once, over the trait [`Part`] of
 //! what parses a part: [`parse_many`] parts one behind the other, a [`parse_list`] with commas, [`parse_parens`] around
 //! a part, and [`parse_joined`], the tree of a list of parts, in which a part of the same kind is merged into
-//! the list around it ([`Joint`]). `proofs/Turns.antt` has the laws by which loops and parentheses meet
-//! their readers.
+//! the list around it ([`Joint`]). Parts need not be kept: [`collect_many`] puts each into a [`Collection`] as soon as
+//! it is found, which may be a list, or what is made of each part at once. `proofs/Turns.antt` has the laws by which
+//! loops and parentheses meet their readers.
 //!
 //! A token whose kind was looked at is taken by [`Cursor::take`], which cannot fail. Where the parser
 //! stops, what it had read is let go by [`drop_and_stop`]: a type parameter hides how large it is, and a `?`
@@ -39,7 +40,8 @@ pub use columns::{
 };
 pub use cursors::{Cursor, Piece};
 pub use loops::{
-    Part, RepeatedPart, expect_after, parse_list, parse_many, parse_parens, parse_parens_list,
+    Collection, Part, RepeatedPart, collect_many, expect_after, parse_list, parse_many,
+    parse_parens, parse_parens_list,
 };
 pub use names::{NamePart, parse_name, parse_number, parse_signed_number, parse_text, value_of};
 pub use parts::{Ands, Joint, Ors, Products, Sums, parse_joined, parse_joined_boxed};

@@ -1,14 +1,14 @@
 //! Parts that stand there again and again, in lists with commas and in parentheses.
 
-ghost use Rattle.std.specs.Prelude.{◌≡◌, ◌-◌};
+ghost use Rattle.std.specs.Prelude.{◌≡◌, ◌-◌, List};
 ghost use Rattle.syntax.specs.Reading as rd;
-ghost use Rattle.leaf_parser.specs.Reads.{Reads};
+ghost use Rattle.leaf_parser.specs.Reads.{Collects, Reads};
 
 use crate::cursors::Cursor;
 use crate::names::start_list;
-use crate::stops::{Stop, stop_for_depth};
+use crate::stops::{Stop, drop_and_stop, stop_for_depth};
 use sqlite_items::Items;
-use std::alloc::Global;
+use std::alloc::{AllocError, Global};
 use token::Kind;
 
 /// A part of a text, as what parses it.
@@ -40,23 +40,64 @@ pub trait RepeatedPart: Part {
         ensures { result ≡ begins kind };
 }
 
+/// What parts are put into as soon as they are found, one behind the other: a list of them, or what is made of each at
+/// once, so that no part has to be kept.
+pub trait Collection<T>: Drop {
+    ghost use Rattle.std.specs.Prelude.{List, [], ◌∷◌, ◌++◌, IfOk};
+
+    /// Whether this is what comes of these parts, put in in their order.
+    ghost made_of: { Self → List T → Type 0 };
+
+    /// This with one more part. Where memory runs out, nothing is left.
+    fn with(self, part: T) -> Result<Self, AllocError>
+        ensures { IfOk result (λ more. (parts : List T) → made_of self parts → made_of more (parts ++ part ∷ [])) };
+}
+
+impl<T: Drop> Collection<T> for Items<T> {
+    ghost use Rattle.std.specs.Prelude.{◌≡◌};
+
+    ghost made_of = { λ items parts. items ≡ parts };
+
+    fn with(mut self, part: T) -> Result<Items<T>, AllocError> {
+        self.push(part)?;
+        Ok(self)
+    }
+}
+
+/// What comes of the parts that stand there, behind those found before.
+pub fn collect_many<P: RepeatedPart, C: Collection<P::Tree>>(
+    part: &P,
+    cursor: &mut Cursor<'_>,
+    found: C,
+) -> Result<C, Stop>
+    requires { P.ready part.now }
+    ensures { (before : List P.Tree) → C.made_of found before
+        → Collects C.made_of (rd.all P.begins (P.reader part.now) before cursor.old) result cursor.new }
+{
+    let mut all = found;
+    for _turn in 0..cursor.left() {
+        if !part.begins(cursor.peek()) {
+            return Ok(all);
+        }
+        all = match part.parse(cursor) {
+            Ok(one) => all.with(one)?,
+            Err(stop) => return Err(drop_and_stop(stop, all)),
+        };
+    }
+    Ok(all)
+}
+
 /// The parts that stand there, behind those found before.
-#[tactic(auto, using(crate::proofs::Turns::many_stops, crate::proofs::Turns::many_goes, crate::proofs::Turns::many_over))]
+#[tactic(auto, using(crate::proofs::Turns::collected_list))]
 pub fn parse_many<P: RepeatedPart>(
     part: &P,
     cursor: &mut Cursor<'_>,
-    mut found: Items<P::Tree>,
+    found: Items<P::Tree>,
 ) -> Result<Items<P::Tree>, Stop>
     requires { P.ready part.now }
     ensures { Reads (rd.all P.begins (P.reader part.now) found cursor.old) result cursor.new }
 {
-    for _turn in 0..cursor.left() {
-        if !part.begins(cursor.peek()) {
-            return Ok(found);
-        }
-        found.push(part.parse(cursor)?)?;
-    }
-    Ok(found)
+    collect_many(part, cursor, found)
 }
 
 /// A part behind a comma.

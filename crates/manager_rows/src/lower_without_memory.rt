@@ -10,7 +10,7 @@ use crate::driver::equal;
 use crate::printed::{defined, lines_of};
 use crate::without_memory::{ask_in_vain, end_memory};
 use alone::Modes;
-use commit::{CommitFailure, Core, admit, find_first_false};
+use commit::{CommitFailure, Core, admit};
 use conflict::{Candidate, Judgment, Live, is_safe, judge, share_row, touch_any};
 use delta::View;
 use groups::{Member, Totals};
@@ -26,7 +26,7 @@ use std::process::Abort;
 use std::test::Fail;
 use syntax::{Event, Mode, ScriptLine};
 use table::{Aggregate, Change, Cond, Expr, Row, Slots, bound, eval, is_bounded};
-use txn::{CloseFailure, ClosedTransaction, Txn};
+use txn::{CloseFailure, ClosedTransaction, Txn, find_first_false};
 use value::{Comparison, Root, Text, Truth, Value, compare, order};
 
 #[test]
@@ -93,7 +93,7 @@ fn tables(rt: HostRuntime) -> Result<(), Fail> {
     let modes = Modes::initial(rt.alloc(), view.assertions())?;
     assert!(rt; end_memory(rt.alloc()));
     stands(&rt, &view);
-    for place in 0..modes.as_slice().len() {
+    for place in 0..modes.len() {
         assert!(rt; matches!(modes.of(place), Mode::Immediate));
     }
     ask_in_vain(rt.alloc());
@@ -369,7 +369,8 @@ fn a_transaction_ends(rt: HostRuntime) -> Result<(), Fail> {
     assert!(rt; end_memory(rt.alloc()));
     assert!(rt; core.holds(txn.begin_number(), txn.snapshot(), false));
     assert!(rt; !txn.is_read_only() && !core.is_safe(&txn));
-    core.end(txn);
+    core.end(&txn);
+    drop(txn.abandon());
     assert!(rt; !core.holds(0, 0, false));
     ask_in_vain(rt.alloc());
     Ok(())

@@ -51,8 +51,8 @@ fn prints_history<R: Wait + Abort>(
     history: &History,
     receipts: &[u64],
 ) -> Result<(), Fail> {
-    let more = joined(alloc, history.more)?;
-    let want = format!(in alloc; "{}{}", history.answers, history.closing)?;
+    let more = history.definitions_behind(alloc)?;
+    let want = history.printed(alloc)?;
     let case = Case {
         script: history.script,
         want: want.as_str(),
@@ -60,14 +60,6 @@ fn prints_history<R: Wait + Abort>(
         locks: 0,
     };
     prints(rt, alloc, more.as_str(), &case)
-}
-
-fn joined(alloc: Global, texts: &[&str]) -> Result<String, Fail> {
-    let mut all = String::new(alloc);
-    for text in texts {
-        all.push_str(text)?;
-    }
-    Ok(all)
 }
 
 #[test]

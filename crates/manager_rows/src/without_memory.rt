@@ -5,7 +5,6 @@ ghost use Rattle.std.specs.Prelude.{◌≡◌};
 use crate::driver::{Seat, equal};
 use crate::printed::{Opening, make_opening, open, run_script};
 use crate::strangers::is_ended;
-use commit::find_first_false;
 use histories::{COVER, SEVEN};
 use session::{CloseFailure, ClosedTransaction, History, Manager, Named, Receipt, Txn};
 use std::alloc::Global;
@@ -13,6 +12,7 @@ use std::marker::Brand;
 use std::process::Abort;
 use std::sync::Wait;
 use std::test::Fail;
+use txn::find_first_false;
 use value::{Text, Truth};
 
 /// So many bytes are asked for where memory ends: `tools/refuse_malloc.c` refuses all that is asked for behind it.

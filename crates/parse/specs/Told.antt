@@ -27,6 +27,12 @@ Gave a (Ok x) = x ≡ a
 Gave a (Err refusal.NoMemory) = Unit {0}
 Gave a (Err _) = ⊥
 
+-- what comes of the parts of this tree, unless memory ran out
+abbrev pub GaveIn : {A C : Type 0} → (C → A → Type 0) → A → Result C Refusal → Type 0
+GaveIn made_of a (Ok made) = made_of made a
+GaveIn made_of a (Err refusal.NoMemory) = Unit {0}
+GaveIn made_of a (Err _) = ⊥
+
 -- the refusal of a text at which the parser stopped
 abbrev pub refusal_of : ℕ → Stop → Refusal
 refusal_of at stop.Memory = refusal.NoMemory
@@ -40,3 +46,8 @@ IsOutcomeAs outcome end (Err refusal.NoMemory) = Unit {0}
 IsOutcomeAs outcome end (Err (refusal.Syntax at)) = (rest : Lexemes) × (outcome ≡ (Fail, rest)) × (at ≡ place end rest)
 IsOutcomeAs outcome end (Err (refusal.TooDeep at)) = (rest : Lexemes) × (outcome ≡ (Deep, rest)) × (at ≡ place end rest)
 IsOutcomeAs outcome end (Err _) = ⊥
+
+-- the same of an answer that is made of what was read: there is a tree that was read, of which it is made
+abbrev pub IsOutcomeIn : {A C : Type 0} → (C → A → Type 0) → Outcome A → ℕ → Result C Refusal → Type 0
+IsOutcomeIn {A} {C} made_of outcome end (Ok made) = (a : A) × made_of made a × IsOutcomeAs {A = A} outcome end (Ok a)
+IsOutcomeIn {A} {C} made_of outcome end (Err e) = IsOutcomeAs {A = A} outcome end (Err e)

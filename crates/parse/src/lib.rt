@@ -1,6 +1,6 @@
-//! Texts and their trees: the three calls by which statements, schemas and scripts come in.
+//! Texts and their trees: the calls by which statements, schemas and scripts come in.
 //!
-//! Each call takes the bytes of a text and answers with its tree, or with why there is none:
+//! Each call takes the bytes of a text and answers with its tree, or what is made of it, or with why there is none:
 //!
 //! - `Syntax` names the offset of the first token that no text of the grammar has behind the tokens
 //!   before it, or the text's length where it ends too early. A bad token, as a text without its
@@ -17,6 +17,9 @@
 //! given, unless memory runs out. `refused`: a refusal says of the text what it says above
 //! (`specs/Told.antt`, over `IsWrong` and `IsTooDeep` of the crate `syntax`). With the laws of the
 //! crate `syntax`, that no text has two trees, the answer to each text is settled.
+//!
+//! Definitions need not be kept as trees: [`parse_schema_into`] puts each into a `Collection` (crate `leaf_parser`) as
+//! soon as it is read, and promises the same of what comes of it.
 //!
 //! Tokens are cut by `token`, and the grammar speaks of all tokens of a text (`lexemes`). The
 //! parsers of the crates below answer as the grammar's readers do; here a reader is run on a whole
@@ -37,7 +40,7 @@
 //! goes on by the kind of the next token, a comma, or the first word of a definition, or a name for a
 //! line of a script.
 //!
-//! [`parse_definitions`], [`parse_event`] and [`parse_script`] are for the layer that reads whole texts: none of them
+//! [`collect_definitions`], [`parse_event`] and [`parse_script`] are for the layer that reads whole texts: none of them
 //! asks whether anything stands behind what it has read.
 #![tactic(auto)]
 
@@ -51,4 +54,4 @@ mod scripts;
 mod statements;
 mod wholes;
 
-pub use calls::{parse_schema, parse_script, parse_statement};
+pub use calls::{parse_schema, parse_schema_into, parse_script, parse_statement};

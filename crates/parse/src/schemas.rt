@@ -1,20 +1,20 @@
 //! Definitions.
 
-ghost use Rattle.std.specs.Prelude.{◌-◌};
+ghost use Rattle.std.specs.Prelude.{◌-◌, []};
 ghost use Rattle.syntax.specs.Readers as condition;
 ghost use Rattle.syntax.specs.SchemaReaders as reader;
 ghost use Rattle.syntax.specs.Reading as rd;
-ghost use Rattle.leaf_parser.specs.Reads.{Reads};
+ghost use Rattle.leaf_parser.specs.Reads.{Collects, Reads};
 
 use crate::attributes::parse_attributes;
 use crate::columns::parse_parens_columns;
 use crate::inserts::parse_insert;
 use condition_parser::parse_condition;
 use leaf_parser::{
-    Cursor, Part, RepeatedPart, Stop, drop_and_stop, expect_after, parse_many, parse_name,
-    parse_parens,
+    Collection, Cursor, Part, RepeatedPart, Stop, collect_many, drop_and_stop, expect_after,
+    parse_name, parse_parens,
 };
-use sqlite_items::{Boxed, Items};
+use sqlite_items::Boxed;
 use std::alloc::Global;
 use syntax::{Condition, Definition};
 use token::Kind;
@@ -148,14 +148,16 @@ impl RepeatedPart for EndedDefinition {
     }
 }
 
-/// `{ def ";" }`
+/// What comes of `{ def ";" }`, of which each is put in as soon as it is read.
 #[tactic(auto, unfolding(syntax::specs::SchemaReaders::definitions))]
-pub fn parse_definitions(
+pub fn collect_definitions<C: Collection<Definition>>(
     alloc: Global,
     cursor: &mut Cursor<'_>,
     depth: usize,
-) -> Result<Items<Definition>, Stop>
-    ensures { Reads (reader.definitions depth cursor.old) result cursor.new }
+    into: C,
+) -> Result<C, Stop>
+    requires { C.made_of into [] }
+    ensures { Collects C.made_of (reader.definitions depth cursor.old) result cursor.new }
 {
-    parse_many(&EndedDefinition { alloc, depth }, cursor, Items::new(alloc))
+    collect_many(&EndedDefinition { alloc, depth }, cursor, into)
 }

@@ -1,18 +1,18 @@
 //! Whole texts: a reader, and nothing behind it.
 
-ghost use Rattle.std.specs.Prelude.{◌≡◌, map, length};
+ghost use Rattle.std.specs.Prelude.{◌≡◌, [], map, length};
 ghost use Rattle.syntax.specs.StatementReaders as event;
 ghost use Rattle.syntax.specs.SchemaReaders as schema;
 ghost use Rattle.syntax.specs.Reading as rd;
 ghost use Rattle.syntax.specs.Lexemes.{lexeme, place};
-ghost use Rattle.leaf_parser.specs.Reads.{Reads};
-ghost use Rattle.parse.specs.Told.{IsOutcomeAs};
+ghost use Rattle.leaf_parser.specs.Reads.{Collects, Reads};
+ghost use Rattle.parse.specs.Told.{IsOutcomeAs, IsOutcomeIn};
 ghost use Rattle.parse.specs.Told as spec;
 
 use crate::events::parse_event;
-use crate::schemas::parse_definitions;
+use crate::schemas::collect_definitions;
 use crate::scripts::parse_script;
-use leaf_parser::{Cursor, Stop};
+use leaf_parser::{Collection, Cursor, Stop};
 use sqlite_items::Items;
 use std::alloc::Global;
 use syntax::{Definition, Event, ScriptLine};
@@ -49,14 +49,17 @@ fn parse_whole_event(alloc: Global, cursor: &mut Cursor<'_>, depth: usize) -> Re
     expect_end(cursor, found)
 }
 
-fn parse_whole_schema(
+#[tactic(auto, using(crate::proofs::Telling::ended))]
+fn collect_whole_schema<C: Collection<Definition>>(
     alloc: Global,
     cursor: &mut Cursor<'_>,
     depth: usize,
-) -> Result<Items<Definition>, Stop>
-    ensures { Reads (rd.whole (schema.definitions depth) cursor.old) result cursor.new }
+    into: C,
+) -> Result<C, Stop>
+    requires { C.made_of into [] }
+    ensures { Collects C.made_of (rd.whole (schema.definitions depth) cursor.old) result cursor.new }
 {
-    let found = parse_definitions(alloc, cursor, depth)?;
+    let found = collect_definitions(alloc, cursor, depth, into)?;
     expect_end(cursor, found)
 }
 
@@ -89,19 +92,21 @@ pub fn event_of(
     }
 }
 
-/// The definitions of these tokens, where so many parentheses may be open.
+/// What comes of the definitions of these tokens, where so many parentheses may be open.
 #[tactic(auto, using(crate::proofs::Telling::stops_told))]
-pub fn schema_of(
+pub fn schema_of<C: Collection<Definition>>(
     alloc: Global,
     text: &[u8],
     tokens: &[Token],
     depth: usize,
-) -> Result<Items<Definition>, Refusal>
-    ensures { IsOutcomeAs (rd.whole (schema.definitions depth) (map (lexeme text.now) tokens.now))
+    into: C,
+) -> Result<C, Refusal>
+    requires { C.made_of into [] }
+    ensures { IsOutcomeIn C.made_of (rd.whole (schema.definitions depth) (map (lexeme text.now) tokens.now))
         (length text.now) result }
 {
     let mut cursor = Cursor::new(text, tokens);
-    match parse_whole_schema(alloc, &mut cursor, depth) {
+    match collect_whole_schema(alloc, &mut cursor, depth, into) {
         Ok(found) => Ok(found),
         Err(stop) => Err(refusal_of(stop, &cursor, text.len())),
     }

@@ -2,3 +2,4 @@ mod Truths
 pub mod Late
 mod Printing
 mod Reporting
+pub mod Taking

@@ -1,5 +1,6 @@
-pub mod Reports
-pub mod Texts
 pub mod Lines
 pub mod Replay
+pub mod Reports
+pub mod Takings
+pub mod Texts
 pub mod Writing

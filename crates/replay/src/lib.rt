@@ -7,7 +7,7 @@
 //! the bottom up:
 //!
 //! * `parse`: a text has the tree that the grammar relates to its tokens, or the stated first fault;
-//! * `definitions` and `commit::admit`: what definitions define, and that no assertion is false on the rows they
+//! * `definitions` and `commit::admit_taken`: what definitions define, and that no assertion is false on the rows they
 //!   begin with;
 //! * `txn`: a statement alone. After a change each immediate assertion is evaluated on the rows as they then are;
 //!   where one is false, the statement is refused with that assertion and its least bad root, and leaves the tables
@@ -22,7 +22,9 @@
 //! # Two texts, and the closing part
 //!
 //! On this rests each way to run a script. The definitions say what there is, and the script what sessions do. Both are
-//! read whole before anything runs ([`read_all`], [`read_texts`]). A [`ProgramFault`] is the first fault in the order
+//! read whole before anything runs ([`read_all`], [`read_texts`]). Each definition is taken in as soon as it is read,
+//! and its tree is let go then, so that no list of trees stands beside the rows; but a definition that is refused is
+//! answered only once both texts are read to their ends. A [`ProgramFault`] is the first fault in the order
 //! of the work, which `specs/Texts` says of the two texts alone: the definitions' grammar, the script's, the
 //! definitions themselves, too many sessions; and then memory or the writer. Behind the replies stands the closing part
 //! of the committed transactions ([`add_closing_part`], `specs/Reports`), however they came to be.
@@ -31,6 +33,7 @@
 mod closing;
 mod faults;
 mod files;
+mod intakes;
 mod texts;
 mod writing;
 
@@ -48,10 +51,11 @@ ghost use Rattle.replay.specs.Writing.{PrintsAnswer, PrintsAnswers, PrintsBeginn
 
 use alone::Answer;
 pub use closing::add_closing_part;
-use commit::{Engine, Seat, admit, answers_lead_to_a_serial_order};
+use commit::{Engine, Seat, admit_taken, answers_lead_to_a_serial_order};
 use delta::View;
 pub use faults::ProgramFault;
 pub use files::{ReadFault, fault_of, read_all};
+pub use intakes::admit_text;
 use report::Report;
 use sqlite_items::Items;
 use std::alloc::{AllocError, Global};
@@ -107,6 +111,7 @@ pub fn replay_into<W: Write>(
 /// # Errors
 ///
 /// The faults of [`replay_into`] before the run.
+#[tactic(auto, using(crate::proofs::Taking::admitted, crate::proofs::Taking::not_admitted))]
 pub fn begin_run(
     alloc: Global,
     defs: &[u8],
@@ -118,8 +123,8 @@ pub fn begin_run(
     ensures refused { IfErr result (IsFirstFault defs.now script.now) }
     ensures before { IfErr result (λ fault. is_before_the_run fault ≡ true) }
 {
-    let (definitions, lines) = read_texts(alloc, defs, script)?;
-    let view = match admit(alloc, definitions.as_slice()) {
+    let (taken, lines) = read_texts(alloc, defs, script)?;
+    let view = match admit_taken(alloc, taken) {
         Ok(view) => view,
         Err(refusal) => return Err(ProgramFault::Defs(refusal)),
     };

@@ -34,8 +34,9 @@ pub fn totals_of(
     requires in_order { IsOrdered schemas.now tables.now }
     ensures { IfOk result (λ totals. AreMaintained schemas.now tables.now form.now totals.items) }
 {
-    let mut made = Vec::new(alloc);
-    for index in 0..summary_count(form) {
+    let count = summary_count(form);
+    let mut made = Vec::with_capacity(alloc, count)?;
+    for index in 0..count {
         let summary = summary_of(schemas, form, index);
         made.push(total_of(alloc, schemas, summary, tables)?)?;
     }
@@ -122,8 +123,9 @@ pub fn totals_after(
     requires totals { AreMaintained schemas.now before.now form.now totals.now }
     ensures { IfOk result (λ made. AreMaintained schemas.now after.now form.now made.items) }
 {
-    let mut made = Vec::new(alloc);
-    for index in 0..summary_count(form) {
+    let count = summary_count(form);
+    let mut made = Vec::with_capacity(alloc, count)?;
+    for index in 0..count {
         let summary = summary_of(schemas, form, index);
         let old = &totals[index];
         made.push(total_after(alloc, schemas, before, after, summary, old, change)?)?;

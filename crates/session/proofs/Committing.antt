@@ -6,10 +6,10 @@ use Rattle.value.specs.Ordered.{HoldsOf}
 use Rattle.value.specs.declared.refusals.Refusal.{Refusal}
 use Rattle.alone.specs.Commits.{IsLog}
 use Rattle.txn.specs.Transactions.{OpenTransaction, outcome_of}
-use Rattle.commit.specs.Cores.{CoreState, IsCommitAnswer, IsDecided, IsUncommitted, log_of, record_of}
+use Rattle.commit.specs.Cores.{CoreState, IsCommitAnswer, IsDecided, IsUncommitted, log_of, record_of, record_with}
 use Rattle.session.specs.Limits.{LimitsState}
 use Rattle.session.specs.Books.{BookState, IsBook, IsTicketed, ReceiptState, TicketedTransaction}
-use Rattle.session.specs.Answers.{record_of as record_with, IsNotCommitted, IsReason, IsUnbegun, only, shown_for, shown_unless, with_ticket}
+use Rattle.session.specs.Answers.{IsNotCommitted, IsReason, IsUnbegun, only, shown_for, shown_unless, with_ticket}
 use Rattle.session.proofs.Reasons.{reasons}
 use Rattle.session.proofs.Tokens.{book_refused}
 

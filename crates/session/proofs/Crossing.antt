@@ -30,6 +30,7 @@ use Rattle.table.proofs.conds.Cond.TheLaws.TheKnot as conds
 use Rattle.table.proofs.exprs.Expr.TheLaws.TheKnot as exprs
 use Rattle.table.specs.contracts.conds.Cond as Cond
 use Rattle.table.specs.contracts.exprs.Expr as Expr
+use Rattle.delta.specs.contracts.views.Parts as Parts
 use Rattle.delta.specs.contracts.views.View as View
 use Rattle.groups.specs.contracts.indexes.Index as Index
 use Rattle.groups.specs.contracts.key_sets.KeySet as KeySet
@@ -100,11 +101,17 @@ Rows-send = search (Pages-send, Index-send, crosses, sendable) depth 60 fits 200
 Rows-sync : IsSync Rows.the_row
 Rows-sync = search (Pages-sync, Index-sync, crosses, sendable) depth 60 fits 20000
 
+Parts-send : IsSend Parts.the_field.row
+Parts-send = search (Rows-send, Assertion-send, Assertion-sync, Watch-send, Watch-sync, Catalog.the_send, Catalog.the_sync, Schema.the_send, Schema.the_sync, crosses, sendable) depth 60 fits 20000
+
+Parts-sync : IsSync Parts.the_field.row
+Parts-sync = search (Rows-sync, Assertion-send, Assertion-sync, Watch-send, Watch-sync, Catalog.the_send, Catalog.the_sync, Schema.the_send, Schema.the_sync, crosses, sendable) depth 60 fits 20000
+
 pub View-send : IsSend View.the_row
-View-send = search (Rows-send, Assertion-send, Assertion-sync, Watch-send, Watch-sync, Catalog.the_send, Catalog.the_sync, Schema.the_send, Schema.the_sync, crosses, sendable) depth 60 fits 20000
+View-send = search (Parts-send, Parts-sync, crosses, sendable) depth 60 fits 20000
 
 pub View-sync : IsSync View.the_row
-View-sync = search (Rows-sync, Assertion-send, Assertion-sync, Watch-send, Watch-sync, Catalog.the_send, Catalog.the_sync, Schema.the_send, Schema.the_sync, crosses, sendable) depth 60 fits 20000
+View-sync = search (Parts-send, Parts-sync, crosses, sendable) depth 60 fits 20000
 
 Setting-send : IsSend Setting.the_row
 Setting-send = search (Expr-send, crosses, sendable) depth 60 fits 20000

@@ -17,9 +17,9 @@ use Rattle.alone.specs.Checks.{violation}
 use Rattle.siread.specs.Keys.{place_of}
 use Rattle.alone.specs.declared.records.Record.{Record}
 use Rattle.alone.specs.Commits.{IsDangerous}
-use Rattle.txn.specs.Transactions.{OpenTransaction, keys_of, outcome_of}
+use Rattle.txn.specs.Transactions.{OpenTransaction, outcome_of}
 use Rattle.definitions.specs.declared.redeclaration.NewAssertion.{NewAssertion}
-use Rattle.commit.specs.Cores.{IsCommitAnswer, core_after_end, refused_to}
+use Rattle.commit.specs.Cores.{IsCommitAnswer, core_after_end, record_with, refused_to}
 use Rattle.commit.specs.Epochs.{next_start}
 use Rattle.session.specs.Books.{BookState, ReceiptState, TicketState, TicketedTransaction, Token}
 
@@ -124,18 +124,6 @@ abbrev pub IsRefused : TicketedTransaction → Refusal → (back : Option Ticket
 IsRefused t refusal (Some back) = IsGivenBack refusal × (back ≡ t)
 IsRefused t refusal None = IsEnding refusal
 
--- a transaction as the commit that it would be
-abbrev pub record_of : (number : ℕ) → (session : List ℕ) → OpenTransaction → Record
-record_of number session t = record {
-  number = number;
-  snapshot = t.snapshot;
-  read_only = t.read_only;
-  session = session;
-  trace = t.trace;
-  reads = keys_of t;
-  changes = (outcome_of t).changes;
-}
-
 -- a receipt of the commit with a number and this record
 pub record IsReceiptOf (number : ℕ) (commit : Record) (shown : Option ReceiptState) : Type 0 where
   pub receipt : ReceiptState
@@ -180,9 +168,9 @@ pub record ShowsTriple (session : List ℕ) (t : OpenTransaction) (reader pivot 
   pub turns : Record
   pub writes : Record
   pub one : HasOneOwn reader pivot writer
-  pub reader_is : IsParty (record_of number session t) reader first reads
-  pub pivot_is : IsParty (record_of number session t) pivot second turns
-  pub writer_is : IsParty (record_of number session t) writer third writes
+  pub reader_is : IsParty (record_with number session t) reader first reads
+  pub pivot_is : IsParty (record_with number session t) pivot second turns
+  pub writer_is : IsParty (record_with number session t) writer third writes
   pub danger : IsDangerous reads turns writes
 
 -- the last commit of a full epoch

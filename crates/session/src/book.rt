@@ -233,11 +233,7 @@ impl<N: Named> Book<N> {
         ensures shown { IfErr result (λ fault. AreShownBy id epoch fault.shown) }
         ensures same { IfErr result (λ _. session.new ≡ session.old) }
     {
-        let one = LiveSnapshot {
-            begin_number: closed.inner.begin_number(),
-            snapshot: closed.inner.snapshot(),
-            read_only: closed.inner.is_read_only(),
-        };
+        let one = live_snapshot(closed.inner.txn());
         if !self.knows(session, id, epoch) || !self.owns(&closed.ticket, one, id, epoch) {
             return Err(give_back(Refusal::Stranger, closed.reopen()));
         }
@@ -245,37 +241,33 @@ impl<N: Named> Book<N> {
         self.commit_own(rt, shelf, id, epoch, session, closed)
     }
 
-    /// ROLLBACK: the transaction has ended, and nothing of it is kept. It takes no memory.
+    /// ROLLBACK: the transaction has ended, and nothing of it is kept. Who holds it abandons it, behind the lock. It
+    /// takes no memory.
     ///
     /// # Errors
     ///
     /// [`Refusal::Stranger`] exactly where the Book or the transaction is not of the manager that asks. All is then
-    /// as it was, and the transaction is given back.
+    /// as it was.
     pub fn rollback(
         &mut self,
         shelf: &Shelf,
         id: u64,
         epoch: u64,
-        txn: Txn<N>,
-    ) -> Result<(), (Refusal, Txn<N>)>
+        txn: &Txn<N>,
+    ) -> Result<(), Refusal>
         requires shelf { shelf.now ≡ N.shelf id }
-        ensures own { OnOk result (owns_txn self.old txn id epoch ≡ true) }
-        ensures after { OnOk result (self.new ≡ after_rollback self.old txn.inner) }
-        ensures stranger { IfErr result (λ fault. (fault.0 ≡ Stranger) × (owns_txn self.old txn id epoch ≡ false)) }
-        ensures back { IfErr result (λ fault. fault.1 ≡ txn) }
+        ensures own { OnOk result (owns_txn self.old txn.now id epoch ≡ true) }
+        ensures after { OnOk result (self.new ≡ after_rollback self.old txn.now.inner) }
+        ensures stranger { IfErr result (λ refusal.
+            (refusal ≡ Stranger) × (owns_txn self.old txn.now id epoch ≡ false)) }
         ensures same { IfErr result (λ _. self.new ≡ self.old) }
     {
-        let one = LiveSnapshot {
-            begin_number: txn.inner.begin_number(),
-            snapshot: txn.inner.snapshot(),
-            read_only: txn.inner.is_read_only(),
-        };
+        let one = live_snapshot(&txn.inner);
         if !self.owns(&txn.ticket, one, id, epoch) {
-            return Err((Refusal::Stranger, txn));
+            return Err(Refusal::Stranger);
         }
         self.settle(shelf, &txn.ticket, one, id, epoch);
-        let Txn { inner, ticket: _ } = txn;
-        self.core.end(inner);
+        self.core.end(&txn.inner);
         Ok(())
     }
 
@@ -612,7 +604,11 @@ impl<N: Named> Book<N> {
         ensures same { IfErr result (λ _. session.new ≡ session.old) }
     {
         let count = self.count();
-        let ClosedTransaction { inner, ticket } = closed;
+        let ClosedTransaction {
+            inner,
+            ticket,
+            copy,
+        } = closed;
         let made = match append(
             rt,
             shelf,
@@ -621,6 +617,7 @@ impl<N: Named> Book<N> {
             epoch,
             session,
             inner,
+            copy,
         ) {
             Ok(made) => made,
             Err(fault) => {
@@ -687,6 +684,21 @@ impl<N: Named> Book<N> {
         let mine = self.token_of(receipt.number);
         shelf.recall_agreement(&mine, &receipt.token);
         record_at(self.core.records(), receipt.number)
+    }
+}
+
+/// By what the core knows an open transaction.
+fn live_snapshot(txn: &txn::Txn) -> LiveSnapshot
+    ensures { result ≡ record {
+      begin_number = txn.now.begin_number;
+      snapshot = txn.now.snapshot;
+      read_only = txn.now.read_only;
+    } }
+{
+    LiveSnapshot {
+        begin_number: txn.begin_number(),
+        snapshot: txn.snapshot(),
+        read_only: txn.is_read_only(),
     }
 }
 

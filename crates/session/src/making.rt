@@ -3,10 +3,10 @@
 ghost use Rattle.std.specs.Prelude.{◌≡◌, ◌≢◌, ◌+◌, ◌++◌, ◌∷◌, [], Ok, Some, None, IfOk, IfErr, IfSome};
 ghost use Rattle.value.specs.declared.refusals.Refusal.TheVariants.{NoMemory};
 ghost use Rattle.boxcar.specs.Table.{Shows};
-ghost use Rattle.commit.specs.Cores.{IsCommitAnswer, IsLive, IsUncommitted, core_after_commit, log_of, pending_txn, without_prepared};
+ghost use Rattle.commit.specs.Cores.{IsCommitAnswer, IsLive, IsUncommitted, core_after_commit, log_of, pending_txn, record_with, without_prepared};
 ghost use Rattle.alone.specs.Commits.{IsLog};
 ghost use Rattle.session.specs.Books.{item_after};
-ghost use Rattle.session.specs.Answers.{record_of};
+ghost use Rattle.txn.specs.Committed.{AreParts};
 
 use crate::items::Item;
 use crate::named::Named;
@@ -14,10 +14,9 @@ use crate::sessions::Session;
 use crate::shelf::{Shelf, Token};
 use alone::Record;
 use commit::{CommitFailure, Core, Prepared};
-use copies::{copy_changes, copy_reads, copy_trace};
-use std::alloc::{AllocError, Global};
+use std::alloc::AllocError;
 use std::sync::Wait;
-use txn::ClosedTransaction;
+use txn::{ClosedTransaction, Parts};
 use value::{Refusal, Text};
 
 /// A commit that was made: its number, and the token of its item.
@@ -27,8 +26,8 @@ pub struct MadeCommit {
     pub token: Token,
 }
 
-/// Makes a commit of a session, with its item on the shelf, and notes its token behind the others. Where it is
-/// refused, the tokens are as they were.
+/// Makes a commit of a session, with its item on the shelf, and notes its token behind the others. The item takes the
+/// copy of what stays of the transaction. Where it is refused, the tokens are as they were.
 ///
 /// # Errors
 ///
@@ -41,7 +40,9 @@ pub fn append<N: Named, R: Wait>(
     epoch: u64,
     session: &Session<N>,
     closed: ClosedTransaction,
+    copy: Parts,
 ) -> Result<MadeCommit, CommitFailure>
+    requires copy { AreParts closed copy }
     requires live { IsLive core.old closed }
     requires idle { core.old.prepared ≡ None }
     ensures number { IfOk result (λ made. IsCommitAnswer core.old session.now.name closed (Ok made.number)) }
@@ -60,8 +61,7 @@ pub fn append<N: Named, R: Wait>(
             txn: Some(closed.reopen()),
         });
     }
-    let alloc = *tokens.allocator();
-    let made = make(rt, alloc, shelf, core, epoch, session.name(), closed)?;
+    let made = make(rt, shelf, core, epoch, session.name(), closed, copy)?;
     tokens.push_reserved(made.token.again());
     Ok(made)
 }
@@ -74,13 +74,14 @@ pub fn append<N: Named, R: Wait>(
 /// Those of `commit::Core::commit`.
 fn make<R: Wait>(
     rt: &R,
-    alloc: Global,
     shelf: &Shelf,
     core: &mut Core,
     epoch: u64,
     session: &Text,
     closed: ClosedTransaction,
+    copy: Parts,
 ) -> Result<MadeCommit, CommitFailure>
+    requires copy { AreParts closed copy }
     requires live { IsLive core.old closed }
     requires idle { core.old.prepared ≡ None }
     ensures number { IfOk result (λ made. IsCommitAnswer core.old session.now closed (Ok made.number)) }
@@ -92,7 +93,7 @@ fn make<R: Wait>(
         IsUncommitted core.old session.now closed fault.refusal fault.txn core.new) }
 {
     let number = core.prepare(session, closed)?;
-    match put_on(rt, alloc, shelf, core, epoch) {
+    match put_on(rt, shelf, core, epoch, copy) {
         Ok(token) => {
             core.finish();
             core.recall_log();
@@ -123,44 +124,47 @@ fn cancel(core: &mut Core) -> CommitFailure
 /// Puts the item of the prepared commit on the shelf.
 fn put_on<R: Wait>(
     rt: &R,
-    alloc: Global,
     shelf: &Shelf,
     core: &Core,
     epoch: u64,
+    copy: Parts,
 ) -> Result<Token, AllocError>
     requires prepared { core.now.prepared ≢ None }
+    requires copy { IfSome core.now.prepared (λ p. AreParts p.txn copy) }
     ensures shown { IfOk result (λ token. Shows shelf.now token) }
     ensures item { IfOk result (λ token.
         IfSome core.now.prepared (λ p. token.value ≡ item_after epoch core.now p.session p.txn)) }
 {
-    let item = next_item(alloc, core, epoch)?;
+    let item = next_item(core, epoch, copy)?;
     shelf.put(rt, item)
 }
 
 /// The item of the prepared commit.
-fn next_item(alloc: Global, core: &Core, epoch: u64) -> Result<Item, AllocError>
+fn next_item(core: &Core, epoch: u64, copy: Parts) -> Result<Item, AllocError>
     requires prepared { core.now.prepared ≢ None }
+    requires copy { IfSome core.now.prepared (λ p. AreParts p.txn copy) }
     ensures { IfOk result (λ item.
         IfSome core.now.prepared (λ p. item ≡ item_after epoch core.now p.session p.txn)) }
 {
     let number = core.records().len() as u64 + 1;
     match core.prepared() {
-        Some(prepared) => item_of(alloc, prepared, epoch, number),
+        Some(prepared) => item_of(prepared, epoch, number, copy),
         None => unreachable!(),
     }
 }
 
 /// The item of a commit that has this number.
-fn item_of(alloc: Global, prepared: &Prepared, epoch: u64, number: u64) -> Result<Item, AllocError>
+fn item_of(prepared: &Prepared, epoch: u64, number: u64, copy: Parts) -> Result<Item, AllocError>
+    requires { AreParts prepared.now.closed copy }
     ensures { IfOk result (λ item.
         item ≡ record {
           epoch = epoch;
           number = number;
-          commit = Some (record_of number prepared.now.session prepared.now.closed);
+          commit = Some (record_with number prepared.now.session prepared.now.closed);
           view = prepared.now.tables;
         }) }
 {
-    let commit = record_of(alloc, prepared, number)?;
+    let commit = copied_record(prepared, number, copy)?;
     let view = prepared.tables.copy()?;
     Ok(Item {
         epoch,
@@ -171,19 +175,21 @@ fn item_of(alloc: Global, prepared: &Prepared, epoch: u64, number: u64) -> Resul
 }
 
 /// The record of a commit that has this number.
-fn record_of(alloc: Global, prepared: &Prepared, number: u64) -> Result<Record, AllocError>
-    ensures { IfOk result (λ commit. commit ≡ record_of number prepared.now.session prepared.now.closed) }
+fn copied_record(prepared: &Prepared, number: u64, copy: Parts) -> Result<Record, AllocError>
+    requires { AreParts prepared.now.closed copy }
+    ensures { IfOk result (λ commit. commit ≡ record_with number prepared.now.session prepared.now.closed) }
 {
-    let closed = &prepared.closed;
-    let session = prepared.session.copy()?;
-    let trace = copy_trace(alloc, closed.trace())?;
-    let reads = copy_reads(alloc, closed.reads())?;
-    let changes = copy_changes(alloc, closed.changes())?;
+    let txn = prepared.closed.txn();
+    let Parts {
+        trace,
+        reads,
+        changes,
+    } = copy;
     Ok(Record {
         number,
-        snapshot: closed.snapshot(),
-        read_only: closed.is_read_only(),
-        session,
+        snapshot: txn.snapshot(),
+        read_only: txn.is_read_only(),
+        session: prepared.session.copy()?,
         trace,
         reads,
         changes,

@@ -6,10 +6,10 @@ ghost use Rattle.value.specs.declared.refusals.Refusal.TheVariants.{EpochFull, N
 ghost use Rattle.boxcar.specs.Table.{Shows};
 ghost use Rattle.alone.specs.Modes.{assertion_of};
 ghost use Rattle.commit.specs.Admission.{tables_if_satisfied};
-ghost use Rattle.commit.specs.Cores.{newest_tables};
+ghost use Rattle.commit.specs.Cores.{newest_tables, record_with};
 ghost use Rattle.commit.specs.Epochs.{next_start};
 ghost use Rattle.session.specs.Books.{IsFresh, IsTicketed};
-ghost use Rattle.session.specs.Answers.{AreShownBy, IsReason, IsRefused, IsRefusedOver, IsSatisfied, IsStanding, record_of};
+ghost use Rattle.session.specs.Answers.{AreShownBy, IsReason, IsRefused, IsRefusedOver, IsSatisfied, IsStanding};
 
 use crate::book::Book;
 use crate::history::History;
@@ -152,7 +152,7 @@ impl<N: Named> Manager<N> {
         ensures newer { IfOk result (λ receipt. session.old.seen < receipt.number) }
         ensures seen { IfOk result (λ receipt. session.new ≡ record session.old { seen = receipt.number }) }
         ensures commit { IfOk result (λ receipt.
-            receipt.token.value.commit ≡ Some (record_of receipt.number session.old.name txn.inner)) }
+            receipt.token.value.commit ≡ Some (record_with receipt.number session.old.name txn.inner)) }
         ensures whose { IfOk result (λ receipt. (receipt.id ≡ self.now.id) × (receipt.epoch ≡ self.now.epoch)) }
         ensures refused { IfErr result (λ fault. IsRefused txn fault.refusal fault.txn) }
         ensures reason { IfErr result (λ fault.
@@ -161,10 +161,16 @@ impl<N: Named> Manager<N> {
         ensures same { OnErr result (session.new ≡ session.old) }
     {
         match txn.close_check() {
-            Ok(closed) => self
-                .book
-                .lock(rt)
-                .commit(rt, &self.shelf, self.id, self.epoch, session, closed),
+            Ok(closed) => {
+                // What the transaction alone has of its tables ends behind the lock, since a copy of them lives longer.
+                let kept = closed.own().copy();
+                let answered = self
+                    .book
+                    .lock(rt)
+                    .commit(rt, &self.shelf, self.id, self.epoch, session, closed);
+                drop(kept);
+                answered
+            }
             Err(CloseFailure { refusal, txn }) => Err(CommitFault {
                 refusal,
                 txn: Some(txn),
@@ -181,9 +187,17 @@ impl<N: Named> Manager<N> {
     pub fn rollback<R: Wait>(&self, rt: &R, txn: Txn<N>) -> Result<(), (Refusal, Txn<N>)>
         ensures { IfErr result (λ fault. (fault.0 ≡ Stranger) × (fault.1 ≡ txn)) }
     {
-        self.book
+        let ended = self
+            .book
             .lock(rt)
-            .rollback(&self.shelf, self.id, self.epoch, txn)
+            .rollback(&self.shelf, self.id, self.epoch, &txn);
+        match ended {
+            Ok(()) => {
+                drop(txn.abandon());
+                Ok(())
+            }
+            Err(refusal) => Err((refusal, txn)),
+        }
     }
 
     /// The truth of the assertion of a name on the newest committed tables; none where no assertion has it. It is

@@ -6,6 +6,7 @@ ghost use Rattle.value.specs.declared.refusals.Refusal.TheVariants.{NoMemory};
 ghost use Rattle.boxcar.specs.Table.{Shows};
 ghost use Rattle.alone.specs.Modes.{assertion_of};
 ghost use Rattle.alone.specs.Resolve.{resolution_of};
+ghost use Rattle.txn.specs.Committed.{AreParts};
 ghost use Rattle.txn.specs.Transactions.{false_names, keys_of, outcome_of, own_view, run_of, step_of, truth_of, with_statement};
 ghost use Rattle.session.specs.Books.{IsTicketed};
 ghost use Rattle.session.specs.Answers.{is_retryable};
@@ -86,12 +87,15 @@ impl<N: Named> Model for Txn<N> {
 pub struct ClosedTransaction<N: Named> {
     pub(crate) inner: txn::ClosedTransaction,
     pub(crate) ticket: Ticket<N>,
+    /// What the shelf is to hold of it, made before the lock is taken.
+    pub(crate) copy: txn::Parts,
 }
 
 impl<N: Named> Model for ClosedTransaction<N> {
     ghost use Rattle.table.specs.contracts.conds.Cond as cond_type;
     ghost use Rattle.table.specs.contracts.exprs.Expr as expr_type;
     ghost use Rattle.std.specs.Coded.{codes};
+    ghost use Rattle.txn.specs.Committed.{AreParts};
     ghost use Rattle.session.specs.Books.{IsTicketed, TicketedTransaction};
 
     ghost Value = { TicketedTransaction };
@@ -100,7 +104,7 @@ impl<N: Named> Model for ClosedTransaction<N> {
 
     ghost view = { λ t. record { inner = t.inner; ticket = t.ticket } };
 
-    ghost invariant = { λ t. IsTicketed (record { inner = t.inner; ticket = t.ticket }) };
+    ghost invariant = { λ t. IsTicketed (record { inner = t.inner; ticket = t.ticket }) × AreParts t.inner t.copy };
 }
 
 /// Why a transaction could not be closed, and the transaction.
@@ -230,8 +234,12 @@ impl<N: Named> Txn<N> {
         ensures back { IfErr result (λ fault. fault.txn ≡ self) }
     {
         let Txn { inner, ticket } = self;
-        match inner.close_check() {
-            Ok(inner) => Ok(ClosedTransaction { inner, ticket }),
+        match close(inner) {
+            Ok((inner, copy)) => Ok(ClosedTransaction {
+                inner,
+                ticket,
+                copy,
+            }),
             Err(txn::CloseFailure { txn: inner }) => Err(CloseFailure {
                 refusal: Refusal::NoMemory,
                 txn: Txn { inner, ticket },
@@ -248,19 +256,34 @@ impl<N: Named> Txn<N> {
     }
 }
 
+/// A transaction that goes to COMMIT, and a copy of what stays of it then.
+fn close(txn: txn::Txn) -> Result<(txn::ClosedTransaction, txn::Parts), txn::CloseFailure>
+    ensures closed { IfOk result (λ made. made.0 ≡ txn) }
+    ensures copy { IfOk result (λ made. AreParts txn made.1) }
+    ensures back { IfErr result (λ fault. fault.txn ≡ txn) }
+{
+    let closed = txn.close_check()?;
+    match closed.copy_parts() {
+        Ok(copy) => Ok((closed, copy)),
+        Err(_) => Err(txn::CloseFailure {
+            txn: closed.reopen(),
+        }),
+    }
+}
+
 impl<N: Named> ClosedTransaction<N> {
     /// How many commits its snapshot holds. It takes no memory.
     pub fn snapshot(&self) -> u64
         ensures { result ≡ self.now.inner.snapshot }
     {
-        self.inner.snapshot()
+        self.inner.txn().snapshot()
     }
 
     /// Whether it began READ ONLY. It takes no memory.
     pub fn is_read_only(&self) -> bool
         ensures { result ≡ self.now.inner.read_only }
     {
-        self.inner.is_read_only()
+        self.inner.txn().is_read_only()
     }
 
     /// The net change. It takes no memory.
@@ -288,14 +311,18 @@ impl<N: Named> ClosedTransaction<N> {
     pub fn own(&self) -> &View
         ensures { result.now ≡ own_view self.now.inner }
     {
-        self.inner.own()
+        self.inner.txn().own()
     }
 
     /// The transaction that was closed, open again. It takes no memory.
     pub fn reopen(self) -> Txn<N>
         ensures { result ≡ self }
     {
-        let ClosedTransaction { inner, ticket } = self;
+        let ClosedTransaction {
+            inner,
+            ticket,
+            copy: _,
+        } = self;
         Txn {
             inner: inner.reopen(),
             ticket,

@@ -1,21 +1,19 @@
 -- What the shell writes for definitions and an input.
-use Rattle.std.specs.Prelude.{◌≡◌, ◌++◌, ◌⊎◌, ℕ, Bool, true, false, List, [], Option, Ok, Err, IfSome, ⊤}
+use Rattle.std.specs.Prelude.{◌≡◌, ◌++◌, ◌⊎◌, ℕ, Bool, true, false, List, [], Option, IfSome, ⊤}
 use Rattle.std.specs.Io.KnownBytes.{Appends}
 use Rattle.value.specs.declared.refusals.Refusal.{Refusal}
-use Rattle.syntax.specs.declared.definitions.Definition.{Definition}
 use Rattle.syntax.specs.SchemaGrammar.{IsSchema}
 use Rattle.delta.specs.Views.{ViewState}
-use Rattle.commit.specs.Admission.{admission_of}
 use Rattle.alone.specs.Alone.{IsSound}
 use Rattle.commit.specs.Cores.{IsSerializable}
 use Rattle.commit.specs.Events.{EngineState}
 use Rattle.commit.specs.Runs.{AreAnswers, beginning, led_to}
 use Rattle.commit.specs.Told.{WereToldAlone}
-use Rattle.definitions.specs.Written.{AreWritten}
 use Rattle.report.specs.Fronts.{BeginsWith}
 use Rattle.replay.specs.declared.faults.ProgramFault.{ProgramFault}
 use Rattle.replay.specs.declared.faults.ProgramFault.TheVariants.{Defs, Script, Stopped, Output, NoThread}
-use Rattle.replay.specs.Texts.{IsInTheRun, IsRead, IsUnread, is_before_the_run}
+use Rattle.replay.specs.Takings.{IsAdmitted, IsRefused}
+use Rattle.replay.specs.Texts.{IsInTheRun, IsUnread, is_before_the_run}
 use Rattle.shell.specs.declared.faults.ShellFault.{ShellFault}
 use Rattle.shell.specs.declared.faults.ShellFault.TheVariants.{Run, Input}
 use Rattle.shell.specs.Cuts.{Piece, no_rest, piece_of, pieces_of, rest_of}
@@ -23,23 +21,10 @@ use Rattle.shell.specs.Outcomes.{AreOutcomes, IsLast, Outcome, answers_in, outpu
 use Rattle.shell.specs.Seats.{first_seated}
 use Rattle.shell.specs.Writing.{ending_if}
 
--- the definitions are read and admitted; each assertion means what they write
-pub record AreTaken (defs : List ℕ) (shown : ViewState) : Type 0 where
-  pub definitions : List Definition
-  pub read : IsRead IsSchema defs definitions
-  pub admits : admission_of definitions ≡ Ok shown
-  pub written : AreWritten definitions shown.declared
-
--- they are read, and refused so
-pub record AreRefused (defs : List ℕ) (refusal : Refusal) : Type 0 where
-  pub definitions : List Definition
-  pub read : IsRead IsSchema defs definitions
-  pub refused : admission_of definitions ≡ Err refusal
-
 -- the engine before the first event
 pub record IsBeginning (defs : List ℕ) (limit : ℕ) (engine : EngineState) : Type 0 where
   pub shown : ViewState
-  pub taken : AreTaken defs shown
+  pub taken : IsAdmitted defs shown
   pub sound : IsSound shown.declared shown.state
   pub is : engine ≡ beginning limit shown []
 
@@ -57,7 +42,7 @@ pub record IsTalk (limit : ℕ) (shown : ViewState) (pieces : List Piece) (outco
 -- the lines of all pieces of an input, of what is left at its end, and the report, if it is asked for
 pub record IsConversation (defs input : List ℕ) (limit : ℕ) (reports : Bool) (bytes : List ℕ) : Type 0 where
   pub shown : ViewState
-  pub taken : AreTaken defs shown
+  pub taken : IsAdmitted defs shown
   pub outcomes : List Outcome
   pub left : EngineState
   pub talk : IsTalk limit shown (pieces_of no_rest input) outcomes left
@@ -77,7 +62,7 @@ pub record WritesConversation (defs : List ℕ) (limit : ℕ) (reports : Bool) (
 -- the writer gained the lines of the first pieces of what was read
 pub record WritesFirst (defs : List ℕ) (limit : ℕ) (from old new : Option (List ℕ)) : Type 0 where
   pub shown : ViewState
-  pub taken : AreTaken defs shown
+  pub taken : IsAdmitted defs shown
   pub input : List ℕ
   pub begins : IfSome from (λ bytes. BeginsWith input bytes)
   pub first : List Piece
@@ -90,11 +75,11 @@ pub record WritesFirst (defs : List ℕ) (limit : ℕ) (from old new : Option (L
 
 -- the shell was begun
 abbrev pub IsTaken : List ℕ → Type 0
-IsTaken defs = (shown : ViewState) × AreTaken defs shown
+IsTaken defs = (shown : ViewState) × IsAdmitted defs shown
 
 -- why the shell did not come to its end, of the faults of a replay: there is no script, and no thread
 abbrev pub IsRunFault : List ℕ → ProgramFault → Type 0
-IsRunFault defs (Defs refusal) = IsUnread IsSchema defs refusal ⊎ AreRefused defs refusal
+IsRunFault defs (Defs refusal) = IsUnread IsSchema defs refusal ⊎ IsRefused defs refusal
 IsRunFault defs (Script refusal) = ⊥
 IsRunFault defs Stopped = IsTaken defs
 IsRunFault defs Output = IsTaken defs

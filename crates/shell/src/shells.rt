@@ -13,9 +13,8 @@ ghost use Rattle.shell.specs.Writing.{Answers, Ends, FeedsAll, FeedsFirst, Finis
 use crate::cutting::Cutter;
 use crate::events::{answer_piece, answer_rest};
 use crate::faults::ShellFault;
-use commit::{Engine, admit};
-use parse::parse_schema;
-use replay::{ProgramFault, ReadFault, add_ending, fault_of, flush, write_all};
+use commit::Engine;
+use replay::{ProgramFault, ReadFault, add_ending, admit_text, fault_of, flush, write_all};
 use report::Report;
 use std::alloc::{AllocError, Global};
 use std::io;
@@ -58,11 +57,7 @@ fn begin_engine(alloc: Global, defs: &[u8], limit: u64) -> Result<Engine, Progra
     ensures refused { IfErr result (IsRunFault defs.now) }
     ensures before { IfErr result (λ fault. is_before_the_run fault ≡ true) }
 {
-    let definitions = match parse_schema(alloc, defs) {
-        Ok(definitions) => definitions,
-        Err(refusal) => return Err(ProgramFault::Defs(refusal)),
-    };
-    let view = match admit(alloc, definitions.as_slice()) {
+    let view = match admit_text(alloc, defs) {
         Ok(view) => view,
         Err(refusal) => return Err(ProgramFault::Defs(refusal)),
     };

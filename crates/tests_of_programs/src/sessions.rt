@@ -25,7 +25,7 @@ fn empty_script(rt: HostRuntime) -> Result<(), Fail> {
 /// The history's lines in the script's order.
 fn prints_history(rt: &(impl Abort + Alloc<A = Global>), history: &History) -> Result<(), Fail> {
     let defs = defs_of(rt.alloc(), history)?;
-    let want = format!(in rt.alloc(); "{}{}", history.answers, history.closing)?;
+    let want = history.printed(rt.alloc())?;
     prints(rt, defs.as_str(), history.script, want.as_str())
 }
 

@@ -12,11 +12,8 @@ pub const FUNDS: &str =
 
 /// The tables of a history, and what stands behind them.
 pub fn defs_of(alloc: Global, history: &History) -> Result<String, Fail> {
-    let mut defs = String::from_str(alloc, TABLES)?;
-    for text in history.more {
-        defs.push_str(text)?;
-    }
-    Ok(defs)
+    let behind = history.definitions_behind(alloc)?;
+    Ok(format!(in alloc; "{TABLES}{behind}")?)
 }
 
 /// The line that says why there is no report.

@@ -196,7 +196,8 @@ fn roll_back(core: &mut Core) -> Result<(), Refusal>
     ensures { OnOk result (core.new.prepared ≡ None) }
 {
     let txn = core.begin()?;
-    core.end(txn);
+    core.end(&txn);
+    drop(txn.abandon());
     Ok(())
 }
 
@@ -208,7 +209,8 @@ fn reads_alone<R: Abort>(rt: &R, core: &mut Core) -> Result<(), Refusal>
     assert!(rt; core.holds(txn.begin_number(), txn.snapshot(), true));
     assert!(rt; !core.holds(txn.begin_number(), txn.snapshot(), false));
     assert!(rt; core.is_safe(&txn));
-    core.end(txn);
+    core.end(&txn);
+    drop(txn.abandon());
     Ok(())
 }
 

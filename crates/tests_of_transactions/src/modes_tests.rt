@@ -59,21 +59,24 @@ fn all_immediate(alloc: Global, assertions: &[Assertion], modes: &Modes) -> Resu
     requires { length modes.now ≡ length assertions.now }
 {
     let names = settable_names(alloc, assertions, &Which::All)?;
-    Ok(modes.set(assertions, names.as_slice(), Mode::Immediate)?)
+    Ok(modes.set(alloc, assertions, names.as_slice(), Mode::Immediate)?)
 }
 
 /// A word for the modes of COVER and FUNDS.
 fn modes_word(modes: &Modes) -> &'static str {
-    match modes.as_slice() {
-        [false, true] => "COVER is deferred",
-        [true, true] => "immediate",
+    if modes.len() != 2 {
+        return "other";
+    }
+    match (modes.of(0), modes.of(1)) {
+        (Mode::Deferred, Mode::Immediate) => "COVER is deferred",
+        (Mode::Immediate, Mode::Immediate) => "immediate",
         _ => "other",
     }
 }
 
 /// Whether the mode of the first assertion is deferred.
 fn is_first_deferred(modes: &Modes) -> bool {
-    !modes.as_slice().is_empty() && matches!(modes.of(0), Mode::Deferred)
+    modes.len() > 0 && matches!(modes.of(0), Mode::Deferred)
 }
 
 /// Whether the first assertion is deferred, and words for the modes before SET CONSTRAINTS ALL IMMEDIATE and after it.
@@ -94,7 +97,9 @@ fn words(
 fn modes_are_set_by_name(rt: HostRuntime) -> Result<(), Fail> {
     let view = view_of(rt.alloc(), ASSERTIONS)?;
     let found = words(rt.alloc(), view.assertions());
+    let at_commit = modes_word(&Modes::all_immediate(view.assertions()));
     drop(view);
+    assert_eq!(rt; at_commit, "immediate");
     assert_eq!(rt; found?, (true, "COVER is deferred", "immediate"));
     Ok(())
 }

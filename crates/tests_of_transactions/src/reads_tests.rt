@@ -3,6 +3,7 @@
 ghost use Rattle.std.specs.Prelude.{◌≡◌, length};
 
 use crate::texts::view_of;
+use alone::Modes;
 use assertion::Assertion;
 use changes::{Equality, checks_read, equality_on, filter_key, real_changes, tables_read};
 use delta::View;
@@ -12,7 +13,7 @@ use std::alloc::{AllocError, Global};
 use std::process::Abort;
 use std::test::Fail;
 use table::{Change, Cond, Expr, Row};
-use value::{Comparison, Refusal, Value};
+use value::{Comparison, Refusal, Text, Value};
 
 /// An assertion by rows, each beside those that link to it, and one of a single condition.
 const ACCOUNTS: &str = "CREATE TABLE ACCOUNT (ID INTEGER PRIMARY KEY, BAL INTEGER);
@@ -125,23 +126,25 @@ fn to_three(alloc: Global, balance: i64) -> Result<Change, AllocError> {
     })
 }
 
-/// The keys that the check of some assertions reads at a change, described.
+/// The keys that the check of the assertion of a name reads at a change, described.
 fn read_at(
     alloc: Global,
     view: &View,
-    meant: &[bool],
+    name: &str,
     changes: &[Change],
 ) -> Result<Vec<(&'static str, i64)>, Refusal> {
+    let names = [Text::from_str(alloc, name)?];
+    let meant = Modes::named_immediate(alloc, view.assertions(), &names)?;
     if meant.len() != view.assertions().len() {
         return Err(Refusal::TooWide);
     }
-    let keys = checks_read(alloc, view, meant, changes)?;
+    let keys = checks_read(alloc, view, &meant, changes)?;
     Ok(keys.iter().map(describe).collect(alloc)?)
 }
 
 /// The row itself, and by its old and its new number those that link to it; of the single condition the table.
 fn checks<R: Abort>(rt: &R, alloc: Global, view: &View, changes: &[Change]) -> Result<(), Fail> {
-    let by_row = read_at(alloc, view, &[true, false], changes)?;
+    let by_row = read_at(alloc, view, "OWN", changes)?;
     assert!(rt;
         by_row[..]
             == [
@@ -153,7 +156,7 @@ fn checks<R: Abort>(rt: &R, alloc: Global, view: &View, changes: &[Change]) -> R
                 ("column 1", 3)
             ]
     );
-    let single = read_at(alloc, view, &[false, true], changes)?;
+    let single = read_at(alloc, view, "SOME_TWO", changes)?;
     assert!(rt; single[..] == [("table", 0)]);
     Ok(())
 }

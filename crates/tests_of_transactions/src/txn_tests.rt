@@ -117,8 +117,8 @@ fn open_tells<R: Abort>(rt: &R, txn: &Txn, leader: &Text, case: &Case) {
 
 /// What a closed one tells.
 fn closed_tells<R: Abort>(rt: &R, closed: &ClosedTransaction, case: &Case) {
-    assert_eq!(rt; closed.is_read_only(), case.read_only);
-    closed.recall_read_only();
+    assert_eq!(rt; closed.txn().is_read_only(), case.read_only);
+    closed.txn().recall_read_only();
     assert_eq!(rt; closed.changes().len(), case.rows);
     assert_eq!(rt; closed.refused().is_some(), case.is_refused);
 }

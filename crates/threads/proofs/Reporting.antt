@@ -1,15 +1,11 @@
 -- What is opened, and what is then written, is the report that the contract has.
-use Rattle.std.proofs.Common.{◌≡◌, ℕ, Bool, true, false, List, Option, Result, Ok, Err, ap, sym, ◌∙◌, subst, inl, inr}
-use Rattle.std.specs.Prelude.{◌≢◌, ◌⊎◌, OnOk, IfErr, IfOk}
+use Rattle.std.proofs.Common.{◌≡◌, ℕ, Bool, true, false, List, Option, Result, Ok, Err, ap, refl, sym, ◌∙◌, subst, inl, inr}
+use Rattle.std.specs.Prelude.{◌≢◌, ◌⊎◌, OnOk, IfErr}
 use Rattle.std.specs.Io.KnownBytes.{Appends}
-use Rattle.value.specs.Results.{and_then}
 use Rattle.value.specs.declared.refusals.Refusal.{Refusal}
 use Rattle.value.specs.declared.refusals.Refusal.TheVariants.{NoMemory, TooManySessions}
-use Rattle.syntax.specs.declared.definitions.Definition.{Definition}
 use Rattle.syntax.specs.declared.statements.ScriptLine.{ScriptLine}
 use Rattle.delta.specs.Views.{ViewState}
-use Rattle.definitions.specs.Taken.{view_of_definitions}
-use Rattle.definitions.specs.Written.{AreWritten}
 use Rattle.commit.specs.Admission.{tables_if_satisfied}
 use Rattle.commit.specs.Cores.{CoreState, IsSerializable}
 use Rattle.session.specs.Books.{IsOver}
@@ -19,46 +15,33 @@ use Rattle.threads.specs.Scripts.{AreAnswered}
 use Rattle.replay.specs.declared.faults.ProgramFault.{ProgramFault}
 use Rattle.replay.specs.declared.faults.ProgramFault.TheVariants.{Defs, NoThread, Output, Stopped, Script as ScriptFault}
 use Rattle.syntax.specs.SchemaGrammar.{IsScript}
-use Rattle.replay.specs.Texts.{AreRead, HasFewSessions, HasManySessions, HasTooManySessions, IsFirstFault, IsInTheRun, IsNoScript, IsRun, IsUnread, is_before_the_run}
+use Rattle.replay.specs.Texts.{HasFewSessions, HasManySessions, HasTooManySessions, IsFirstFault, IsInTheRun, IsNoScript, IsRun, IsUnread, is_before_the_run}
+use Rattle.replay.specs.Takings.{AreTaken}
 use Rattle.replay.proofs.Late.{late_fault}
+use Rattle.replay.proofs.Taking.{admitted}
 use Rattle.threads.specs.Grouping.{scripts_of}
-use Rattle.threads.specs.Grouped.{AreOpened, IsAdmitted, PrintsGrouped, WritesGrouped, all_ran, grouped_report}
+use Rattle.threads.specs.Grouped.{AreOpened, PrintsGrouped, WritesGrouped, all_ran, grouped_report}
 
-is_admitted : (definitions : List Definition) (shown : ViewState) → view_of_definitions definitions ≡ Ok shown → AreWritten definitions shown.declared
-    → tables_if_satisfied shown ≡ Ok shown → (view : ViewState) → view ≡ shown → IsAdmitted definitions view
-is_admitted definitions shown takes written holds view is =
-    let made : IsAdmitted definitions shown = record { admits = ap (λ r. and_then r tables_if_satisfied) takes ∙ holds; written = written } in
-    subst (IsAdmitted definitions) (sym is) made
-
--- what is opened over them has their tables
-pub opens_admitted : {M : Type 0} (P Q : M → Type 0) (view_of : M → ViewState) (opened : Result M Refusal) (definitions : List Definition) (shown : ViewState)
-    → view_of_definitions definitions ≡ Ok shown → AreWritten definitions shown.declared → IfOk opened (λ m. tables_if_satisfied shown ≡ Ok shown)
-    → IfOk opened (λ m. P m × Q m × (view_of m ≡ shown)) → IfOk opened (λ m. IsAdmitted definitions (view_of m))
-opens_admitted P Q view_of (Ok m) definitions shown takes written holds is = is_admitted definitions shown takes written holds (view_of m) is.2
-opens_admitted P Q view_of (Err refusal) definitions shown takes written holds is = tt
-
-pub are_opened : (defs script : List ℕ) (definitions : List Definition) (lines : List ScriptLine) (scripts : List Script)
-    → AreRead defs script definitions lines → (shown : ViewState) → IsAdmitted definitions shown → HasFewSessions lines → scripts ≡ scripts_of lines
+-- what is opened over the definitions that were taken in has their tables
+pub are_opened : (defs script : List ℕ) (made : ViewState) (lines : List ScriptLine) (scripts : List Script)
+    → AreTaken defs script made lines → tables_if_satisfied made ≡ Ok made → (shown : ViewState) → shown ≡ made → HasFewSessions lines → scripts ≡ scripts_of lines
     → AreOpened defs script shown scripts
-are_opened defs script definitions lines scripts read shown admits few are = record {
+are_opened defs script made lines scripts read holds shown same few are = record {
   lines = lines;
-  ready = record {
-    admitted = record { definitions = definitions; read = read; admits = admits.admits; written = admits.written };
-    few = few;
-  };
+  ready = record { admitted = admitted defs script made lines read shown same (holds ∙ ap Ok (sym same)); few = few };
   are = are;
 }
 
 -- a script that can't be run, where the definitions are admitted: it has too many sessions, or there was no memory
-pub scripts_refused : (defs script : List ℕ) (definitions : List Definition) (lines : List ScriptLine) (shown : ViewState) → AreRead defs script definitions lines
-    → IsAdmitted definitions shown → (refusal : Refusal) → (refusal ≡ NoMemory) ⊎ (HasManySessions lines × (refusal ≡ TooManySessions))
+pub scripts_refused : (defs script : List ℕ) (made : ViewState) (lines : List ScriptLine) → AreTaken defs script made lines
+    → tables_if_satisfied made ≡ Ok made → (refusal : Refusal) → (refusal ≡ NoMemory) ⊎ (HasManySessions lines × (refusal ≡ TooManySessions))
     → IsNoScript defs script refusal ⊎ HasTooManySessions defs script refusal
-scripts_refused defs script definitions lines shown read admits refusal (inl none) =
-    inl (record { definitions = definitions; defs_read = read.defs_read; refused = subst (IsUnread IsScript script) (sym none) tt })
-scripts_refused defs script definitions lines shown read admits refusal (inr many) = inr (record {
-  shown = shown;
+scripts_refused defs script made lines read holds refusal (inl none) =
+    inl (record { definitions = read.definitions; defs_read = read.read.defs_read; refused = subst (IsUnread IsScript script) (sym none) tt })
+scripts_refused defs script made lines read holds refusal (inr many) = inr (record {
+  shown = made;
   lines = lines;
-  taken = record { definitions = definitions; read = read; admits = admits.admits; written = admits.written };
+  taken = admitted defs script made lines read made refl holds;
   many = many.0;
   refused = many.1;
 })

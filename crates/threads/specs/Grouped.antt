@@ -1,12 +1,9 @@
 -- What is written of scripts that ran on threads.
-use Rattle.std.specs.Prelude.{◌≡◌, ℕ, Bool, true, false, List, [], ◌∷◌, ◌++◌, Option, Ok}
+use Rattle.std.specs.Prelude.{◌≡◌, ℕ, Bool, true, false, List, [], ◌∷◌, ◌++◌, Option}
 use Rattle.std.specs.List.{list_all}
 use Rattle.std.specs.Io.KnownBytes.{Appends}
 use Rattle.syntax.specs.declared.statements.ScriptLine.{ScriptLine}
-use Rattle.syntax.specs.declared.definitions.Definition.{Definition}
 use Rattle.delta.specs.Views.{ViewState}
-use Rattle.definitions.specs.Written.{AreWritten}
-use Rattle.commit.specs.Admission.{admission_of}
 use Rattle.commit.specs.Cores.{CoreState, IsSerializable}
 use Rattle.report.specs.Report.{left_open_line}
 use Rattle.session.specs.Books.{IsOver}
@@ -69,11 +66,6 @@ pub record PrintsGrouped (scripts : List Script) (found : List ScriptAnswers) (l
   pub serializable : IsSerializable core
   pub ran : all_ran found ≡ all
   pub written : Appends old new (grouped_report scripts found core)
-
--- the definitions are admitted; each assertion means what they write
-pub record IsAdmitted (definitions : List Definition) (shown : ViewState) : Type 0 where
-  pub admits : admission_of definitions ≡ Ok shown
-  pub written : AreWritten definitions shown.declared
 
 -- both texts are read, the definitions are admitted, as these tables, and these are the scripts of the sessions, which
 -- are few

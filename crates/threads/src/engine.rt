@@ -1,12 +1,11 @@
 //! From two texts to a report.
 
-ghost use Rattle.std.specs.Prelude.{◌≡◌, ◌≢◌, ◌≤◌, ◌⊎◌, true, false, Err, IfOk, IfErr, OnOk};
+ghost use Rattle.std.specs.Prelude.{◌≡◌, ◌≢◌, ◌≤◌, ◌⊎◌, true, false, IfOk, IfErr, OnOk};
 ghost use Rattle.value.specs.declared.refusals.Refusal.TheVariants.{NoMemory, TooManySessions};
-ghost use Rattle.commit.specs.Admission.{admission_of};
 ghost use Rattle.replay.specs.declared.faults.ProgramFault.TheVariants.{NoThread, Stopped};
 ghost use Rattle.replay.specs.Texts.{HasFewSessions, HasManySessions, IsFirstFault, is_before_the_run, most_sessions};
 ghost use Rattle.threads.specs.Grouping.{scripts_of};
-ghost use Rattle.threads.specs.Grouped.{AreOpened, IsAdmitted, WritesGrouped};
+ghost use Rattle.threads.specs.Grouped.{AreOpened, WritesGrouped};
 
 use crate::gates::Gate;
 use crate::grouping::group_by_session;
@@ -14,7 +13,6 @@ use crate::printing::print_report;
 use crate::runs::run_sessions;
 use crate::scripts::Script;
 use commit::has_few_sessions;
-use definitions::Definitions;
 use replay::{MOST_SESSIONS, ProgramFault, read_texts};
 use session::{Limits, Manager, Named, Shelf};
 use sqlite_items::Items;
@@ -22,7 +20,7 @@ use std::alloc::Global;
 use std::io::Write;
 use std::sync::Wait;
 use std::thread::Threads;
-use syntax::{Definition, ScriptLine};
+use syntax::ScriptLine;
 use value::Refusal;
 
 /// Runs a script of any sessions on definitions, with a thread for each session, on a shelf that is the manager's
@@ -96,7 +94,7 @@ where
 }
 
 /// The manager of what the definitions define, and the scripts of the sessions.
-#[tactic(auto, using(crate::proofs::Reporting::are_opened))]
+#[tactic(auto, using(crate::proofs::Reporting::are_opened, replay::proofs::Taking::not_admitted))]
 fn open_manager<N: Named, R: Wait>(
     rt: &R,
     alloc: Global,
@@ -115,8 +113,8 @@ fn open_manager<N: Named, R: Wait>(
     ensures refused { IfErr result (IsFirstFault defs.now script.now) }
     ensures before { IfErr result (λ fault. is_before_the_run fault ≡ true) }
 {
-    let (definitions, lines) = read_texts(alloc, defs, script)?;
-    let manager = match manage(rt, alloc, shelf, id, definitions.as_slice(), max_commits) {
+    let (taken, lines) = read_texts(alloc, defs, script)?;
+    let manager = match Manager::open(rt, alloc, shelf, id, taken, limits_of(max_commits)) {
         Ok(manager) => manager,
         Err(refusal) => return Err(ProgramFault::Defs(refusal)),
     };
@@ -124,27 +122,6 @@ fn open_manager<N: Named, R: Wait>(
         Ok(scripts) => Ok((manager, scripts)),
         Err(refusal) => Err(ProgramFault::Script(refusal)),
     }
-}
-
-/// A manager of what these definitions define, if no assertion is false on the rows that they begin with.
-fn manage<N: Named, R: Wait>(
-    rt: &R,
-    alloc: Global,
-    shelf: Shelf,
-    id: u64,
-    definitions: &[Definition],
-    max_commits: u64,
-) -> Result<Manager<N>, Refusal>
-    requires some { 1 ≤ max_commits }
-    requires within { max_commits ≤ 4294967295 }
-    requires shelf { shelf ≡ N.shelf id }
-    requires limits { N.limits id ≡ record { commits = max_commits; sessions = most_sessions } }
-    ensures admitted { IfOk result (λ manager. IsAdmitted definitions.now manager.loaded.value.view) }
-    ensures id { IfOk result (λ manager. manager.id ≡ id) }
-    ensures refused { IfErr result (λ refusal. refusal ≢ NoMemory → admission_of definitions.now ≡ Err refusal) }
-{
-    let taken = Definitions::take(alloc, definitions)?;
-    Manager::open(rt, alloc, shelf, id, taken, limits_of(max_commits))
 }
 
 /// So many commits, and as many sessions as a script may have.

@@ -1,4 +1,5 @@
 pub mod Checks
+pub mod Committed
 pub mod Effects
 pub mod Fitting
 pub mod Held

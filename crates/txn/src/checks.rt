@@ -1,23 +1,25 @@
 //! Checks of assertions.
 
-ghost use Rattle.std.specs.Prelude.{◌≡◌, ◌≢◌, ◌<◌, ◌++◌, length, slice_index_or, IfOk, IfNone, IfSome, OnOk, None, Some};
+ghost use Rattle.std.specs.Prelude.{◌≡◌, ◌≢◌, ◌<◌, ◌++◌, true, length, slice_index_or, IfOk, IfNone, IfSome, OnOk, None, Some};
+ghost use Rattle.std.specs.Option.{option_copied};
 ghost use Rattle.value.specs.Ordered.{HoldsOf};
-ghost use Rattle.value.specs.declared.refusals.Refusal.TheVariants.{NoMemory};
+ghost use Rattle.value.specs.declared.refusals.Refusal.TheVariants.{NoMemory, Violated};
 ghost use Rattle.assertion.specs.declared.assertions.Assertion.{Assertion as AnyAssertion};
 ghost use Rattle.assertion.specs.Declarations.{layouts_in};
 ghost use Rattle.alone.specs.Modes.{assertion_of, immediate_ones};
 ghost use Rattle.alone.specs.Checks.{violation};
-ghost use Rattle.txn.specs.Checks.{refused_at};
+ghost use Rattle.txn.specs.Checks.{least_bad_if_meant};
 ghost use Rattle.txn.specs.Transactions.{false_names, name_if_false, truth_of};
 
+use alone::Modes;
 use assertion::Assertion;
 use delta::View;
 use std::alloc::{AllocError, Global};
-use value::{Refusal, Text, Truth};
+use value::{Refusal, Root, Text, Truth};
 
 /// The refusal by the first assertion, of those that are meant, that is false on a view, with the least root at
 /// which it is. What is unknown is not false.
-pub fn find_violation(view: &View, meant: &[bool]) -> Result<Option<Refusal>, AllocError>
+pub fn find_violation(view: &View, meant: &Modes) -> Result<Option<Refusal>, AllocError>
     requires { length meant.now ≡ length view.now.declared.assertions }
     ensures named { IfOk result (HoldsOf (λ refusal. refusal ≢ NoMemory)) }
     ensures first { IfOk result (λ found.
@@ -25,29 +27,59 @@ pub fn find_violation(view: &View, meant: &[bool]) -> Result<Option<Refusal>, Al
         ≡ violation (layouts_in view.now.declared) (immediate_ones meant.now view.now.declared.assertions)
         view.now.state) }
 {
-    for place in 0..meant.len() {
-        if let Some(refusal) = find_violation_at(view, meant[place], place)? {
-            return Ok(Some(refusal));
-        }
-    }
-    Ok(None)
-}
-
-/// The refusal by one assertion, if it is meant and false.
-fn find_violation_at(view: &View, meant: bool, place: usize) -> Result<Option<Refusal>, AllocError>
-    requires { place < length view.now.declared.assertions }
-    ensures named { IfOk result (HoldsOf (λ refusal. refusal ≢ NoMemory)) }
-    ensures found { IfOk result (λ found. (a : AnyAssertion)
-        → found
-        ≡ refused_at (layouts_in view.now.declared) (slice_index_or view.now.declared.assertions place a) meant
-        view.now.state) }
-{
-    match view.least_bad(place) {
-        Some(group) if meant => Ok(Some(Refusal::Violated {
-            assertion: view.assertions()[place].name.copy()?,
+    match find_false(view, meant) {
+        None => Ok(None),
+        Some((assertion, group)) => Ok(Some(Refusal::Violated {
+            assertion: assertion.copy()?,
             group: group.copy()?,
         })),
-        _ => Ok(None),
+    }
+}
+
+/// The first assertion that is false on a view's tables, by its name, and the least root at which it is. What is
+/// unknown is not false. It takes no memory.
+pub fn find_first_false(view: &View) -> Option<(&Text, &Root)>
+    ensures found { IfSome result (λ found.
+        violation (layouts_in view.now.declared) view.now.declared.assertions view.now.state
+        ≡ Some (Violated found.0.now found.1.now)) }
+    ensures none { IfNone result (
+        violation (layouts_in view.now.declared) view.now.declared.assertions view.now.state ≡ None) }
+{
+    let meant = Modes::all_immediate(view.assertions());
+    find_false(view, &meant)
+}
+
+/// The same, of those assertions that are meant.
+pub fn find_false<'a>(view: &'a View, meant: &Modes) -> Option<(&'a Text, &'a Root)>
+    requires { length meant.now ≡ length view.now.declared.assertions }
+    ensures found { IfSome result (λ found.
+        violation (layouts_in view.now.declared) (immediate_ones meant.now view.now.declared.assertions) view.now.state
+        ≡ Some (Violated found.0.now found.1.now)) }
+    ensures none { IfNone result (
+        violation (layouts_in view.now.declared) (immediate_ones meant.now view.now.declared.assertions) view.now.state
+        ≡ None) }
+{
+    for place in 0..view.assertions().len() {
+        if let Some(root) = least_bad_if_meant(view, meant, place) {
+            return Some((&view.assertions()[place].name, root));
+        }
+    }
+    None
+}
+
+/// The least root at which an assertion is false, if it is meant and false. It takes no memory.
+fn least_bad_if_meant<'a>(view: &'a View, meant: &Modes, place: usize) -> Option<&'a Root>
+    requires within { place < length view.now.declared.assertions }
+    requires modes { length meant.now ≡ length view.now.declared.assertions }
+    ensures { (a : AnyAssertion)
+        → option_copied result
+        ≡ least_bad_if_meant (layouts_in view.now.declared) (slice_index_or view.now.declared.assertions place a)
+        (slice_index_or meant.now place true) view.now.state }
+{
+    if meant.is_immediate(place) {
+        view.least_bad(place)
+    } else {
+        None
     }
 }
 

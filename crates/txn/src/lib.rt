@@ -16,13 +16,14 @@
 //!   their names found, and the keys under which they have read.
 //! - [`Txn::verdict`] is the truth of an assertion on the own view, and [`Txn::pending`] names the assertions that
 //!   are false there. Neither enters the trace.
-//! - [`Txn::close_check`] takes it to COMMIT: a [`ClosedTransaction`] has its net change
-//!   ([`ClosedTransaction::changes`]) and the refusal by the first assertion that is false
+//! - [`Txn::close_check`] takes it to COMMIT: a [`ClosedTransaction`] has the transaction ([`ClosedTransaction::txn`]),
+//!   its net change ([`ClosedTransaction::changes`]), the refusal by the first assertion that is false
 //!   ([`ClosedTransaction::refused`]), and what it has read ([`ClosedTransaction::reads`]).
 //!   [`ClosedTransaction::into_parts`] hands out what is kept of it when it is committed, and
 //!   [`ClosedTransaction::reopen`] opens it again. Where memory runs out, [`CloseFailure`] gives it back as it was.
 //! - [`Txn::abandon`] ends it, and nothing is kept but its own view.
-//! - [`find_violation`] is the refusal by the first assertion that is false, of those that are meant: also for tables
+//! - [`find_violation`] is the refusal by the first assertion that is false, of those that are meant. [`find_false`]
+//!   lends its name and the least root at which it is; [`find_first_false`] does so of all assertions, also for tables
 //!   that a transaction is to begin on.
 //! - [`resolve`] finds a statement's names, and [`insert_effect`], [`update_effect`] and [`delete_effect`] are what it
 //!   does to the rows of a view before its assertions are asked: for who explains a refused statement.
@@ -58,7 +59,7 @@ mod resolutions;
 mod steps;
 mod txns;
 
-pub use checks::{find_violation, verdict_on};
+pub use checks::{find_false, find_first_false, find_violation, verdict_on};
 pub use closed::{CloseFailure, ClosedTransaction, Parts};
 pub use effects::{Effect, delete_effect, insert_effect, recall_order, update_effect};
 pub use resolutions::{resolve, unless_memory};

@@ -254,9 +254,9 @@ fn put_in(
     recall_order(own);
     let after = own.after(changes.as_slice())?;
     let real = real_changes(changes);
-    let checked = checks_read(alloc, &after, modes.as_slice(), real.as_slice())?;
+    let checked = checks_read(alloc, &after, modes, real.as_slice())?;
     append(&mut reads, checked)?;
-    let violated = find_violation(&after, modes.as_slice())?;
+    let violated = find_violation(&after, modes)?;
     Ok(leave_rows_unless(violated, reply, after, real, reads))
 }
 
@@ -353,7 +353,7 @@ fn run_set_constraints(
 {
     match mode {
         Mode::Deferred => {
-            let after = set_modes(own, modes, names, Mode::Deferred)?;
+            let after = set_modes(alloc, own, modes, names, Mode::Deferred)?;
             Ok(leave_modes_unless(None, after, Vec::new(alloc)))
         }
         Mode::Immediate => {
@@ -364,13 +364,19 @@ fn run_set_constraints(
 }
 
 /// The modes after those of some assertions are set, by their names.
-fn set_modes(own: &View, modes: &Modes, names: &[Text], mode: Mode) -> Result<Modes, AllocError>
+fn set_modes(
+    alloc: Global,
+    own: &View,
+    modes: &Modes,
+    names: &[Text],
+    mode: Mode,
+) -> Result<Modes, AllocError>
     requires modes { length modes.now ≡ length own.now.declared.assertions }
     ensures set { IfOk result (λ after.
         after ≡ modes_with names.now (is_immediate mode) own.now.declared.assertions modes.now) }
     ensures long { IfOk result (λ after. length after ≡ length own.now.declared.assertions) }
 {
-    let after = modes.set(own.assertions(), names, mode)?;
+    let after = modes.set(alloc, own.assertions(), names, mode)?;
     Ok(after)
 }
 
@@ -392,9 +398,9 @@ fn set_immediate(
     ensures rows { IfOk result (λ done. done.view ≡ None) }
 {
     let meant = Modes::named_immediate(alloc, own.assertions(), names)?;
-    let reads = checks_read(alloc, own, meant.as_slice(), net)?;
-    let violated = find_violation(own, meant.as_slice())?;
-    let after = set_modes(own, modes, names, Mode::Immediate)?;
+    let reads = checks_read(alloc, own, &meant, net)?;
+    let violated = find_violation(own, &meant)?;
+    let after = set_modes(alloc, own, modes, names, Mode::Immediate)?;
     Ok(leave_modes_unless(violated, after, reads))
 }
 
@@ -428,4 +434,20 @@ pub fn append(keys: &mut Vec<LockKey>, more: Vec<LockKey>) -> Result<(), AllocEr
     let mut more = more;
     keys.append(&mut more)?;
     Ok(())
+}
+
+/// Copies of these keys, and then those.
+pub fn copy_with(
+    alloc: Global,
+    keys: &[LockKey],
+    more: Vec<LockKey>,
+) -> Result<Vec<LockKey>, AllocError>
+    ensures { IfOk result (λ both. both.items ≡ keys.now ++ more.items) }
+{
+    let mut both = Vec::with_capacity(alloc, keys.len().saturating_add(more.len()))?;
+    for key in keys {
+        both.push(key.copy()?)?;
+    }
+    append(&mut both, more)?;
+    Ok(both)
 }

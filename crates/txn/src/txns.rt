@@ -13,7 +13,7 @@ ghost use Rattle.txn.specs.Transactions.{transaction_at_begin, false_names, outc
 use crate::checks::{find_violation, list_false, verdict_on};
 use crate::closed::{CloseFailure, ClosedTransaction};
 use crate::resolutions::resolve;
-use crate::steps::{StepResult, append, step};
+use crate::steps::{StepResult, append, copy_with, step};
 use alone::{
     Modes, Reply, ResolvedStatement, read_only_statements_change_nothing, runs_are_joined,
 };
@@ -40,12 +40,13 @@ pub struct Txn {
     pub(crate) reads: Vec<LockKey>,
 }
 
-/// What a transaction needs for COMMIT: its net change, the refusal by a false assertion, and what the check read.
+/// What a transaction needs for COMMIT: its net change, the refusal by a false assertion, and what it and the check
+/// read.
 #[derive(Drop)]
 struct CloseCheck {
     changes: Vec<Change>,
     refused: Option<Refusal>,
-    checked: Vec<LockKey>,
+    keys: Vec<LockKey>,
 }
 
 impl Model for Txn {
@@ -243,81 +244,56 @@ impl Txn {
         ensures back { IfErr result (λ fault. fault.txn ≡ self) }
     {
         match self.prepare_close() {
-            Ok(closing) => self.close_with(closing),
-            Err(_) => Err(CloseFailure { txn: self }),
-        }
-    }
-
-    /// The transaction with what COMMIT is answered by.
-    fn close_with(self, closing: CloseCheck) -> Result<ClosedTransaction, CloseFailure>
-        requires { IsClosed self closing.changes.items closing.refused ((run_of self).reads ++ closing.checked.items) }
-        ensures closed { IfOk result (λ closed. closed ≡ self) }
-        ensures back { IfErr result (λ fault. fault.txn ≡ self) }
-    {
-        let Txn {
-            begin_number,
-            snapshot,
-            read_only,
-            start,
-            own,
-            modes,
-            trace,
-            touched,
-            mut reads,
-        } = self;
-        let CloseCheck {
-            changes,
-            refused,
-            checked,
-        } = closing;
-        let run = reads.len();
-        match append(&mut reads, checked) {
-            Ok(()) => Ok(ClosedTransaction {
-                begin_number,
-                snapshot,
-                read_only,
-                start,
-                own,
-                modes,
-                trace,
-                touched,
+            Ok(
+                CloseCheck {
+                    changes,
+                    refused,
+                    keys,
+                },
+            ) => Ok(ClosedTransaction {
+                txn: self,
                 changes,
                 refused,
-                reads,
-                run,
+                keys,
             }),
-            Err(_) => Err(CloseFailure {
-                txn: Txn {
-                    begin_number,
-                    snapshot,
-                    read_only,
-                    start,
-                    own,
-                    modes,
-                    trace,
-                    touched,
-                    reads,
-                },
-            }),
+            Err(_) => Err(CloseFailure { txn: self }),
         }
     }
 
     /// What COMMIT is answered by.
     fn prepare_close(&self) -> Result<CloseCheck, AllocError>
         ensures { IfOk result (λ closing.
-            IsClosed self.now closing.changes.items closing.refused ((run_of self.now).reads
-            ++ closing.checked.items)) }
+            IsClosed self.now closing.changes.items closing.refused closing.keys.items) }
     {
         let alloc = *self.trace.allocator();
         let changes = net_change(alloc, &self.start, &self.own, &self.touched)?;
-        let meant = Modes::all_immediate(alloc, self.own.assertions())?;
-        let checked = checks_read(alloc, &self.own, meant.as_slice(), changes.as_slice())?;
-        let refused = find_violation(&self.own, meant.as_slice())?;
+        let meant = Modes::all_immediate(self.own.assertions());
+        let checked = checks_read(alloc, &self.own, &meant, changes.as_slice())?;
+        let refused = find_violation(&self.own, &meant)?;
+        let keys = copy_with(alloc, self.reads.as_slice(), checked)?;
         Ok(CloseCheck {
             changes,
             refused,
-            checked,
+            keys,
         })
+    }
+
+    /// Its statements alone, of a transaction that is committed. It takes no memory.
+    pub(crate) fn into_trace(self) -> Vec<ResolvedStatement>
+        ensures { result.items ≡ self.trace }
+    {
+        let Txn {
+            begin_number: _,
+            snapshot: _,
+            read_only: _,
+            start: _,
+            own: _,
+            modes: _,
+            trace,
+            touched: _,
+            reads: _,
+        } = self;
+        trace
     }
 
     /// Ends the transaction, and nothing of it is kept but its own view of the tables. It takes no memory.

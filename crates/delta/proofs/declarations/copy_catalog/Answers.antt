@@ -1,7 +1,7 @@
-use Rattle.std.proofs.Common.{◌≡◌, false, rules, sym, ap, arith}
+use Rattle.std.proofs.Common.{sym, ap, arith}
 use Rattle.std.specs.Prelude.{is_some}
 use Rattle.std.proofs.lemmas.List.{length-map}
-use Rattle.table.specs.Rows.{layout_of, layouts_of, names_of}
+use Rattle.table.specs.Rows.{layouts_of, names_of}
 use Rattle.delta.proofs.StartLemmas.{take-get, get-there}
 use Rattle.delta.proofs.Declaring.{new_name, table_at}
 use Rattle.delta.proofs.declarations.copy_catalog.Goals as goal

@@ -1,16 +1,14 @@
-use Rattle.std.proofs.Common.{◌∙◌}
-use Rattle.syntax.specs.Reading.{whole}
-use Rattle.syntax.specs.SchemaGrammar as g
-use Rattle.syntax.specs.SchemaReaders as r
-use Rattle.syntax.proofs.SchemaFinders.{exact_schemas}
-use Rattle.parse.proofs.Telling.{told_at, told_found, told_only, told_refused}
+use Rattle.std.proofs.Common.{List}
+use Rattle.syntax.specs.declared.definitions.Definition.{Definition}
+use Rattle.syntax.specs.Answer.{Fits}
+use Rattle.syntax.specs.Lexemes.{lexemes}
+use Rattle.syntax.specs.SchemaGrammar.{IsSchema}
+use Rattle.parse.specs.Told.{most_open}
+use Rattle.parse.proofs.Telling.{found_list, only_list}
 use Rattle.parse.proofs.calls.parse_schema.Goals as goal
 
 pub returns-clause-found : goal.returns-clause-found
-returns-clause-found c = told_found g.schemas r.definitions exact_schemas 64 _ _ _ (told_at (whole (r.definitions 64)) c.args.text.now _ _ _ _ (c.deref.ensures.value ∙ c.in_ok-tokens.ensures.all) c.schema_of.ensures)
+returns-clause-found c = found_list {A = List Definition} (IsSchema (lexemes c.args.text.now)) (Fits most_open (lexemes c.args.text.now)) c.parse_schema_into.result c.parse_schema_into.ensures.found
 
 pub returns-clause-only : goal.returns-clause-only
-returns-clause-only c = told_only g.schemas r.definitions exact_schemas 64 _ _ _ (told_at (whole (r.definitions 64)) c.args.text.now _ _ _ _ (c.deref.ensures.value ∙ c.in_ok-tokens.ensures.all) c.schema_of.ensures)
-
-pub returns-clause-refused : goal.returns-clause-refused
-returns-clause-refused c = told_refused g.schemas r.definitions exact_schemas 64 _ _ _ (told_at (whole (r.definitions 64)) c.args.text.now _ _ _ _ (c.deref.ensures.value ∙ c.in_ok-tokens.ensures.all) c.schema_of.ensures)
+returns-clause-only c = λ d is fits. only_list d _ (c.parse_schema_into.ensures.only d is fits)

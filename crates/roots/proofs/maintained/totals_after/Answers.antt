@@ -11,22 +11,22 @@ use Rattle.roots.proofs.maintained.totals_after.Goals as goal
 
 pub total_after-requires-clause-bounded : goal.total_after-requires-clause-bounded
 total_after-requires-clause-bounded c =
-    summary-bounded c.args.schemas.now c.args.form.now c.requires.bounded c.loop-index.index (lent_query c.summary_of-summary.result) (omega (arith, c.loop-index-test.true, c.summary_count-index-end.ensures c.args.schemas.now)) c.summary_of-summary.ensures.summary
+    summary-bounded c.args.schemas.now c.args.form.now c.requires.bounded c.loop-index.index (lent_query c.summary_of-summary.result) (omega (arith, c.loop-index-test.true, c.summary_count-count.ensures c.args.schemas.now)) c.summary_of-summary.ensures.summary
 
 pub total_after-requires-clause-totals : goal.total_after-requires-clause-totals
 total_after-requires-clause-totals c =
     let summaries = summaries_of c.args.schemas.now c.args.form.now in
-    rw (← c.summary_of-summary.ensures.summary) at (totals-at c.args.before.now summaries (length summaries) c.args.totals.now c.loop-index.index c.index-totals-index.result c.requires.totals (omega (arith, c.loop-index-test.true, c.summary_count-index-end.ensures c.args.schemas.now)) c.index-totals-index.is (lent_query c.summary_of-summary.result))
+    rw (← c.summary_of-summary.ensures.summary) at (totals-at c.args.before.now summaries (length summaries) c.args.totals.now c.loop-index.index c.index-totals-index.result c.requires.totals (omega (arith, c.loop-index-test.true, c.summary_count-count.ensures c.args.schemas.now)) c.index-totals-index.is (lent_query c.summary_of-summary.result))
 
 pub loop-index-preserved : goal.loop-index-preserved
 loop-index-preserved c =
     let summaries = summaries_of c.args.schemas.now c.args.form.now in
     AreSoFar-more c.args.after.now summaries c.loop-index.index c.loop-index.made.items c.push.new.self.items c.in_ok-total_after.field-0 c.in_ok-push.ensures.items
-    (item_has (λ (s : Query Grouping). AreTotalsFor c.args.after.now s c.in_ok-total_after.field-0) summaries c.loop-index.index (lent_query c.summary_of-summary.result) (omega (arith, c.loop-index-test.true, c.summary_count-index-end.ensures c.args.schemas.now)) c.summary_of-summary.ensures.summary
+    (item_has (λ (s : Query Grouping). AreTotalsFor c.args.after.now s c.in_ok-total_after.field-0) summaries c.loop-index.index (lent_query c.summary_of-summary.result) (omega (arith, c.loop-index-test.true, c.summary_count-count.ensures c.args.schemas.now)) c.summary_of-summary.ensures.summary
     c.in_ok-total_after.ensures)
     c.loop-index.invariant
 
 pub returns : goal.returns
 returns c =
     subst (λ n. AreSoFar c.args.after.now (summaries_of c.args.schemas.now c.args.form.now) n c.loop-index.made.items)
-    (omega (arith, c.loop-index-test.false, c.loop-index.auto.index-end, c.summary_count-index-end.ensures c.args.schemas.now)) c.loop-index.invariant
+    (omega (arith, c.loop-index-test.false, c.loop-index.auto.index-end, c.summary_count-count.ensures c.args.schemas.now)) c.loop-index.invariant

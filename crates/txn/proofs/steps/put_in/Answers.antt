@@ -33,9 +33,9 @@ returns-clause-done c = λ read is.
     rows_done c.args.own.now c.args.modes.now read (record { reply = c.args.effect.reply; changes = c.args.effect.changes.items }) c.in_ok-after.after _ c.in_ok-violated.violated c.leave_rows_unless.result
     (after_is c)
     refl
-    (rw (c.as_slice-4.ensures, c.in_ok-after.ensures, c.as_slice.ensures.value) at c.in_ok-violated.ensures.first)
+    (rw (c.in_ok-after.ensures, c.as_slice.ensures.value) at c.in_ok-violated.ensures.first)
     (c.leave_rows_unless.ensures.reads ∙ c.in_ok-append.ensures.both ∙ ap (λ xs. xs ++ c.in_ok-checked.checked.items) is
-    ∙ ap (λ ks. read ∷ ks) ((rw (c.as_slice-2.ensures, c.as_slice-3.ensures.value, c.in_ok-after.ensures, c.as_slice.ensures.value) at c.in_ok-checked.ensures)
+    ∙ ap (λ ks. read ∷ ks) ((rw (c.as_slice-2.ensures.value, c.in_ok-after.ensures, c.as_slice.ensures.value) at c.in_ok-checked.ensures)
     ∙ ap (checks_read (layouts_in c.args.own.now.declared) (state_after_all (layouts_in c.args.own.now.declared) c.args.effect.changes.items c.args.own.now.state) (immediate_ones c.args.modes.now c.args.own.now.declared.assertions)) (net_is c)))
     c.leave_rows_unless.ensures.left
 

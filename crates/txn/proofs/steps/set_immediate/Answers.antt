@@ -9,9 +9,9 @@ pub returns-clause-done : goal.returns-clause-done
 returns-clause-done c = λ start n.
     modes_done c.args.own.now c.args.modes.now start c.args.names.now c.in_ok-after.after c.args.net.now _ c.in_ok-violated.violated c.leave_modes_unless.result n c.in_ok-after.ensures.set
     refl
-    ((rw (c.as_slice-2.ensures, c.in_ok-meant.ensures, c.assertions.ensures.value) at c.in_ok-violated.ensures.first)
+    ((rw (c.in_ok-meant.ensures, c.assertions.ensures.value) at c.in_ok-violated.ensures.first)
     ∙ ap (λ ones. violation (layouts_in c.args.own.now.declared) ones c.args.own.now.state) (named_are c.args.names.now c.args.own.now.declared.assertions))
     (c.leave_modes_unless.ensures.reads
-    ∙ (rw (c.as_slice.ensures, c.in_ok-meant.ensures, c.assertions.ensures.value) at c.in_ok-reads.ensures)
+    ∙ (rw (c.in_ok-meant.ensures, c.assertions.ensures.value) at c.in_ok-reads.ensures)
     ∙ ap (λ ones. checks_read (layouts_in c.args.own.now.declared) c.args.own.now.state ones c.args.net.now) (named_are c.args.names.now c.args.own.now.declared.assertions))
     c.leave_modes_unless.ensures.left

@@ -7,7 +7,8 @@ use Rattle.conflict.specs.Live.{least_writing, without}
 use Rattle.alone.specs.Commits.{IsLog, reach}
 use Rattle.alone.specs.Order.{least_out, put_by, rank, serial_order}
 use Rattle.conflict.specs.Ordered.{numbers_of}
-use Rattle.commit.specs.Cores.{core_after_commit, log_of, reads_kept, record_of}
+use Rattle.txn.specs.Transactions.{OpenTransaction}
+use Rattle.commit.specs.Cores.{core_after_commit, log_of, reads_kept, record_of, record_with}
 use Rattle.commit.specs.Kept.{idle_core}
 use Rattle.commit.proofs.Accepting.{core_next}
 use Rattle.commit.proofs.Keeping.{kept_idle, kept_ready, same_core}
@@ -28,7 +29,7 @@ put_in_order-requires-clause-order c = c.self.invariant.0.order_is ∙ ap (λ (r
 
 pub put_in_order-requires-clause-next : goal.put_in_order-requires-clause-next
 put_in_order-requires-clause-next c =
-    ap (λ (r : Record). r.number) c.record_of-record.ensures ∙ ap (λ n. n + 1) (c.len.ensures ∙ c.self.inside.records.ok.0)
+    ap (λ (r : Record). r.number) c.into_record-record.ensures ∙ ap (λ n. n + 1) (c.len.ensures ∙ c.self.inside.records.ok.0)
     ∙ ap (λ (records : List Record). length records + 1) (sym c.as_slice-committed.ensures.value)
 
 pub put_in_order-requires-clause-place : goal.put_in_order-requires-clause-place
@@ -38,15 +39,7 @@ put_in_order-requires-clause-place c =
     let p = c.in-Some.prepared in
     let there : c.self.inside.prepared ≡ Some p = sym c.take.ensures.value ∙ c.in-Some.is in
     let ready = kept_ready now c.self.inside.newest c.self.inside.places.items c.self.inside.reaches.items c.self.inside.order.items (readers_at c.self.inside.locks) Room p c.self.inside.prepared there c.self.invariant in
-    let made : c.record_of-record.result ≡ record_of now p.session p.closed = c.record_of-record.ensures ∙ (λ i. record {
-      number = (c.len.ensures ∙ c.self.inside.records.ok.0) i + 1;
-      snapshot = c.snapshot-snapshot.ensures i;
-      read_only = c.is_read_only-read_only.ensures i;
-      session = p.session;
-      trace = c.into_parts.ensures.trace i;
-      reads = c.into_parts.ensures.reads i;
-      changes = c.into_parts.ensures.changes i;
-    }) in
+    let made : c.into_record-record.result ≡ record_of now p.session p.closed = c.into_record-record.ensures ∙ ap (λ (n : ℕ). record_with (n + 1) p.session p.closed) (c.len.ensures ∙ c.self.inside.records.ok.0) in
     ready.1.place_is ∙ (λ i. least_out (reverse (sym c.as_slice-committed.ensures.value i)) (sym made i))
 
 pub invariant_of-self-2 : goal.invariant_of-self-2
@@ -59,20 +52,12 @@ invariant_of-self-2 c =
     let t = p.closed in
     let long = c.len.ensures ∙ c.self.inside.records.ok.0 in
     let commit = record_of now p.session t in
-    let made : c.record_of-record.result ≡ commit = c.record_of-record.ensures ∙ (λ i. record {
-      number = long i + 1;
-      snapshot = c.snapshot-snapshot.ensures i;
-      read_only = c.is_read_only-read_only.ensures i;
-      session = p.session;
-      trace = c.into_parts.ensures.trace i;
-      reads = c.into_parts.ensures.reads i;
-      changes = c.into_parts.ensures.changes i;
-    }) in
+    let made : c.into_record-record.result ≡ commit = c.into_record-record.ensures ∙ ap (λ (n : ℕ). record_with (n + 1) p.session p.closed) long in
     let records : c.push_reserved-3.new.self.items ≡ c.self.inside.records.items ++ commit ∷ []
     = c.push_reserved-3.ensures.items ∙ ap (λ (r : Record). c.self.inside.records.items ++ r ∷ []) made in
     let reaches : c.push_reserved-2.new.self.items ≡ c.self.inside.reaches.items ++ reach commit ∷ []
     = c.push_reserved-2.ensures.items ∙ ap (λ (n : ℕ). c.self.inside.reaches.items ++ n ∷ []) (c.reach.ensures ∙ ap reach made) in
-    let live : c.forget.new.live ≡ without t.begin_number c.self.inside.live = c.forget.ensures.live ∙ ap (λ begin_number. without begin_number c.self.inside.live) c.begin_number-begin_number.ensures in
+    let live : c.forget.new.live ≡ without t.begin_number c.self.inside.live = c.forget.ensures.live ∙ ap (λ begin_number. without begin_number c.self.inside.live) (c.begin_number-begin_number.ensures ∙ ap (λ (t : OpenTransaction). t.begin_number) c.txn.ensures) in
     let after = core_after_commit now p.session t in
     let same : after ≡ idle_core c.self.inside.limit c.self.inside.loaded c.push_reserved-3.new.self.items c.self.inside.refused.items c.forget.new.live
     = λ i. idle_core c.self.inside.limit c.self.inside.loaded (sym records i) c.self.inside.refused.items (sym live i) in

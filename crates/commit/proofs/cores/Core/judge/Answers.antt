@@ -8,7 +8,7 @@ use Rattle.alone.specs.Commits.{reach}
 use Rattle.conflict.specs.declared.verdicts.Judgment.TheVariants.{Fine, Dangerous}
 use Rattle.conflict.specs.Judged.{IsConflictAt, IsJudgmentOf}
 use Rattle.conflict.specs.Readers.{HasReaders}
-use Rattle.txn.specs.Transactions.{outcome_of}
+use Rattle.txn.specs.Transactions.{OpenTransaction, outcome_of}
 use Rattle.commit.specs.declared.decisions.Decision.TheVariants.{Accepted, Refused}
 use Rattle.commit.specs.Cores.{CoreState, IsLive, record_of}
 use Rattle.commit.specs.Decisions.{IsConflictOf, IsJudgment}
@@ -28,9 +28,9 @@ judge-requires-clause-readers c = λ writes.
     let locks = locks_idle now c.self.inside.newest c.self.inside.places.items c.self.inside.reaches.items c.self.inside.order.items (readers_at c.self.inside.locks) Room c.self.inside.prepared idle c.self.invariant in
     let live = subst (λ (s : CoreState). IsLive s c.args.closed.now) (sym is) c.requires.live in
     let known : HasReaders (readers_at c.self.inside.locks) (map reach c.self.inside.records.items) c.self.inside.records.items c.args.closed.now.snapshot =
-    readers_above now c.args.closed.now (readers_at c.self.inside.locks) live (sym c.is_read_only.ensures ∙ writes) locks in
+    readers_above now c.args.closed.now (readers_at c.self.inside.locks) live (sym (c.is_read_only.ensures ∙ ap (λ (t : OpenTransaction). t.read_only) c.txn-txn.ensures) ∙ writes) locks in
     subst (λ (far : List ℕ). HasReaders (readers_at c.self.inside.locks) far c.as_slice-records.result.now c.snapshot.result) (sym (c.as_slice-2.ensures.value ∙ c.self.invariant.0.reaches_are))
-    (subst (HasReaders (readers_at c.self.inside.locks) (map reach c.self.inside.records.items) c.as_slice-records.result.now) (sym c.snapshot.ensures)
+    (subst (HasReaders (readers_at c.self.inside.locks) (map reach c.self.inside.records.items) c.as_slice-records.result.now) (sym (c.snapshot.ensures ∙ ap (λ (t : OpenTransaction). t.snapshot) c.txn-txn.ensures))
     (subst (λ records. HasReaders (readers_at c.self.inside.locks) (map reach c.self.inside.records.items) records c.args.closed.now.snapshot) (sym c.as_slice-records.ensures.value) known))
 
 pub returns-in-Fine : goal.returns-in-Fine
@@ -42,8 +42,8 @@ returns-in-Fine c = λ session.
     (subst (λ records. IsJudgmentOf (reverse records) (record_of now session c.args.closed.now) (Fine c.in-Fine.place)) c.as_slice-records.ensures.value
     (c.in-Fine.ensures (record_of now session c.args.closed.now) (record {
       number = ap (λ (records : List Record). length records + 1) c.as_slice-records.ensures.value;
-      snapshot = c.snapshot.ensures;
-      read_only = c.is_read_only.ensures;
+      snapshot = (c.snapshot.ensures ∙ ap (λ (t : OpenTransaction). t.snapshot) c.txn-txn.ensures);
+      read_only = (c.is_read_only.ensures ∙ ap (λ (t : OpenTransaction). t.read_only) c.txn-txn.ensures);
       reads = c.reads.ensures;
       changes = c.changes-changes.ensures.net;
     }))))
@@ -54,8 +54,8 @@ refuse_for_writer-requires-clause-within c =
     let is : now ≡ c.args.self.now = idle_view now c.args.self.now c.self.inside.prepared c.self.view_is c.requires.idle in
     let at = c.in-WriteConflict.ensures (record_of now [] c.args.closed.now) (record {
       number = ap (λ (records : List Record). length records + 1) c.as_slice-records.ensures.value;
-      snapshot = c.snapshot.ensures;
-      read_only = c.is_read_only.ensures;
+      snapshot = (c.snapshot.ensures ∙ ap (λ (t : OpenTransaction). t.snapshot) c.txn-txn.ensures);
+      read_only = (c.is_read_only.ensures ∙ ap (λ (t : OpenTransaction). t.read_only) c.txn-txn.ensures);
       reads = c.reads.ensures;
       changes = c.changes-changes.ensures.net;
     }) in
@@ -79,8 +79,8 @@ returns-in_ok-refusal-in-WriteConflict c = λ session.
     (subst (λ records. IsConflictAt (reverse records) (record_of now session c.args.closed.now) c.in-WriteConflict.row c.in-WriteConflict.by) c.as_slice-records.ensures.value
     (c.in-WriteConflict.ensures (record_of now session c.args.closed.now) (record {
       number = ap (λ (records : List Record). length records + 1) c.as_slice-records.ensures.value;
-      snapshot = c.snapshot.ensures;
-      read_only = c.is_read_only.ensures;
+      snapshot = (c.snapshot.ensures ∙ ap (λ (t : OpenTransaction). t.snapshot) c.txn-txn.ensures);
+      read_only = (c.is_read_only.ensures ∙ ap (λ (t : OpenTransaction). t.read_only) c.txn-txn.ensures);
       reads = c.reads.ensures;
       changes = c.changes-changes.ensures.net;
     })))
@@ -97,8 +97,8 @@ returns-in-Dangerous c = λ session.
     (subst (λ records. IsJudgmentOf (reverse records) (record_of now session c.args.closed.now) (Dangerous c.in-Dangerous.danger)) c.as_slice-records.ensures.value
     (c.in-Dangerous.ensures (record_of now session c.args.closed.now) (record {
       number = ap (λ (records : List Record). length records + 1) c.as_slice-records.ensures.value;
-      snapshot = c.snapshot.ensures;
-      read_only = c.is_read_only.ensures;
+      snapshot = (c.snapshot.ensures ∙ ap (λ (t : OpenTransaction). t.snapshot) c.txn-txn.ensures);
+      read_only = (c.is_read_only.ensures ∙ ap (λ (t : OpenTransaction). t.read_only) c.txn-txn.ensures);
       reads = c.reads.ensures;
       changes = c.changes-changes.ensures.net;
     }))))

@@ -2,6 +2,7 @@ use Rattle.std.proofs.Common.{◌<◌, ◌∙◌, ℕ, List, ap}
 use Rattle.std.specs.Prelude.{vec_capacity, vec_len}
 use Rattle.siread.specs.Locks.{reads_above, readers_at}
 use Rattle.conflict.specs.Live.{least_writing, without}
+use Rattle.txn.specs.Transactions.{OpenTransaction}
 use Rattle.commit.specs.Kept.{idle_core}
 use Rattle.commit.proofs.Keeping.{is_idle, kept_left}
 use Rattle.commit.proofs.cores.Core.refuse.Goals as goal
@@ -13,7 +14,7 @@ invariant_of-self-2 c =
     kept_left now c.self.inside.newest c.self.inside.places.items c.self.inside.reaches.items c.self.inside.order.items (readers_at c.self.inside.locks) Room _
     c.self.inside.prepared c.args.closed.begin_number c.forget.new.live c.note_refused.new.refused.items _ (readers_at c.forget.new.locks)
     (is_idle now c.args.self.now c.self.inside.prepared c.self.view_is c.requires.idle)
-    (c.forget.ensures.live ∙ ap (λ begin_number. without begin_number c.self.inside.live) c.begin_number.ensures)
+    (c.forget.ensures.live ∙ ap (λ begin_number. without begin_number c.self.inside.live) (c.begin_number.ensures ∙ ap (λ (t : OpenTransaction). t.begin_number) c.txn.ensures))
     (c.len-newest.ensures ∙ c.self.inside.records.ok.0)
     (c.forget.ensures.locks ∙ ap (λ (far : List ℕ). reads_above (least_writing c.len-newest.result c.forget.new.live.snapshots) far (readers_at c.self.inside.locks)) c.as_slice.ensures.value)
     c.self.invariant

@@ -16,7 +16,7 @@ refuse_commit-requires g c =
       lit< tt,
       (
         subst (λ (ts : List Token). AreReceipts (g.N.Named.shelf c.self.inside.id) c.self.inside.epoch ts) (sym (c.as_slice.ensures.value ∙ c.in-Err.ensures.same)) (receipts_of _ _ _ c.self.invariant),
-        back_ticketed c.self.inside.core c.append.new.core c.args.session.now.name closed c.in-Err.fault.refusal c.in-Err.fault.txn c.closed.invariant c.in-Err.ensures.refused,
+        back_ticketed c.self.inside.core c.append.new.core c.args.session.now.name closed c.in-Err.fault.refusal c.in-Err.fault.txn c.closed.invariant.0 c.in-Err.ensures.refused,
       ),
     )
 

@@ -2,7 +2,7 @@ use Rattle.std.proofs.Common.{◌≡◌, drop}
 use Rattle.assertion.specs.Declarations.{layouts_in}
 use Rattle.alone.specs.Modes.{immediate_ones}
 use Rattle.alone.specs.Checks.{violation}
-use Rattle.txn.proofs.checks.find_violation.Given as goal
+use Rattle.txn.proofs.checks.find_false.Given as goal
 
 -- none of the assertions so far is meant and false
 abbrev pub invariant-loop-place : goal.invariant-loop-place

@@ -1,0 +1,9 @@
+-- What the marks of assertions say: of each whether it is immediate.
+use Rattle.std.specs.Prelude.{true, replicate}
+use Rattle.alone.specs.declared.modes.Marks.{Marks}
+use Rattle.alone.specs.declared.modes.Marks.TheVariants.{Each, All}
+use Rattle.alone.specs.Modes.{Immediates}
+
+abbrev pub marked : Marks → Immediates
+marked (Each marks) = marks.items
+marked (All count) = replicate count true

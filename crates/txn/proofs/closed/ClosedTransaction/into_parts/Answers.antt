@@ -1,0 +1,10 @@
+use Rattle.std.proofs.Common.{ap, ◌∙◌}
+use Rattle.txn.specs.Transactions.{OpenTransaction, keys_of, outcome_of}
+use Rattle.txn.proofs.closed.ClosedTransaction.into_parts.Goals as goal
+
+pub returns : goal.returns
+returns c = record {
+  trace_is = c.from_vec.ensures ∙ c.into_trace.ensures ∙ ap (λ (t : OpenTransaction). t.trace) c.self.view_is;
+  reads_are = c.from_vec-2.ensures ∙ c.self.invariant.reads_are ∙ ap (λ (t : OpenTransaction). keys_of t) c.self.view_is;
+  changes_are = c.from_vec-3.ensures ∙ c.self.invariant.changes_are ∙ ap (λ (t : OpenTransaction). (outcome_of t).changes) c.self.view_is;
+}
