@@ -15,7 +15,7 @@ use Rattle.form_check.specs.Queries.{Source, source_named, source_of, row_filter
 use Rattle.assertcheck.specs.Types.{is_typed_condition}
 use Rattle.assertcheck.specs.declared.updates.Setting.{Setting}
 use Rattle.assertcheck.specs.declared.updates.Update.{Update}
-use Rattle.value.specs.Results.{and_then, provided, unless}
+use Rattle.value.specs.Results.{and_then, if_holds, unless}
 use Rattle.value.proofs.Results.{and_then_ok, found_ok, ok_same, provided_ok, unless_ok}
 use Rattle.assertcheck.specs.Conditions.{target_of}
 use Rattle.assertcheck.specs.Statements.{new_place}
@@ -94,7 +94,7 @@ checked_keyless tables name sets condition u h =
     let restriction = and_then_ok (row_filter target.0.scope condition) (λ restriction. sound_update target.0.scope.layout.columns (record { table = target.0.table; sets = settings.0; filter = restriction })) u settings.1.1 in
     let made : Update = record { table = target.0.table; sets = settings.0; filter = restriction.0 } in
     let columns = target.0.scope.layout.columns in
-    let inner : provided (list_all is_bounded_setting made.sets && is_bounded [] made.filter) TooWide (Ok made) ≡ Ok u = provided_ok (list_all (fits columns) made.sets && is_typed_condition columns [] made.filter) TypeMismatch (provided (list_all is_bounded_setting made.sets && is_bounded [] made.filter) TooWide (Ok made)) u restriction.1.1 in
+    let inner : if_holds (list_all is_bounded_setting made.sets && is_bounded [] made.filter) TooWide (Ok made) ≡ Ok u = provided_ok (list_all (fits columns) made.sets && is_typed_condition columns [] made.filter) TypeMismatch (if_holds (list_all is_bounded_setting made.sets && is_bounded [] made.filter) TooWide (Ok made)) u restriction.1.1 in
     let is : made ≡ u = ok_same made u (provided_ok (list_all is_bounded_setting made.sets && is_bounded [] made.filter) TooWide (Ok made) u inner) in
     let keyless : sets_key target.0.scope.layout.key settings.0 ≡ false = settings_keyless target.0.scope target.0.scope.layout.key places.0 sets settings.0 settings.1.0 (places_not_key target.0.scope.layout [] sets places.0 places.1.0 tt) in
     subst (λ (x : Update). sets_key (key_of x.table (layouts_of tables)) x.sets ≡ false) is (ap (λ k. sets_key k settings.0) (sym (target_key tables name target.0 target.1.0)) ∙ keyless)

@@ -4,6 +4,6 @@ use Rattle.alone.specs.declared.modes.Marks.{Marks}
 use Rattle.alone.specs.declared.modes.Marks.TheVariants.{Each, All}
 use Rattle.alone.specs.Modes.{Immediates}
 
-abbrev pub marked : Marks → Immediates
-marked (Each marks) = marks.items
-marked (All count) = replicate count true
+abbrev pub immediates_in : Marks → Immediates
+immediates_in (Each marks) = marks.items
+immediates_in (All count) = replicate count true

@@ -26,12 +26,12 @@ enum Marks {
 }
 
 impl Model for Modes {
-    ghost use Rattle.alone.specs.Marks.{marked};
+    ghost use Rattle.alone.specs.Marks.{immediates_in};
     ghost use Rattle.alone.specs.Modes.{Immediates};
 
     ghost Value = { Immediates };
 
-    ghost view = { λ modes. marked modes.marks };
+    ghost view = { λ modes. immediates_in modes.marks };
 }
 
 impl Modes {

@@ -11,7 +11,7 @@ use Rattle.assertion.specs.declared.assertions.Assertion.{Assertion}
 use Rattle.assertion.specs.declared.assertions.ConstraintAttributes.{ConstraintAttributes}
 use Rattle.assertion.specs.declared.forms.Form.{Form}
 use Rattle.form_check.specs.Names.{condition_fault}
-use Rattle.value.specs.Results.{and_then, provided, unless}
+use Rattle.value.specs.Results.{and_then, if_holds, unless}
 use Rattle.form_check.specs.Forms.{form_of}
 use Rattle.assertcheck.specs.Forms.{is_typed_form}
 use Rattle.assertcheck.specs.Widths.{is_bounded_form}
@@ -42,13 +42,13 @@ are_at_odds written = is_deferred written.initially && is_written false written.
 -- an assertion of a form, if the form is typed and its expressions are bounded
 abbrev pub of_form : Tables → List ℕ → ConstraintAttributes → Form → Result Assertion Refusal
 of_form tables name attributes form =
-    provided (is_typed_form (layouts_of tables) form) TypeMismatch (
-    provided (is_bounded_form form) TooWide (
+    if_holds (is_typed_form (layouts_of tables) form) TypeMismatch (
+    if_holds (is_bounded_form form) TooWide (
     Ok (record { name = name; attributes = attributes; form = form })))
 
 -- attributes first, then names, the shape, types and widths
 abbrev pub checked_assertion : Tables → List ℕ → Condition → Attributes → Result Assertion Refusal
 checked_assertion tables name condition written =
-    provided (not (are_at_odds written)) (AttributeClash name) (
+    if_holds (not (are_at_odds written)) (AttributeClash name) (
     unless (condition_fault tables condition []) (
     and_then (form_of tables condition) (of_form tables name (attributes_of written))))

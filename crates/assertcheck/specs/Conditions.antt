@@ -8,7 +8,7 @@ use Rattle.table.specs.declared.conds.Cond.{Cond}
 use Rattle.table.specs.Bounds.{is_bounded}
 use Rattle.form_check.specs.Scopes.{Scope}
 use Rattle.form_check.specs.Names.{condition_fault}
-use Rattle.value.specs.Results.{and_then, result_of_name, provided, unless}
+use Rattle.value.specs.Results.{and_then, result_of_name, if_holds, unless}
 use Rattle.form_check.specs.Queries.{Source, source_of, row_filter}
 use Rattle.assertcheck.specs.Types.{is_typed_condition}
 
@@ -19,8 +19,8 @@ target_of tables name = result_of_name name (source_of tables name None)
 -- a condition of rows, if it is typed and its expressions are bounded
 abbrev pub sound_condition : Scope → Cond → Result Cond Refusal
 sound_condition scope made =
-    provided (is_typed_condition scope.layout.columns [] made) TypeMismatch
-    (provided (is_bounded [] made) TooWide (Ok made))
+    if_holds (is_typed_condition scope.layout.columns [] made) TypeMismatch
+    (if_holds (is_bounded [] made) TooWide (Ok made))
 
 -- what is wrong with the names in a WHERE
 abbrev pub filter_fault : Tables → Scope → Option Condition → Option Refusal

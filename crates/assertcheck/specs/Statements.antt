@@ -12,7 +12,7 @@ use Rattle.syntax.specs.declared.trees.Condition.{Condition}
 use Rattle.syntax.specs.declared.statements.Insert.{Insert}
 use Rattle.syntax.specs.declared.statements.Which.{Which}
 use Rattle.syntax.specs.declared.statements.Which.TheVariants.{All, Names}
-use Rattle.value.specs.Results.{and_then, each, result_of_name, provided}
+use Rattle.value.specs.Results.{and_then, each, result_of_name, if_holds}
 use Rattle.form_check.specs.Queries.{Source}
 use Rattle.assertcheck.specs.declared.deletes.Delete.{Delete}
 use Rattle.assertcheck.specs.declared.inserts.NewRow.{NewRow}
@@ -77,8 +77,8 @@ row_of columns places values = row_from 0 columns places values
 -- the row of an INSERT, if it gives as many values as it lists columns, each of its column's type
 abbrev pub typed_row : Source → List ℕ → List Value → Result NewRow Refusal
 typed_row target places values =
-    provided (length values == length places) TypeMismatch (
-    provided (are_typed target.scope.layout.columns (row_of target.scope.layout.columns places values)) TypeMismatch (
+    if_holds (length values == length places) TypeMismatch (
+    if_holds (are_typed target.scope.layout.columns (row_of target.scope.layout.columns places values)) TypeMismatch (
     Ok (record { table = target.table; row = row_of target.scope.layout.columns places values })))
 
 -- INSERT: the table, the listed columns, how many values there are, and their types

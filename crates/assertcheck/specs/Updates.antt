@@ -14,7 +14,7 @@ use Rattle.table.specs.declared.exprs.Expr.{Expr}
 use Rattle.table.specs.Bounds.{bound_of, is_bounded}
 use Rattle.form_check.specs.Scopes.{Scope}
 use Rattle.form_check.specs.Names.{expression_fault}
-use Rattle.value.specs.Results.{and_then, provided, unless}
+use Rattle.value.specs.Results.{and_then, if_holds, unless}
 use Rattle.form_check.specs.Queries.{Source, row_expression, row_filter}
 use Rattle.assertcheck.specs.declared.data_types.DataType.{DataType}
 use Rattle.assertcheck.specs.Types.{are_comparable, column_type, expression_type, is_typed_condition}
@@ -91,8 +91,8 @@ IsBoundedSetting setting = IfSome setting.value (λ value. IsSome (bound_of [] v
 -- the UPDATE, if all its expressions and its condition are typed, and then if all are bounded
 abbrev pub sound_update : List Column → Update → Result Update Refusal
 sound_update columns update =
-    provided (list_all (fits columns) update.sets && is_typed_condition columns [] update.filter) TypeMismatch (
-    provided (list_all is_bounded_setting update.sets && is_bounded [] update.filter) TooWide (
+    if_holds (list_all (fits columns) update.sets && is_typed_condition columns [] update.filter) TypeMismatch (
+    if_holds (list_all is_bounded_setting update.sets && is_bounded [] update.filter) TooWide (
     Ok update))
 
 -- the UPDATE that gives these columns their values, where each expression and the condition are over the rows of the

@@ -92,12 +92,12 @@ reply_for (Some op.Line) s = text_reply (line_of s.response)
 reply_for (Some operation) s = response_bytes (columns_of s.database s.response) s.response
 
 -- a buffer after a text was written over its front, as far as the text fits
-abbrev pub overwritten : List ℕ → List ℕ → List ℕ
-overwritten buf text = take (length buf) text ++ drop (length text) buf
+abbrev pub buffer_after : List ℕ → List ℕ → List ℕ
+buffer_after buf text = take (length buf) text ++ drop (length text) buf
 
 -- the reply is in the buffer as far as it fits, and len says how long it is
 pub record IsWritten (reply : List ℕ) (r : Response) (old new : List ℕ) (len : ℕ) (status : ℤ) : Type 0 where
-  pub bytes : new ≡ overwritten old reply
+  pub bytes : new ≡ buffer_after old reply
   pub length_is : len ≡ length reply
   pub status_is : status ≡ status_number (status_of r)
 

@@ -3,7 +3,7 @@
 ghost use Rattle.std.specs.Prelude.{◌≡◌, IfOk};
 ghost use Rattle.messages.specs.Replies as messages;
 ghost use Rattle.calls.specs.States as spec;
-ghost use Rattle.calls.specs.States.{IsCalled, IsOpened, IsReplied, overwritten};
+ghost use Rattle.calls.specs.States.{IsCalled, IsOpened, IsReplied, buffer_after};
 
 use crate::databases::Database;
 use messages::{
@@ -81,7 +81,7 @@ pub fn open(alloc: Global, request: &[u8]) -> Library
 }
 
 fn copy_out(from: &[u8], buf: &mut [u8])
-    ensures { buf.new ≡ overwritten buf.old from.now }
+    ensures { buf.new ≡ buffer_after buf.old from.now }
 {
     let n = if from.len() < buf.len() {
         from.len()

@@ -3,7 +3,7 @@ use Rattle.std.specs.Prelude.{◌≡◌, ◌≢◌, ◌≤◌, ◌++◌, ℕ, Bo
 use Rattle.std.specs.List.{list_any}
 use Rattle.value.specs.declared.refusals.Refusal.{Refusal}
 use Rattle.value.specs.declared.refusals.Refusal.TheVariants.{NoMemory, TransactionOpen}
-use Rattle.value.specs.Results.{and_then, provided}
+use Rattle.value.specs.Results.{and_then, if_holds}
 use Rattle.meaning.specs.Laws.{Pairs}
 use Rattle.delta.specs.Views.{ViewState}
 use Rattle.definitions.specs.declared.redeclaration.NewAssertion.{NewAssertion}
@@ -40,7 +40,7 @@ is_any_open seats = list_any (λ seat. is_some seat.txn) seats
 abbrev pub next_start_of : (dropped : List (List ℕ)) → (created : List NewAssertion) → EngineState
     → Result ViewState Refusal
 next_start_of dropped created now =
-    provided (not (is_any_open now.seats)) TransactionOpen (next_start dropped created (newest_tables now.core))
+    if_holds (not (is_any_open now.seats)) TransactionOpen (next_start dropped created (newest_tables now.core))
 
 -- What an epoch that began after these tables led to: what its events were answered, up to the first for whose answer
 -- there was no room, and what they left; and of this all that holds of each run.

@@ -392,8 +392,30 @@ impl Core {
 }
 
 impl Core {
-    /// A transaction, read only or not, begins on the newest tables.
+    /// A transaction, read only or not, begins on the newest tables. The transactions that have committed hold nothing
+    /// of these any more, so that they can settle.
     pub(crate) fn begin_as(&mut self, read_only: bool) -> Result<Txn, AllocError>
+        requires idle { self.old.prepared ≡ None }
+        ensures begun { IfOk result (λ txn.
+            txn ≡ transaction_at_begin self.old.live.begun (length self.old.records) read_only
+            (newest_tables self.old)) }
+        ensures live { IfOk result (λ txn. IsLive self.new txn) }
+        ensures after { OnOk result (self.new ≡ with_begun read_only self.old) }
+        ensures same { OnErr result (self.new ≡ self.old) }
+    {
+        self.settle();
+        self.begin_on_newest(read_only)
+    }
+
+    /// The newest tables have less for the next version to copy then, and all is as it was.
+    fn settle(&mut self)
+        ensures { self.new ≡ self.old }
+    {
+        self.newest.settle();
+    }
+
+    /// The same, without a look at what stands beside the tables.
+    fn begin_on_newest(&mut self, read_only: bool) -> Result<Txn, AllocError>
         requires idle { self.old.prepared ≡ None }
         ensures begun { IfOk result (λ txn.
             txn ≡ transaction_at_begin self.old.live.begun (length self.old.records) read_only

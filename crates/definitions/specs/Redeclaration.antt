@@ -2,7 +2,7 @@
 use Rattle.std.specs.Prelude.{◌≡◌, ◌++◌, ℕ, List, [], ◌∷◌, Result, Ok}
 use Rattle.value.specs.declared.refusals.Refusal.{Refusal}
 use Rattle.value.specs.declared.refusals.Refusal.TheVariants.{UnknownName}
-use Rattle.value.specs.Results.{and_then, provided}
+use Rattle.value.specs.Results.{and_then, if_holds}
 use Rattle.table.specs.Rows.{Tables}
 use Rattle.syntax.specs.declared.definitions.Definition.{Definition}
 use Rattle.syntax.specs.declared.definitions.Definition.TheVariants as definition
@@ -19,7 +19,7 @@ definition_of new = definition.Assertion new.name new.condition new.attributes
 -- DROP ASSERTION: there is one of the name
 abbrev pub without_name : (name : List ℕ) → ViewState → Result ViewState Refusal
 without_name name now =
-    provided (is_asserted name now.declared.assertions) (UnknownName name)
+    if_holds (is_asserted name now.declared.assertions) (UnknownName name)
     (Ok (record now { declared = without_assertion name now.declared }))
 
 -- DROP ASSERTION of each of some names, from the left

@@ -13,7 +13,7 @@ use Rattle.syntax.specs.declared.definitions.Definition.TheVariants as definitio
 use Rattle.assertion.specs.declared.assertions.Assertion.{Assertion}
 use Rattle.delta.specs.Views.{ViewState}
 use Rattle.changes.specs.Insertions.{tables_after_insert}
-use Rattle.value.specs.Results.{and_then, provided}
+use Rattle.value.specs.Results.{and_then, if_holds}
 use Rattle.assertcheck.specs.Assertions.{checked_assertion}
 use Rattle.definitions.specs.Tables.{layout_from}
 
@@ -24,7 +24,7 @@ empty_database = record { declared = record { tables = []; assertions = [] }; st
 -- CREATE TABLE: its name is free among the tables
 abbrev pub with_table : List ℕ → List ColumnDefinition → ViewState → Result ViewState Refusal
 with_table name columns now =
-    provided (is_none (layout_of name now.declared.tables)) (NameTaken name) (
+    if_holds (is_none (layout_of name now.declared.tables)) (NameTaken name) (
     and_then (layout_from columns) (λ layout. Ok (record {
       declared = record (now.declared) { tables = now.declared.tables ++ (name, layout) ∷ [] };
       state = now.state ++ [] ∷ [];
@@ -37,7 +37,7 @@ is_asserted name assertions = list_any (λ a. bytes_eq a.name name) assertions
 -- CREATE ASSERTION: its name is free among the assertions
 abbrev pub with_assertion : List ℕ → Condition → Attributes → ViewState → Result ViewState Refusal
 with_assertion name condition attributes now =
-    provided (not (is_asserted name now.declared.assertions)) (NameTaken name) (
+    if_holds (not (is_asserted name now.declared.assertions)) (NameTaken name) (
     and_then (checked_assertion now.declared.tables name condition attributes)
     (λ a. Ok (record now { declared = record (now.declared) { assertions = now.declared.assertions ++ a ∷ [] } })))
 

@@ -1,6 +1,6 @@
 -- What is maintained is right one by one.
-use Rattle.std.proofs.Common.{◌≡◌, ℕ, ◌+◌, ◌<◌, false, Global, List, [], ◌∷◌, ◌++◌, map, length, get_or, sym, ◌∙◌, ap, subst, length-append}
-use Rattle.std.proofs.lemmas.List.{get_or_default, map-append}
+use Rattle.std.proofs.Common.{◌≡◌, ℕ, zero, suc, ◌+◌, ◌<◌, false, Global, List, [], ◌∷◌, ◌++◌, map, length, get_or, set, refl, sym, ◌∙◌, ap, subst, length-append}
+use Rattle.std.proofs.lemmas.List.{get_or_default, length-map, length-set, map-append}
 use Rattle.std.proofs.Math.ListN.{get_or-map}
 use Rattle.std.specs.Arc.{arc_value}
 use Rattle.std.specs.declared.sync.Arc.{Arc}
@@ -11,12 +11,13 @@ use Rattle.assertion.specs.declared.forms.Form.{Form}
 use Rattle.assertion.specs.Meaning.{State}
 use Rattle.assertion.specs.Changes.{IsOrdered, state_after}
 use Rattle.table.specs.declared.rows.Change.{Change}
-use Rattle.roots.specs.Maintained.{IsStepOf}
+use Rattle.roots.specs.Maintained.{AreMaintained, IsStepOf}
+use Rattle.assertion.specs.Roots.{AreBad}
 use Rattle.roots.specs.Over.{is_over}
 use Rattle.roots.proofs.ElsewhereLemmas.{maintained-elsewhere, bad-elsewhere, verdict-elsewhere}
 use Rattle.delta.proofs.TableLemmas.{good_order, good_small, new_small, old_small}
 use Rattle.delta.specs.declared.watches.Watch.{Watch}
-use Rattle.delta.specs.Maintained.{IsStep, IsWatched, AreWatched}
+use Rattle.delta.specs.Maintained.{AreAlike, AreAllAlike, AreWatched, IsStep, IsWatched}
 
 -- one more watch
 pub AreWatched-more : (layouts : List Layout) (state : State) (forms : List Assertion) (n : ℕ) (ws more : List Watch) (w : Watch) → more ≡ ws ++ w ∷ [] → ((a : Assertion) → IsWatched layouts state (get_or forms n a).form w) → AreWatched layouts state forms n ws → AreWatched layouts state forms (n + 1) more
@@ -67,3 +68,42 @@ step_within layouts change before after step = record {
   old_small = old_small layouts change before step.is step.good;
   new_small = new_small layouts change step.fits;
 }
+
+alike_itself : (w : Watch) → AreAlike w w
+alike_itself w = record { totals = refl; bad = refl; truth = refl }
+
+alike_through : (u v w : Watch) → AreAlike u v → AreAlike v w → AreAlike u w
+alike_through u v w a b = record { totals = a.totals ∙ b.totals; bad = a.bad ∙ b.bad; truth = a.truth ∙ b.truth }
+
+-- lists are alike to themselves, and where one watch is put for another that is alike
+pub all_themselves : (ws : List Watch) → AreAllAlike ws ws
+all_themselves ws = record { long = refl; each = λ i w. alike_itself (get_or ws i w) }
+
+each_set : (ws : List (Arc Watch Global)) (r : ℕ) (x y : Arc Watch Global) → x ≡ get_or ws r x → AreAlike (arc_value y) (arc_value x) → (i : ℕ) (w : Watch)
+    → AreAlike (get_or (map arc_value (set ws r y)) i w) (get_or (map arc_value ws) i w)
+each_set [] r x y e a i w = alike_itself (get_or [] i w)
+each_set (z ∷ ws) zero x y e a zero w = subst (λ (v : Arc Watch Global). AreAlike (arc_value y) (arc_value v)) e a
+each_set (z ∷ ws) zero x y e a (suc i) w = alike_itself (get_or (map arc_value ws) i w)
+each_set (z ∷ ws) (suc r) x y e a zero w = alike_itself (arc_value z)
+each_set (z ∷ ws) (suc r) x y e a (suc i) w = each_set ws r x y e a i w
+
+pub all_set : (ws : List (Arc Watch Global)) (us : List Watch) (r : ℕ) (x y : Arc Watch Global) → x ≡ get_or ws r x → AreAlike (arc_value y) (arc_value x) → AreAllAlike (map arc_value ws) us
+    → AreAllAlike (map arc_value (set ws r y)) us
+all_set ws us r x y e a all = record {
+  long = length-map (set ws r y) arc_value ∙ length-set ws r y ∙ sym (length-map ws arc_value) ∙ all.long;
+  each = λ i w. alike_through (get_or (map arc_value (set ws r y)) i w) (get_or (map arc_value ws) i w) (get_or us i w) (each_set ws r x y e a i w) (all.each i w);
+}
+
+-- what is alike is right where the other is
+pub watched_alike : (layouts : List Layout) (state : State) (forms : List Assertion) (n : ℕ) (vs ws : List Watch) → AreAllAlike vs ws → AreWatched layouts state forms n ws → AreWatched layouts state forms n vs
+watched_alike layouts state forms n vs ws all k = record {
+  long = all.long ∙ k.long;
+  right = λ i h a w. one (get_or forms i a).form (get_or vs i w) (get_or ws i w) (all.each i w) (k.right i h a w);
+}
+  where
+    one : (form : Form) (v w : Watch) → AreAlike v w → IsWatched layouts state form w → IsWatched layouts state form v
+    one form v w a r = record {
+      totals = subst (AreMaintained layouts state form) (sym a.totals) r.totals;
+      bad = subst (AreBad layouts form state) (sym a.bad) r.bad;
+      truth = a.truth ∙ r.truth;
+    }

@@ -26,6 +26,17 @@ pub record IsWatched (layouts : List Layout) (state : State) (form : Form) (watc
   pub bad : AreBad layouts form state watch.bad
   pub truth : watch.truth ≡ verdict_of layouts form state
 
+-- two watches keep the same
+pub record AreAlike (v w : Watch) : Type 0 where
+  pub totals : v.totals.items ≡ w.totals.items
+  pub bad : v.bad ≡ w.bad
+  pub truth : v.truth ≡ w.truth
+
+-- the watches of two lists do, one by one
+pub record AreAllAlike (vs ws : List Watch) : Type 0 where
+  pub long : length vs ≡ length ws
+  pub each : (i : ℕ) (w : Watch) → AreAlike (slice_index_or vs i w) (slice_index_or ws i w)
+
 -- the first n watches are right for the first n assertions
 pub record AreWatched (layouts : List Layout) (state : State) (assertions : List Assertion) (n : ℕ)
     (watches : List Watch) : Type 0 where

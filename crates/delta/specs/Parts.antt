@@ -6,8 +6,8 @@ use Rattle.delta.specs.Maintained.{IsMaintained}
 use Rattle.delta.specs.Views.{ViewState}
 
 -- what contracts see of them
-abbrev pub shown : Parts → ViewState
-shown p = record {
+abbrev pub view_of : Parts → ViewState
+view_of p = record {
   declared = record {
     tables = (arc_value p.declarations).catalog;
     assertions = (arc_value p.declarations).assertions.items;

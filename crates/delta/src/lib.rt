@@ -15,9 +15,9 @@
 //! watches are made from the old ones: the old row leaves its group and the new row joins its own, and the assertion
 //! is evaluated again only at the change's candidates, since no other root can have turned (materialized views,
 //! maintained incrementally: Gupta, Mumick and Subrahmanian, "Maintaining Views Incrementally", 1993). The watch of
-//! an assertion that isn't over the changed table is shared as it is, and every other one shares all but the paths to
-//! what is changed (`pages`). The tables that there are and the assertions are the same for all views that come from
-//! one, and are shared.
+//! an assertion that isn't over the changed table is shared as it is, and every other one shares all but what is
+//! changed and, from time to time, the paths to it (`pages`). The tables that there are and the assertions are the
+//! same for all views that come from one, and are shared.
 //!
 //! Where a subquery is linked to another column than the key, the table of the rows has an index by that column
 //! (`mvrows`), made when the view is loaded or the assertion is declared, and carried on with each change: a change of
@@ -36,6 +36,8 @@
 //! - [`View::load`] is the view of given tables.
 //! - [`View::with`] is the view after a change of one row, [`View::after`] that after several, one after the other,
 //!   and [`View::copy`] one that is equal.
+//! - [`View::settle`] changes nothing that a view shows, and leaves less for the next one to copy: who has let go of
+//!   the view before calls it.
 //! - [`View::with_assertion`] and [`View::without_assertion`] are views of the same tables on which an assertion more
 //!   is declared, or one less.
 //! - [`put_change`] puts a change of one row into tables of which there is no view yet.

@@ -8,10 +8,10 @@ ghost use Rattle.value.specs.ValueOrder.{value_cmp};
 ghost use Rattle.table.specs.Rows.{Layout, value_in, key_of};
 ghost use Rattle.assertion.specs.Meaning.{rows_of};
 ghost use Rattle.assertion.specs.Changes.{IsChangeOf};
-ghost use Rattle.delta.specs.Maintained.{AreShort, AreWatched, IsGood, IsStep};
+ghost use Rattle.delta.specs.Maintained.{AreAllAlike, AreShort, AreWatched, IsGood, IsStep};
 ghost use Rattle.delta.specs.Views.{AreBounded, IsFitting};
 
-use crate::watches::{Watch, watch_after};
+use crate::watches::{Watch, settle_watch, watch_after};
 use assertion::{Assertion, Form, Link, Query};
 use mvrows::Rows;
 use std::alloc::{AllocError, Global};
@@ -123,8 +123,7 @@ pub fn copy_tables(alloc: Global, tables: &[Rows]) -> Result<Vec<Rows>, AllocErr
     let mut made = Vec::with_capacity(alloc, tables.len())?;
     for table in 0..tables.len() {
         let rows = &tables[table];
-        // The proof reads that there are fewer than 2^63.
-        let _ = rows.len();
+        rows.recall_length();
         made.push(rows.copy()?)?;
     }
     Ok(made)
@@ -211,6 +210,24 @@ fn index_links(
         }
     }
     Ok(())
+}
+
+/// Tables that nobody shares settle.
+pub fn settle_tables(tables: &mut [Rows])
+    ensures { tables.new ≡ tables.old }
+{
+    for table in 0..tables.len() {
+        tables[table].settle();
+    }
+}
+
+/// Watches that nobody shares settle.
+pub fn settle_watches(watches: &mut [Arc<Watch>])
+    ensures { AreAllAlike (map arc_value watches.new) (map arc_value watches.old) }
+{
+    for at in 0..watches.len() {
+        settle_watch(&mut watches[at]);
+    }
 }
 
 /// The same watches, shared.

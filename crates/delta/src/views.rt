@@ -11,14 +11,14 @@ ghost use Rattle.assertion.specs.Candidates.{candidates_of};
 ghost use Rattle.assertion.specs.Declarations.{layouts_in};
 ghost use Rattle.assertion.specs.Meaning.{least_bad_of, rows_of, verdict_of};
 ghost use Rattle.assertion.specs.Changes.{AreChangesOf, IsChangeOf, state_after, state_after_all};
-ghost use Rattle.delta.specs.Maintained.{AreShort, AreWatched, IsGood};
-ghost use Rattle.delta.specs.Parts.{AreAgreed, shown};
+ghost use Rattle.delta.specs.Maintained.{AreAllAlike, AreShort, AreWatched, IsGood};
+ghost use Rattle.delta.specs.Parts.{AreAgreed, view_of};
 ghost use Rattle.delta.specs.Views.{AreBounded, AreTables, IsFitting, with_assertion, without_assertion};
 
 use crate::declarations::{Declarations, copy_assertions, copy_catalog, schemas_of};
 use crate::versions::{
-    WatchedAssertions, copy_tables, copy_watches, index_for, index_tables, leave_out, tables_after,
-    watches_after, watches_of,
+    WatchedAssertions, copy_tables, copy_watches, index_for, index_tables, leave_out,
+    settle_tables, settle_watches, tables_after, watches_after, watches_of,
 };
 use crate::watches::Watch;
 use assertion::Assertion;
@@ -51,14 +51,14 @@ impl Model for View {
     ghost use Rattle.std.specs.Coded.{codes};
     ghost use Rattle.table.specs.contracts.conds.Cond as cond_type;
     ghost use Rattle.table.specs.contracts.exprs.Expr as expr_type;
-    ghost use Rattle.delta.specs.Parts.{AreAgreed, shown};
+    ghost use Rattle.delta.specs.Parts.{AreAgreed, view_of};
     ghost use Rattle.delta.specs.Views.{ViewState};
 
     ghost Value = { ViewState };
 
     ghost coded = { Prim.hlevel (codes, cond_type.the_row.coded, expr_type.the_row.coded) };
 
-    ghost view = { λ v. shown (arc_value v.parts) };
+    ghost view = { λ v. view_of (arc_value v.parts) };
 
     ghost invariant = { λ v. AreAgreed (arc_value v.parts) };
 }
@@ -98,7 +98,7 @@ impl View {
     /// The view that has these parts, which agree.
     fn of(alloc: Global, parts: Parts) -> Result<View, AllocError>
         requires { AreAgreed parts }
-        ensures { IfOk result (λ view. view ≡ shown parts) }
+        ensures { IfOk result (λ view. view ≡ view_of parts) }
     {
         Ok(View {
             parts: Arc::new(alloc, parts)?,
@@ -166,6 +166,14 @@ impl View {
         Ok(View {
             parts: Arc::try_clone(&self.parts)?,
         })
+    }
+
+    /// What was changed since it was last shared comes into its place, where nobody shares what is around it: the next
+    /// view has less to copy then. The view stays as it is, also where memory runs out.
+    pub fn settle(&mut self)
+        ensures { self.new ≡ self.old }
+    {
+        settle_parts(&mut self.parts);
     }
 
     /// The view of the same tables with an assertion behind the others. One pass is made over the tables for it, and
@@ -340,5 +348,18 @@ impl View {
             (slice_index_or self.now.declared.assertions assertion a).form self.now.state }
     {
         self.parts.watches[assertion].bad.first()
+    }
+}
+
+/// Parts that nobody shares settle.
+fn settle_parts(parts: &mut Arc<Parts>)
+    ensures declarations { (arc_value parts.new).declarations ≡ (arc_value parts.old).declarations }
+    ensures tables { (arc_value parts.new).tables.items ≡ (arc_value parts.old).tables.items }
+    ensures watches { AreAllAlike (map arc_value (arc_value parts.new).watches.items)
+        (map arc_value (arc_value parts.old).watches.items) }
+{
+    if let Some(own) = Arc::get_mut(parts) {
+        settle_tables(&mut own.tables);
+        settle_watches(&mut own.watches);
     }
 }

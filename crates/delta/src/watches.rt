@@ -3,7 +3,7 @@
 ghost use Rattle.std.specs.Prelude.{IfOk};
 ghost use Rattle.std.specs.Arc.{arc_value};
 ghost use Rattle.assertion.specs.Bounded.{IsBounded};
-ghost use Rattle.delta.specs.Maintained.{IsGood, IsStep, IsWatched};
+ghost use Rattle.delta.specs.Maintained.{AreAlike, IsGood, IsStep, IsWatched};
 
 use assertion::Form;
 use groups::Totals;
@@ -60,6 +60,24 @@ impl Watch {
         let bad = bad_after(alloc, schemas, after, form, &totals, &self.bad, change)?;
         let truth = truth_of(alloc, schemas, after, form, &totals, &bad)?;
         Ok(Watch { totals, bad, truth })
+    }
+
+    /// What was changed since it was last shared comes into its place. The watch keeps the same.
+    pub fn settle(&mut self)
+        ensures { AreAlike self.new self.old }
+    {
+        for at in 0..self.totals.len() {
+            self.totals[at].settle();
+        }
+    }
+}
+
+/// A watch that nobody shares settles.
+pub fn settle_watch(watch: &mut Arc<Watch>)
+    ensures { AreAlike (arc_value watch.new) (arc_value watch.old) }
+{
+    if let Some(own) = Arc::get_mut(watch) {
+        own.settle();
     }
 }
 

@@ -16,7 +16,7 @@ ghost use Rattle.groups.specs.Totals.{Members, total_at, IsEntryOf, IsTotalOf, A
 
 use crate::members::Member;
 use crate::totals::Total;
-use pages::Pages;
+use pages::DifferentialMap;
 use std::alloc::{AllocError, Global};
 use std::cmp::Ordering;
 use std::marker::Model;
@@ -26,7 +26,7 @@ use value::{Value, order};
 /// The total of each group that has a row, in the order of the groups.
 #[derive(Debug, Drop)]
 pub struct Totals {
-    pages: Pages<Total>,
+    pages: DifferentialMap<Total>,
 }
 
 impl Model for Totals {
@@ -45,7 +45,7 @@ impl Totals {
         ensures totals { (asked : functions) → AreTotalsOf asked (λ group. []) result }
     {
         Totals {
-            pages: Pages::new(alloc),
+            pages: DifferentialMap::new(alloc),
         }
     }
 
@@ -186,6 +186,14 @@ impl Totals {
         let mut pages = self.pages;
         pages.put(group, unless_empty(total))?;
         Ok(Totals { pages })
+    }
+
+    /// Totals that were changed since they were last shared come into their place, if nobody shares the others: what
+    /// the next version of these has to copy is less then. They stay as they are, also where memory runs out.
+    pub fn settle(&mut self)
+        ensures { self.new ≡ self.old }
+    {
+        self.pages.settle();
     }
 
     /// Totals equal to these, which share all with them.

@@ -17,7 +17,7 @@ ghost use Rattle.value.specs.Ordered.{HasKey, IsAscending};
 ghost use Rattle.value.specs.ValueOrder.{value_cmp};
 
 use crate::key_sets::{KeySet, Keys};
-use pages::Pages;
+use pages::DifferentialMap;
 use std::alloc::{AllocError, Global};
 use std::cmp::Ordering;
 use std::marker::Model;
@@ -29,7 +29,7 @@ use value::{Value, order};
 #[derive(Debug, Drop)]
 pub struct Index {
     /// The keys of each value that has any.
-    sets: Pages<KeySet>,
+    sets: DifferentialMap<KeySet>,
     /// What is lent for every other value.
     empty: KeySet,
 }
@@ -52,7 +52,7 @@ impl Index {
         ensures index { (key column : ℕ) → IsIndexOf key column [] result }
     {
         Index {
-            sets: Pages::new(alloc),
+            sets: DifferentialMap::new(alloc),
             empty: KeySet::new(alloc),
         }
     }
@@ -160,6 +160,14 @@ impl Index {
             sets,
             empty: self.empty,
         })
+    }
+
+    /// Keys that were changed since they were last shared come into their place, if nobody shares the others. The index
+    /// stays as it is, also where memory runs out.
+    pub fn settle(&mut self)
+        ensures { self.new ≡ self.old }
+    {
+        self.sets.settle();
     }
 
     /// An index equal to this one, which shares all with it.

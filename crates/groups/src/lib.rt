@@ -35,8 +35,9 @@
 //! value that a set function looks at), and for the functions inside `Counts` (the multiset) and `Steps` (one row
 //! more or less). The set functions themselves are `table/specs/Aggregates`.
 //!
-//! Totals stand under their groups in `pages::Pages`, and so do the values of a multiset, each with its number: a
-//! change copies at most the path to one group, and for MIN and MAX that to one value, and shares the rest.
+//! Totals stand under their groups in a `pages::DifferentialMap`: totals that differ by a few are noted beside those
+//! that are shared, until [`Totals::settle`] finds that nobody shares them. The values of a multiset stand in
+//! `pages::Pages`, each with its number: for MIN and MAX a change copies the path to one value, and shares the rest.
 //!
 //! Beside totals, which say how many rows a group has, an [`Index`] says which ones: for each value in a column the
 //! keys of the rows that have it there, in order. It is a *secondary index* (Comer, "The Ubiquitous B-Tree", 1979):
@@ -53,8 +54,8 @@
 //! to its original; and rows have one index, which is the law [`rows_have_one_index`]. Calls fail only where memory
 //! runs out, and none has a premise.
 //!
-//! Values with keys stand in `pages::Pages`, and the keys of each in one more: a change copies at most the path to
-//! one value and the path to one key, or two of each, and shares the rest. The steps are in `specs/IndexSteps`.
+//! Values with keys stand in a `pages::DifferentialMap`, and the keys of each in `pages::Pages`: a change copies at
+//! most the path to one key, or to one in each of two sets, and shares the rest. The steps are in `specs/IndexSteps`.
 #![tactic(auto)]
 
 mod counts;

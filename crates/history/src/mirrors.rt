@@ -5,13 +5,12 @@ use crate::histories::{End, Happening, Read, Reader, Transaction};
 use crate::tries::{Trial, try_statement};
 use alone::{Answer, Modes, ResolvedStatement};
 use commit::{Engine, Seat};
-use copies::copy_changes;
 use delta::View;
 use sqlite_items::Items;
 use std::alloc::{AllocError, Global};
 use std::mem;
 use syntax::{Event, Mode, ScriptLine, Statement};
-use txn::{CloseFailure, ClosedTransaction, Txn};
+use txn::{CloseFailure, ClosedTransaction, Txn, copy_changes};
 use value::Refusal;
 
 /// A session's open transaction, run beside the engine's.

@@ -98,9 +98,9 @@ impl Part for NamePart {
     }
 }
 
-#[tactic(auto, unfolding(syntax::specs::Grammar::quoted))]
+#[tactic(auto, unfolding(syntax::specs::Grammar::text_in_quotes))]
 fn text_of(alloc: Global, piece: &Piece<'_>) -> Result<Text, AllocError>
-    ensures { IfOk result (λ text. text ≡ spec.quoted piece.now) }
+    ensures { IfOk result (λ text. text ≡ spec.text_in_quotes piece.now) }
 {
     let bytes = text_bytes(alloc, piece.spelling())?;
     Text::new(bytes)
@@ -108,7 +108,7 @@ fn text_of(alloc: Global, piece: &Piece<'_>) -> Result<Text, AllocError>
 
 /// A text in quotes.
 pub fn parse_text(alloc: Global, cursor: &mut Cursor<'_>) -> Result<Text, Stop>
-    ensures { Reads (rd.◌<$>◌ spec.quoted (rd.expect k.Text) cursor.old) result cursor.new }
+    ensures { Reads (rd.◌<$>◌ spec.text_in_quotes (rd.expect k.Text) cursor.old) result cursor.new }
 {
     let piece = cursor.expect(Kind::Text)?;
     Ok(text_of(alloc, &piece)?)

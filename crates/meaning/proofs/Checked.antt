@@ -23,7 +23,7 @@ use Rattle.syntax.specs.declared.statements.Which.{Which}
 use Rattle.syntax.specs.declared.statements.Which.TheVariants.{All, Names}
 use Rattle.form_check.specs.Scopes.{Scope}
 use Rattle.form_check.specs.Names.{condition_fault}
-use Rattle.value.specs.Results.{and_then, result_of_name, provided, unless}
+use Rattle.value.specs.Results.{and_then, result_of_name, if_holds, unless}
 use Rattle.value.proofs.Results.{found_ok, provided_is, provided_ok, unless_is, unless_ok}
 use Rattle.form_check.specs.Forms.{form_of}
 use Rattle.form_check.specs.Queries.{Source, source_of, row_expression, row_filter}
@@ -70,7 +70,7 @@ passed tables name condition attributes assertion e =
     let (known, rest) = unless_is (condition_fault tables condition []) shaped assertion named in
     let (form, (is, more)) = and_then_ok (form_of tables condition) (of_form tables name (attributes_of attributes)) assertion rest in
     let whole : Result Assertion Refusal = Ok (made_of name attributes form) in
-    let bounds : Result Assertion Refusal = provided (is_bounded_form form) TooWide whole in
+    let bounds : Result Assertion Refusal = if_holds (is_bounded_form form) TooWide whole in
     let (typed, last) = provided_is (is_typed_form (layouts_of tables) form) TypeMismatch bounds assertion more in
     let (bounded, makes) = provided_is (is_bounded_form form) TooWide whole assertion last in
     record { agreed = agreed; known = known; form = form; formed = is; typed = typed; bounded = bounded; made = ok_same (made_of name attributes form) assertion makes }
@@ -113,13 +113,13 @@ is_taken tables name condition attributes may =
     let (form, is) = class_form tables condition may.shaped in
     let shaped = and_then (form_of tables condition) (of_form tables name (attributes_of attributes)) in
     let whole : Result Assertion Refusal = Ok (made_of name attributes form) in
-    let bounds : Result Assertion Refusal = provided (is_bounded_form form) TooWide whole in (
+    let bounds : Result Assertion Refusal = if_holds (is_bounded_form form) TooWide whole in (
       made_of name attributes form,
-      ap (λ b. provided (not b) (AttributeClash name) (unless (condition_fault tables condition []) shaped)) may.agreed
+      ap (λ b. if_holds (not b) (AttributeClash name) (unless (condition_fault tables condition []) shaped)) may.agreed
           ∙ ap (λ o. unless o shaped) (none_is (condition_fault tables condition []) may.known)
           ∙ ap (λ r. and_then r (of_form tables name (attributes_of attributes))) is
-          ∙ ap (λ b. provided b TypeMismatch bounds) (may.typed form is)
-          ∙ ap (λ b. provided b TooWide whole) (may.bounded form is),
+          ∙ ap (λ b. if_holds b TypeMismatch bounds) (may.typed form is)
+          ∙ ap (λ b. if_holds b TooWide whole) (may.bounded form is),
     )
 
 pub TakesExactly-law : law.TakesExactly
@@ -130,7 +130,7 @@ TakesExactly-law tables name condition attributes = (may_be_taken tables name co
 where_filter : (tables : Tables) (scope : Scope) (condition : Option Condition) (restriction : Cond) → filter_of tables scope condition ≡ Ok restriction → row_filter scope condition ≡ Ok restriction
 where_filter tables scope condition restriction e =
     let (made, (is, more)) = and_then_ok (row_filter scope condition) (sound_condition scope) restriction (unless_ok (filter_fault tables scope condition) (and_then (row_filter scope condition) (sound_condition scope)) restriction e) in
-    let bounded : Result Cond Refusal = provided (is_bounded [] made) TooWide (Ok made) in
+    let bounded : Result Cond Refusal = if_holds (is_bounded [] made) TooWide (Ok made) in
     let same = provided_ok (is_bounded [] made) TooWide (Ok made) restriction (provided_ok (is_typed_condition scope.layout.columns [] made) TypeMismatch bounded restriction more) in
     is ∙ same
 
@@ -223,7 +223,7 @@ updates tables name sets condition update e =
     let (settings, (set, last)) = and_then_ok (settings_of target.scope columns sets) (λ settings. and_then (row_filter target.scope condition) (λ restriction. sound_update target.scope.layout.columns (make target settings restriction))) update over in
     let (restriction, (keeps, sound)) = and_then_ok (row_filter target.scope condition) (λ restriction. sound_update target.scope.layout.columns (make target settings restriction)) update last in
     let made = make target settings restriction in
-    let bounded : Result Update Refusal = provided (list_all is_bounded_setting settings && is_bounded [] restriction) TooWide (Ok made) in
+    let bounded : Result Update Refusal = if_holds (list_all is_bounded_setting settings && is_bounded [] restriction) TooWide (Ok made) in
     let same = provided_ok (list_all is_bounded_setting settings && is_bounded [] restriction) TooWide (Ok made) update (provided_ok (list_all (fits target.scope.layout.columns) settings && is_typed_condition target.scope.layout.columns [] restriction) TypeMismatch bounded update sound) in
     record { target = target; found = found_ok name (source_of tables name None) target is; columns = columns; assigned = are; settings = settings; set = set; restriction = restriction; keeps = keeps; made = ok_same made update same }
 

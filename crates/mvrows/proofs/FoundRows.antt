@@ -1,5 +1,5 @@
 -- Rows in order are found again by their keys.
-use Rattle.std.proofs.Common.{◌≡◌, ℕ, Bool, true, false, cond, List, [], ◌∷◌, Option, Some, None, map, refl, ◌∙◌, ap}
+use Rattle.std.proofs.Common.{◌≡◌, ℕ, Bool, true, false, cond, List, [], ◌∷◌, Some, None, map, refl, ◌∙◌, ap}
 use Rattle.std.specs.Prelude.{filter, filter_map, option_to_list}
 use Rattle.std.specs.List.{cons_option}
 use Rattle.std.specs.Ordering.{eq_by_cmp, is_eq, ordering_reverse}

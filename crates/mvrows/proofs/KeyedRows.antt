@@ -1,5 +1,5 @@
 -- What stands at a key, and a change, are the same with the keys kept beside the rows.
-use Rattle.std.proofs.Common.{◌≡◌, ℕ, zero, suc, ◌+◌, ◌<◌, List, [], ◌∷◌, ◌++◌, take, drop, length, Option, Some, None, refl, sym, ◌∙◌, ap, arith, option_map, subst, slice_index_or}
+use Rattle.std.proofs.Common.{◌≡◌, ℕ, zero, suc, ◌+◌, ◌<◌, List, [], ◌∷◌, ◌++◌, take, drop, length, map, Option, Some, None, refl, sym, ◌∙◌, ap, arith, option_map, subst, slice_index_or}
 use Rattle.std.proofs.lemmas.List.{drop_more, take_more}
 use Rattle.std.specs.Prelude.{option_to_list}
 use Rattle.std.specs.declared.cmp.Ordering.{Ordering}
@@ -12,6 +12,11 @@ use Rattle.table.specs.Rows.{RowValues, value_in, row_at, put_row}
 use Rattle.mvrows.specs.Keyed.{rows_of, AreKeyed}
 use Rattle.mvrows.proofs.LastRows.{put-last, ascending-take}
 use Rattle.mvrows.proofs.Walked.{first_or}
+
+-- the values of entries are their rows
+pub rows_of-values : (entries : List (Value × RowValues)) → map value_of entries ≡ rows_of entries
+rows_of-values [] = refl
+rows_of-values (entry ∷ entries) = ap (λ rows. entry.1 ∷ rows) (rows_of-values entries)
 
 pub length-rows_of : (es : List (Value × RowValues)) → length (rows_of es) ≡ length es
 length-rows_of [] = refl

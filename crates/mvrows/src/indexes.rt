@@ -97,6 +97,16 @@ impl Indexes {
         Ok(Indexes { list })
     }
 
+    /// What was changed since it was last shared comes into its place, if nobody shares the rest. The indexes stay as
+    /// they are, also where memory runs out.
+    pub fn settle(&mut self)
+        ensures { self.new ≡ self.old }
+    {
+        for at in 0..self.list.len() {
+            self.list[at].index.settle();
+        }
+    }
+
     /// Indexes equal to these, which share all with them.
     pub fn copy(&self) -> Result<Indexes, AllocError>
         ensures { IfOk result (λ copy. copy ≡ self.now) }

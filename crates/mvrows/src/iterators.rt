@@ -4,14 +4,14 @@ ghost use Rattle.std.specs.Prelude.{◌≡◌, ◌<◌, ◌^◌, length};
 ghost use Rattle.std.specs.Iterator.{YieldsFirstRef, item_count};
 ghost use Rattle.mvrows.specs.Keyed.{rows_of};
 
-use pages::{Entries, Pages};
+use pages::{DifferentialMap, Values};
 use std::marker::Model;
 use table::Row;
 
 /// The rows of a version that are still to come, in the order of their keys. It takes no memory.
 #[derive(Drop)]
 pub struct RowIter<'a> {
-    entries: Entries<'a, Row>,
+    values: Values<'a, Row>,
 }
 
 impl<'a> Model for RowIter<'a> {
@@ -20,19 +20,17 @@ impl<'a> Model for RowIter<'a> {
 
     ghost Value = { List RowValues };
 
-    ghost use Rattle.mvrows.specs.Keyed.{rows_of};
-
-    ghost view = { λ left. rows_of left.entries };
+    ghost view = { λ left. left.values };
 }
 
 impl<'a> RowIter<'a> {
     /// All rows of a version.
-    pub(crate) fn new(pages: &'a Pages<Row>) -> RowIter<'a>
+    pub(crate) fn new(pages: &'a DifferentialMap<Row>) -> RowIter<'a>
         ensures rest { result ≡ rows_of pages.now }
         ensures short { length (rows_of pages.now) < 2 ^ 63 }
     {
         RowIter {
-            entries: pages.iter(),
+            values: pages.values(),
         }
     }
 }
@@ -45,7 +43,6 @@ impl<'a> Iterator for RowIter<'a> {
     ghost remaining = { item_count (λ left. left) };
 
     fn next(&mut self) -> Option<&'a Row> {
-        let entry = self.entries.next()?;
-        Some(&entry.1)
+        self.values.next()
     }
 }

@@ -17,7 +17,7 @@ ghost use Rattle.value.specs.declared.values.Value.{Value as values};
 use crate::indexes::Indexes;
 use crate::iterators::RowIter;
 use groups::{Index, Keys};
-use pages::Pages;
+use pages::{DifferentialMap, Pages};
 use std::alloc::{AllocError, Global};
 use std::cmp::Ordering;
 use std::marker::Model;
@@ -29,7 +29,7 @@ use value::{Value, order};
 #[derive(Debug, Drop)]
 pub struct Rows {
     column: usize,
-    pages: Pages<Row>,
+    pages: DifferentialMap<Row>,
     indexes: Indexes,
 }
 
@@ -54,7 +54,7 @@ impl Rows {
     {
         Rows {
             column: 0,
-            pages: Pages::new(alloc),
+            pages: DifferentialMap::new(alloc),
             indexes: Indexes::new(alloc),
         }
     }
@@ -65,6 +65,13 @@ impl Rows {
         ensures short { length self.now < 2 ^ 63 }
     {
         self.pages.len()
+    }
+
+    /// There are fewer rows than 2^63: what holds of every version, brought to where it is needed.
+    pub fn recall_length(&self)
+        ensures { length self.now < 2 ^ 63 }
+    {
+        self.pages.recall_order();
     }
 
     /// The rows in the order of their keys, one after the other. It takes no memory.
@@ -220,7 +227,7 @@ impl Rows {
         if !is_keyed(&self.pages, self.column, key_column) || self.indexes.get(column).is_some() {
             return self.copy();
         }
-        let index = index_of(&self.pages, key_column, column)?;
+        let index = index_of(&self.pages.merged()?, key_column, column)?;
         let indexes = self.indexes.copy()?.with_index(column, index)?;
         Ok(Rows {
             column: key_column,
@@ -266,6 +273,15 @@ impl Rows {
         self.indexes.with(&change.key, old, change.new.as_ref())
     }
 
+    /// Rows that were changed since they were last shared come into their place, if nobody shares the others: what the
+    /// next version of these has to copy is less then. The rows stay as they are, also where memory runs out.
+    pub fn settle(&mut self)
+        ensures { self.new ≡ self.old }
+    {
+        self.pages.settle();
+        self.indexes.settle();
+    }
+
     /// A version equal to this one, which shares all rows with it.
     pub fn copy(&self) -> Result<Rows, AllocError>
         ensures { IfOk result (λ copy. copy ≡ self.now) }
@@ -279,13 +295,13 @@ impl Rows {
 }
 
 /// Whether the key of each row stands in a column: it is the one that it stands in, or there are no rows.
-fn is_keyed(pages: &Pages<Row>, column: usize, key_column: usize) -> bool
+fn is_keyed(pages: &DifferentialMap<Row>, column: usize, key_column: usize) -> bool
     ensures keyed { IsTrue result → (key_column ≡ column) ⊎ (length pages.now ≡ 0) }
     ensures order { AreInOrder pages.now }
     ensures short { length pages.now < 2 ^ 63 }
 {
-    let count = pages.len();
-    key_column == column || count == 0
+    pages.recall_order();
+    key_column == column || pages.len() == 0
 }
 
 /// The index of rows by a column, made in one pass. Each stands under its key.
@@ -330,7 +346,11 @@ fn copy_of(row: &Option<Row>) -> Result<Option<Row>, AllocError>
 }
 
 /// The rows, each under its key in a column, in which the keys ascend.
-fn by_column(pages: Pages<Row>, column: usize, key_column: usize) -> Result<Pages<Row>, AllocError>
+fn by_column(
+    pages: DifferentialMap<Row>,
+    column: usize,
+    key_column: usize,
+) -> Result<DifferentialMap<Row>, AllocError>
     requires keyed { AreKeyed column pages }
     requires ordered { IsAscending value_cmp (value_in key_column) (rows_of pages) }
     ensures rows { IfOk result (λ made. rows_of made ≡ rows_of pages) }
@@ -339,17 +359,17 @@ fn by_column(pages: Pages<Row>, column: usize, key_column: usize) -> Result<Page
     if key_column == column {
         Ok(pages)
     } else {
-        keyed_by(&pages, key_column)
+        keyed_by(&pages.merged()?, key_column)
     }
 }
 
 /// The rows, each under its key in another column, in which the keys ascend too.
-fn keyed_by(pages: &Pages<Row>, key_column: usize) -> Result<Pages<Row>, AllocError>
+fn keyed_by(pages: &Pages<Row>, key_column: usize) -> Result<DifferentialMap<Row>, AllocError>
     requires { IsAscending value_cmp (value_in key_column) (rows_of pages.now) }
     ensures rows { IfOk result (λ made. rows_of made ≡ rows_of pages.now) }
     ensures keyed { IfOk result (λ made. AreKeyed key_column made) }
 {
-    let mut made = Pages::new(pages.allocator());
+    let mut made = DifferentialMap::new(pages.allocator());
     for at in 0..pages.len() {
         let row = row_from(pages, at);
         let key = value_at(row, key_column)?;
@@ -368,11 +388,10 @@ fn row_from(pages: &Pages<Row>, at: usize) -> &Row
 }
 
 /// The first row under the key in another column, in rows whose keys go up.
-fn find_row<'a>(pages: &'a Pages<Row>, key_column: usize, key: &Value) -> Option<&'a Row>
+fn find_row<'a>(pages: &'a DifferentialMap<Row>, key_column: usize, key: &Value) -> Option<&'a Row>
     ensures { option_copied result ≡ row_at key_column key.now (rows_of pages.now) }
 {
-    for at in 0..pages.len() {
-        let row = row_from(pages, at);
+    for row in pages.values() {
         match order_key(key, row, key_column) {
             Ordering::Less => return None,
             Ordering::Equal => return Some(row),

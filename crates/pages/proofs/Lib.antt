@@ -7,3 +7,4 @@ mod Descents
 mod Halves
 mod Shifts
 mod Changes
+mod Merging

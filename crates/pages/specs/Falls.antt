@@ -9,7 +9,7 @@ use Rattle.pages.specs.declared.nodes.Shape.TheVariants.{Leaf, Inner}
 use Rattle.pages.specs.declared.nodes.Node.TheDeep.{deep-Shape}
 use Rattle.pages.specs.declared.nodes.Node.TheShapes.{weighed-Shape-Inner-2-at-1}
 use Rattle.pages.specs.Levels.{Tree, highest}
-use Rattle.pages.specs.Shapes.{seen}
+use Rattle.pages.specs.Shapes.{tree_of}
 
 module _ {V : Type 0} where
   most_le-highest : (weight : Arc (Tree V) Global → ℕ)
@@ -19,7 +19,7 @@ module _ {V : Type 0} where
   most_le-highest weight low (node ∷ nodes) = omega (arith, low node, most_le-highest weight low nodes)
 
   -- the depth that the code counts of a node is at most the height of what it shows
-  pub deep_le-height : (shape : Shape V) → max (deep-Shape V shape) 0 ≤ (seen shape).0.0
+  pub deep_le-height : (shape : Shape V) → max (deep-Shape V shape) 0 ≤ (tree_of shape).0.0
   deep_le-height (Leaf page) = omega arith
   deep_le-height (Inner count seps nodes) =
       omega (

@@ -19,9 +19,9 @@ module _ {V : Type 0} where
   tree_over ts = ((highest ts + 1, length ts), entries_of ts)
 
   -- a node's height, its width and its entries
-  abbrev pub seen : Shape V → Tree V
-  seen (Leaf page) = page_tree page.items
-  seen (Inner count seps nodes) = tree_over (map arc_value nodes.items)
+  abbrev pub tree_of : Shape V → Tree V
+  tree_of (Leaf page) = page_tree page.items
+  tree_of (Inner count seps nodes) = tree_over (map arc_value nodes.items)
 
   -- a page has at most 15 entries, and they ascend
   pub record IsPage (page : List (Value × V)) : Type 0 where

@@ -18,6 +18,15 @@
 //!   as stand together.
 //! - `Pages::copy` is an equal map, which shares everything.
 //!
+//! A [`DifferentialMap`] is such a map with its newest changes beside it. Where each statement makes a version, the
+//! copied paths cost most of it, though all that differs may be one entry. So a change of a map that others share is
+//! noted as a *difference*, a key with what stands there now, and the pages stay shared (Severance and Lohman,
+//! "Differential Files: Their Application to the Maintenance of Large Databases", 1976). Look-ups ask the differences
+//! first, and [`DifferentialMap::values`] lends what stands in both, in order. Eight differences may stand beside a
+//! map; the next change puts them all into it, and copies what they touch. [`DifferentialMap::settle`] does so at once
+//! where nobody shares the map any more: then nothing is copied. To settle changes no entry, so it cannot fail: what
+//! finds no memory stays where it is. Contracts see such a map, too, as the plain list of its entries.
+//!
 //! What the layer above may rest on: whatever only looks takes no memory; a changed map is the old one with that change
 //! and no other, or memory ran out; its keys ascend. No call has a premise. A node that is copied copies its entries,
 //! so values are `value::Copied`, best by a count.
@@ -37,17 +46,21 @@
 //! leaves anything to be undone. A root over one node alone gives way to it.
 //!
 //! The definitions are in `specs/`: `Reach` (the entries, and how far a list of them goes), and for the functions
-//! inside `Levels` (nodes beside each other), `Parts` (separators, and the nodes that they part), `Taken` (a change of
-//! a page by places), `Shapes` (what holds of each node), `Cuts` (a node that is cut in two) and `Falls` (each node is
-//! higher than those below it).
+//! inside `Differences` (a map with differences beside it), `Levels` (nodes beside each other), `Parts` (separators,
+//! and the nodes that they part), `Taken` (a change of a page by places), `Shapes` (what holds of each node), `Cuts`
+//! (a node that is cut in two) and `Falls` (each node is higher than those below it).
 #![tactic(auto)]
 
 mod copies;
+mod differential;
 mod entries;
 mod nodes;
 mod pages;
 mod parts;
 mod search;
+mod values;
 
+pub use differential::DifferentialMap;
 pub use entries::Entries;
 pub use pages::Pages;
+pub use values::Values;

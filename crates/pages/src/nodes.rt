@@ -43,13 +43,13 @@ impl<V> Model for Node<V> {
 
     ghost Value = { Tree V };
 
-    ghost use Rattle.pages.specs.Shapes.{seen, IsWhole};
+    ghost use Rattle.pages.specs.Shapes.{tree_of, IsWhole};
 
-    ghost view = { λ node. seen node.shape };
+    ghost view = { λ node. tree_of node.shape };
 
     ghost invariant = { λ node. IsWhole node.shape };
 
-    ghost size = { λ seen. seen.0.0 };
+    ghost size = { λ tree. tree.0.0 };
 
     ghost use Rattle.pages.specs.Falls.{deep_le-height};
 

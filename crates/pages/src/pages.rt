@@ -19,7 +19,7 @@ use std::sync::Arc;
 use value::{Copied, Value};
 
 /// More entries than any memory has.
-const TOO_MANY: usize = 1 << 62;
+pub(crate) const TOO_MANY: usize = 1 << 62;
 
 /// The number of entries, and not the entries.
 impl<V> fmt::Debug for Pages<V> {
@@ -121,6 +121,14 @@ impl<V> Pages<V> {
                 None => None,
             },
             None => None,
+        }
+    }
+
+    /// Whether another map shares the entries with this one. It takes no memory.
+    pub fn is_shared(&self) -> bool {
+        match &self.root {
+            Some(root) => Arc::strong_count(root) > 1,
+            None => false,
         }
     }
 

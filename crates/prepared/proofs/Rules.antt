@@ -71,7 +71,7 @@ adds_number is_negative before =
     (λ x. ap (λ z. before ++ z) (of_number (g.signed_number is_negative (g.digits_value x)) ∙ ap (λ n. n ∷ []) (abs_signed is_negative (g.digits_value x))))
 
 adds_text : Adds g.text expression_numerals
-adds_text = adds_none (λ x. e.Text (g.quoted x)) (lang.token k.Text) expression_numerals (λ x. of_text (g.quoted x)) (λ before. yields_token k.Text before refl)
+adds_text = adds_none (λ x. e.Text (g.text_in_quotes x)) (lang.token k.Text) expression_numerals (λ x. of_text (g.text_in_quotes x)) (λ before. yields_token k.Text before refl)
 
 adds_of : (f : Aggregate) → Adds (g.of f) expression_numerals
 adds_of f = adds_none (e.Aggregate f) (lang.parens g.column) expression_numerals (of_aggregate f) (silent_parens g.column silent_column)

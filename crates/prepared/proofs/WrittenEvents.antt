@@ -134,7 +134,7 @@ module _ (write : Argument → Lexemes) (ok : Value → Type 0) where
         inr (seq_reads k.Minus _ m (x ∷ []) (v.Int (negsuc n)) minus
         (subst (λ z. lang.◌<$>◌ (g.number_of true) (lang.token k.Number) (x ∷ []) (v.Int (grammar.signed_number true z))) d (map_reads (g.number_of true) (lang.token k.Number) (x ∷ []) x (refl, is_of))))
 
-    text_reads : (t : List ℕ) (x : Lexeme) → x.kind ≡ k.Text → grammar.quoted x ≡ t → g.constant (x ∷ []) (v.Text t)
+    text_reads : (t : List ℕ) (x : Lexeme) → x.kind ≡ k.Text → grammar.text_in_quotes x ≡ t → g.constant (x ∷ []) (v.Text t)
     unfolding g.constant
     text_reads t x is_of d = subst (λ z. g.constant (x ∷ []) (v.Text z)) d (inl (inl (inl (inr (map_reads g.text_of (lang.token k.Text) (x ∷ []) x (refl, is_of))))))
 

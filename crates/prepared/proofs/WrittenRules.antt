@@ -102,7 +102,7 @@ module _ (write : Argument → Lexemes) (ok : Value → Type 0) where
       (quiet_seq write ok k.Group _ p Other Any refl refl (quiet_seq write ok k.By _ Other Other Any refl refl (quiet_less write ok _ Other Ends Any (λ q e. tt) (quiet_column Other))))
 
   keeps_text : (p : Prior) (now : Constants) → Keeps write ok g.text g.text now (λ x. filled_expression x now) p Ends
-  keeps_text p = keeps_quiet write ok (λ x. e.Text (g.quoted x)) (lang.token k.Text) filled_expression p Ends (λ x now. of_text (g.quoted x) now) (quiet_token write ok k.Text p refl)
+  keeps_text p = keeps_quiet write ok (λ x. e.Text (g.text_in_quotes x)) (lang.token k.Text) filled_expression p Ends (λ x now. of_text (g.text_in_quotes x) now) (quiet_token write ok k.Text p refl)
 
   keeps_of : (f : Aggregate) (p : Prior) (now : Constants) → Keeps write ok (g.of f) (g.of f) now (λ x. filled_expression x now) p Ends
   keeps_of f p = keeps_quiet write ok (e.Aggregate f) (lang.parens g.column) filled_expression p Ends (of_aggregate f) (quiet_parens write ok g.column p Ends (quiet_column Other))
@@ -147,11 +147,11 @@ module _ (write : Argument → Lexemes) (ok : Value → Type 0) where
         inl (inr (seq_reads k.Minus _ m (x ∷ []) (e.Number (negsuc n)) minus
         (subst (λ z. lang.◌<$>◌ (g.number_of true) (lang.token k.Number) (x ∷ []) (e.Number (g.signed_number true z))) d (map_reads (g.number_of true) (lang.token k.Number) (x ∷ []) x (refl, is_of)))))
 
-    text_reads : (s : List ℕ) (x : Lexeme) → x.kind ≡ k.Text → g.quoted x ≡ s → g.factor inner (x ∷ []) (e.Text s)
+    text_reads : (s : List ℕ) (x : Lexeme) → x.kind ≡ k.Text → g.text_in_quotes x ≡ s → g.factor inner (x ∷ []) (e.Text s)
     unfolding g.factor g.prim g.other_prim
     text_reads s x is_of d =
         subst (λ z. g.factor inner (x ∷ []) (e.Text z)) d
-        (inl (inl (inl (inr (inl (inl (inl (inl (map_reads (λ x. e.Text (g.quoted x)) (lang.token k.Text) (x ∷ []) x (refl, is_of))))))))))
+        (inl (inl (inl (inr (inl (inl (inl (inl (map_reads (λ x. e.Text (g.text_in_quotes x)) (lang.token k.Text) (x ∷ []) x (refl, is_of))))))))))
 
     value_reads : (n : ℤ) (tokens : Lexemes) → Writes (v.Int n) tokens → g.factor inner (tokens ++ []) (e.Number n)
     value_reads (pos n) tokens w = subst (λ z. g.factor inner (z ++ []) (e.Number (pos n))) (sym w.are) (positive_reads n w.number w.digits.kind w.digits.digits)

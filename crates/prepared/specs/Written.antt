@@ -5,7 +5,7 @@ use Rattle.token.specs.Bytes.{Text}
 use Rattle.value.specs.declared.values.Value.{Value}
 use Rattle.value.specs.declared.values.Value.TheVariants as v
 use Rattle.value.specs.Texts.{is_plain}
-use Rattle.syntax.specs.Grammar.{digits_value, quoted}
+use Rattle.syntax.specs.Grammar.{digits_value, text_in_quotes}
 use Rattle.syntax.specs.declared.statements.Event.{Event}
 use Rattle.syntax.specs.declared.statements.Event.TheVariants as event
 use Rattle.syntax.specs.declared.statements.Statement.TheVariants as s
@@ -47,7 +47,7 @@ pub record WritesText (t : List ℕ) (tokens : Lexemes) : Type 0 where
   pub text : Lexeme
   pub are : tokens ≡ text ∷ []
   pub kind : text.kind ≡ k.Text
-  pub inside : quoted text ≡ t
+  pub inside : text_in_quotes text ≡ t
 
 -- this token writes NULL
 pub record WritesNull (tokens : Lexemes) : Type 0 where

@@ -23,6 +23,7 @@ use Rattle.session.specs.contracts.shelf.Shelf as Shelf
 use Rattle.session.specs.contracts.manager.Manager as Manager
 use Rattle.value.proofs.refusals.Refusal.TheSendSync as Refusal
 use Rattle.table.proofs.rows.Change.TheSendSync as Change
+use Rattle.table.proofs.rows.Row.TheSendSync as Row
 use Rattle.alone.proofs.modes.Modes.TheSendSync as Modes
 use Rattle.alone.proofs.answers.RefusedCommit.TheSendSync as RefusedCommit
 use Rattle.conflict.proofs.open_snapshots.Live.TheSendSync as Live
@@ -96,10 +97,10 @@ Index-sync : IsSync Index.the_row
 Index-sync = search (Pages-sync, KeySet-send, KeySet-sync, crosses, sendable) depth 60 fits 20000
 
 Rows-send : IsSend Rows.the_row
-Rows-send = search (Pages-send, Index-send, crosses, sendable) depth 60 fits 20000
+Rows-send = search (Pages-send, Index-send, Row.the_send, Row.the_sync, crosses, sendable) depth 60 fits 20000
 
 Rows-sync : IsSync Rows.the_row
-Rows-sync = search (Pages-sync, Index-sync, crosses, sendable) depth 60 fits 20000
+Rows-sync = search (Pages-sync, Index-sync, Row.the_send, Row.the_sync, crosses, sendable) depth 60 fits 20000
 
 Parts-send : IsSend Parts.the_field.row
 Parts-send = search (Rows-send, Assertion-send, Assertion-sync, Watch-send, Watch-sync, Catalog.the_send, Catalog.the_sync, Schema.the_send, Schema.the_sync, crosses, sendable) depth 60 fits 20000
@@ -144,10 +145,10 @@ Resolved-sync : IsSync ResolvedStatement.the_row
 Resolved-sync = search (Update-sync, Delete-sync, Select-sync, Text.the_sync, crosses, sendable) depth 60 fits 20000
 
 pub Record-send : IsSend Record.the_row
-Record-send = search (Resolved-send, crosses, sendable) depth 60 fits 20000
+Record-send = search (Resolved-send, Change.the_send, LockKey.the_send, Text.the_send, crosses, sendable) depth 60 fits 20000
 
 pub Record-sync : IsSync Record.the_row
-Record-sync = search (Resolved-sync, crosses, sendable) depth 60 fits 20000
+Record-sync = search (Resolved-sync, Change.the_sync, LockKey.the_sync, Text.the_sync, crosses, sendable) depth 60 fits 20000
 
 pub Item-send : IsSend Item.the_row
 Item-send = search (Record-send, View-send, crosses, sendable) depth 60 fits 20000

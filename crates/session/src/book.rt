@@ -3,7 +3,7 @@
 ghost use Rattle.std.specs.Prelude.{◌≡◌, ◌≢◌, ◌≤◌, ◌<◌, ◌+◌, ◌-◌, ◌∷◌, [], ℕ, length, true, false, Ok, Err, Some, None, Contains, IfOk, IfErr, OnErr, OnOk, slice_get};
 ghost use Rattle.value.specs.declared.refusals.Refusal.TheVariants.{NoMemory, Stranger, TooManySessions};
 ghost use Rattle.value.specs.Ordered.{HoldsOf};
-ghost use Rattle.value.specs.Results.{provided};
+ghost use Rattle.value.specs.Results.{if_holds};
 ghost use Rattle.boxcar.specs.Table.{Shows};
 ghost use Rattle.alone.specs.Alone.{IsSound};
 ghost use Rattle.alone.specs.Modes.{assertion_of};
@@ -333,7 +333,7 @@ impl<N: Named> Book<N> {
         ensures start { IfOk result (λ made. made.1.value.view ≡ start_of self.new.core) }
         ensures good { IfOk result (λ made. IsSatisfied made.1.value.view) }
         ensures refused { IfErr result (λ refusal. refusal ≢ NoMemory
-            → provided (is_from self.old id epoch loaded.now) Stranger
+            → if_holds (is_from self.old id epoch loaded.now) Stranger
             (next_start dropped.now created.now (newest_tables self.old.core)) ≡ Err refusal) }
         ensures over { IfErr result (λ refusal. refusal ≢ NoMemory → refusal ≢ Stranger
             → IsRefusedOver loaded.now.value.view dropped.now created.now refusal) }
@@ -484,7 +484,7 @@ impl<N: Named> Book<N> {
         ensures start { IfOk result (λ made. made.1.value.view ≡ start_of made.0.core) }
         ensures good { IfOk result (λ made. IsSatisfied made.1.value.view) }
         ensures refused { IfErr result (λ refusal. refusal ≢ NoMemory
-            → provided (is_from self.now id epoch loaded.now) Stranger
+            → if_holds (is_from self.now id epoch loaded.now) Stranger
             (next_start dropped.now created.now (newest_tables self.now.core)) ≡ Err refusal) }
         ensures over { IfErr result (λ refusal. refusal ≢ NoMemory → refusal ≢ Stranger
             → IsRefusedOver loaded.now.value.view dropped.now created.now refusal) }
@@ -513,7 +513,7 @@ impl<N: Named> Book<N> {
             next_start dropped.now created.now (newest_tables self.now.core) ≡ Ok start) }
         ensures sound { IfOk result (λ start. IsSound start.declared start.state) }
         ensures refused { IfErr result (λ refusal. refusal ≢ NoMemory
-            → provided (is_from self.now id epoch loaded.now) Stranger
+            → if_holds (is_from self.now id epoch loaded.now) Stranger
             (next_start dropped.now created.now (newest_tables self.now.core)) ≡ Err refusal) }
         ensures over { IfErr result (λ refusal. refusal ≢ NoMemory → refusal ≢ Stranger
             → IsRefusedOver loaded.now.value.view dropped.now created.now refusal) }

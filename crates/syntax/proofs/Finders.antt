@@ -61,7 +61,7 @@ number_f m is_negative = map_f m (g.number_of is_negative) (finds_expect rank m 
 
 text_f : (m : ℕ) → Finds rank m g.text r.text
 unfolding r.text
-text_f m = map_f m (λ x. e.Text (g.quoted x)) (finds_expect rank m k.Text)
+text_f m = map_f m (λ x. e.Text (g.text_in_quotes x)) (finds_expect rank m k.Text)
 
 pub opens_kind : (P : Kind → Type 0) (kind : Kind) → P kind → Opens (lang.token kind) P
 opens_kind P kind p w rest x h = subst P (sym (ap (λ t. kind_at (t ++ rest)) h.0 ∙ h.1)) p

@@ -62,7 +62,7 @@ number_s n is_negative = map_s (g.number_of is_negative) (tok_s k.Number refl)
 
 pub text_s : (n : ℕ) → Sound n n g.text r.text
 unfolding r.text
-text_s n = map_s (λ x. e.Text (g.quoted x)) (tok_s k.Text refl)
+text_s n = map_s (λ x. e.Text (g.text_in_quotes x)) (tok_s k.Text refl)
 
 plain_s : (n : ℕ) (x : Lexeme) → Sound n n (g.column_after x) (r.column_by x k.End)
 unfolding g.column_after

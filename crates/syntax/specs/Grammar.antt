@@ -39,8 +39,8 @@ signed_number true n = neg_ℤ (pos n)
 signed_number false n = pos n
 
 -- what stands in the quotes of a text
-unfoldable pub quoted : Lexeme → List ℕ
-quoted x = with_quotes_once false (between_quotes x.spelling)
+unfoldable pub text_in_quotes : Lexeme → List ℕ
+text_in_quotes x = with_quotes_once false (between_quotes x.spelling)
 
 -- a name: the word in upper case
 unfoldable pub name_of : Lexeme → List ℕ
@@ -125,7 +125,7 @@ number = number_of false <$> token k.Number
 
 -- a text in quotes: a character string literal
 abbrev pub text : Language Expression
-text = (λ x. e.Text (quoted x)) <$> token k.Text
+text = (λ x. e.Text (text_in_quotes x)) <$> token k.Text
 
 -- [ "." name ]
 unfoldable pub column_after : Lexeme → Language ColumnName

@@ -22,7 +22,7 @@ use Rattle.syntax.specs.declared.wants.Want.{Want}
 use Rattle.syntax.specs.declared.wants.Want.TheVariants as want
 use Rattle.syntax.specs.Language.{Lexeme}
 use Rattle.syntax.specs.Reading.{Reader, ◌>>=◌, ◌>>◌, ◌<$>◌, pure, refuse, by_kind, expect, optional, parens, list, all}
-use Rattle.syntax.specs.Grammar.{product_of, sum_of, and_of, or_of, quoted, name_of, number_of, query_of}
+use Rattle.syntax.specs.Grammar.{product_of, sum_of, and_of, or_of, text_in_quotes, name_of, number_of, query_of}
 
 -- a comparison's sign, by the kind of the next token
 abbrev pub sign_by : Kind → Reader Comparison
@@ -55,7 +55,7 @@ number is_negative = number_of is_negative <$> expect k.Number
 
 -- reads a text in quotes
 unfoldable pub text : Reader Expression
-text = (λ x. e.Text (quoted x)) <$> expect k.Text
+text = (λ x. e.Text (text_in_quotes x)) <$> expect k.Text
 
 -- what follows the first name of a column reference, by the kind of the next token
 abbrev pub column_by : Lexeme → Kind → Reader ColumnName

@@ -17,7 +17,7 @@ use Rattle.syntax.specs.declared.statements.Statement.TheVariants as s
 use Rattle.syntax.specs.declared.statements.Event.{Event}
 use Rattle.syntax.specs.declared.statements.Event.TheVariants as event
 use Rattle.syntax.specs.declared.wants.PartInParentheses.{PartInParentheses}
-use Rattle.syntax.specs.Grammar.{digits_value, signed_number, quoted, name, inner_cond, inner_expr, nested}
+use Rattle.syntax.specs.Grammar.{digits_value, signed_number, text_in_quotes, name, inner_cond, inner_expr, nested}
 use Rattle.syntax.specs.Language.{Lexeme, Language, ◌>>=◌, ◌>>◌, ◌<$>◌, ◌∪◌, pure, token, optional, list, parens, Some_level}
 
 -- the constant of a number's token, with its sign
@@ -26,7 +26,7 @@ number_of is_negative x = c.Int (signed_number is_negative (digits_value x))
 
 -- the constant of a text's token: what stands in its quotes
 abbrev pub text_of : Lexeme → Value
-text_of x = c.Text (quoted x)
+text_of x = c.Text (text_in_quotes x)
 
 -- const: NULL | text | [sign] number
 unfoldable pub constant : Language Value

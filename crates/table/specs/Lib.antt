@@ -1,3 +1,4 @@
+pub mod Blocks
 pub mod Aggregates
 pub mod Faults
 pub mod Rows

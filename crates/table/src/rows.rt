@@ -1,26 +1,39 @@
 //! Rows, and changes of rows.
 
-ghost use Rattle.std.specs.Prelude.{◌≡◌, ◌<◌, length, IfOk};
+ghost use Rattle.std.specs.Prelude.{◌≡◌, ◌<◌, ◌≤◌, length, IfOk};
+ghost use Rattle.table.specs.Blocks.{values_of};
 ghost use Rattle.table.specs.Rows.{value_in};
 
+use arrayvec::ArrayVec;
 use std::alloc::AllocError;
 use std::marker::Model;
 use std::sync::Arc;
 use value::{Copied, Refusal, Value};
 
+/// The most values that stand in the block of the row itself, so that a row of few takes one block of memory.
+const FEW: usize = 4;
+
 /// A row: a value for each column, in the order of the columns. A copy shares the values.
 #[derive(Debug, Drop)]
 pub struct Row {
-    values: Arc<Vec<Value>>,
+    values: Arc<Block>,
+}
+
+/// The values of a row: few in place, or a list of any length in a block of its own.
+#[derive(Debug, Drop)]
+pub enum Block {
+    Few(ArrayVec<Value, FEW>),
+    Many(Vec<Value>),
 }
 
 impl Model for Row {
     ghost use Rattle.std.specs.Arc.{arc_value};
     ghost use Rattle.table.specs.Rows.{RowValues};
+    ghost use Rattle.table.specs.Blocks.{values_of};
 
     ghost Value = { RowValues };
 
-    ghost view = { λ row. (arc_value row.values).items };
+    ghost view = { λ row. values_of (arc_value row.values) };
 }
 
 impl Row {
@@ -28,7 +41,8 @@ impl Row {
     pub fn new(values: Vec<Value>) -> Result<Row, AllocError>
         ensures { IfOk result (λ row. row ≡ values.items) }
     {
-        let values = Arc::new(*values.allocator(), values)?;
+        let alloc = *values.allocator();
+        let values = Arc::new(alloc, block_of(values))?;
         Ok(Row { values })
     }
 
@@ -36,13 +50,13 @@ impl Row {
     pub fn len(&self) -> usize
         ensures { result ≡ length self.now }
     {
-        self.values.len()
+        self.values().len()
     }
 
     pub fn values(&self) -> &[Value]
         ensures { result.now ≡ self.now }
     {
-        self.values.as_slice()
+        values_in(&self.values)
     }
 
     /// The value in a column.
@@ -50,7 +64,7 @@ impl Row {
         requires { column < length self.now }
         ensures { result.now ≡ value_in column self.now }
     {
-        &self.values[column]
+        &self.values()[column]
     }
 
     /// A row equal to this one. It shares the values, and takes no memory.
@@ -59,6 +73,38 @@ impl Row {
     {
         let values = Arc::try_clone(&self.values)?;
         Ok(Row { values })
+    }
+}
+
+/// These values, in place where they are few.
+fn block_of(values: Vec<Value>) -> Block
+    ensures { values_of result ≡ values.items }
+{
+    if values.len() > FEW {
+        return Block::Many(values);
+    }
+    Block::Few(few_of(values))
+}
+
+/// These few values in place.
+fn few_of(values: Vec<Value>) -> ArrayVec<Value, FEW>
+    requires { length values.items ≤ 4 }
+    ensures { result.items ≡ values.items }
+{
+    let mut few = ArrayVec::new();
+    for value in values {
+        few.push(value);
+    }
+    few
+}
+
+/// The values of a block.
+fn values_in(block: &Block) -> &[Value]
+    ensures { result.now ≡ values_of block.now }
+{
+    match block {
+        Block::Few(values) => values.as_slice(),
+        Block::Many(values) => values.as_slice(),
     }
 }
 

@@ -14,7 +14,7 @@ use table::{Change, Row};
 use value::Value;
 
 /// How many rows there are at first, and how many changes come then.
-const COUNT: i64 = 1_000;
+const COUNT: i64 = 300;
 
 /// The column of the key, and that of the number.
 const KEY: usize = 0;
@@ -72,7 +72,7 @@ fn number_or_null(number: i64) -> Cell {
     }
 }
 
-/// The version of the first thousand keys.
+/// The version of the first keys.
 fn first_version(alloc: Global) -> Result<Rows, AllocError>
     ensures { IfOk result (λ rows. IsAscending value_cmp (value_in 0) rows) }
 {
@@ -150,7 +150,7 @@ fn an_index_changes_no_answer(rt: HostRuntime) -> Result<(), Fail> {
     let first = first_version(rt.alloc())?;
     let indexed = versions(rt.alloc(), first.with_index(KEY, COLUMN)?)?;
     let scanned = versions(rt.alloc(), first)?;
-    assert!(rt; indexed.len() == 1_001 && scanned.len() == 1_001);
+    assert!(rt; indexed.len() == 301 && scanned.len() == 301);
     assert!(rt; wrong(rt.alloc(), &indexed, &scanned)? == 0);
     Ok(())
 }

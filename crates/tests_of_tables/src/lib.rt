@@ -12,6 +12,8 @@ mod cond_tests;
 #[cfg(test)]
 mod delta_tests;
 #[cfg(test)]
+mod differential_tests;
+#[cfg(test)]
 mod forms;
 #[cfg(test)]
 mod groups_tests;

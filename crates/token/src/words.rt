@@ -162,7 +162,7 @@ fn is_plain_byte(b: u8) -> bool
 /// The text in quotes at the front, which begins with a quote.
 pub fn read_text(text: &[u8]) -> Option<Front>
     requires { 1 ≤ length text.now }
-    ensures { result ≡ spec.quoted text.now }
+    ensures { result ≡ spec.quotation text.now }
 {
     let len = find_closing(&text[1..])?;
     Some(Front {

@@ -7,9 +7,10 @@ ghost use Rattle.delta.specs.Views.{IsFitting};
 ghost use Rattle.txn.specs.Committed.{AreParts};
 ghost use Rattle.txn.specs.Transactions.{keys_of, outcome_of};
 
+use crate::copies::{copy_changes, copy_reads};
+use crate::traces::copy_trace;
 use crate::txns::Txn;
 use alone::ResolvedStatement;
-use copies::{copy_changes, copy_reads, copy_trace};
 use siread::LockKey;
 use sqlite_items::Items;
 use std::alloc::AllocError;

@@ -356,6 +356,7 @@ fn settle(view: &mut View, after: Option<View>)
 {
     if let Some(after) = after {
         *view = after;
+        view.settle();
     }
 }
 

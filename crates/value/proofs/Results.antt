@@ -2,7 +2,7 @@
 use Rattle.std.proofs.Common.{◌≡◌, Bool, true, false, ℕ, List, [], ◌∷◌, ◌++◌, Option, Some, None, Result, Ok, Err, refl, ap, sym}
 use Rattle.std.proofs.lemmas.List.{append_assoc}
 use Rattle.value.specs.declared.refusals.Refusal.{Refusal}
-use Rattle.value.specs.Results.{and_then, behind, result_of_name, provided, unless}
+use Rattle.value.specs.Results.{and_then, behind, result_of_name, if_holds, unless}
 
 -- what an answer holds
 abbrev of_ok : {A : Type 0} → A → Result A Refusal → A
@@ -16,11 +16,11 @@ pub and_then_ok : {A B : Type 0} (r : Result A Refusal) (next : A → Result B R
 and_then_ok (Ok a) next b e = (a, (refl, e))
 and_then_ok (Err refusal) next b e = cc
 
-pub provided_is : {A : Type 0} (c : Bool) (refusal : Refusal) (r : Result A Refusal) (a : A) → provided c refusal r ≡ Ok a → (c ≡ true) × (r ≡ Ok a)
+pub provided_is : {A : Type 0} (c : Bool) (refusal : Refusal) (r : Result A Refusal) (a : A) → if_holds c refusal r ≡ Ok a → (c ≡ true) × (r ≡ Ok a)
 provided_is true refusal r a e = (refl, e)
 provided_is false refusal r a e = cc
 
-pub provided_ok : {A : Type 0} (c : Bool) (refusal : Refusal) (r : Result A Refusal) (a : A) → provided c refusal r ≡ Ok a → r ≡ Ok a
+pub provided_ok : {A : Type 0} (c : Bool) (refusal : Refusal) (r : Result A Refusal) (a : A) → if_holds c refusal r ≡ Ok a → r ≡ Ok a
 provided_ok c refusal r a e = (provided_is c refusal r a e).1
 
 pub unless_is : {A : Type 0} (fault : Option Refusal) (r : Result A Refusal) (a : A) → unless fault r ≡ Ok a → (fault ≡ None) × (r ≡ Ok a)

@@ -14,9 +14,9 @@ unless None answer = answer
 unless (Some fault) answer = Err fault
 
 -- goes on where it holds, and else answers this refusal
-abbrev pub provided : {A : Type 0} → Bool → Refusal → Result A Refusal → Result A Refusal
-provided true refusal answer = answer
-provided false refusal answer = Err refusal
+abbrev pub if_holds : {A : Type 0} → Bool → Refusal → Result A Refusal → Result A Refusal
+if_holds true refusal answer = answer
+if_holds false refusal answer = Err refusal
 
 -- something of this name, or the fault that there is none
 abbrev pub result_of_name : {A : Type 0} → List ℕ → Option A → Result A Refusal

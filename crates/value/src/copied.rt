@@ -18,6 +18,15 @@ impl Copied for () {
     }
 }
 
+impl<T: Copied> Copied for Option<T> {
+    fn copied(&self) -> Result<Option<T>, AllocError> {
+        match self {
+            Some(item) => Ok(Some(item.copied()?)),
+            None => Ok(None),
+        }
+    }
+}
+
 impl Copied for u64 {
     fn copied(&self) -> Result<u64, AllocError> {
         Ok(*self)

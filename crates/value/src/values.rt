@@ -10,8 +10,9 @@ use std::cmp::Ordering;
 use std::fmt;
 
 /// A value of a column. In order NULL stands before the numbers, and those before the texts.
-#[derive(Debug, Drop, PartialEq, Eq, PartialOrd, Ord)]
+#[derive(Debug, Default, Drop, PartialEq, Eq, PartialOrd, Ord)]
 pub enum Value {
+    #[default]
     Null,
     Int(i64),
     Text(Text),

@@ -1,5 +1,5 @@
-use Rattle.std.proofs.Common.{◌≡◌, ◌∙◌, ℕ, ap, List, subst, sym}
-use Rattle.std.specs.Prelude.{filter_map, filter, option_to_list}
+use Rattle.std.proofs.Common.{◌∙◌, ℕ, ap, List, subst, sym}
+use Rattle.std.specs.Prelude.{filter_map, filter}
 use Rattle.std.proofs.lemmas.Result.{IfOk-weaker}
 use Rattle.std.specs.Ordering.{eq_by_cmp}
 use Rattle.value.specs.declared.values.Value.{Value}

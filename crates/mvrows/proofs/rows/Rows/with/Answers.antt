@@ -1,4 +1,4 @@
-use Rattle.std.proofs.Common.{◌≡◌, ◌∙◌, ap, sym, subst, arith, rules, List, Option}
+use Rattle.std.proofs.Common.{◌≡◌, ◌∙◌, ap, sym, subst, arith, List, Option}
 use Rattle.value.specs.Ordered.{put, IsAscending}
 use Rattle.value.specs.ValueOrder.{value_cmp}
 use Rattle.value.specs.declared.values.Value.{Value}

@@ -7,7 +7,7 @@ use Rattle.value.specs.ValueOrder.{value_cmp}
 use Rattle.pages.specs.Reach.{key_of}
 use Rattle.pages.specs.Levels.{Tree}
 use Rattle.pages.specs.Parts.{AreRising, Leads}
-use Rattle.pages.specs.Shapes.{seen, IsWhole}
+use Rattle.pages.specs.Shapes.{tree_of, IsWhole}
 use Rattle.pages.proofs.Descents.{child_entries, child_lower}
 use Rattle.pages.proofs.Parting.{led_within, at_led}
 use Rattle.pages.proofs.nodes.Node.+get.Goals as goal
@@ -32,7 +32,7 @@ get-requires g t c κs within =
     omega (
       arith,
       child_lower nodes c.route.result c.index.result.now c.deref-in-Inner-3.result.now inside c.index.ensures c.deref-in-Inner-3.ensures,
-      ap (λ (s : Tree g.row.V.Denot). s.0.0) (ap seen (sym c.in-Inner.is) ∙ c.self.view_is),
+      ap (λ (s : Tree g.row.V.Denot). s.0.0) (ap tree_of (sym c.in-Inner.is) ∙ c.self.view_is),
     ) in
     (omega (arith, lower, c.decreases), search rules)
 
@@ -45,4 +45,4 @@ returns-in-Inner g t c =
     c.get.ensures
     ∙ ap (at value_cmp key_of c.args.key.now) (child_entries nodes c.route.result c.index.result.now c.deref-in-Inner-3.result.now within c.index.ensures c.deref-in-Inner-3.ensures)
     ∙ sym (at_led c.args.key.now (arc_value c.in-Inner.seps).items c.route.result (map arc_value nodes) leads whole.below.parted)
-    ∙ ap (λ (s : Tree g.row.V.Denot). at value_cmp key_of c.args.key.now s.1) (ap seen (sym c.in-Inner.is) ∙ c.self.view_is)
+    ∙ ap (λ (s : Tree g.row.V.Denot). at value_cmp key_of c.args.key.now s.1) (ap tree_of (sym c.in-Inner.is) ∙ c.self.view_is)

@@ -6,7 +6,7 @@ use Rattle.value.specs.Ordered.{put}
 use Rattle.value.specs.ValueOrder.{value_cmp}
 use Rattle.pages.specs.Reach.{key_of, entry_of}
 use Rattle.pages.specs.Levels.{Tree, entries_of, entries_at, IsNarrow}
-use Rattle.pages.specs.Shapes.{seen, tree_over, HasRoom, IsWhole}
+use Rattle.pages.specs.Shapes.{tree_of, tree_over, HasRoom, IsWhole}
 use Rattle.pages.proofs.Descents.{child_entries, child_lower, child_so}
 use Rattle.pages.proofs.Parting.{has_key, led_within}
 use Rattle.pages.proofs.Shifts.{map_set, parted_length}
@@ -15,7 +15,7 @@ use Rattle.pages.proofs.nodes.Node.+put.Goals as goal
 
 pub make_way-requires-clause-room : goal.make_way-requires-clause-room
 make_way-requires-clause-room g t c grows =
-    let view : tree_over (map arc_value c.in-Inner.nodes.items) ≡ c.args.self.now = ap seen (sym c.in-Inner.is) ∙ c.self.view_is in
+    let view : tree_over (map arc_value c.in-Inner.nodes.items) ≡ c.args.self.now = ap tree_of (sym c.in-Inner.is) ∙ c.self.view_is in
     omega (arith, room_for c.args.new c.args.self.now c.is_some.result c.is_some.ensures c.requires.room grows, ap (λ (s : Tree g.row.V.Denot). s.0.1) view)
 
 pub seps_left-requires : goal.seps_left-requires
@@ -35,7 +35,7 @@ put-requires g t c κs within =
     let at = c.in_ok-at-in-Inner.at in
     let whole = subst IsWhole c.in-Inner.is c.self.invariant in
     let way = c.in_ok-at-in-Inner.ensures.same in
-    let view : tree_over (map arc_value nodes) ≡ c.args.self.now = ap seen (sym c.in-Inner.is) ∙ c.self.view_is in
+    let view : tree_over (map arc_value nodes) ≡ c.args.self.now = ap tree_of (sym c.in-Inner.is) ∙ c.self.view_is in
     let lower : c.in-Some.node.now.0.0 < c.args.self.now.0.0 =
     omega (
       arith,
@@ -57,7 +57,7 @@ invariant_of-self-in_err-put-in-Some g t c =
     let at = c.in_ok-at-in-Inner.at in
     let whole = subst IsWhole c.in-Inner.is c.self.invariant in
     let way = c.in_ok-at-in-Inner.ensures.same in
-    let view : tree_over (map arc_value nodes) ≡ c.args.self.now = ap seen (sym c.in-Inner.is) ∙ c.self.view_is in
+    let view : tree_over (map arc_value nodes) ≡ c.args.self.now = ap tree_of (sym c.in-Inner.is) ∙ c.self.view_is in
     let x : Arc (Tree g.row.V.Denot) Global = c.index_mut.result.now in
     let y : Arc (Tree g.row.V.Denot) Global = arc_with_value x c.put.new.self in
     let same = are_same c.args.key.now (arc_value c.make_way.new.seps).items mid (map arc_value (set mid at y)) at x c.put.new.self c.in_ok-at-in-Inner.ensures.place way.below way.filled c.index_mut.ensures.value (map_set arc_value mid at y)
@@ -71,7 +71,7 @@ returns-in_err-put-in-Some-clause-height g t c =
     let at = c.in_ok-at-in-Inner.at in
     let whole = subst IsWhole c.in-Inner.is c.self.invariant in
     let way = c.in_ok-at-in-Inner.ensures.same in
-    let view : tree_over (map arc_value nodes) ≡ c.args.self.now = ap seen (sym c.in-Inner.is) ∙ c.self.view_is in
+    let view : tree_over (map arc_value nodes) ≡ c.args.self.now = ap tree_of (sym c.in-Inner.is) ∙ c.self.view_is in
     let x : Arc (Tree g.row.V.Denot) Global = c.index_mut.result.now in
     let y : Arc (Tree g.row.V.Denot) Global = arc_with_value x c.put.new.self in
     let same = are_same c.args.key.now (arc_value c.make_way.new.seps).items mid (map arc_value (set mid at y)) at x c.put.new.self c.in_ok-at-in-Inner.ensures.place way.below way.filled c.index_mut.ensures.value (map_set arc_value mid at y)
@@ -85,7 +85,7 @@ returns-in_err-put-in-Some-clause-same g t c =
     let at = c.in_ok-at-in-Inner.at in
     let whole = subst IsWhole c.in-Inner.is c.self.invariant in
     let way = c.in_ok-at-in-Inner.ensures.same in
-    let view : tree_over (map arc_value nodes) ≡ c.args.self.now = ap seen (sym c.in-Inner.is) ∙ c.self.view_is in
+    let view : tree_over (map arc_value nodes) ≡ c.args.self.now = ap tree_of (sym c.in-Inner.is) ∙ c.self.view_is in
     let x : Arc (Tree g.row.V.Denot) Global = c.index_mut.result.now in
     let y : Arc (Tree g.row.V.Denot) Global = arc_with_value x c.put.new.self in
     let same = are_same c.args.key.now (arc_value c.make_way.new.seps).items mid (map arc_value (set mid at y)) at x c.put.new.self c.in_ok-at-in-Inner.ensures.place way.below way.filled c.index_mut.ensures.value (map_set arc_value mid at y)
@@ -99,7 +99,7 @@ settle-requires-clause-some g t c none several =
     let at = c.in_ok-at-in-Inner.at in
     let whole = subst IsWhole c.in-Inner.is c.self.invariant in
     let way = c.in_ok-at-in-Inner.ensures.same in
-    let view : tree_over (map arc_value nodes) ≡ c.args.self.now = ap seen (sym c.in-Inner.is) ∙ c.self.view_is in
+    let view : tree_over (map arc_value nodes) ≡ c.args.self.now = ap tree_of (sym c.in-Inner.is) ∙ c.self.view_is in
     let x : Arc (Tree g.row.V.Denot) Global = c.index_mut.result.now in
     let y : Arc (Tree g.row.V.Denot) Global = arc_with_value x c.put.new.self in
     let entry = entry_of c.args.key.now c.args.new in
@@ -119,7 +119,7 @@ settle-requires-clause-below g t c =
     let at = c.in_ok-at-in-Inner.at in
     let whole = subst IsWhole c.in-Inner.is c.self.invariant in
     let way = c.in_ok-at-in-Inner.ensures.same in
-    let view : tree_over (map arc_value nodes) ≡ c.args.self.now = ap seen (sym c.in-Inner.is) ∙ c.self.view_is in
+    let view : tree_over (map arc_value nodes) ≡ c.args.self.now = ap tree_of (sym c.in-Inner.is) ∙ c.self.view_is in
     let x : Arc (Tree g.row.V.Denot) Global = c.index_mut.result.now in
     let y : Arc (Tree g.row.V.Denot) Global = arc_with_value x c.put.new.self in
     let entry = entry_of c.args.key.now c.args.new in
@@ -134,7 +134,7 @@ settle-requires-clause-filled g t c =
     let at = c.in_ok-at-in-Inner.at in
     let whole = subst IsWhole c.in-Inner.is c.self.invariant in
     let way = c.in_ok-at-in-Inner.ensures.same in
-    let view : tree_over (map arc_value nodes) ≡ c.args.self.now = ap seen (sym c.in-Inner.is) ∙ c.self.view_is in
+    let view : tree_over (map arc_value nodes) ≡ c.args.self.now = ap tree_of (sym c.in-Inner.is) ∙ c.self.view_is in
     let x : Arc (Tree g.row.V.Denot) Global = c.index_mut.result.now in
     let y : Arc (Tree g.row.V.Denot) Global = arc_with_value x c.put.new.self in
     let entry = entry_of c.args.key.now c.args.new in
@@ -149,7 +149,7 @@ settle-requires-clause-count g t c =
     let at = c.in_ok-at-in-Inner.at in
     let whole = subst IsWhole c.in-Inner.is c.self.invariant in
     let way = c.in_ok-at-in-Inner.ensures.same in
-    let view : tree_over (map arc_value nodes) ≡ c.args.self.now = ap seen (sym c.in-Inner.is) ∙ c.self.view_is in
+    let view : tree_over (map arc_value nodes) ≡ c.args.self.now = ap tree_of (sym c.in-Inner.is) ∙ c.self.view_is in
     let x : Arc (Tree g.row.V.Denot) Global = c.index_mut.result.now in
     let y : Arc (Tree g.row.V.Denot) Global = arc_with_value x c.put.new.self in
     let entry = entry_of c.args.key.now c.args.new in
@@ -165,7 +165,7 @@ settle-requires-clause-short g t c =
     let at = c.in_ok-at-in-Inner.at in
     let whole = subst IsWhole c.in-Inner.is c.self.invariant in
     let way = c.in_ok-at-in-Inner.ensures.same in
-    let view : tree_over (map arc_value nodes) ≡ c.args.self.now = ap seen (sym c.in-Inner.is) ∙ c.self.view_is in
+    let view : tree_over (map arc_value nodes) ≡ c.args.self.now = ap tree_of (sym c.in-Inner.is) ∙ c.self.view_is in
     let x : Arc (Tree g.row.V.Denot) Global = c.index_mut.result.now in
     let y : Arc (Tree g.row.V.Denot) Global = arc_with_value x c.put.new.self in
     let entry = entry_of c.args.key.now c.args.new in
@@ -180,7 +180,7 @@ returns-clause-height g t c =
     let at = c.in_ok-at-in-Inner.at in
     let whole = subst IsWhole c.in-Inner.is c.self.invariant in
     let way = c.in_ok-at-in-Inner.ensures.same in
-    let view : tree_over (map arc_value nodes) ≡ c.args.self.now = ap seen (sym c.in-Inner.is) ∙ c.self.view_is in
+    let view : tree_over (map arc_value nodes) ≡ c.args.self.now = ap tree_of (sym c.in-Inner.is) ∙ c.self.view_is in
     let x : Arc (Tree g.row.V.Denot) Global = c.index_mut.result.now in
     let y : Arc (Tree g.row.V.Denot) Global = arc_with_value x c.put.new.self in
     let entry = entry_of c.args.key.now c.args.new in
@@ -195,7 +195,7 @@ returns-clause-changed g t c =
     let at = c.in_ok-at-in-Inner.at in
     let whole = subst IsWhole c.in-Inner.is c.self.invariant in
     let way = c.in_ok-at-in-Inner.ensures.same in
-    let view : tree_over (map arc_value nodes) ≡ c.args.self.now = ap seen (sym c.in-Inner.is) ∙ c.self.view_is in
+    let view : tree_over (map arc_value nodes) ≡ c.args.self.now = ap tree_of (sym c.in-Inner.is) ∙ c.self.view_is in
     let x : Arc (Tree g.row.V.Denot) Global = c.index_mut.result.now in
     let y : Arc (Tree g.row.V.Denot) Global = arc_with_value x c.put.new.self in
     let entry = entry_of c.args.key.now c.args.new in

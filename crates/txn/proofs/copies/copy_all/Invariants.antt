@@ -1,5 +1,5 @@
 use Rattle.std.proofs.Common.{◌≡◌, take}
-use Rattle.copies.proofs.parts.copy_all.Given as goal
+use Rattle.txn.proofs.copies.copy_all.Given as goal
 
 -- the copies so far are those of the parts so far
 abbrev pub invariant-loop-part : goal.invariant-loop-part

@@ -9,7 +9,7 @@ use Rattle.commit.proofs.Accepting.{begun_live}
 use Rattle.commit.proofs.Keeping.{is_idle, kept_idle, locks_idle, same_commits}
 use Rattle.commit.proofs.Locking.{kept_begun}
 use Rattle.commit.proofs.BeginNumbers.{one_more}
-use Rattle.commit.proofs.cores.Core.begin_as.Goals as goal
+use Rattle.commit.proofs.cores.Core.begin_on_newest.Goals as goal
 
 pub invariant_of-self : goal.invariant_of-self
 invariant_of-self c =

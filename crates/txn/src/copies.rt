@@ -1,11 +1,12 @@
-//! Copies of lists and options, by the copy of one part.
+//! Copies of what a committed transaction leaves: its net change, and what it read. A record of a commit stands twice,
+//! with the commits and where threads look it up, and no thread waits for the other to read it.
 
 ghost use Rattle.std.specs.Prelude.{◌≡◌, IfOk};
 
 use siread::LockKey;
 use sqlite_items::Items;
 use std::alloc::{AllocError, Global};
-use table::{Expr, Row};
+use table::{Change, Expr, Row};
 use value::Text;
 
 /// What has a copy equal to it where there is memory. `Clone` could not answer that there is none.
@@ -78,5 +79,32 @@ impl Part for Expr {
         ensures { IfOk result (λ copy. copy ≡ self.now) }
     {
         self.copy(alloc)
+    }
+}
+
+/// Changes equal to these.
+pub fn copy_changes(alloc: Global, changes: &[Change]) -> Result<Items<Change>, AllocError>
+    ensures { IfOk result (λ copy. copy ≡ changes.now) }
+{
+    copy_all(alloc, changes)
+}
+
+/// Keys equal to these.
+pub fn copy_reads(alloc: Global, reads: &[LockKey]) -> Result<Items<LockKey>, AllocError>
+    ensures { IfOk result (λ copy. copy ≡ reads.now) }
+{
+    copy_all(alloc, reads)
+}
+
+impl Part for Change {
+    fn copy_in(&self, alloc: Global) -> Result<Change, AllocError>
+        ensures { IfOk result (λ copy. copy ≡ self.now) }
+    {
+        Ok(Change {
+            table: self.table,
+            key: self.key.copy()?,
+            old: copy_if(alloc, &self.old)?,
+            new: copy_if(alloc, &self.new)?,
+        })
     }
 }

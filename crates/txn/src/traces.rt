@@ -2,7 +2,7 @@
 
 ghost use Rattle.std.specs.Prelude.{◌≡◌, IfOk};
 
-use crate::parts::{Part, copy_all, copy_if};
+use crate::copies::{Part, copy_all, copy_if};
 use alone::ResolvedStatement;
 use assertcheck::{Delete, NewRow, Select, Setting, Update};
 use sqlite_items::Items;
