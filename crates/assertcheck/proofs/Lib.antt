@@ -3,3 +3,4 @@ pub mod BoundedForms
 pub mod ExprTypes
 mod Widths
 mod Refused
+mod KnownNames

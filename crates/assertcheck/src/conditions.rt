@@ -45,9 +45,14 @@ pub fn filter_condition(
         refusal ≢ NoMemory → filter_of catalog.now (lent_scope scope.entry) condition.now ≡ Err refusal) }
     ensures bounded { IfOk result (λ made. IsTrue (is_bounded [] made)) }
 {
-    look_up_where(alloc, catalog, scope, condition)?;
-    let made = row_filter(alloc, scope, condition)?;
-    require_sound(scope, made)
+    match row_filter(alloc, scope, condition) {
+        // (its names are known then: nothing but columns of the table stands there)
+        Ok(made) => require_sound(scope, made),
+        Err(refusal) => {
+            look_up_where(alloc, catalog, scope, condition)?;
+            Err(refusal)
+        }
+    }
 }
 
 /// Looks up the names in the condition of WHERE.

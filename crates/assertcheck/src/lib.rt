@@ -9,7 +9,8 @@
 //!    assigns, then those of its condition (`form_check`). A column is listed twice by a SELECT alone, and no UPDATE
 //!    assigns the key;
 //! 3. *shape*: an assertion is of one of three forms, and what a statement assigns and its condition hold neither a set
-//!    function nor a query (`form_check`);
+//!    function nor a query (`form_check`). What is over the rows of its table alone has no unknown name, so the names
+//!    of a statement are looked up by themselves only to say which fault is its first;
 //! 4. *types*: what is compared is of one type, arithmetic is on numbers, and a constant, or what is assigned, is of
 //!    its column's type;
 //! 5. *width*: each expression has a bound, so that no evaluation overflows (`table`).

@@ -60,8 +60,14 @@ pub fn check_update(
 {
     let target = target(catalog, table)?;
     let places = assigned_places(alloc, target.scope.schema, sets)?;
-    known_names(alloc, catalog, target.scope, sets, condition)?;
-    update_over(alloc, target, places.as_slice(), sets, condition)
+    match update_over(alloc, target, places.as_slice(), sets, condition) {
+        // (its names are known then: nothing but columns of the table stands there)
+        Ok(update) => Ok(update),
+        Err(refusal) => {
+            known_names(alloc, catalog, target.scope, sets, condition)?;
+            Err(refusal)
+        }
+    }
 }
 
 /// The UPDATE that gives these columns their values, if its expressions and its condition are over the rows of its

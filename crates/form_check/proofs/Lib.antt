@@ -1,2 +1,4 @@
-mod Equations
+pub mod Steps
+pub mod Equations
 mod Numberings
+pub mod KnownNames

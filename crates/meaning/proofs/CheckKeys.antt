@@ -36,7 +36,7 @@ use Rattle.meaning.specs.Class.{Piece, Pieces, pieces_in, IfWritten, IsOverRows,
 use Rattle.meaning.specs.Laws.{Pairs}
 use Rattle.meaning.specs.Keys as written
 use Rattle.meaning.specs.Keys.{IsTable, IsOfLink, joined_keys, link_keys, found_keys, looks_of, IsTableKey, InWhere, InSingle, filter_pieces, ReadsRow, ReadsGroup, ReadsAsWritten, ReadsWhole}
-use Rattle.meaning.proofs.Steps.{in_class_ok, only_if_ok, ok_pair}
+use Rattle.form_check.proofs.Steps.{in_class_ok, only_if_ok, ok_pair}
 use Rattle.meaning.proofs.Queries.{plain_by_ok}
 use Rattle.meaning.proofs.Links.{linked_where_ok}
 use Rattle.meaning.proofs.Rooted.{sourced_parts, layout_at}

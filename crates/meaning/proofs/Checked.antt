@@ -41,7 +41,7 @@ use Rattle.assertcheck.specs.Updates.{assignable, not_key, update_of, value_of, 
 use Rattle.meaning.specs.Meaning.{Reference, table_of, truth, passes, with_rows}
 use Rattle.meaning.specs.Laws as law
 use Rattle.meaning.specs.Laws.{reference_to, rows_by_filter, Pairs, IsPlaceOf, IsListOf, Gives, written_value, given_value}
-use Rattle.meaning.proofs.Steps.{and_then_ok, ok_same}
+use Rattle.form_check.proofs.Steps.{and_then_ok, ok_same}
 use Rattle.meaning.proofs.Rows.{row_expression_value, row_filter_keeps}
 use Rattle.meaning.proofs.Queries.{source_seen}
 use Rattle.meaning.proofs.Whole.{HasWrittenRoots-law, HasWrittenTruth-law, HasWrittenLeast-law}

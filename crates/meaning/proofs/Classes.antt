@@ -44,8 +44,8 @@ use Rattle.meaning.proofs.Links.{one_test, link_names_are, either_is, first_link
 use Rattle.meaning.specs.Keys.{HasOneLink}
 use Rattle.meaning.specs.Laws as law
 use Rattle.meaning.specs.Laws.{Pairs}
-use Rattle.meaning.proofs.Steps.{and_then_ok, in_class_ok, only_if_ok, ok_same}
-use Rattle.meaning.proofs.Rows.{alone_ok, outer_column_is, both_cases}
+use Rattle.form_check.proofs.Steps.{alone_ok, and_then_ok, in_class_ok, only_if_ok, ok_same}
+use Rattle.meaning.proofs.Rows.{outer_column_is, both_cases}
 use Rattle.meaning.proofs.Queries.{plain_by_ok}
 use Rattle.meaning.proofs.Groups.{in_group_is}
 use Rattle.meaning.proofs.Made.{single_made, row_made, group_made}

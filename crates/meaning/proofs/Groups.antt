@@ -36,7 +36,7 @@ use Rattle.form_check.specs.Forms.{aggregate_of}
 use Rattle.meaning.specs.Meaning as written
 use Rattle.meaning.specs.Meaning.{References, Evaluation, Answer, column_values, first_value, with_rows, passes, distinct, truth, root_of}
 use Rattle.meaning.specs.Laws.{reference_to}
-use Rattle.meaning.proofs.Steps.{in_class_ok, ok_same}
+use Rattle.form_check.proofs.Steps.{in_class_ok, ok_same}
 use Rattle.meaning.proofs.Numbering.{leaf_value, condition_faithful, at_place_means}
 use Rattle.meaning.proofs.Rows.{own_value, own_values, row_filter_keeps}
 use Rattle.meaning.proofs.Queries.{answers_by, each_leaf, set_function_of}

@@ -25,7 +25,7 @@ use Rattle.form_check.specs.Leaves.{Leaf, Rows, Of, Exists, Value, numbered}
 use Rattle.form_check.specs.Queries.{Source, source_named, source_of, selected_aggregate, may_be_selected}
 use Rattle.form_check.specs.Forms.{Clauses, linked_filter, slot_query_of, plain_by, plain, row_where, by_row, by_clauses, not_exists, single, form_of_negation, form_in}
 use Rattle.meaning.specs.Laws as law
-use Rattle.meaning.proofs.Steps.{and_then_ok, in_class_ok, only_if_ok}
+use Rattle.form_check.proofs.Steps.{and_then_ok, in_class_ok, only_if_ok}
 use Rattle.meaning.proofs.Rooted.{sourced_parts}
 use Rattle.meaning.proofs.Classes.{placed_at}
 

@@ -33,9 +33,8 @@ use Rattle.form_check.specs.Queries.{alone, row_filter}
 use Rattle.alone.specs.Reads as reads
 use Rattle.alone.specs.Reads.{Equality}
 use Rattle.meaning.specs.Keys as written
-use Rattle.meaning.proofs.Steps.{and_then_ok, in_class_ok, then_ok, ok_pair, ok_same, mapped_some}
-use Rattle.meaning.proofs.Numbering.{expression_rolled, condition_rolled}
-use Rattle.meaning.proofs.Rows.{alone_ok}
+use Rattle.form_check.proofs.Steps.{alone_ok, and_then_ok, in_class_ok, then_ok, ok_pair, ok_same, mapped_some}
+use Rattle.form_check.proofs.Equations.{expression_rolled, condition_rolled}
 
 -- ---- the sides of a resolved comparison
 

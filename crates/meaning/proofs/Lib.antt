@@ -1,4 +1,3 @@
-pub mod Steps
 pub mod Nodes
 pub mod Examples
 pub mod Numbering

@@ -44,7 +44,7 @@ use Rattle.form_check.specs.Forms.{linked_filter, linked_exists, linked_value, s
 use Rattle.meaning.specs.Meaning as written
 use Rattle.meaning.specs.Meaning.{References, Evaluation, Answer, column_values, first_value, only_value, with_rows, passes, truth, evaluation_of, select_list, answers}
 use Rattle.meaning.specs.Laws.{reference_to}
-use Rattle.meaning.proofs.Steps.{and_then_ok, in_class_ok, only_if_ok, ok_same}
+use Rattle.form_check.proofs.Steps.{and_then_ok, in_class_ok, only_if_ok, ok_same}
 use Rattle.meaning.proofs.Numbering.{leaf_value, truth-And}
 use Rattle.meaning.proofs.Rows.{own_value, outer_column_is, outer_value, joint_condition_truth}
 use Rattle.meaning.proofs.Queries.{answers_by, answers_at, list_set, only_set}

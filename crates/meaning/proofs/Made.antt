@@ -18,7 +18,7 @@ use Rattle.form_check.specs.Columns.{no_column, grouping_column, at_place}
 use Rattle.form_check.specs.Leaves.{Leaves, numbered}
 use Rattle.form_check.specs.Queries.{Source, row_filter, may_be_selected}
 use Rattle.form_check.specs.Forms.{Clauses, plain, slot_query_of, aggregate_of, row_where, by_row, having_over, by_group, single}
-use Rattle.meaning.proofs.Steps.{and_then_ok, in_class_ok, only_if_ok, ok_same}
+use Rattle.form_check.proofs.Steps.{and_then_ok, in_class_ok, only_if_ok, ok_same}
 
 pub record SingleMade (tables : Tables) (condition : Condition) (form : Form) : Type 0 where
   pub made : Cond

@@ -32,7 +32,7 @@ use Rattle.assertion.specs.Meaning.{State}
 use Rattle.syntax.specs.declared.trees.ColumnName.{ColumnName}
 use Rattle.syntax.specs.declared.trees.Condition.{Condition, roll-Condition}
 use Rattle.syntax.specs.declared.trees.Condition.TheOpen.{Condition-F, Expression-F}
-use Rattle.syntax.specs.declared.trees.Condition.TheFolds.{map-Condition, map-Expression, para-roll-Condition, para-roll-Expression, fold-roll-Condition, fold-roll-Expression, ind-Condition, ind-Expression}
+use Rattle.syntax.specs.declared.trees.Condition.TheFolds.{map-Condition, map-Expression, fold-roll-Condition, fold-roll-Expression, ind-Condition, ind-Expression}
 use Rattle.syntax.specs.declared.trees.Expression.{Expression, roll-Expression}
 use Rattle.syntax.specs.declared.trees.SelectList.{SelectList}
 use Rattle.syntax.specs.declared.trees.Query.{Query}
@@ -42,19 +42,8 @@ use Rattle.form_check.specs.Leaves.{Leaf, Leaves, Numbering, Rows, Of, Exists, V
 use Rattle.form_check.specs.Leaves as leaves_of
 use Rattle.meaning.specs.Meaning as written
 use Rattle.meaning.specs.Meaning.{References, Evaluation, Answer, column_values, first_value, rows_at_hand, set_function, only_value, is_any, truth, evaluation_of, answers}
-use Rattle.meaning.proofs.Steps.{and_then_ok, in_class_ok, then_ok, ok_pair, mapped_some}
-
--- ---- the layers
-
-pub expression_rolled : (place : ColumnName → Option Expr) (layer : Expression-F Condition Expression SelectList Query)
-    → numbered_expression place (roll-Expression layer) ≡ leaves_of.expression_step place (map-Expression Condition Expression SelectList Query (Condition × Numbering Cond) (Expression × Numbering Expr) (SelectList × Unit {0}) (Query × Unit {0}) (λ c. (c, numbered place c)) (λ e. (e, numbered_expression place e)) (λ l. (l, tt)) (λ q. (q, tt)) layer)
-unfolding numbered numbered_expression
-expression_rolled place layer = para-roll-Expression (Numbering Cond) (Numbering Expr) (Unit {0}) (Unit {0}) (leaves_of.condition_step place) (leaves_of.expression_step place) leaves_of.select_list_step leaves_of.query_step layer
-
-pub condition_rolled : (place : ColumnName → Option Expr) (layer : Condition-F Condition Expression SelectList Query)
-    → numbered place (roll-Condition layer) ≡ leaves_of.condition_step place (map-Condition Condition Expression SelectList Query (Condition × Numbering Cond) (Expression × Numbering Expr) (SelectList × Unit {0}) (Query × Unit {0}) (λ c. (c, numbered place c)) (λ e. (e, numbered_expression place e)) (λ l. (l, tt)) (λ q. (q, tt)) layer)
-unfolding numbered numbered_expression
-condition_rolled place layer = para-roll-Condition (Numbering Cond) (Numbering Expr) (Unit {0}) (Unit {0}) (leaves_of.condition_step place) (leaves_of.expression_step place) leaves_of.select_list_step leaves_of.query_step layer
+use Rattle.form_check.proofs.Equations.{condition_rolled, expression_rolled}
+use Rattle.form_check.proofs.Steps.{and_then_ok, in_class_ok, then_ok, ok_pair, mapped_some}
 
 -- ---- slots that hold what stands in them
 

@@ -33,7 +33,7 @@ use Rattle.form_check.specs.Forms.{Clauses, plain, plain_by, plain_value}
 use Rattle.meaning.specs.Meaning as written
 use Rattle.meaning.specs.Meaning.{Reference, References, Evaluation, Answer, no_layout, rows_at, table_of, column_values, set_function, only_value, with_rows, passes, groups_of_rows, group_value, truth, evaluation_of, select_list, answers}
 use Rattle.meaning.specs.Laws.{reference_to}
-use Rattle.meaning.proofs.Steps.{and_then_ok, in_class_ok, ok_same, mapped_some}
+use Rattle.form_check.proofs.Steps.{and_then_ok, in_class_ok, ok_same, mapped_some}
 use Rattle.meaning.proofs.Numbering.{leaf_value}
 use Rattle.meaning.proofs.Rows.{own_values, row_filter_keeps}
 

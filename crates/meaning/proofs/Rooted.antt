@@ -27,7 +27,7 @@ use Rattle.form_check.specs.Queries.{Source, source_named}
 use Rattle.form_check.specs.Forms.{slot_query_of, row_where}
 use Rattle.meaning.specs.Meaning.{References, Evaluation, Answer, first_value, with_rows, passes, truth, root_of}
 use Rattle.meaning.specs.Laws.{reference_to}
-use Rattle.meaning.proofs.Steps.{ok_pair}
+use Rattle.form_check.proofs.Steps.{ok_pair}
 use Rattle.meaning.proofs.Numbering.{leaf_value, condition_faithful, truth-And}
 use Rattle.meaning.proofs.Rows.{own_means}
 use Rattle.meaning.proofs.Queries.{answers_by, each_leaf}

@@ -23,7 +23,7 @@ use Rattle.form_check.specs.Queries.{alone, row_condition, joint_condition, row_
 use Rattle.value.specs.Results.{and_then}
 use Rattle.meaning.specs.Meaning.{Reference, References, column_values, values_at, values_of, first_value, truth, evaluation_of, passes}
 use Rattle.meaning.specs.Laws.{reference_to}
-use Rattle.meaning.proofs.Steps.{and_then_ok, ok_same, mapped_some}
+use Rattle.form_check.proofs.Steps.{alone_ok, and_then_ok, ok_same, mapped_some}
 use Rattle.meaning.proofs.Numbering.{Fits, condition_faithful, expression_faithful, at_place_means, answer-Column, answer-Slot, truth-And}
 
 -- the values of a name of a table
@@ -42,11 +42,6 @@ outer_values scope rows outer column is = ap (λ b. values_of column.name (if b 
 
 pub own_value : (scope : Scope) (row : RowValues) (outer : References) (column : ColumnName) (c : ℕ) → own_column scope column ≡ Some c → first_value (column_values column (reference_to scope (row ∷ []) ∷ outer)) ≡ value_in c row
 own_value scope row outer column c is = ap first_value (own_values scope (row ∷ []) outer column c is)
-
--- nothing stood there but the row's columns
-pub alone_ok : {A : Type 0} (made : A) (leaves : Leaves) (a : A) → alone made leaves ≡ Ok a → (made ≡ a) × (leaves ≡ [])
-alone_ok {A = A} made [] a e = (ap (λ (r : Result A Refusal). elim r [ Ok x ↦ x | Err f ↦ made ]) e, refl)
-alone_ok made (leaf ∷ rest) a e = cc
 
 module _ (tables : Tables) (state : State) (scopes : References) (row : RowValues) (slots : List Value) (place : ColumnName → Option Expr)
     (means : (column : ColumnName) (e : Expr) → place column ≡ Some e → first_value (column_values column scopes) ≡ resolved.answer row slots e) where

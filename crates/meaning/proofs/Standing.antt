@@ -23,8 +23,8 @@ use Rattle.form_check.specs.Leaves.{Leaf, Leaves, Numbering, Rows, Of, Exists, V
 use Rattle.form_check.specs.Leaves as leaves_of
 use Rattle.meaning.specs.Class as class
 use Rattle.meaning.specs.Class.{Piece, Pieces, Each, condition_columns, expression_columns, columns_in, condition_pieces, expression_pieces, pieces_in}
-use Rattle.meaning.proofs.Steps.{and_then_ok, in_class_ok, then_ok, ok_pair}
-use Rattle.meaning.proofs.Numbering.{condition_rolled, expression_rolled}
+use Rattle.form_check.proofs.Steps.{and_then_ok, in_class_ok, then_ok, ok_pair}
+use Rattle.form_check.proofs.Equations.{condition_rolled, expression_rolled}
 
 -- the columns and the leaves of an expression
 abbrev pub columns_of : Expression → List ColumnName

@@ -29,7 +29,7 @@ use Rattle.meaning.specs.Meaning as written
 use Rattle.meaning.specs.Meaning.{References, Evaluation, Answer, is_any, truth, evaluation_of, select_list, answers, table_of, group_value, root_of, roots_of_answers, query_roots, roots_in, denied_roots, written_truth, written_bad_roots}
 use Rattle.meaning.specs.Laws as law
 use Rattle.meaning.specs.Laws.{reference_to}
-use Rattle.meaning.proofs.Steps.{in_class_ok}
+use Rattle.form_check.proofs.Steps.{in_class_ok}
 use Rattle.meaning.proofs.Made.{row_made, group_made}
 use Rattle.meaning.proofs.Queries.{answers_by, answers_at, source_seen}
 use Rattle.meaning.proofs.Singles.{single_is}

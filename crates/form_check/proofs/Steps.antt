@@ -1,9 +1,10 @@
 -- What a step that went on says of those before it.
-use Rattle.std.proofs.Common.{◌≡◌, Result, Ok, Err, Option, Some, None, refl, ap}
+use Rattle.std.proofs.Common.{◌≡◌, Result, Ok, Err, [], ◌∷◌, Option, Some, None, refl, ap}
 use Rattle.value.specs.declared.refusals.Refusal.{Refusal}
 pub use Rattle.value.proofs.Results.{ok_same, and_then_ok}
 use Rattle.form_check.specs.Results.{in_class, only_if}
 use Rattle.form_check.specs.Leaves.{Leaves, then_made}
+use Rattle.form_check.specs.Queries.{alone}
 use Rattle.std.specs.Prelude.{Bool, true, false, option_map}
 use Rattle.std.proofs.lemmas.Option.{same_Some}
 
@@ -35,3 +36,8 @@ then_ok make (Err refusal) made after e = cc
 pub mapped_some : {A B : Type 0} (f : A → B) (o : Option A) (b : B) → option_map f o ≡ Some b → (a : A) × ((o ≡ Some a) × (f a ≡ b))
 mapped_some f None b e = cc
 mapped_some f (Some a) b e = (a, (refl, same_Some (f a) b e))
+
+-- nothing stood there but the row's columns
+pub alone_ok : {A : Type 0} (made : A) (leaves : Leaves) (a : A) → alone made leaves ≡ Ok a → (made ≡ a) × (leaves ≡ [])
+alone_ok {A = A} made [] a e = (ap (λ (r : Result A Refusal). elim r [ Ok x ↦ x | Err f ↦ made ]) e, refl)
+alone_ok made (leaf ∷ rest) a e = cc
