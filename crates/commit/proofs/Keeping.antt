@@ -11,7 +11,7 @@ use Rattle.conflict.specs.Live.{AreBelow, LiveState, least_writing, none_live, w
 use Rattle.commit.specs.declared.prepared.Prepared.{Prepared}
 use Rattle.commit.specs.Cores.{CoreState, reads_kept}
 use Rattle.commit.specs.Kept.{IsCore, IsKept, idle_core, pending_of}
-use Rattle.commit.proofs.Locking.{kept_ended}
+use Rattle.commit.proofs.Locking.{kept_ended, kept_same}
 use Rattle.commit.proofs.BeginNumbers.{fewer}
 
 pub none_pending : (prepared : Option Prepared) → pending_of prepared ≡ None → prepared ≡ None
@@ -74,6 +74,14 @@ kept_left core newest places reaches order locks Room Room' prepared begin_numbe
     (same_commits core newest places reaches order locks Room live refused
     (subst (λ (l : LiveState). AreBelow l.begun l.snapshots) (sym e) (fewer core.live begin_number kept.0.begin_numbers)) kept.0)
     left
+
+-- while nothing is prepared, nobody goes where the least snapshot of those that may write stays
+pub same_left : (core : CoreState) (newest : ViewState) (places reaches order : List ℕ) (locks : Reads) (Room : Type 0) (prepared : Option Prepared) (count : ℕ)
+    → prepared ≡ None → count ≡ length core.records → IsKept core newest places reaches order locks prepared Room
+    → reads_above (least_writing count core.live.snapshots) reaches locks ≡ locks
+same_left core newest places reaches order locks Room prepared count idle same kept =
+    let e = locks_idle core newest places reaches order locks Room prepared idle kept in
+    (λ i. reads_above (least_writing (same i) core.live.snapshots) (kept.0.reaches_are i) (e i)) ∙ kept_same core.live core.records ∙ sym e
 
 -- before the first commit
 pub empty_kept : (limit : ℕ) (loaded : ViewState) → IsSound loaded.declared loaded.state → limit ≤ 4294967295 → IsCore (idle_core limit loaded [] [] none_live) loaded [] [] []

@@ -1,7 +1,7 @@
 -- The committed transactions, and what the next one is answered (Cahill, Röhm and Fekete 2008; Ports and Grittner
 -- 2012; that the first of two writers of a row to commit wins is the rule of snapshot isolation: Berenson and
 -- others 1995).
-use Rattle.std.specs.Prelude.{◌≡◌, ◌≢◌, ◌≤◌, ◌+◌, ◌==◌, ◌++◌, ℕ, Bool, true, false, List, [], ◌∷◌, length, map, reverse, slice_get, Option, Some, None, Result, Ok, Err, Contains, IsPermutation}
+use Rattle.std.specs.Prelude.{◌≡◌, ◌≢◌, ◌≤◌, ◌+◌, ◌==◌, ◌++◌, ℕ, Bool, true, false, List, [], ◌∷◌, length, map, reverse, slice_get, Option, Some, None, Result, Ok, Err, Contains, IsPermutation, if◌then◌else◌}
 use Rattle.value.specs.declared.refusals.Party.{Party}
 use Rattle.value.specs.declared.refusals.Party.TheVariants.{This, Number as Numbered}
 use Rattle.value.specs.declared.refusals.Refusal.{Refusal}
@@ -12,8 +12,10 @@ use Rattle.assertion.specs.Declarations.{Declared}
 use Rattle.assertion.specs.Meaning.{State}
 use Rattle.alone.specs.declared.answers.RefusedCommit.{RefusedCommit}
 use Rattle.delta.specs.Views.{ViewState}
+use Rattle.siread.specs.declared.keys.LockKey.{LockKey}
 use Rattle.siread.specs.Locks.{Reads, reads_above, with_reader}
-use Rattle.conflict.specs.Live.{LiveState, least_writing, with_begin, without}
+use Rattle.conflict.specs.declared.open_snapshots.LiveSnapshot.{LiveSnapshot}
+use Rattle.conflict.specs.Live.{LiveState, least_writing, may_another_ask, with_begin, without}
 use Rattle.alone.specs.declared.records.Record.{Record}
 use Rattle.alone.specs.Commits.{reach}
 use Rattle.alone.specs.Answer.{IsAnswer, Number, WriteConflict as Overwrites, Dangerous as Triple}
@@ -160,14 +162,29 @@ abbrev pub reads_kept : CoreState → Reads
 reads_kept c =
     reads_above (least_writing (length c.records) c.live.snapshots) (map reach c.records) (reads_of c.records)
 
--- and the one that is prepared
-abbrev pub reads_with : Option PendingCommit → (number : ℕ) → Reads → Reads
-reads_with None number reads = reads
-reads_with (Some p) number reads = with_reader number (keys_of p.txn) reads
+-- how far a transaction reaches as the commit with a number
+abbrev pub reach_with : (number : ℕ) → OpenTransaction → ℕ
+reach_with number t = if t.read_only then t.snapshot else number
 
--- for each key the commits that read it, as far as they are kept, and the one that is prepared
+-- with a commit's reads, or without them
+abbrev pub reads_noted : Bool → (number : ℕ) → List LockKey → Reads → Reads
+reads_noted true number keys reads = with_reader number keys reads
+reads_noted false number keys reads = reads
+
+-- with what a transaction has read, as the commit with a number, where another one that is open may ask for it
+abbrev pub reads_asked : List LiveSnapshot → OpenTransaction → (number : ℕ) → Reads → Reads
+reads_asked snapshots t number reads =
+    reads_noted (may_another_ask t.begin_number (reach_with number t) snapshots) number (keys_of t) reads
+
+-- and so with what the one that is prepared has read
+abbrev pub reads_with : List LiveSnapshot → Option PendingCommit → (number : ℕ) → Reads → Reads
+reads_with snapshots None number reads = reads
+reads_with snapshots (Some p) number reads = reads_asked snapshots p.txn number reads
+
+-- for each key the commits that read it, as far as they are kept, and the one that is prepared, as far as another open
+-- transaction may ask for it
 abbrev pub locks_of : CoreState → Reads
-locks_of c = reads_with c.prepared (length c.records + 1) (reads_kept c)
+locks_of c = reads_with c.live.snapshots c.prepared (length c.records + 1) (reads_kept c)
 
 -- a refused COMMIT gives the transaction back where it found no memory, and nothing has changed; else it has ended
 -- the transaction

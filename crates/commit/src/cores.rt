@@ -3,14 +3,14 @@
 ghost use Rattle.std.specs.Prelude.{◌≡◌, ◌↔◌, ◌≢◌, ◌≤◌, ◌<◌, ◌+◌, ◌++◌, ◌∷◌, [], ℕ, List, length, true, false, vec_capacity, vec_len, Contains, IfOk, IfErr, IfSome, IfNone, OnErr, OnOk, Ok, Err, None, Some};
 ghost use Rattle.value.specs.declared.refusals.Refusal.TheVariants.{NoMemory};
 ghost use Rattle.alone.specs.Modes.{assertion_of};
-ghost use Rattle.siread.specs.Locks.{IsCount, reads_above, readers_at};
+ghost use Rattle.siread.specs.Locks.{AreBelow, IsCount, Reads, reads_above, readers_at};
 ghost use Rattle.conflict.specs.Held.{is_held};
-ghost use Rattle.conflict.specs.Live.{least_writing, without};
+ghost use Rattle.conflict.specs.Live.{least_writing, may_another_ask, without};
 ghost use Rattle.alone.specs.Alone.{IsSound};
 ghost use Rattle.alone.specs.Commits.{HasNoWriteConflict, IsLog};
 ghost use Rattle.alone.specs.Order.{least_out};
 ghost use Rattle.txn.specs.Transactions.{transaction_at_begin, truth_of};
-ghost use Rattle.commit.specs.Cores.{IsCommitAnswer, IsLive, IsSerializable, IsUncommitted, core_after_commit, core_after_end, core_after_finish, locks_of, log_of, newest_tables, order_of, pending_txn, record_of, record_with, without_prepared, with_begun, with_commit, with_prepared};
+ghost use Rattle.commit.specs.Cores.{IsCommitAnswer, IsLive, IsSerializable, IsUncommitted, core_after_commit, core_after_end, core_after_finish, locks_of, log_of, newest_tables, order_of, pending_txn, reach_with, reads_asked, record_of, record_with, without_prepared, with_begun, with_commit, with_prepared};
 ghost use Rattle.commit.specs.Decisions.{IsDecision, IsJudgment};
 ghost use Rattle.commit.specs.Runs.{empty_core};
 ghost use Rattle.commit.specs.Safe.{IsSafeReader};
@@ -44,7 +44,7 @@ pub struct Core {
     refused: Vec<RefusedCommit>,
     live: Live,
     /// Who read what, of the commits that reach past the snapshot of some open transaction that may write, and of the
-    /// one that is prepared.
+    /// one that is prepared, where another one may ask for it.
     locks: LockTable,
     prepared: Option<Prepared>,
 }
@@ -219,7 +219,8 @@ impl Core {
             tables,
             place,
         } = prepared;
-        let number = self.records.len() as u64 + 1;
+        let before = self.records.len() as u64;
+        let number = before + 1;
         let begin_number = closed.txn().begin_number();
         let record = into_record(number, session, closed);
         let committed = self.records.as_slice();
@@ -234,6 +235,7 @@ impl Core {
             &mut self.locks,
             self.reaches.as_slice(),
             begin_number,
+            before,
             number,
         );
     }
@@ -248,8 +250,8 @@ impl Core {
             return None;
         };
         let closed = give_up(prepared);
-        self.locks
-            .take_back(self.records.len() as u64 + 1, closed.reads());
+        let number = self.records.len() as u64 + 1;
+        take_back_reads(&self.live, &mut self.locks, number, &closed);
         Some(closed)
     }
 
@@ -267,6 +269,7 @@ impl Core {
             self.reaches.as_slice(),
             txn.begin_number(),
             newest,
+            newest,
         );
     }
 
@@ -278,7 +281,8 @@ impl Core {
     }
 
     /// How many pairs there are of a key and a commit that read it, of the commits that reach past the snapshot of some
-    /// open transaction that may write, and of the one that is prepared. It takes no memory.
+    /// open transaction that may write, and of the one that is prepared, where another one may ask for it. It
+    /// takes no memory.
     pub fn locks(&self) -> usize
         ensures { IsCount (locks_of self.now) result }
     {
@@ -566,7 +570,7 @@ impl Core {
         ) {
             return Err(give_back(closed));
         }
-        if let Err(_) = self.locks.put(number, closed.reads()) {
+        if let Err(_) = note_reads(&self.live, &mut self.locks, number, &closed) {
             return Err(give_back(closed));
         }
         let prepared = Prepared {
@@ -605,6 +609,7 @@ impl Core {
             self.reaches.as_slice(),
             closed.txn().begin_number(),
             newest,
+            newest,
         );
         drop(closed.into_parts());
         CommitFailure { refusal, txn: None }
@@ -612,14 +617,79 @@ impl Core {
 }
 
 /// A transaction has ended: its snapshot is held no more, and readers go that reach no further than the snapshots of
-/// all that may write.
-fn forget(live: &mut Live, locks: &mut LockTable, reaches: &[u64], begin_number: u64, newest: u64)
+/// all that may write. There were `before` commits when it was open, and now there are `newest`. Where the least of
+/// those snapshots is what it was, as behind one that stays open for long, nobody goes, and nobody is looked through.
+fn forget(
+    live: &mut Live,
+    locks: &mut LockTable,
+    reaches: &[u64],
+    begin_number: u64,
+    before: u64,
+    newest: u64,
+)
+    requires later { before ≤ newest }
+    requires kept { reads_above (least_writing before live.old.snapshots) reaches.now (readers_at locks.old)
+        ≡ readers_at locks.old }
     ensures live { live.new ≡ without begin_number live.old }
     ensures locks { readers_at locks.new
         ≡ reads_above (least_writing newest live.new.snapshots) reaches.now (readers_at locks.old) }
 {
+    let low = live.least_writing(before);
     live.end(begin_number);
-    locks.trim(live.least_writing(newest), reaches);
+    let high = live.least_writing(newest);
+    if low < high {
+        locks.trim(high, reaches);
+    }
+}
+
+/// Notes what the next commit has read, where another open transaction may ask for it. Nobody else will: who begins
+/// later begins on a snapshot that holds this commit.
+fn note_reads(
+    live: &Live,
+    locks: &mut LockTable,
+    number: u64,
+    closed: &ClosedTransaction,
+) -> Result<(), AllocError>
+    requires { AreBelow number (readers_at locks.old) }
+    ensures noted { OnOk result (readers_at locks.new
+        ≡ reads_asked live.now.snapshots closed.now number (readers_at locks.old)) }
+    ensures unchanged { OnErr result (readers_at locks.new ≡ readers_at locks.old) }
+{
+    if !may_another_ask(live, number, closed) {
+        return Ok(());
+    }
+    locks.put(number, closed.reads())
+}
+
+/// Undoes [`note_reads`], while the same transactions are open. It takes no memory.
+fn take_back_reads(live: &Live, locks: &mut LockTable, number: u64, closed: &ClosedTransaction)
+    ensures { (before : Reads) → AreBelow number before
+        → readers_at locks.old ≡ reads_asked live.now.snapshots closed.now number before
+        → readers_at locks.new ≡ before }
+{
+    if may_another_ask(live, number, closed) {
+        locks.take_back(number, closed.reads());
+    }
+}
+
+/// Whether another open transaction may ask for what this one has read, as the commit with a number.
+fn may_another_ask(live: &Live, number: u64, closed: &ClosedTransaction) -> bool
+    ensures { result
+        ≡ may_another_ask closed.now.begin_number (reach_with number closed.now) live.now.snapshots }
+{
+    let txn = closed.txn();
+    live.may_another_ask(txn.begin_number(), reach_with(number, txn))
+}
+
+/// How far a transaction reaches as the commit with a number.
+fn reach_with(number: u64, txn: &Txn) -> u64
+    ensures { result ≡ reach_with number txn.now }
+{
+    if txn.is_read_only() {
+        txn.snapshot()
+    } else {
+        number
+    }
 }
 
 /// The record of a transaction that is committed with this number, in a session of this name.

@@ -1,9 +1,10 @@
 -- The least snapshot of those that may write, from the first to the last, and as transactions begin and end.
 use Rattle.std.proofs.Common.{◌≡◌, ℕ, ◌≤◌, ◌<◌, min, refl, sym, ap, ◌∙◌, subst, zero, suc, List, [], ◌∷◌, ◌++◌, ◌+◌, filter, Bool, true, false, cond, arith}
-use Rattle.std.specs.Prelude.{drop, get_or, length, Contains}
+use Rattle.std.specs.Prelude.{◌&&◌, ◌||◌, nat_lt, not, drop, get_or, length, Contains}
+use Rattle.std.proofs.lemmas.Bool.{ltb-false, ltb-true, or_parts}
 use Rattle.std.proofs.lemmas.List.{drop_more}
 use Rattle.conflict.specs.declared.open_snapshots.LiveSnapshot.{LiveSnapshot}
-use Rattle.conflict.specs.Live.{least_with, least_writing}
+use Rattle.conflict.specs.Live.{is_other, least_with, least_writing, may_another_ask}
 
 swap : (one other : LiveSnapshot) (n : ℕ) → least_with other (least_with one n) ≡ least_with one (least_with other n)
 swap one other n = go one.read_only other.read_only
@@ -82,3 +83,49 @@ least_up_to newest (other ∷ rest) one m writes = go (λ there. least_up_to new
         let more = later (k, omega (arith, l), e) in
         let less = with_less other n in
         omega (arith, less, more)
+
+-- where no other may ask for what reaches so far, it is no less for the others
+pub least_unasked : (newest begin_number far : ℕ) (all : List LiveSnapshot) → may_another_ask begin_number far all ≡ false
+    → far ≤ newest → far ≤ least_writing newest (filter (is_other begin_number) all)
+least_unasked newest begin_number far [] none h = h
+least_unasked newest begin_number far (one ∷ rest) none h =
+    let parts = or_parts (is_other begin_number one && not one.read_only && nat_lt one.snapshot far)
+    (may_another_ask begin_number far rest) none in
+    go (least_unasked newest begin_number far rest parts.1 h) (is_other begin_number one) parts.0
+  where
+    others : List LiveSnapshot
+    others = filter (is_other begin_number) rest
+
+    n : ℕ
+    n = least_writing newest others
+
+    here : far ≤ n → (b : Bool) → (not b && nat_lt one.snapshot far) ≡ false → far ≤ cond b n (min one.snapshot n)
+    here later true e = later
+    here later false e = let above = ltb-false one.snapshot far e in omega (arith, later, above)
+
+    go : far ≤ n → (b : Bool) → (b && not one.read_only && nat_lt one.snapshot far) ≡ false
+        → far ≤ least_writing newest (cond b (one ∷ others) others)
+    go later false e = later
+    go later true e = here later one.read_only e
+
+-- and where one may, it is less
+pub least_asked : (newest begin_number far : ℕ) (all : List LiveSnapshot) → may_another_ask begin_number far all ≡ true
+    → least_writing newest all < far
+least_asked newest begin_number far [] some = let no : ⊥ = cc in absurd no
+least_asked newest begin_number far (one ∷ rest) some =
+    go (least_asked newest begin_number far rest)
+    (is_other begin_number one && not one.read_only && nat_lt one.snapshot far) refl some
+  where
+    n : ℕ
+    n = least_writing newest rest
+
+    here : (other b : Bool) → (other && not b && nat_lt one.snapshot far) ≡ true → cond b n (min one.snapshot n) < far
+    here false b e = let no : ⊥ = cc in absurd no
+    here true true e = let no : ⊥ = cc in absurd no
+    here true false e = let below = ltb-true one.snapshot far e in omega (arith, below)
+
+    go : (may_another_ask begin_number far rest ≡ true → n < far)
+        → (b : Bool) → (is_other begin_number one && not one.read_only && nat_lt one.snapshot far) ≡ b
+        → (b || may_another_ask begin_number far rest) ≡ true → least_with one n < far
+    go later true is e = here (is_other begin_number one) one.read_only is
+    go later false is e = let less = with_less one n in let more = later e in omega (arith, less, more)

@@ -1,9 +1,9 @@
 -- Who of the commits read what, as one more is put, and as some are let go.
 use Rattle.std.proofs.Common.{◌≡◌, ℕ, zero, suc, ◌+◌, ◌<◌, ◌≤◌, Bool, true, false, cond, List, [], ◌∷◌, ◌++◌, filter, length, map, reverse, inl, inr, refl, sym, ap, ◌∙◌, subst, arith, lt-ltb}
-use Rattle.std.specs.Prelude.{Contains}
+use Rattle.std.specs.Prelude.{Contains, nat_lt}
 use Rattle.std.specs.List.{list_any}
 use Rattle.std.proofs.lemmas.Bool.{both_ways, cases_Bool, ltb-true}
-use Rattle.std.proofs.lemmas.List.{append-nil, get_or_append_left, length-map, map-append, map_push}
+use Rattle.std.proofs.lemmas.List.{append-nil, get_or_append_left, get_or-append-add, length-map, map-append, map_push}
 use Rattle.std.proofs.lemmas.List.Elements.{All-contains, All-filter, All-from_recursion, All-map, filter-append}
 use Rattle.siread.specs.declared.keys.LockKey.{LockKey}
 use Rattle.siread.specs.Keys.{same_key}
@@ -37,7 +37,7 @@ reads_more commits c = λ i key. at key i
         ∙ go key (has_read key c)
 
 -- all that read have numbers below the next
-all_below : (commits : List Record) (number : ℕ) → Each (λ (w : Record). w.number < number) (reverse commits)
+pub all_below : (commits : List Record) (number : ℕ) → Each (λ (w : Record). w.number < number) (reverse commits)
     → AreBelow number (reads_of commits)
 all_below commits number below = λ key reader m.
     All-contains (λ n. n < number) (reads_of commits key) reader
@@ -132,3 +132,81 @@ reaching_more low high commits c h below =
     ∙ reaching_put low high c.number (reach c) (map reach commits) c.reads h (reads_of commits)
     (subst (λ n. AreBelow (n + 1) (reads_of commits)) number (all_below commits (length commits + 1) below))
     ∙ (λ i. reads_above high (sym longer i) (sym (reads_more commits c) i))
+
+-- a reader that does not reach above the number goes as it comes
+pub reaching_not : (high number : ℕ) (reaches : List ℕ) (keys : List LockKey) (reads : Reads) → reaches_above high reaches number ≡ false
+    → reads_above high reaches (with_reader number keys reads) ≡ reads_above high reaches reads
+reaching_not high number reaches keys reads not_far = λ i key. at key i
+  where
+    late : ℕ → Bool
+    late = reaches_above high reaches
+
+    goes : filter late (number ∷ []) ≡ []
+    goes = ap (λ b. cond b (number ∷ []) []) not_far
+
+    go : (key : LockKey) (b : Bool) → filter late (cond b (reads key ++ number ∷ []) (reads key)) ≡ filter late (reads key)
+    go key true =
+        filter-append late (reads key) (number ∷ []) ∙ ap (λ xs. filter late (reads key) ++ xs) goes
+        ∙ append-nil (filter late (reads key))
+    go key false = refl
+
+    at : (key : LockKey) → reads_above high reaches (with_reader number keys reads) key ≡ reads_above high reaches reads key
+    at key = go key (list_any (same_key key) keys)
+
+-- who stayed the first time stays the second time
+filter_stays : (early late : ℕ → Bool) (xs : List ℕ)
+    → ((x : ℕ) → Contains xs x → early x ≡ true → late x ≡ true) → filter late (filter early xs) ≡ filter early xs
+filter_stays early late [] stays = refl
+filter_stays early late (x ∷ xs) stays =
+    go (filter_stays early late xs (λ y m. stays y (in_tail x xs y m))) (early x) refl
+  where
+    go : filter late (filter early xs) ≡ filter early xs → (b : Bool) → early x ≡ b
+        → filter late (cond b (x ∷ filter early xs) (filter early xs)) ≡ cond b (x ∷ filter early xs) (filter early xs)
+    go rest true e =
+        ap (λ b. cond b (x ∷ filter late (filter early xs)) (filter late (filter early xs))) (stays x (in_head x xs) e)
+        ∙ ap (λ ys. x ∷ ys) rest
+    go rest false e = rest
+
+module _ (low far : ℕ) (reaches : List ℕ) (reads : Reads) (below : AreBelow (length reaches + 1) reads) where
+  abbrev kept : Reads
+  kept = reads_above low reaches reads
+
+  abbrev longer : List ℕ
+  longer = reaches ++ far ∷ []
+
+  -- those that reach above a number do so as one more is put behind them
+  pub reaching_still : reads_above low longer kept ≡ kept
+  reaching_still = λ i key.
+      filter_stays (reaches_above low reaches) (reaches_above low longer) (reads key)
+      (λ reader m stays. ap (nat_lt low) (reach_before reaches far reader (below key reader m)) ∙ stays) i
+
+  -- and so does that one
+  pub reaching_still_with : (number : ℕ) (keys : List LockKey) → reaches_above low longer number ≡ true
+      → reads_above low longer (with_reader number keys kept) ≡ with_reader number keys kept
+  reaching_still_with number keys above = λ i key. at key i
+    where
+      late : ℕ → Bool
+      late = reaches_above low longer
+
+      stays : (key : LockKey) → filter late (kept key) ≡ kept key
+      stays key = λ i. reaching_still i key
+
+      one : filter late (number ∷ []) ≡ number ∷ []
+      one = ap (λ b. cond b (number ∷ []) []) above
+
+      go : (key : LockKey) (b : Bool) → filter late (cond b (kept key ++ number ∷ []) (kept key)) ≡ cond b (kept key ++ number ∷ []) (kept key)
+      go key true = filter-append late (kept key) (number ∷ []) ∙ (λ i. stays key i ++ one i)
+      go key false = stays key
+
+      at : (key : LockKey) → reads_above low longer (with_reader number keys kept) key ≡ with_reader number keys kept key
+      at key = go key (list_any (same_key key) keys)
+
+-- how far the one that was put behind reaches
+pub reach_behind : (reaches : List ℕ) (far : ℕ) → reach_of (reaches ++ far ∷ []) (length reaches + 1) ≡ far
+reach_behind reaches far =
+    let last : suc (length reaches + 0) ≡ length reaches + 1 = omega arith in
+    ap (reach_of (reaches ++ far ∷ [])) (sym last) ∙ get_or-append-add reaches (far ∷ []) 0 0
+
+-- what was let go once is let go
+pub reaching_same : (low : ℕ) (reaches : List ℕ) (reads : Reads) → reads_above low reaches (reads_above low reaches reads) ≡ reads_above low reaches reads
+reaching_same low reaches reads = reaching_twice low low reaches (omega arith) reads

@@ -1,6 +1,6 @@
 -- Which snapshots are held by open transactions.
-use Rattle.std.specs.Prelude.{◌<◌, ◌+◌, ◌==◌, ◌||◌, ℕ, Bool, not, nat_le, List, [], ◌∷◌, ◌++◌, filter, min, All, if◌then◌else◌}
-use Rattle.std.specs.List.{list_all}
+use Rattle.std.specs.Prelude.{◌<◌, ◌+◌, ◌==◌, ◌&&◌, ◌||◌, ℕ, Bool, not, nat_le, nat_lt, List, [], ◌∷◌, ◌++◌, filter, min, All, if◌then◌else◌}
+use Rattle.std.specs.List.{list_all, list_any}
 use Rattle.conflict.specs.declared.open_snapshots.LiveSnapshot.{LiveSnapshot}
 
 -- how many transactions have begun, and the snapshots of those that have not ended, in the order of their begins
@@ -40,6 +40,13 @@ least_writing newest (one ∷ rest) = least_with one (least_writing newest rest)
 -- each of them that may write holds at least so many commits
 abbrev pub writers_hold : (snapshot : ℕ) → List LiveSnapshot → Bool
 writers_hold snapshot snapshots = list_all (λ (one : LiveSnapshot). one.read_only || nat_le snapshot one.snapshot) snapshots
+
+-- whether an open transaction with another begin number, which may write, has a snapshot below so far a reach: it may
+-- ask for what is read up to there
+abbrev pub may_another_ask : (begin_number reach : ℕ) → List LiveSnapshot → Bool
+may_another_ask begin_number reach snapshots =
+    list_any (λ (one : LiveSnapshot). is_other begin_number one && not one.read_only && nat_lt one.snapshot reach)
+    snapshots
 
 -- the begin numbers are of transactions that have begun
 abbrev pub AreBelow : (begun : ℕ) → List LiveSnapshot → Type 0

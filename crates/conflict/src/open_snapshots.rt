@@ -2,7 +2,7 @@
 
 ghost use Rattle.std.specs.Prelude.{◌≡◌, true, Contains, IfOk, OnErr, OnOk};
 ghost use Rattle.conflict.specs.Held.{is_held};
-ghost use Rattle.conflict.specs.Live.{least_with, least_writing, none_live, with_begin, without, writers_hold};
+ghost use Rattle.conflict.specs.Live.{least_with, least_writing, may_another_ask, none_live, with_begin, without, writers_hold};
 
 use std::alloc::{AllocError, Global};
 use std::marker::Model;
@@ -110,6 +110,16 @@ impl Live {
         self.snapshots
             .iter()
             .all(|live| live.read_only || snapshot <= live.snapshot)
+    }
+
+    /// Whether another open transaction than that with a begin number, one that may write, has a snapshot that holds
+    /// fewer commits than `reach` says: it may ask for what a commit that reaches so far has read. It takes no memory.
+    pub fn may_another_ask(&self, begin_number: u64, reach: u64) -> bool
+        ensures { result ≡ may_another_ask begin_number reach self.now.snapshots }
+    {
+        self.snapshots.iter().any(|live| {
+            live.begin_number != begin_number && (!live.read_only && live.snapshot < reach)
+        })
     }
 }
 
