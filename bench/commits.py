@@ -2,7 +2,7 @@
 """Committed transactions a second with several transactions open at once, and the cost of a commit by those before it.
 
     python3 bench/commits.py [--program PATH] [--keys 1000,100000] [--open 1,4,16,64]
-                             [--history 1000,10000,100000] [--repetitions 3]
+                             [--history 1000,10000,100000] [--behind] [--repetitions 3]
 
 Without --program the program is built first by `rt run` in crates/skewguard, which proves it. Nothing but Python 3.9
 or later is needed besides. The tables that docs/PERFORMANCE.md holds are printed as they stand there. One process at
@@ -23,7 +23,8 @@ It is not tried again. --without-look leaves the looking up out. No statement is
 another is taken off, and balances are large.
 
 History: one session commits transactions of one UPDATE each, on 1,000 accounts under the ledger's rule. A history of
-a million is run where --history asks for it: it takes some 4 GB.
+a million is run where --history asks for it: it takes some 4 GB. With --behind another session, which may write, began
+before the first of them and stays open until the last.
 
 What counts is the processor time of the replay less that of loading alone. Each report is looked at whole: each BEGIN
 with the commits that it sees, each statement, each COMMIT with its number, and the closing part.
@@ -109,12 +110,16 @@ def turns(load, keys, sessions):
                 yield session, statement, reply
 
 
-def history(commits, end="COMMIT"):
-    """The events of one session that commits so many times, or is rolled back."""
+def history(commits, behind, end="COMMIT"):
+    """The events of one session that commits so many times, or is rolled back; behind another that is open, or not."""
+    if behind:
+        yield "W", "BEGIN", "BEGIN"
     for number in range(commits):
         yield "A", "BEGIN", "BEGIN"
         yield "A", f"UPDATE ACCT SET BAL = BAL + 1 WHERE ID = {number * 619 % HISTORY_KEYS}", "UPDATE 1"
         yield "A", end, end
+    if behind:
+        yield "W", "ROLLBACK", "ROLLBACK"
 
 
 def script(events):
@@ -207,21 +212,21 @@ class Past:
         return f"{self.commits} commits, {spread('us', (one / self.commits * 1e6 for one in self.all_seconds), 2)}"
 
 
-def past(program, commits, repetitions, folder):
+def past(program, commits, behind, repetitions, folder):
     definitions = written(f"{folder}/defs", Ledger().definitions(HISTORY_KEYS))
     empty, output = written(f"{folder}/empty", []), f"{folder}/output"
-    path = written(f"{folder}/script", script(history(commits)))
+    path = written(f"{folder}/script", script(history(commits, behind)))
     found = Past(commits)
     for _ in range(REPETITIONS_OF_HISTORY.get(commits, repetitions)):
         alone = replay(program, definitions, empty)
         whole = replay(program, definitions, path, output, commits)
         found.all_seconds.append(whole.seconds - alone.seconds)
     found.memory = (whole.memory - alone.memory) / commits
-    if looked_at(output, history(commits))[0] != commits:
+    if looked_at(output, history(commits, behind))[0] != commits:
         sys.exit("a transaction was not committed")
-    written(path, script(history(commits, "ROLLBACK")))
+    written(path, script(history(commits, behind, "ROLLBACK")))
     found.script = (replay(program, definitions, path, output).memory - alone.memory) / commits
-    looked_at(output, history(commits, "ROLLBACK"))
+    looked_at(output, history(commits, behind, "ROLLBACK"))
     return found
 
 
@@ -249,6 +254,7 @@ def main():
     words.add_argument("--keys", default="1000,100000", help="keys of the loads with several open transactions")
     words.add_argument("--open", default="1,4,16,64", help="how many are open at once, at most 256")
     words.add_argument("--history", default="1000,10000,100000", help="commits in one history")
+    words.add_argument("--behind", action="store_true", help="another transaction is open during the whole history")
     words.add_argument("--repetitions", type=int, default=3)
     words.add_argument("--without-look", action="store_true", help="leaves out the SELECT of each transaction")
     chosen = words.parse_args()
@@ -261,7 +267,7 @@ def main():
             for keys in numbers(chosen.keys):
                 rows += at_once(program, load, keys, numbers(chosen.open), chosen.repetitions, folder)
         for commits in numbers(chosen.history):
-            found.append(past(program, commits, chosen.repetitions, folder))
+            found.append(past(program, commits, chosen.behind, chosen.repetitions, folder))
             print(found[-1], flush=True)
     print(f"load at the end {os.getloadavg()[0]:.1f}")
     heads = ["load", "keys", "open at once", "committed a second", "us a transaction"]

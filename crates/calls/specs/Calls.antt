@@ -57,9 +57,9 @@ abbrev pub refusal_response : Source → Refusal → Response
 refusal_response source why = response.Refused source why
 
 -- the response to a request whose fields could not be read
-abbrev pub unread : FieldFault → Response
-unread field.NoMemory = response.Refused source.Statement refusal.NoMemory
-unread field.Malformed = response.Misused misuse.BadRequest
+abbrev pub field_fault_response : FieldFault → Response
+field_fault_response field.NoMemory = response.Refused source.Statement refusal.NoMemory
+field_fault_response field.Malformed = response.Misused misuse.BadRequest
 
 -- the response to a run whose values could not be filled in
 abbrev pub fill_fault_response : FillFault → Response
@@ -155,7 +155,7 @@ AnswersEvent Is session old new r = AnswersNamed (session_name session old.sessi
 -- the event of a text
 pub record IsTextRefused (text : List ℕ) (old new : Database) (r : Response) : Type 0 where
   pub why : Refusal
-  pub unread : IsUnread IsEvent text why
+  pub fault : IsUnread IsEvent text why
   pub told : IsTold old new r (response.Refused source.Statement why)
 
 -- what a call makes that runs the event of a text in a session: the text is refused, or its event answered

@@ -38,8 +38,8 @@ fn refusal_response(source: Source, refusal: Refusal) -> Response
 }
 
 /// What a request is answered whose fields were not read.
-fn unread(fault: FieldFault) -> Response
-    ensures { result ≡ spec.unread fault }
+fn field_fault_response(fault: FieldFault) -> Response
+    ensures { result ≡ spec.field_fault_response fault }
 {
     match fault {
         FieldFault::NoMemory => refusal_response(Source::Statement, Refusal::NoMemory),
@@ -117,7 +117,7 @@ fn read_changes(alloc: Global, request: &[u8]) -> Result<RuleChanges, Response>
 {
     let (text, values) = match read_checkpoint(alloc, request) {
         Ok(read) => read,
-        Err(fault) => return Err(unread(fault)),
+        Err(fault) => return Err(field_fault_response(fault)),
     };
     let dropped = match read_names(alloc, &values) {
         Ok(Some(dropped)) => dropped,
@@ -275,7 +275,7 @@ impl Database {
                 fields.statement,
                 &fields.values,
             ),
-            Err(fault) => unread(fault),
+            Err(fault) => field_fault_response(fault),
         }
     }
 

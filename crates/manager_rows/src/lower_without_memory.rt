@@ -198,7 +198,7 @@ fn snapshots(rt: HostRuntime) -> Result<(), Fail> {
     assert!(rt; end_memory(rt.alloc()));
     equal(&rt, live.next_begin_number(), 2);
     assert!(rt; live.holds(0, 1, true) && !live.holds(1, 1, false));
-    assert!(rt; live.writers_hold(3));
+    assert!(rt; live.writers_hold(3) && live.may_another_ask(0, 4));
     equal(&rt, live.least_writing(4), 3);
     live.end(1);
     equal(&rt, live.least_writing(4), 4);

@@ -12,13 +12,15 @@ fn begin_three(live: &mut Live) -> Result<(), AllocError> {
     live.begin(3, false)
 }
 
-/// They are open. Those that may write hold two commits, whatever the other holds.
+/// They are open. Those that may write hold two commits, whatever the other holds, and ask for what reaches past those.
 fn are_open<R: Abort>(rt: &R, live: &Live) {
     assert_eq!(rt; live.next_begin_number(), 3);
     assert!(rt; live.holds(0, 1, true) && live.holds(1, 2, false));
     assert!(rt; !live.holds(0, 1, false) && !live.holds(1, 1, false));
     assert!(rt; live.writers_hold(2) && !live.writers_hold(3));
     assert_eq!(rt; live.least_writing(4), 2);
+    assert!(rt; live.may_another_ask(0, 3) && !live.may_another_ask(0, 2));
+    assert!(rt; live.may_another_ask(1, 4) && !live.may_another_ask(1, 3));
 }
 
 /// Those that may write end one after the other.
