@@ -23,7 +23,7 @@ use Rattle.syntax.specs.declared.statements.Which.{Which}
 use Rattle.syntax.specs.declared.statements.Which.TheVariants.{All, Names}
 use Rattle.form_check.specs.Scopes.{Scope}
 use Rattle.form_check.specs.Names.{condition_fault}
-use Rattle.value.specs.Results.{and_then, result_of_name, if_holds, unless}
+use Rattle.value.specs.Results.{and_then, if_holds, unless}
 use Rattle.value.proofs.Results.{found_ok, provided_is, provided_ok, unless_is, unless_ok}
 use Rattle.form_check.specs.Forms.{form_of}
 use Rattle.form_check.specs.Queries.{Source, source_of, row_expression, row_filter}

@@ -1,9 +1,8 @@
 -- Conditions over the rows of one table, and over a row of one and the row around it.
-use Rattle.std.proofs.Common.{◌≡◌, ℕ, Option, Some, None, Result, Ok, Err, List, [], ◌∷◌, map, refl, ap, sym, ◌∙◌, subst, ⊎_elim, inl, inr}
+use Rattle.std.proofs.Common.{◌≡◌, ℕ, Option, Some, None, Ok, List, [], ◌∷◌, map, refl, ap, sym, ◌∙◌, subst, ⊎_elim, inl, inr}
 use Rattle.std.proofs.lemmas.Option.{same_Some}
 use Rattle.std.specs.Prelude.{◌⊎◌, Bool, true, false, if◌then◌else◌, option_map}
 use Rattle.value.specs.declared.values.Value.{Value}
-use Rattle.value.specs.declared.refusals.Refusal.{Refusal}
 use Rattle.value.specs.declared.truths.Truth.TheVariants.{True}
 use Rattle.value.specs.Truths.{is_of}
 use Rattle.table.specs.Rows.{RowValues, Tables, value_in}
@@ -17,7 +16,7 @@ use Rattle.syntax.specs.declared.trees.ColumnName.{ColumnName}
 use Rattle.syntax.specs.declared.trees.Condition.{Condition}
 use Rattle.syntax.specs.declared.trees.Expression.{Expression}
 use Rattle.form_check.specs.Scopes.{Scope, named_in, is_name_of, innermost, own_column}
-use Rattle.form_check.specs.Leaves.{Leaves, numbered, numbered_expression}
+use Rattle.form_check.specs.Leaves.{numbered, numbered_expression}
 use Rattle.form_check.specs.Columns.{at_place, outer_column, in_both, of_both}
 use Rattle.form_check.specs.Queries.{alone, row_condition, joint_condition, row_expression, row_filter}
 use Rattle.value.specs.Results.{and_then}
