@@ -10,7 +10,7 @@ use Rattle.alone.proofs.Lists.{Each}
 use Rattle.alone.specs.declared.records.Record.{Record}
 use Rattle.alone.specs.Commits.{reach}
 use Rattle.conflict.specs.Readers.{HasReaders, reads_of}
-use Rattle.conflict.proofs.Readers.{all_below, reach_behind, reaching_more, reaching_not, reaching_same, reaching_still, reaching_still_with, reaching_twice}
+use Rattle.conflict.proofs.Readers.{all_below, reach_behind, reaching_more, reaching_not, reaching_still, reaching_still_with, reaching_twice}
 use Rattle.txn.specs.Transactions.{OpenTransaction}
 use Rattle.commit.specs.Cores.{CoreState, IsLive, reach_with, reads_kept, reads_noted}
 
@@ -49,7 +49,7 @@ module _ (live : LiveState) (commits : List Record) where
   -- nobody goes while the least of those snapshots stays
   pub kept_same : reads_above (least_writing (length commits) live.snapshots) far (reads_above (least_writing (length commits) live.snapshots) far (reads_of commits))
       ≡ reads_above (least_writing (length commits) live.snapshots) far (reads_of commits)
-  kept_same = reaching_same (least_writing (length commits) live.snapshots) far (reads_of commits)
+  kept_same = reaching_twice _ _ far (omega arith) (reads_of commits)
 
   -- and as one is committed, the reads of which were noted where another transaction may ask for them
   module _ (begin_number : ℕ) (c : Record) (below : Each (λ (w : Record). w.number < length commits + 1) (reverse commits)) (numbered : c.number ≡ length commits + 1) where

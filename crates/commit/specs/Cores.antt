@@ -1,7 +1,7 @@
 -- The committed transactions, and what the next one is answered (Cahill, Röhm and Fekete 2008; Ports and Grittner
 -- 2012; that the first of two writers of a row to commit wins is the rule of snapshot isolation: Berenson and
 -- others 1995).
-use Rattle.std.specs.Prelude.{◌≡◌, ◌≢◌, ◌≤◌, ◌+◌, ◌==◌, ◌++◌, ℕ, Bool, true, false, List, [], ◌∷◌, length, map, reverse, slice_get, Option, Some, None, Result, Ok, Err, Contains, IsPermutation, if◌then◌else◌}
+use Rattle.std.specs.Prelude.{◌≡◌, ◌≢◌, ◌≤◌, ◌+◌, ◌==◌, ◌++◌, ℕ, Bool, true, false, List, [], ◌∷◌, length, map, reverse, slice_get, Option, Some, None, Result, Ok, Err, Contains, IsPermutation}
 use Rattle.value.specs.declared.refusals.Party.{Party}
 use Rattle.value.specs.declared.refusals.Party.TheVariants.{This, Number as Numbered}
 use Rattle.value.specs.declared.refusals.Refusal.{Refusal}
@@ -164,7 +164,7 @@ reads_kept c =
 
 -- how far a transaction reaches as the commit with a number
 abbrev pub reach_with : (number : ℕ) → OpenTransaction → ℕ
-reach_with number t = if t.read_only then t.snapshot else number
+reach_with number t = reach (record_with number [] t)
 
 -- with a commit's reads, or without them
 abbrev pub reads_noted : Bool → (number : ℕ) → List LockKey → Reads → Reads

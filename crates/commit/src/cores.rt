@@ -262,15 +262,7 @@ impl Core {
         requires idle { self.old.prepared ≡ None }
         ensures { self.new ≡ core_after_end self.old txn.now }
     {
-        let newest = self.records.len() as u64;
-        forget(
-            &mut self.live,
-            &mut self.locks,
-            self.reaches.as_slice(),
-            txn.begin_number(),
-            newest,
-            newest,
-        );
+        self.end_open(txn.begin_number());
     }
 
     /// The truth of the assertion of a name on the newest tables; none where no assertion has it. It takes no memory.
@@ -408,26 +400,6 @@ impl Core {
         ensures same { OnErr result (self.new ≡ self.old) }
     {
         self.settle();
-        self.begin_on_newest(read_only)
-    }
-
-    /// The newest tables have less for the next version to copy then, and all is as it was.
-    fn settle(&mut self)
-        ensures { self.new ≡ self.old }
-    {
-        self.newest.settle();
-    }
-
-    /// The same, without a look at what stands beside the tables.
-    fn begin_on_newest(&mut self, read_only: bool) -> Result<Txn, AllocError>
-        requires idle { self.old.prepared ≡ None }
-        ensures begun { IfOk result (λ txn.
-            txn ≡ transaction_at_begin self.old.live.begun (length self.old.records) read_only
-            (newest_tables self.old)) }
-        ensures live { IfOk result (λ txn. IsLive self.new txn) }
-        ensures after { OnOk result (self.new ≡ with_begun read_only self.old) }
-        ensures same { OnErr result (self.new ≡ self.old) }
-    {
         let alloc = *self.records.allocator();
         let snapshot = self.records.len() as u64;
         let txn = Txn::begin(
@@ -442,6 +414,13 @@ impl Core {
             return Err(AllocError);
         }
         Ok(txn)
+    }
+
+    /// The newest tables have less for the next version to copy then, and all is as it was.
+    fn settle(&mut self)
+        ensures { self.new ≡ self.old }
+    {
+        self.newest.settle();
     }
 
     /// What the COMMIT of a transaction is answered.
@@ -602,17 +581,25 @@ impl Core {
         if let Err(_) = note_refused(&mut self.refused, session, &refusal) {
             return give_back(closed);
         }
+        self.end_open(closed.txn().begin_number());
+        drop(closed.into_parts());
+        CommitFailure { refusal, txn: None }
+    }
+
+    /// The open transaction with a begin number has ended, and is no commit.
+    fn end_open(&mut self, begin_number: u64)
+        requires idle { self.old.prepared ≡ None }
+        ensures { self.new ≡ record self.old { live = without begin_number self.old.live } }
+    {
         let newest = self.records.len() as u64;
         forget(
             &mut self.live,
             &mut self.locks,
             self.reaches.as_slice(),
-            closed.txn().begin_number(),
+            begin_number,
             newest,
             newest,
         );
-        drop(closed.into_parts());
-        CommitFailure { refusal, txn: None }
     }
 }
 

@@ -206,7 +206,3 @@ pub reach_behind : (reaches : List ℕ) (far : ℕ) → reach_of (reaches ++ far
 reach_behind reaches far =
     let last : suc (length reaches + 0) ≡ length reaches + 1 = omega arith in
     ap (reach_of (reaches ++ far ∷ [])) (sym last) ∙ get_or-append-add reaches (far ∷ []) 0 0
-
--- what was let go once is let go
-pub reaching_same : (low : ℕ) (reaches : List ℕ) (reads : Reads) → reads_above low reaches (reads_above low reaches reads) ≡ reads_above low reaches reads
-reaching_same low reaches reads = reaching_twice low low reaches (omega arith) reads

@@ -9,7 +9,7 @@ use Rattle.commit.proofs.Accepting.{begun_live}
 use Rattle.commit.proofs.Keeping.{is_idle, kept_idle, locks_idle, same_commits}
 use Rattle.commit.proofs.Locking.{kept_begun}
 use Rattle.commit.proofs.BeginNumbers.{one_more}
-use Rattle.commit.proofs.cores.Core.begin_on_newest.Goals as goal
+use Rattle.commit.proofs.cores.Core.begin_as.Goals as goal
 
 pub invariant_of-self : goal.invariant_of-self
 invariant_of-self c =
@@ -21,7 +21,7 @@ pub invariant_of-self-2 : goal.invariant_of-self-2
 invariant_of-self-2 c =
     let now = idle_core c.self.inside.limit c.self.inside.loaded c.self.inside.records.items c.self.inside.refused.items c.self.inside.live in
     let Room : Type 0 = (vec_len c.self.inside.records < vec_capacity c.self.inside.records) × (vec_len c.self.inside.places < vec_capacity c.self.inside.places) × (vec_len c.self.inside.reaches < vec_capacity c.self.inside.reaches) × (vec_len c.self.inside.order < vec_capacity c.self.inside.order) in
-    let idle = is_idle now c.args.self.now c.self.inside.prepared c.self.view_is c.requires.idle in
+    let idle = is_idle now c.args.self.now c.self.inside.prepared (c.self.view_is ∙ c.settle.ensures) c.requires.idle in
     let locks = locks_idle now c.self.inside.newest c.self.inside.places.items c.self.inside.reaches.items c.self.inside.order.items (readers_at c.self.inside.locks) Room c.self.inside.prepared idle c.self.invariant in
     let began : c.begin-2.new.self ≡ with_begin (length c.self.inside.records.items) c.args.read_only c.self.inside.live
     = c.in_default.ensures.begun ∙ ap (λ n. with_begin n c.args.read_only c.self.inside.live) (c.len-snapshot.ensures ∙ c.self.inside.records.ok.0) in
@@ -36,7 +36,7 @@ invariant_of-self-2 c =
 pub returns-clause-live : goal.returns-clause-live
 returns-clause-live c =
     let now = idle_core c.self.inside.limit c.self.inside.loaded c.self.inside.records.items c.self.inside.refused.items c.self.inside.live in
-    let idle = is_idle now c.args.self.now c.self.inside.prepared c.self.view_is c.requires.idle in
+    let idle = is_idle now c.args.self.now c.self.inside.prepared (c.self.view_is ∙ c.settle.ensures) c.requires.idle in
     let count = c.len-snapshot.ensures ∙ c.self.inside.records.ok.0 in
     let began : c.begin-2.new.self ≡ with_begin (length c.self.inside.records.items) c.args.read_only c.self.inside.live
     = c.in_default.ensures.begun ∙ ap (λ n. with_begin n c.args.read_only c.self.inside.live) count in
