@@ -18,14 +18,15 @@ ghost use Rattle.assertcheck.specs.declared.updates.Setting.{Setting};
 ghost use Rattle.assertcheck.specs.declared.updates.Update.{Update};
 ghost use Rattle.assertcheck.specs.Updates.{update_of};
 ghost use Rattle.siread.specs.declared.keys.Place.{Place};
-ghost use Rattle.siread.specs.Keys.{AlikeUnder, place_of};
+ghost use Rattle.siread.specs.Keys.{AlikeUnder, are_among, place_of};
 ghost use Rattle.alone.specs.States.{row_in, IsState, is_real, AreDue, AreDifferences, change_between, net_change};
-ghost use Rattle.alone.specs.Checks.{keys_for};
+ghost use Rattle.alone.specs.Modes.{immediate_ones};
+ghost use Rattle.alone.specs.Checks.{keys_for, checks_read};
 ghost use Rattle.assertion.specs.Declarations.{Declared, layouts_in};
 ghost use Rattle.alone.specs.declared.statements.ResolvedStatement.{ResolvedStatement};
 ghost use Rattle.alone.specs.Resolve.{is_read_only, resolution_of};
 ghost use Rattle.alone.specs.Statements.{found_rows, delete_effect, renewal, sets_key};
-ghost use Rattle.alone.specs.Alone.{Standing, ran, joined_runs, transaction, transaction_keys, IsSound};
+ghost use Rattle.alone.specs.Alone.{Standing, ran, joined_runs, run_on, transaction, transaction_keys, IsSound};
 
 /// The net change between two states has each row in which they differ, with what stands there before and after, and
 /// put into the one it gives the other. A list in order that has these rows is the net change, and of changes that
@@ -94,6 +95,16 @@ pub fn read_only_statements_change_nothing()
         → (transaction declared trace state).changes ≡ [] }
     ensures each { (declared : Declared) (statement : AnyStatement)
         → is_read_only (resolution_of declared true statement) ≡ true }
+{}
+
+/// What a check of the assertions that are immediate at a transaction's end would read, over its net change, the
+/// statements have read already, each by its own check: of these assertions COMMIT's check reads nothing new.
+pub fn immediate_checks_are_read_once()
+    ensures { (declared : Declared) (start : State) → IsSound declared start → (trace : List ResolvedStatement)
+        → are_among (checks_read (layouts_in declared) (run_on declared trace start).final.view
+        (immediate_ones (run_on declared trace start).final.modes declared.assertions)
+        (net_change (layouts_in declared) start (run_on declared trace start).final.view))
+        (run_on declared trace start).reads ≡ true }
 {}
 
 /// A transaction whose COMMIT is accepted leaves a state on which no assertion is false.

@@ -74,7 +74,7 @@ pub use commit_laws::{
     safe_snapshots_have_no_danger, two_numbers_decide,
 };
 pub use laws::{
-    changes_are_due, commits_are_sound, net_change_is_what_differs,
+    changes_are_due, commits_are_sound, immediate_checks_are_read_once, net_change_is_what_differs,
     read_only_statements_change_nothing, roots_depend_on_their_keys, runs_are_joined,
     transactions_agree, updates_leave_the_key,
 };
