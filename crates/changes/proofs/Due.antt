@@ -4,12 +4,13 @@ use Rattle.std.specs.Prelude.{All}
 use Rattle.std.proofs.lemmas.List.Elements.{All-nil, All-cons, All-head, All-tail}
 use Rattle.value.specs.Ordered.{HoldsOf}
 use Rattle.table.specs.declared.rows.Change.{Change}
-use Rattle.table.specs.Rows.{RowValues, Layout, FitsColumns, key_of, layout_at}
+use Rattle.table.specs.declared.schemas.Column.{Column}
+use Rattle.table.specs.Rows.{RowValues, Layout, FitsColumns, key_of}
 use Rattle.table.specs.declared.conds.Cond.{Cond}
 use Rattle.assertion.specs.Meaning.{State, rows_of, filtered_rows}
 use Rattle.assertcheck.specs.declared.updates.Setting.{Setting}
 use Rattle.alone.specs.States.{IsState, AreDue}
-use Rattle.alone.specs.Statements.{removal, renewal, row_after_settings, sets_key, delete_effect}
+use Rattle.alone.specs.Statements.{columns_of, removal, renewal, row_after_settings, sets_key, delete_effect}
 use Rattle.alone.proofs.Effects.{delete_doable, update_doable}
 use Rattle.alone.proofs.Orders.{found_in_order, due_from}
 use Rattle.delta.specs.Views.{IsFitting}
@@ -37,14 +38,14 @@ pub removals_fit : (table key : ℕ) (rows : List RowValues) (made : List Change
 removals_fit table key rows made m layouts = subst (All (IsFitting layouts)) (sym m) (all_made (IsFitting layouts) (removal table key) (λ row. tt) rows)
 
 -- what fits the columns of the table fits those of its layout
-pub renewals_fit : (table : ℕ) (layout : Layout) (sets : List Setting) (rows : List RowValues) (made : List Change) → made ≡ map (renewal table layout.key sets) rows → All (λ change. HoldsOf (FitsColumns layout.columns) change.new) made
-    → (layouts : List Layout) → layout_at table layouts ≡ layout → All (IsFitting layouts) made
-renewals_fit table layout sets rows made m fit layouts l =
-    subst (All (IsFitting layouts)) (sym m) (go rows (subst (All (λ (change : Change). HoldsOf (FitsColumns layout.columns) change.new)) m fit))
+pub renewals_fit : (table : ℕ) (columns : List Column) (key : ℕ) (sets : List Setting) (rows : List RowValues) (made : List Change) → made ≡ map (renewal table key sets) rows → All (λ change. HoldsOf (FitsColumns columns) change.new) made
+    → (layouts : List Layout) → columns_of table layouts ≡ columns → All (IsFitting layouts) made
+renewals_fit table columns key sets rows made m fit layouts l =
+    subst (All (IsFitting layouts)) (sym m) (go rows (subst (All (λ (change : Change). HoldsOf (FitsColumns columns) change.new)) m fit))
   where
-    go : (rows : List RowValues) → All (λ change. HoldsOf (FitsColumns layout.columns) change.new) (map (renewal table layout.key sets) rows) → All (IsFitting layouts) (map (renewal table layout.key sets) rows)
+    go : (rows : List RowValues) → All (λ change. HoldsOf (FitsColumns columns) change.new) (map (renewal table key sets) rows) → All (IsFitting layouts) (map (renewal table key sets) rows)
     go [] h = All-nil (IsFitting layouts)
     go (row ∷ rows) h =
-        All-cons (IsFitting layouts) (renewal table layout.key sets row) (map (renewal table layout.key sets) rows)
-        (subst (λ (x : Layout). FitsColumns x.columns (row_after_settings sets row row)) (sym l) (All-head (λ (change : Change). HoldsOf (FitsColumns layout.columns) change.new) (renewal table layout.key sets row) (map (renewal table layout.key sets) rows) h))
-        (go rows (All-tail (λ (change : Change). HoldsOf (FitsColumns layout.columns) change.new) (renewal table layout.key sets row) (map (renewal table layout.key sets) rows) h))
+        All-cons (IsFitting layouts) (renewal table key sets row) (map (renewal table key sets) rows)
+        (subst (λ (x : List Column). FitsColumns x (row_after_settings sets row row)) (sym l) (All-head (λ (change : Change). HoldsOf (FitsColumns columns) change.new) (renewal table key sets row) (map (renewal table key sets) rows) h))
+        (go rows (All-tail (λ (change : Change). HoldsOf (FitsColumns columns) change.new) (renewal table key sets row) (map (renewal table key sets) rows) h))

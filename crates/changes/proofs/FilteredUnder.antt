@@ -1,9 +1,10 @@
 -- The rows that a condition keeps are under the key that it sets equal to a literal.
 use Rattle.std.proofs.Common.{◌≡◌, ℕ, Bool, true, false, cond, List, [], ◌∷◌, Option, Some, None, append-nil, refl, sym, ◌∙◌, ap, subst}
-use Rattle.std.specs.Prelude.{All, option_to_list}
+use Rattle.std.specs.Prelude.{◌&&◌, ◌==◌, All, option_to_list}
 use Rattle.std.specs.declared.cmp.Ordering.{Ordering}
 use Rattle.std.specs.declared.cmp.Ordering.TheVariants.{Less, Equal, Greater}
 use Rattle.std.proofs.lemmas.List.Elements.{All-nil, All-cons}
+use Rattle.std.proofs.lemmas.Bool.{and_parts}
 use Rattle.std.proofs.lemmas.Cmp.{tied_itself}
 use Rattle.value.specs.declared.values.Value.{Value}
 use Rattle.value.specs.ValueOrder.{value_cmp}
@@ -14,8 +15,11 @@ use Rattle.table.specs.Rows.{RowValues, value_in, row_at}
 use Rattle.table.specs.declared.conds.Cond.{Cond}
 use Rattle.table.specs.Eval.{keeps}
 use Rattle.assertion.specs.Meaning.{filtered_rows}
+use Rattle.siread.specs.declared.keys.LockKey.{LockKey}
+use Rattle.siread.specs.declared.keys.LockKey.TheVariants.{Row as OneRow}
+use Rattle.siread.specs.declared.keys.Place.{Place}
 use Rattle.siread.specs.Keys.{is_under, same_value}
-use Rattle.alone.specs.Reads.{Equality, first_on, first_equality, key_from, top_parts}
+use Rattle.alone.specs.Reads.{filter_key}
 use Rattle.siread.proofs.KeyOrder.{same_value-true}
 use Rattle.alone.proofs.Wheres.{where_under}
 use Rattle.changes.specs.Lookups.{looked_at}
@@ -58,13 +62,13 @@ module _ (restriction : Cond) (key : ℕ) (v : Value) (only : (row : RowValues) 
           sym (ap (λ (rs : List RowValues). cond (keeps row [] restriction) (row ∷ rs) rs) none)
       go Greater e h = h ∙ sym (not_filtered restriction row rows (off row (λ f. over (value_cmp v (value_in key row)) e f)))
 
--- a row that is restriction has in a column the literal of an equality on it
-pub filtered_on : (restriction : Cond) (column : ℕ) (equality : Equality) → first_on column (top_parts restriction) ≡ Some equality
-    → (row : RowValues) → keeps row [] restriction ≡ true → value_in column row ≡ equality.value
-filtered_on restriction column equality is row keep =
-    let under : same_value equality.value (value_in column row) ≡ true
-    = subst (λ (o : Option Equality). is_under (key_from 0 o (first_equality (top_parts restriction))) (record { table = 0; key = value_in column row }) row ≡ true) is (where_under 0 column restriction row keep) in
-    sym (same_value-true equality.value (value_in column row) under)
+-- where a condition reads one row, a row that it keeps has that one's key
+pub filtered_at : (table key : ℕ) (restriction : Cond) (place : Place) → filter_key table key restriction ≡ OneRow place
+    → (row : RowValues) → keeps row [] restriction ≡ true → value_in key row ≡ place.key
+filtered_at table key restriction place is row keep =
+    let under : (place.table == table) && same_value place.key (value_in key row) ≡ true
+    = subst (λ (read : LockKey). is_under read (record { table = table; key = value_in key row }) row ≡ true) is (where_under table key restriction row keep) in
+    sym (same_value-true place.key (value_in key row) (and_parts (place.table == table) (same_value place.key (value_in key row)) under).1)
 
 -- what all rows have the one under a key has
 pub all_under : (P : RowValues → Type 0) (key : ℕ) (v : Value) (rows : List RowValues) → All P rows → All P (option_to_list (row_at key v rows))

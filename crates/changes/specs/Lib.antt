@@ -1,4 +1,5 @@
 pub mod Nets
 pub mod Shown
+pub mod Filters
 pub mod Insertions
 pub mod Lookups

@@ -8,6 +8,7 @@ ghost use Rattle.table.specs.Rows.{value_in};
 ghost use Rattle.table.specs.Bounds.{IsSmallRow, is_bounded};
 ghost use Rattle.assertion.specs.Meaning.{filtered_rows};
 
+use crate::filters::TableFilter;
 use crate::lookups::{RowsToTest, look_through};
 use mvrows::Rows;
 use std::alloc::Global;
@@ -35,23 +36,22 @@ impl<'a> Model for FilteredRows<'a> {
     ghost invariant = { λ left. IsTrue (is_bounded [] left.filter.now) × All IsSmallRow left.looked };
 }
 
-/// Of the rows of a table those that a condition keeps, in key order. The keys are in the column at `key`. Where the
-/// condition wants a key, no other row is looked at. It takes no memory.
+/// Of the rows of a WHERE's table those that its condition keeps, in key order. Where it reads under one key, no other
+/// row is looked at. It takes no memory.
 pub fn filtered_rows<'a>(
     alloc: Global,
     rows: &'a Rows,
-    key: usize,
-    filter: &'a Cond,
+    filter: &TableFilter<'a>,
 ) -> FilteredRows<'a>
-    requires bounded { IsTrue (is_bounded [] filter.now) }
+    requires bounded { IsTrue (is_bounded [] filter.now.condition) }
     requires small { All IsSmallRow rows.now }
-    requires ordered { IsAscending value_cmp (value_in key) rows.now }
-    ensures { result ≡ filtered_rows filter.now rows.now }
+    requires ordered { IsAscending value_cmp (value_in filter.now.key) rows.now }
+    ensures { result ≡ filtered_rows filter.now.condition rows.now }
 {
     FilteredRows {
         alloc,
-        filter,
-        looked: look_through(rows, key, filter),
+        filter: filter.condition(),
+        looked: look_through(rows, filter),
     }
 }
 

@@ -13,7 +13,8 @@
 //! - A SELECT changes nothing, and lists what stands in such rows ([`selected_rows`]).
 //!
 //! Where a WHERE has `key = literal` among the parts that AND joins at its top, that one row is looked up, and else all
-//! rows are tested: one choice of rows for DELETE, UPDATE and SELECT.
+//! rows are tested: one choice of rows for DELETE, UPDATE and SELECT. It is made by the key under which the WHERE reads
+//! ("Reads", below), which a [`TableFilter`] holds beside the WHERE.
 //!
 //! What is left of a statement then are *changes*: of each the table, a key, the row that stood there and the row
 //! that is to stand there. Everything above works with changes alone.
@@ -31,10 +32,9 @@
 //! Cahill, Röhm and Fekete 2008). What a predicate reads is noted under the smallest key that covers it, as the
 //! "index-range and relation locks" of Ports and Grittner (2012) do:
 //!
-//! - [`filter_key`]: a WHERE reads one row, whether it is there or not, where a part that AND joins at the top sets the
-//!   key column equal to a literal; else the rows with a value in a column, where a part sets that column equal to a
-//!   literal; else the table.
-//! - [`equality_on`] is the part that sets a column equal to a literal, for who looks the row of a key up.
+//! - [`TableFilter`]: a WHERE reads one row, whether it is there or not, where a part that AND joins at the top sets
+//!   the key column equal to a literal; else the rows with a value in a column, where a part sets that column equal to
+//!   a literal; else the table. This key is found once, when the filter is made, and is what the statement has read.
 //! - [`checks_read`]: a check of assertions reads at each candidate of the changes: by rows the row and those that
 //!   link to it, by groups the group, and of a single condition the tables of its queries. [`push_check`] is that of
 //!   one assertion.
@@ -63,6 +63,7 @@
 mod checks;
 mod deletions;
 mod filtered;
+mod filters;
 mod insertions;
 mod lookups;
 mod net;
@@ -75,10 +76,10 @@ mod wheres;
 
 pub use checks::{checks_read, push_check, tables_read};
 pub use deletions::removals;
+pub use filters::TableFilter;
 pub use insertions::insertion;
 pub use net::{is_same_there, net_change, row_in};
 pub use real::real_changes;
 pub use selections::selected_rows;
 pub use touched::TouchedPlaces;
 pub use updates::renewals;
-pub use wheres::{Equality, equality_on, filter_key};

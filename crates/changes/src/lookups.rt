@@ -9,10 +9,11 @@ ghost use Rattle.table.specs.Rows.{FitsColumns, value_in};
 ghost use Rattle.table.specs.Bounds.{IsSmallRow};
 ghost use Rattle.assertion.specs.Meaning.{filtered_rows};
 
-use crate::wheres::equality_on;
+use crate::filters::TableFilter;
 use mvrows::{RowIter, Rows};
+use siread::LockKey;
 use std::marker::Model;
-use table::{Cond, Row};
+use table::Row;
 
 /// The rows that a condition has still to be tested on, in key order: one, where it wants a key, or all. It takes no
 /// memory.
@@ -33,20 +34,20 @@ impl<'a> Model for RowsToTest<'a> {
     ghost view = { λ left. looked_at (option_copied left.one) left.rows };
 }
 
-/// Of the rows of a table those that a condition has to be tested on: it is true of no other. The keys are in the
-/// column at `key`. It takes no memory.
-pub fn look_through<'a>(rows: &'a Rows, key: usize, filter: &Cond) -> RowsToTest<'a>
-    requires { IsAscending value_cmp (value_in key) rows.now }
-    ensures filtered { filtered_rows filter.now result ≡ filtered_rows filter.now rows.now }
+/// Of the rows of a WHERE's table those that its condition has to be tested on: it is true of no other. It takes no
+/// memory.
+pub fn look_through<'a>(rows: &'a Rows, filter: &TableFilter<'_>) -> RowsToTest<'a>
+    requires { IsAscending value_cmp (value_in filter.now.key) rows.now }
+    ensures filtered { filtered_rows filter.now.condition result ≡ filtered_rows filter.now.condition rows.now }
     ensures small { All IsSmallRow rows.now → All IsSmallRow result }
     ensures fit { (columns : List Column) → All (FitsColumns columns) rows.now → All (FitsColumns columns) result }
 {
-    match equality_on(filter, key) {
-        Some(equality) => RowsToTest {
-            one: rows.get(key, equality.value),
+    match filter.read() {
+        LockKey::Row(place) => RowsToTest {
+            one: rows.get(filter.key_column(), &place.key),
             rows: None,
         },
-        None => RowsToTest {
+        _ => RowsToTest {
             one: None,
             rows: Some(rows.iter()),
         },

@@ -3,26 +3,26 @@
 ghost use Rattle.std.specs.Prelude.{◌≡◌, ◌≢◌, ◌<◌, false, [], All, List, length, IfOk, IfErr, IsTrue, OnOk, Ok, Err, Some, None, slice_get, slice_set};
 ghost use Rattle.value.specs.declared.refusals.Refusal.TheVariants.{NoMemory};
 ghost use Rattle.value.specs.Ordered.{HoldsOf};
-ghost use Rattle.table.specs.Rows.{FitsColumns, IsTable, Layout, key_of, layout_at};
+ghost use Rattle.table.specs.Rows.{FitsColumns, IsTable, Layout, key_of};
 ghost use Rattle.table.specs.Bounds.{IsSmallRow, is_bounded};
 ghost use Rattle.assertion.specs.Meaning.{State, filtered_rows, rows_of};
 ghost use Rattle.assertcheck.specs.Updates.{IsBoundedSetting};
 ghost use Rattle.alone.specs.declared.answers.Reply.TheVariants.{Updated};
 ghost use Rattle.alone.specs.States.{AreDue, IsState};
-ghost use Rattle.alone.specs.Statements.{given_fault, given_value, renewal, sets_key, settings_fault, update_effect, row_after_settings};
+ghost use Rattle.alone.specs.Statements.{columns_of, given_fault, given_value, renewal, sets_key, settings_fault, update_effect, row_after_settings};
 ghost use Rattle.delta.specs.Views.{IsFitting};
 
 use crate::filtered::filtered_rows;
+use crate::filters::TableFilter;
 use crate::settings::given_value;
 use assertcheck::Setting;
 use mvrows::Rows;
 use std::alloc::{AllocError, Global};
-use table::{Change, Column, Cond, Row, Schema, value_at};
+use table::{Change, Column, Row, value_at};
 use value::{Refusal, Value};
 
-/// The changes of an UPDATE: that each row of a table which the condition keeps gets what is assigned, in key order.
-/// Each value is evaluated on the row as it was. `table` is the table's place, and `rows` are those that stand in it
-/// now.
+/// The changes of an UPDATE: that each row which its WHERE keeps gets what is assigned, in key order. Each value is
+/// evaluated on the row as it was. `columns` are those of the WHERE's table, and `rows` stand in it now.
 ///
 /// # Errors
 ///
@@ -30,56 +30,56 @@ use value::{Refusal, Value};
 /// [`Refusal::NullNotAllowed`] or [`Refusal::OutOfRange`] of the column. Or [`Refusal::NoMemory`].
 pub fn renewals(
     alloc: Global,
-    table: usize,
-    schema: &Schema,
+    columns: &[Column],
     rows: &Rows,
     sets: &[Setting],
-    filter: &Cond,
+    filter: &TableFilter<'_>,
 ) -> Result<Vec<Change>, Refusal>
     requires bounded { All IsBoundedSetting sets.now }
-    requires bounded_condition { IsTrue (is_bounded [] filter.now) }
-    requires table { IsTable schema.now rows.now }
+    requires bounded_condition { IsTrue (is_bounded [] filter.now.condition) }
+    requires table { IsTable (record { columns = columns.now; key = filter.now.key }) rows.now }
     ensures made { IfOk result (λ made.
-        update_effect schema.now.columns table schema.now.key sets.now (filtered_rows filter.now rows.now)
+        update_effect columns.now filter.now.table filter.now.key sets.now
+        (filtered_rows filter.now.condition rows.now)
         ≡ Ok (record { reply = Updated (length made.items); changes = made.items })) }
     ensures refused { IfErr result (λ refusal. refusal ≢ NoMemory
-        → update_effect schema.now.columns table schema.now.key sets.now (filtered_rows filter.now rows.now)
+        → update_effect columns.now filter.now.table filter.now.key sets.now
+        (filtered_rows filter.now.condition rows.now)
         ≡ Err refusal) }
     ensures due { IfOk result (λ made. (layouts : List Layout) (state : State) → IsState layouts state
-        → key_of table layouts ≡ schema.now.key → rows_of table state ≡ rows.now
-        → sets_key schema.now.key sets.now ≡ false → AreDue layouts made.items state) }
-    ensures fit { IfOk result (λ made.
-        All (λ change. HoldsOf (FitsColumns schema.now.columns) change.new) made.items) }
-    ensures fitting { IfOk result (λ made. (layouts : List Layout) → layout_at table layouts ≡ schema.now
+        → key_of filter.now.table layouts ≡ filter.now.key → rows_of filter.now.table state ≡ rows.now
+        → sets_key filter.now.key sets.now ≡ false → AreDue layouts made.items state) }
+    ensures fit { IfOk result (λ made. All (λ change. HoldsOf (FitsColumns columns.now) change.new) made.items) }
+    ensures fitting { IfOk result (λ made. (layouts : List Layout) → columns_of filter.now.table layouts ≡ columns.now
         → All (IsFitting layouts) made.items) }
 {
     let mut made = Vec::new(alloc);
-    for row in filtered_rows(alloc, rows, schema.key(), filter) {
-        made.push(renewal(alloc, table, schema, sets, row)?)?;
+    for row in filtered_rows(alloc, rows, filter) {
+        made.push(renewal(alloc, columns, sets, filter, row)?)?;
     }
     Ok(made)
 }
 
-/// That a row gets what is assigned, or the first fault of that.
+/// That a row of the WHERE's table gets what is assigned, or the first fault of that.
 fn renewal(
     alloc: Global,
-    table: usize,
-    schema: &Schema,
+    columns: &[Column],
     sets: &[Setting],
+    filter: &TableFilter<'_>,
     row: &Row,
 ) -> Result<Change, Refusal>
     requires bounded { All IsBoundedSetting sets.now }
-    requires fits { FitsColumns schema.now.columns row.now }
-    ensures made { IfOk result (λ change. change ≡ renewal table schema.now.key sets.now row.now) }
-    ensures faultless { OnOk result (settings_fault schema.now.columns sets.now row.now ≡ None) }
+    requires fits { FitsColumns columns.now row.now }
+    ensures made { IfOk result (λ change. change ≡ renewal filter.now.table filter.now.key sets.now row.now) }
+    ensures faultless { OnOk result (settings_fault columns.now sets.now row.now ≡ None) }
     ensures refused { IfErr result (λ refusal. refusal ≢ NoMemory
-        → settings_fault schema.now.columns sets.now row.now ≡ Some refusal) }
-    ensures fits { OnOk result (FitsColumns schema.now.columns (row_after_settings sets.now row.now row.now)) }
+        → settings_fault columns.now sets.now row.now ≡ Some refusal) }
+    ensures fits { OnOk result (FitsColumns columns.now (row_after_settings sets.now row.now row.now)) }
 {
-    let new = row_after_settings(alloc, schema.columns(), sets, row)?;
+    let new = row_after_settings(alloc, columns, sets, row)?;
     Ok(Change {
-        table,
-        key: value_at(row, schema.key())?,
+        table: filter.table(),
+        key: value_at(row, filter.key_column())?,
         old: Some(row.copy()?),
         new: Some(new),
     })

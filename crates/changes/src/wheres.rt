@@ -14,9 +14,9 @@ use value::{Comparison, Value};
 
 /// A column that is set equal to a literal.
 #[derive(Clone, Copy)]
-pub struct Equality<'a> {
-    pub column: usize,
-    pub value: &'a Value,
+struct Equality<'a> {
+    column: usize,
+    value: &'a Value,
 }
 
 /// The key under which a WHERE reads a table whose key column is this one: the row of the first `key = literal` that
@@ -26,19 +26,8 @@ pub struct Equality<'a> {
 pub fn filter_key(table: usize, key: usize, filter: &Cond) -> Result<LockKey, AllocError>
     ensures { IfOk result (λ read. read ≡ where_key_of table key filter.now) }
 {
-    key_of(
-        table,
-        equality_on(filter, key),
-        first_equality(top_parts(filter)),
-    )
-}
-
-/// The first `column = literal` of this column among the parts that AND joins at the top of a WHERE. A row that the
-/// WHERE keeps has that literal's value there. It takes no memory.
-pub fn equality_on(filter: &Cond, column: usize) -> Option<Equality<'_>>
-    ensures { lent_equality result ≡ first_of_column column (top_parts_of filter.now) }
-{
-    first_on(column, top_parts(filter))
+    let parts = top_parts(filter);
+    key_of(table, first_on(key, parts), first_equality(parts))
 }
 
 /// The row of the one, else the rows of the other, else the table.

@@ -4,4 +4,4 @@ use Rattle.changes.proofs.Walks.{IsMade}
 use Rattle.changes.proofs.deletions.removals.Given as goal
 
 abbrev pub invariant-loop-row : goal.invariant-loop-row
-invariant-loop-row l = IsMade (removal l.table l.key) (filtered_rows l.filter l.rows) l.made.items l.row-iterator
+invariant-loop-row l = IsMade (removal l.filter.table l.filter.key) (filtered_rows l.filter.condition l.rows) l.made.items l.row-iterator

@@ -9,8 +9,8 @@ use Rattle.changes.proofs.updates.renewals.Given as goal
 
 abbrev pub invariant-loop-row : goal.invariant-loop-row
 invariant-loop-row l = record {
-  fits : All (FitsColumns l.schema.columns) l.row-iterator;
-  made : IsMade (renewal l.table l.schema.key l.sets) (filtered_rows l.filter l.rows) l.made.items l.row-iterator;
-  fault : update_fault l.schema.columns l.sets (filtered_rows l.filter l.rows) ≡ update_fault l.schema.columns l.sets l.row-iterator;
-  new_fit : All (λ change. HoldsOf (FitsColumns l.schema.columns) change.new) l.made.items;
+  fits : All (FitsColumns l.columns) l.row-iterator;
+  made : IsMade (renewal l.filter.table l.filter.key l.sets) (filtered_rows l.filter.condition l.rows) l.made.items l.row-iterator;
+  fault : update_fault l.columns l.sets (filtered_rows l.filter.condition l.rows) ≡ update_fault l.columns l.sets l.row-iterator;
+  new_fit : All (λ change. HoldsOf (FitsColumns l.columns) change.new) l.made.items;
 }
