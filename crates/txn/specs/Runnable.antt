@@ -12,6 +12,13 @@ use Rattle.assertcheck.specs.Updates.{IsBoundedSetting}
 use Rattle.alone.specs.declared.statements.ResolvedStatement.{ResolvedStatement}
 use Rattle.alone.specs.declared.statements.ResolvedStatement.TheVariants as resolved
 use Rattle.alone.specs.Statements.{sets_key}
+use Rattle.changes.specs.Filters.{Filter}
+
+-- what is known of a WHERE: it is on a table that there is, and knows its key
+pub record IsRunnableFilter (declared : Declared) (filter : Filter) : Type 0 where
+  pub table_in : filter.table < length declared.tables
+  pub key_is : filter.key ≡ key_of filter.table (layouts_in declared)
+  pub bounded : IsTrue (is_bounded [] filter.condition)
 
 -- what is known of an UPDATE
 pub record IsRunnableUpdate (declared : Declared) (update : Update) : Type 0 where

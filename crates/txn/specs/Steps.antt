@@ -19,7 +19,7 @@ use Rattle.alone.specs.Statements.{Effect, insert_effect, place_in}
 use Rattle.delta.specs.Views.{ViewState}
 use Rattle.txn.specs.declared.effects.Effect.{Effect as Made}
 use Rattle.txn.specs.declared.steps.StepResult.{StepResult}
-use Rattle.txn.specs.Effects.{delete_of, update_of}
+use Rattle.txn.specs.Effects.{delete_of, filter_on, update_of}
 
 -- a view of the tables, and modes
 abbrev pub standing_with : ViewState → Immediates → Standing
@@ -74,11 +74,11 @@ abbrev pub update_step : ViewState → Immediates → Update → Step
 update_step own modes u =
     step_of_effect own.declared (standing_with own modes)
     (filter_key u.table (key_of u.table (layouts_in own.declared)) u.filter)
-    (update_of own u)
+    (update_of own u.sets (filter_on own u.table u.filter))
 
 -- DELETE of the rows that its condition keeps, as a step
 abbrev pub delete_step : ViewState → Immediates → Delete → Step
 delete_step own modes d =
     step_of_effect own.declared (standing_with own modes)
     (filter_key d.table (key_of d.table (layouts_in own.declared)) d.filter)
-    (Ok (delete_of own d))
+    (Ok (delete_of own (filter_on own d.table d.filter)))

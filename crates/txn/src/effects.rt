@@ -1,17 +1,18 @@
 //! What statements do to the rows of a view.
 
-ghost use Rattle.std.specs.Prelude.{◌≡◌, ◌≢◌, ◌<◌, [], length, slice_index_or, IfOk, IfErr, Ok, Err};
+ghost use Rattle.std.specs.Prelude.{◌≡◌, ◌≢◌, ◌<◌, false, [], All, length, slice_index_or, IfOk, IfErr, Ok, Err};
 ghost use Rattle.value.specs.declared.refusals.Refusal.TheVariants.{NoMemory};
 ghost use Rattle.assertion.specs.Declarations.{layouts_in};
 ghost use Rattle.table.specs.Rows.{names_of};
 ghost use Rattle.alone.specs.States.{IsState};
-ghost use Rattle.alone.specs.Statements.{insert_effect};
+ghost use Rattle.assertcheck.specs.Updates.{IsBoundedSetting};
+ghost use Rattle.alone.specs.Statements.{insert_effect, sets_key};
 ghost use Rattle.txn.specs.Effects.{ArePutIn, delete_of, update_of};
-ghost use Rattle.txn.specs.Runnable.{IsRunnableDelete, IsRunnableUpdate};
+ghost use Rattle.txn.specs.Runnable.{IsRunnableFilter};
 
 use alone::Reply;
-use assertcheck::{Delete, NewRow, Update};
-use changes::{insertion, removals, renewals};
+use assertcheck::{NewRow, Setting};
+use changes::{TableFilter, insertion, removals, renewals};
 use delta::View;
 use std::alloc::{AllocError, Global};
 use table::Change;
@@ -51,46 +52,49 @@ pub fn insert_effect(alloc: Global, view: &View, new: &NewRow) -> Result<Effect,
     })
 }
 
-/// UPDATE of the rows that its condition keeps. Its refusals are those of `changes::renewals`.
-pub fn update_effect(alloc: Global, view: &View, update: &Update) -> Result<Effect, Refusal>
-    requires runnable { IsRunnableUpdate view.now.declared update.now }
+/// UPDATE of the rows that its WHERE keeps. Its refusals are those of `changes::renewals`.
+pub fn update_effect(
+    alloc: Global,
+    view: &View,
+    sets: &[Setting],
+    filter: &TableFilter<'_>,
+) -> Result<Effect, Refusal>
+    requires runnable { IsRunnableFilter view.now.declared filter.now }
+    requires bounded { All IsBoundedSetting sets.now }
+    requires keyless { sets_key filter.now.key sets.now ≡ false }
     ensures made { IfOk result (λ effect.
-        update_of view.now update.now ≡ Ok (record { reply = effect.reply; changes = effect.changes.items })) }
-    ensures refused { IfErr result (λ refusal. refusal ≢ NoMemory → update_of view.now update.now ≡ Err refusal) }
+        update_of view.now sets.now filter.now
+        ≡ Ok (record { reply = effect.reply; changes = effect.changes.items })) }
+    ensures refused { IfErr result (λ refusal.
+        refusal ≢ NoMemory → update_of view.now sets.now filter.now ≡ Err refusal) }
     ensures put_in { IfOk result (λ effect.
         ArePutIn (layouts_in view.now.declared) effect.changes.items view.now.state) }
 {
-    recall_table(view, update.table);
-    let changes = renewals(
-        alloc,
-        update.table,
-        view.schema(update.table),
-        view.rows(update.table),
-        update.sets.as_slice(),
-        &update.filter,
-    )?;
+    let table = filter.table();
+    recall_table(view, table);
+    let columns = view.schema(table).columns();
+    let changes = renewals(alloc, columns, view.rows(table), sets, filter)?;
     Ok(Effect {
         reply: Reply::Updated(changes.len() as u64),
         changes,
     })
 }
 
-/// DELETE of the rows that its condition keeps.
-pub fn delete_effect(alloc: Global, view: &View, delete: &Delete) -> Result<Effect, AllocError>
-    requires runnable { IsRunnableDelete view.now.declared delete.now }
+/// DELETE of the rows that its WHERE keeps.
+pub fn delete_effect(
+    alloc: Global,
+    view: &View,
+    filter: &TableFilter<'_>,
+) -> Result<Effect, AllocError>
+    requires runnable { IsRunnableFilter view.now.declared filter.now }
     ensures made { IfOk result (λ effect.
-        delete_of view.now delete.now ≡ record { reply = effect.reply; changes = effect.changes.items }) }
+        delete_of view.now filter.now ≡ record { reply = effect.reply; changes = effect.changes.items }) }
     ensures put_in { IfOk result (λ effect.
         ArePutIn (layouts_in view.now.declared) effect.changes.items view.now.state) }
 {
-    recall_table(view, delete.table);
-    let changes = removals(
-        alloc,
-        delete.table,
-        view.schema(delete.table).key(),
-        view.rows(delete.table),
-        &delete.filter,
-    )?;
+    let table = filter.table();
+    recall_table(view, table);
+    let changes = removals(alloc, view.rows(table), filter)?;
     Ok(Effect {
         reply: Reply::Deleted(changes.len() as u64),
         changes,

@@ -16,7 +16,7 @@ ghost use Rattle.alone.specs.Reads.{filter_key};
 ghost use Rattle.alone.specs.States.{net_change};
 ghost use Rattle.alone.specs.Statements.{found_rows, selected_rows, place_in};
 ghost use Rattle.changes.specs.Nets.{DifferAt};
-ghost use Rattle.txn.specs.Effects.{ArePutIn};
+ghost use Rattle.txn.specs.Effects.{ArePutIn, filter_on};
 ghost use Rattle.txn.specs.Runnable.{IsRunnable, IsRunnableDelete, IsRunnableSelect, IsRunnableUpdate};
 ghost use Rattle.txn.specs.Steps.{ArePut, IsDone, IsKnown, IsLeft, IsOf, delete_step, insert_step, left_by, shown_effect, standing_with, update_step};
 
@@ -28,7 +28,7 @@ use crate::resolutions::unless_memory;
 use alone::{Modes, Reply, ResolvedStatement};
 use assertcheck::{Delete, NewRow, Select, Update};
 use changes::{
-    TouchedPlaces, checks_read, filter_key, net_change, real_changes, selected_rows, tables_read,
+    TableFilter, TouchedPlaces, checks_read, net_change, real_changes, selected_rows, tables_read,
 };
 use delta::View;
 use siread::{LockKey, Place};
@@ -176,8 +176,10 @@ fn run_update(
         DifferAt (layouts_in own.now.declared) own.now.state (left_by (standing_with own.now modes.now) done).view
         (map place_of done.changes.items)) }
 {
-    let reads = list_one(alloc, read_key(own, update.table, &update.filter)?)?;
-    match update_effect(alloc, own, update) {
+    let filter = filter_on(own, update.table, &update.filter)?;
+    let made = update_effect(alloc, own, update.sets.as_slice(), &filter);
+    let reads = list_one(alloc, filter.into_read())?;
+    match made {
         Ok(effect) => put_in(own, modes, reads, effect),
         Err(refusal) => refuse_unless_memory(refusal, reads),
     }
@@ -199,18 +201,21 @@ fn run_delete(
         DifferAt (layouts_in own.now.declared) own.now.state (left_by (standing_with own.now modes.now) done).view
         (map place_of done.changes.items)) }
 {
-    let reads = list_one(alloc, read_key(own, delete.table, &delete.filter)?)?;
-    put_in(own, modes, reads, delete_effect(alloc, own, delete)?)
+    let filter = filter_on(own, delete.table, &delete.filter)?;
+    let effect = delete_effect(alloc, own, &filter)?;
+    let reads = list_one(alloc, filter.into_read())?;
+    put_in(own, modes, reads, effect)
 }
 
-/// The key under which a condition on a table reads.
-fn read_key(own: &View, table: usize, filter: &Cond) -> Result<LockKey, AllocError>
-    requires table_in { table < length own.now.declared.tables }
-    ensures { IfOk result (λ key. key ≡ filter_key table (key_of table (layouts_in own.now.declared)) filter.now) }
+/// A WHERE on a table of the view.
+fn filter_on<'a>(
+    own: &View,
+    table: usize,
+    condition: &'a Cond,
+) -> Result<TableFilter<'a>, AllocError>
+    ensures { IfOk result (λ filter. filter ≡ filter_on own.now table condition.now) }
 {
-    // (that there are rows for each table is a clause of the catalog)
-    let _ = own.catalog();
-    filter_key(table, own.schema(table).key(), filter)
+    TableFilter::new(table, own.key_column(table), condition)
 }
 
 /// The place at which a new row is to stand.
@@ -218,7 +223,7 @@ fn place_in(own: &View, new: &NewRow) -> Result<Place, AllocError>
     requires table_in { new.now.table < length own.now.declared.tables }
     ensures { IfOk result (λ place. place ≡ place_in (layouts_in own.now.declared) new.now) }
 {
-    // (as above)
+    // (that there are rows for each table is a clause of the catalog)
     let _ = own.catalog();
     let key = match new.row.values().get(own.schema(new.table).key()) {
         Some(key) => key.copy()?,
@@ -318,15 +323,11 @@ fn run_select(alloc: Global, own: &View, select: &Select) -> Result<StepResult, 
         done.reads.items
         ≡ filter_key select.now.table (key_of select.now.table (layouts_in own.now.declared)) select.now.filter ∷ []) }
 {
-    let reads = list_one(alloc, read_key(own, select.table, &select.filter)?)?;
+    let filter = filter_on(own, select.table, &select.filter)?;
     recall_table(own, select.table);
-    let rows = selected_rows(
-        alloc,
-        own,
-        select.table,
-        select.columns.as_slice(),
-        &select.filter,
-    )?;
+    let listed = select.columns.as_slice();
+    let rows = selected_rows(alloc, own.rows(select.table), listed, &filter)?;
+    let reads = list_one(alloc, filter.into_read())?;
     Ok(answer_with(Reply::Rows(Items::from_vec(rows)), reads))
 }
 
