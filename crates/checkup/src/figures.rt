@@ -8,7 +8,7 @@
 use crate::columns::{WhichRow, add_column, add_condition};
 use crate::pairs::count_pairs;
 use assertion::{Form, Link, Query, Whole};
-use changes::selected_rows;
+use changes::{TableFilter, selected_rows};
 use delta::View;
 use std::alloc::{AllocError, Global};
 use table::{Aggregate, Cond, Row, is_bounded};
@@ -346,7 +346,8 @@ fn rows_of(
     if rows.table >= view.catalog().len() || !is_bounded(rows.filter, &[]) {
         return Ok(Vec::new(alloc));
     }
-    selected_rows(alloc, view, rows.table, columns, rows.filter)
+    let filter = TableFilter::new(rows.table, view.key_column(rows.table), rows.filter)?;
+    selected_rows(alloc, view.rows(rows.table), columns, &filter)
 }
 
 /// The group of a row of which the grouping column is listed, if it goes to one.

@@ -6,7 +6,7 @@ ghost use Rattle.table.specs.Bounds.{is_bounded};
 
 use crate::texts::view_of;
 use assertcheck::Setting;
-use changes::{insertion, removals, renewals, selected_rows};
+use changes::{TableFilter, insertion, removals, renewals, selected_rows};
 use delta::View;
 use sqlite_items::Items;
 use std::alloc::{AllocError, Global};
@@ -94,7 +94,8 @@ fn count_gone(alloc: Global, view: &View, filter: &Cond) -> Result<usize, AllocE
     requires bounded { IsTrue (is_bounded [] filter.now) }
     requires table { 0 < length view.now.state }
 {
-    let gone = removals(alloc, 0, view.schema(0).key(), view.rows(0), filter)?;
+    let filter = TableFilter::new(0, view.key_column(0), filter)?;
+    let gone = removals(alloc, view.rows(0), &filter)?;
     Ok(gone.len())
 }
 
@@ -103,7 +104,8 @@ fn count_listed(alloc: Global, view: &View, filter: &Cond) -> Result<usize, Allo
     requires bounded { IsTrue (is_bounded [] filter.now) }
     requires table { 0 < length view.now.state }
 {
-    let listed = selected_rows(alloc, view, 0, &[0], filter)?;
+    let filter = TableFilter::new(0, view.key_column(0), filter)?;
+    let listed = selected_rows(alloc, view.rows(0), &[0], &filter)?;
     Ok(listed.len())
 }
 
@@ -183,16 +185,22 @@ fn renewal_word(made: &Result<Vec<Change>, Refusal>) -> &'static str {
 }
 
 /// A word for what is answered where these assignments are made in the rows that are meant.
-fn renewed_by(alloc: Global, view: &View, sets: &[Setting], filter: &Cond) -> &'static str
+fn renewed_by(
+    alloc: Global,
+    view: &View,
+    sets: &[Setting],
+    filter: &Cond,
+) -> Result<&'static str, Refusal>
     requires { All IsBoundedSetting sets.now }
 {
     if view.catalog().len() == 0 || !is_bounded(filter, &[]) {
-        return "no table";
+        return Ok("no table");
     }
-    let made = renewals(alloc, 0, view.schema(0), view.rows(0), sets, filter);
+    let filter = TableFilter::new(0, view.key_column(0), filter)?;
+    let made = renewals(alloc, view.schema(0).columns(), view.rows(0), sets, &filter);
     let told = renewal_word(&made);
     drop(made);
-    told
+    Ok(told)
 }
 
 /// The same where the person 1 gets another shift.
@@ -202,7 +210,7 @@ fn renewed(alloc: Global, view: &View, value: Expr) -> Result<&'static str, Refu
     let told = renewed_by(alloc, view, sets.as_slice(), &filter);
     drop(filter);
     drop(sets);
-    Ok(told)
+    told
 }
 
 /// The same where it gets what stands in a column.

@@ -5,7 +5,7 @@ ghost use Rattle.std.specs.Prelude.{◌≡◌, length};
 use crate::texts::view_of;
 use alone::Modes;
 use assertion::Assertion;
-use changes::{Equality, checks_read, equality_on, filter_key, real_changes, tables_read};
+use changes::{TableFilter, checks_read, real_changes, tables_read};
 use delta::View;
 use siread::{LockKey, Place};
 use sqlite_items::Items;
@@ -64,50 +64,44 @@ fn describe(key: &LockKey) -> (&'static str, i64) {
     }
 }
 
-/// The key that a WHERE reads, described.
-fn key_read(filter: Cond) -> Result<(&'static str, i64), AllocError> {
-    let key = filter_key(0, 0, &filter);
-    drop(filter);
-    Ok(describe(&key?))
+/// The key that a WHERE reads where the key column is this one, described.
+fn key_read(key_column: usize, condition: &Cond) -> Result<(&'static str, i64), AllocError> {
+    let filter = TableFilter::new(0, key_column, condition)?;
+    Ok(describe(filter.read()))
 }
 
 /// The same of two equalities.
-fn key_of_both(alloc: Global, column: usize) -> Result<(&'static str, i64), AllocError> {
-    key_read(both(alloc, column)?)
+fn key_of_both(
+    alloc: Global,
+    key_column: usize,
+    column: usize,
+) -> Result<(&'static str, i64), AllocError> {
+    let condition = both(alloc, column)?;
+    let read = key_read(key_column, &condition);
+    drop(condition);
+    read
 }
 
 /// The same of a comparison that sets nothing equal.
 fn key_of_less() -> Result<(&'static str, i64), AllocError> {
-    key_read(beside(0, Comparison::Less, 7))
+    let condition = beside(0, Comparison::Less, 7);
+    let read = key_read(0, &condition);
+    drop(condition);
+    read
 }
 
 #[test]
 fn where_reads_its_key(rt: HostRuntime) -> Result<(), Fail> {
-    assert_eq!(rt; key_of_both(rt.alloc(), 0)?, ("row", 7));
-    assert_eq!(rt; key_of_both(rt.alloc(), 2)?, ("column 1", 3));
+    assert_eq!(rt; key_of_both(rt.alloc(), 0, 0)?, ("row", 7));
+    assert_eq!(rt; key_of_both(rt.alloc(), 0, 2)?, ("column 1", 3));
     assert_eq!(rt; key_of_less()?, ("table", 0));
     Ok(())
 }
 
-/// The number that a column is set equal to, if it is.
-fn number_on(filter: &Cond, column: usize) -> Option<(usize, i64)> {
-    match equality_on(filter, column) {
-        Some(
-            Equality {
-                column,
-                value: Value::Int(number),
-            },
-        ) => Some((column, *number)),
-        _ => None,
-    }
-}
-
 #[test]
-fn first_equality_on_a_column(rt: HostRuntime) -> Result<(), Fail> {
-    let filter = both(rt.alloc(), 1)?;
-    assert_eq!(rt; number_on(&filter, 1), Some((1, 3)));
-    assert!(rt; equality_on(&filter, 0).is_none());
-    drop(filter);
+fn first_equality_with_the_key(rt: HostRuntime) -> Result<(), Fail> {
+    assert_eq!(rt; key_of_both(rt.alloc(), 1, 1)?, ("row", 3));
+    assert_eq!(rt; key_of_both(rt.alloc(), 0, 1)?, ("column 1", 3));
     Ok(())
 }
 
